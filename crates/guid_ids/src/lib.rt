@@ -1,0 +1,9 @@
+//! Identifiers: GUIDs, device IDs and hardware IDs.
+//!
+//! Each one is exactly its definition in `specs/Identifiers.antt`, which hashes whole lists of bytes
+//! by the public standards (RFC 9562 and FIPS 180-4). Nothing here takes memory.
+#![tactic(auto)]
+
+pub mod guid;
+
+pub use guid::Guid;
