@@ -1,5 +1,6 @@
 -- What reading and writing a GUID's text rest on.
-use Rattle.std.proofs.Common.{◌≡◌, ℕ, ◌==◌, Bool, true, false, ◌&&◌, subst, map, get_or, List, [], ◌∷◌, ◌++◌, append_assoc, length, Option, Some, None, Result, Ok, Err, refl, ap, sym, ◌∙◌, nat_eq, arith}
+use Rattle.std.proofs.Common.{◌≡◌, ℕ, ◌*◌, ◌/◌, ◌%◌, true, false, subst, map, get_or, List, [], ◌∷◌, ◌++◌, append_assoc, length, Option, Some, None, Result, Ok, Err, refl, ap, sym, eqb, arith}
+use Rattle.std.proofs.lemmas.Bool.Decides.{nat_tests}
 use Rattle.std.proofs.lemmas.Bool.{ne_eqb, true≢false}
 use Rattle.std.specs.Prelude.{MatchResult, IsOk, IfOk}
 use Rattle.std.specs.List.{join_with_byte, range_with_len}
@@ -46,6 +47,15 @@ pub parts_joined : (h : ℕ) (a b c d e t0 t1 t2 t3 t4 t5 t6 t7 t8 t9 : List ℕ
 parts_joined h a b c d e t0 t1 t2 t3 t4 t5 t6 t7 t8 t9 e0 e1 e2 e3 e4 e5 e6 e7 e8 e9 =
     rw (e9, e8, e7, e6, e5, e4, e3, e2, e1, e0) (simp append_assoc)
 
+-- the digits of n bytes are those bytes
+pub decode_sized-encode_lower : (n : ℕ) (bytes : List ℕ) → length bytes ≡ n → IsBytes bytes → decode_sized (encode_lower bytes) n ≡ Ok bytes
+decode_sized-encode_lower n bytes len in_range =
+    let long : length (encode_lower bytes) ≡ 2 * n = omega (arith, length-encode_with lower_digits bytes) in
+    let even : (2 * n) % 2 ≡ 0 = omega arith in
+    let half : 2 * n / 2 ≡ n = omega arith in
+    let same : eqb n n ≡ true = grind (arith, nat_tests) in
+    rw (long, even, half, same) (decode_pairs-encode_with lower_digits IsDigits-lower_digits 0 bytes in_range)
+
 -- 32 digits in groups have the form, and are what stands between the hyphens
 record HasForm (digits : List ℕ) : Type 0 where
   long : length (grouped digits) ≡ 36
@@ -69,8 +79,7 @@ named_guid-guid_text guid len bytes =
     let digits = encode_lower guid in
     let long : length digits ≡ 32 = omega (arith, length-encode_with lower_digits guid) in
     let form = form_of digits long in
-    let decoded : result_ok (decode_sized digits 16) ≡ Some guid =
-      ap result_ok (rw long refl ∙ decode_pairs-encode_with lower_digits IsDigits-lower_digits 0 guid bytes) in
+    let decoded : result_ok (decode_sized digits 16) ≡ Some guid = ap result_ok (decode_sized-encode_lower 16 guid len bytes) in
     sym (named_guid-digits (grouped digits) digits (Some guid) form.long form.hyphens (sym form.digits_back) decoded)
 
 -- the array of a full vector

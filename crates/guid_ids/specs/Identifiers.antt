@@ -1,6 +1,6 @@
 -- Identifiers: GUIDs (RFC 9562), device IDs (SHA-1 of FIPS 180-4) and hardware IDs.
 -- Every hash is that of a whole list of bytes.
-use Rattle.std.specs.Prelude.{◌≡◌, ℕ, ◌==◌, Bool, ◌&&◌, if◌then◌else◌, List, [], ◌∷◌, ◌++◌, length, take, drop, slice_index, slice_range, Option, Some, None, unwrap_or, IsTrue}
+use Rattle.std.specs.Prelude.{ℕ, ◌==◌, Bool, ◌&&◌, if◌then◌else◌, List, [], ◌∷◌, ◌++◌, length, take, slice_index, slice_range, Option, Some, None, unwrap_or}
 use Rattle.std.specs.List.{flat_map, join_with_byte, list_any}
 use Rattle.std.specs.Result.{result_ok}
 use Rattle.hex.specs.Hex.{encode_lower, decode_sized}
@@ -60,6 +60,10 @@ colon = 58
 unfoldable pub device_id : List ℕ → Option (List ℕ) → List ℕ
 device_id physical None = sha1 physical
 device_id physical (Some logical) = sha1 (physical ++ colon ∷ logical)
+
+-- the device ID that a text names: 40 hex digits of either case
+unfoldable pub named_device : List ℕ → Option (List ℕ)
+named_device text = result_ok (decode_sized text 20)
 
 -- ---- hardware IDs
 

@@ -6,6 +6,7 @@ ghost use Rattle.guid_ids.specs.Identifiers.{guid, guid_text, named_guid, groupe
 
 use arrayvec::ArrayVec;
 use std::marker::Model;
+use uuid::Uuid;
 
 /// The bytes of a GUID's text.
 pub const GUID_TEXT_LEN: usize = 36;
@@ -51,6 +52,19 @@ impl Guid {
         ensures { result.now ≡ self.now }
     {
         &self.bytes
+    }
+}
+
+/// The GUID of an instance ID: the one that it names, as `Guid::read`, or else its version 5 UUID in
+/// the DNS namespace (RFC 9562).
+pub fn guid_of(bytes: &[u8]) -> Guid
+    ensures { result ≡ guid bytes.now }
+{
+    match Guid::read(bytes) {
+        Some(named) => named,
+        None => Guid {
+            bytes: *Uuid::new_v5(&Uuid::NAMESPACE_DNS, bytes).as_bytes(),
+        },
     }
 }
 

@@ -4,6 +4,8 @@
 //! by the public standards (RFC 9562 and FIPS 180-4). Nothing here takes memory.
 #![tactic(auto)]
 
+pub mod device;
 pub mod guid;
 
-pub use guid::Guid;
+pub use device::{DeviceId, device_id};
+pub use guid::{Guid, guid_of};

@@ -1,5 +1,4 @@
-use Rattle.std.proofs.Common.{rules, ◌∙◌, sym}
-use Rattle.guid_ids.specs.Identifiers.{named_guid}
+use Rattle.std.proofs.Common.{◌∙◌, sym}
 use Rattle.guid_ids.proofs.GuidLemmas.{named_guid-wrong_length, named_guid-no_hyphens, named_guid-digits, wrote_ok, wrote_err}
 use Rattle.guid_ids.proofs.guid.Guid.read.Goals as goal
 use Rattle.guid_ids.proofs.guid.Guid.read.Goals.{then-bytes-ne-GUID_TEXT_LEN-via-then-bytes-ne-GUID_TEXT_LEN, then-bytes-ne-GUID_TEXT_LEN-via-else-bytes-ne-GUID_TEXT_LEN+then-not-has_hyphens}
