@@ -9,7 +9,7 @@ use sha1::Sha1;
 use std::marker::Model;
 
 /// The ID of a device: a SHA-1 digest (FIPS 180-4), seen as the list of its 20 bytes.
-#[derive(Clone, Copy, PartialEq, Eq, PartialOrd, Ord, Hash)]
+#[derive(Clone, Copy, Debug, PartialEq, Eq, PartialOrd, Ord, Hash)]
 pub struct DeviceId {
     bytes: [u8; 20],
 }

@@ -12,7 +12,7 @@ use uuid::Uuid;
 pub const GUID_TEXT_LEN: usize = 36;
 
 /// A GUID (RFC 9562): 16 bytes, seen as their list. Its order is that of its bytes.
-#[derive(Clone, Copy, PartialEq, Eq, PartialOrd, Ord, Hash)]
+#[derive(Clone, Copy, Debug, PartialEq, Eq, PartialOrd, Ord, Hash)]
 pub struct Guid {
     bytes: [u8; 16],
 }

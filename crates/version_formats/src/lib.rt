@@ -1,13 +1,14 @@
-// A library with one function.
+//! Versions: the texts that the formats write for raw numbers, and the order of versions.
+//!
+//! A version's text and its order are the definitions of `specs/Formats.antt` and
+//! `specs/VersionOrder.antt`. Digit runs are compared in place: no number is made of them. Nothing
+//! here takes memory.
 #![tactic(auto)]
 
-ghost use Rattle.std.specs.Prelude.{◌≡◌};
-ghost use Rattle.version_formats.specs.Echo.{echo_of};
+pub mod format;
+pub mod rendering;
+pub mod version;
 
-// The `ensures` clause is the contract: what `echo` returns is `echo_of` of its argument, a definition
-// in `specs/Echo.antt`, which a caller's clause can cite too.
-pub fn echo(x: usize) -> usize
-    ensures { result ≡ echo_of x }
-{
-    x
-}
+pub use format::Format;
+pub use rendering::render;
+pub use version::{Version, VersionFault};

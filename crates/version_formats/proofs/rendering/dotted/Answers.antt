@@ -1,0 +1,19 @@
+use Rattle.std.proofs.Common.{◌∙◌, ap, sym, decimal, get_or, arith}
+use Rattle.std.proofs.lemmas.List.{take_all}
+use Rattle.version_formats.specs.Formats.{dotted, with_section}
+use Rattle.version_formats.proofs.FormatLemmas.{dotted_more}
+use Rattle.version_formats.proofs.rendering.dotted.Goals as goal
+
+pub loop-place-preserved : goal.loop-place-preserved
+loop-place-preserved c =
+    let place = c.loop-place.place in (
+      c.push_number.ensures.items
+          ∙ ap (λ text. with_section text place (decimal (get_or c.args.numbers.now place 0))) c.loop-place.invariant.0
+          ∙ sym (dotted_more c.args.numbers.now place c.loop-place-test.true),
+      omega (arith, c.push_number.ensures.len, c.loop-place.invariant.1),
+    )
+
+pub returns : goal.returns
+returns c =
+    c.keep.ensures ∙ c.as_slice.ensures.value ∙ c.loop-place.invariant.0
+    ∙ ap dotted (take_all c.loop-place.place c.args.numbers.now c.loop-place-test.false)
