@@ -42,3 +42,13 @@ some_came one two a b c h k = record { bytes = one ++ two; came = came_more one 
 -- The same, from a place on.
 pub came_from : (bytes : List ℕ) (at n : ℕ) → Came (take n (drop at bytes)) (Some (drop at bytes)) (Some (drop (at + n) bytes))
 came_from bytes at n = came_front (drop at bytes) n ∙ ap (λ (x : List ℕ). Some (take n (drop at bytes) ++ x)) (drop-drop n at bytes)
+
+-- Where a source tells, what came is no more than it had.
+pub came_within : (bytes left : List ℕ) (new : Option (List ℕ)) → Came bytes (Some left) new → length bytes ≤ length left
+came_within bytes left (Some rest) h =
+    let same : left ≡ bytes ++ rest = cc in
+    rw same (omega (arith, length-append bytes rest))
+came_within bytes left None h = cc
+
+pub more_came-left : (limit : ℕ) (left : List ℕ) (new : Option (List ℕ)) → MoreCame limit (Some left) new → limit < length left
+more_came-left limit left new m = omega (arith, m.more, came_within m.bytes left new m.came)

@@ -6,20 +6,26 @@
 
 mod copying;
 pub mod failed;
+pub mod folder_shelf;
 pub mod gate;
 pub mod memory_shelf;
 pub mod memory_sink;
 pub mod memory_source;
 mod plan;
+pub mod read_source;
 pub mod shelf;
 pub mod sink;
 pub mod source;
+pub mod write_sink;
 
 pub use failed::Failed;
+pub use folder_shelf::FolderShelf;
 pub use gate::{Gate, NoGate};
 pub use memory_shelf::MemoryShelf;
 pub use memory_sink::MemorySink;
 pub use memory_source::MemorySource;
+pub use read_source::ReadSource;
 pub use shelf::Shelf;
 pub use sink::{Sink, write_whole};
 pub use source::{ReadStop, Source, read_whole};
+pub use write_sink::WriteSink;
