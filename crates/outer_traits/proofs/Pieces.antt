@@ -40,8 +40,8 @@ pub some_came : (one two : List ℕ) (a b c : Option (List ℕ)) → Came one a 
 some_came one two a b c h k = record { bytes = one ++ two; came = came_more one two a b c h k }
 
 -- The same, from a place on.
-pub came_from : (bytes : List ℕ) (at n : ℕ) → Came (take n (drop at bytes)) (Some (drop at bytes)) (Some (drop (at + n) bytes))
-came_from bytes at n = came_front (drop at bytes) n ∙ ap (λ (x : List ℕ). Some (take n (drop at bytes) ++ x)) (drop-drop n at bytes)
+pub left_from : (bytes : List ℕ) (at n : ℕ) → drop at bytes ≡ take n (drop at bytes) ++ drop (at + n) bytes
+left_from bytes at n = sym (take-append-drop n (drop at bytes)) ∙ ap (λ (x : List ℕ). take n (drop at bytes) ++ x) (drop-drop n at bytes)
 
 -- Where a source tells, what came is no more than it had.
 pub came_within : (bytes left : List ℕ) (new : Option (List ℕ)) → Came bytes (Some left) new → length bytes ≤ length left

@@ -1,7 +1,6 @@
 //! A shelf in memory.
-ghost use Rattle.std.specs.Prelude.{◌≡◌, ◌≤◌, ◌<◌, ◌-◌, ◌↔◌, find, map, min, length, take, drop, option_map, option_copied, OnOk, OnErr, IfOk, IfSome, IsErr, Some};
+ghost use Rattle.std.specs.Prelude.{◌≡◌, ◌≤◌, ◌<◌, ◌-◌, ◌↔◌, find, map, min, length, take, drop, option_map, option_copied, OnOk, OnErr, IfOk, IsErr};
 ghost use Rattle.std.specs.Str.{bytes_eq};
-ghost use Rattle.outer_traits.specs.Faults.{Rose};
 ghost use Rattle.outer_traits.specs.Plans.{fresh, FailsNext, after_call, after_fault};
 ghost use Rattle.outer_traits.specs.Shelves.{file_of, bytes_of, StandsAt};
 
@@ -68,9 +67,8 @@ impl Shelf for MemoryShelf {
         ensures only_counts { OnErr result (self.new ≡ record self.old { plan = after_fault self.old.plan }) }
         ensures counted { OnOk result (self.new ≡ record self.old { plan = after_call self.old.plan }) }
 
-        ensures answer { IfOk result (λ answer. IfSome (Some self.old.files) (λ all. answer ≡ option_map length (file_of all name.now))) }
-        ensures unchanged { Some self.new.files ≡ Some self.old.files }
-        ensures cause { OnErr result (Rose self.old.plan.faults self.new.plan.faults) }
+        ensures answer { IfOk result (λ answer. answer ≡ option_map length (file_of self.old.files name.now)) }
+        ensures unchanged { self.new.files ≡ self.old.files }
         ensures counts { self.old.plan.faults ≤ self.new.plan.faults }
     {
         if self.plan.fails_next() {
@@ -85,13 +83,10 @@ impl Shelf for MemoryShelf {
         ensures planned { IsErr result ↔ FailsNext self.old.plan }
         ensures only_counts { OnErr result (self.new ≡ record self.old { plan = after_fault self.old.plan }) }
         ensures counted { OnOk result (self.new ≡ record self.old { plan = after_call self.old.plan }) }
-        ensures count { IfOk result (λ n. n ≡ min (length into.old) (length (bytes_of self.old.files name.now) - at)) }
+        ensures count { IfOk result (λ n. n ≡ min (length into.new) (length (bytes_of self.old.files name.now) - at)) }
 
-        ensures bound { IfOk result (λ n. n ≤ length into.new) }
-        ensures bytes { IfOk result (λ n. IfSome (Some self.old.files) (λ all. StandsAt (bytes_of all name.now) at (take n into.new))) }
-        ensures ended { IfOk result (λ n. n ≡ 0 → 0 < length into.new → IfSome (Some self.old.files) (λ all. length (bytes_of all name.now) ≤ at)) }
-        ensures unchanged { Some self.new.files ≡ Some self.old.files }
-        ensures cause { OnErr result (Rose self.old.plan.faults self.new.plan.faults) }
+        ensures bytes { IfOk result (λ n. StandsAt (bytes_of self.old.files name.now) at (take n into.new)) }
+        ensures unchanged { self.new.files ≡ self.old.files }
         ensures counts { self.old.plan.faults ≤ self.new.plan.faults }
     {
         if self.plan.fails_next() {

@@ -1,8 +1,6 @@
 //! A sink in memory.
-ghost use Rattle.std.specs.Prelude.{◌≡◌, ◌≤◌, ◌<◌, ◌-◌, ◌++◌, ◌↔◌, ◌⊎◌, [], min, length, take, OnErr, IfOk, IsErr, Some};
-ghost use Rattle.outer_traits.specs.Faults.{Rose};
+ghost use Rattle.std.specs.Prelude.{◌≡◌, ◌≤◌, ◌<◌, ◌-◌, ◌++◌, ◌↔◌, ◌⊎◌, [], min, length, take, OnErr, IfOk, IsErr};
 ghost use Rattle.outer_traits.specs.Plans.{fresh, FailsNext, after_call, after_fault};
-ghost use Rattle.outer_traits.specs.Sinks.{Took};
 
 use crate::failed::Failed;
 use crate::plan::Plan;
@@ -71,11 +69,7 @@ impl Sink for MemorySink {
         ensures count { IfOk result (λ n. n ≡ min (length piece.now) (self.old.room - length self.old.taken)) }
         ensures added { IfOk result (λ n. self.new ≡ record self.old { taken = self.old.taken ++ take n piece.now; plan = after_call self.old.plan }) }
 
-        ensures bound { IfOk result (λ n. n ≤ length piece.now) }
         ensures some { IfOk result (λ n. 0 < length piece.now → 0 < n) }
-        ensures took { IfOk result (λ n. Took (take n piece.now) (Some self.old.taken) (Some self.new.taken)) }
-        ensures unchanged { OnErr result (Some self.new.taken ≡ Some self.old.taken) }
-        ensures cause { OnErr result (Rose self.old.plan.faults self.new.plan.faults) }
         ensures counts { self.old.plan.faults ≤ self.new.plan.faults }
     {
         let space = self.room - self.taken.len();

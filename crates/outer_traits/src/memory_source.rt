@@ -1,8 +1,6 @@
 //! A source in memory.
-ghost use Rattle.std.specs.Prelude.{◌≡◌, ◌≤◌, ◌<◌, ◌↔◌, min, length, take, drop, OnErr, IfOk, IsErr, Some};
-ghost use Rattle.outer_traits.specs.Faults.{Rose};
+ghost use Rattle.std.specs.Prelude.{◌≡◌, ◌≤◌, ◌<◌, ◌↔◌, ◌++◌, [], min, length, take, drop, OnErr, IfOk, IsErr};
 ghost use Rattle.outer_traits.specs.Plans.{fresh, FailsNext, after_call, after_fault};
-ghost use Rattle.outer_traits.specs.Sources.{Came, AtEnd};
 
 use crate::copying::copy_front;
 use crate::failed::Failed;
@@ -63,14 +61,11 @@ impl Source for MemorySource {
     fn read(&mut self, into: &mut [u8]) -> Result<usize, Failed>
         ensures planned { IsErr result ↔ FailsNext self.old.plan }
         ensures only_counts { OnErr result (self.new ≡ record self.old { plan = after_fault self.old.plan }) }
-        ensures count { IfOk result (λ n. n ≡ min (min self.old.piece (length into.old)) (length self.old.left)) }
+        ensures count { IfOk result (λ n. n ≡ min (min self.old.piece (length into.new)) (length self.old.left)) }
         ensures moved { IfOk result (λ n. self.new ≡ record self.old { left = drop n self.old.left; plan = after_call self.old.plan }) }
 
-        ensures bound { IfOk result (λ n. n ≤ length into.new) }
-        ensures came { IfOk result (λ n. Came (take n into.new) (Some self.old.left) (Some self.new.left)) }
-        ensures ended { IfOk result (λ n. n ≡ 0 → 0 < length into.new → AtEnd (Some self.new.left)) }
-        ensures unchanged { OnErr result (Some self.new.left ≡ Some self.old.left) }
-        ensures cause { OnErr result (Rose self.old.plan.faults self.new.plan.faults) }
+        ensures came { IfOk result (λ n. self.old.left ≡ take n into.new ++ self.new.left) }
+        ensures ended { IfOk result (λ n. n ≡ 0 → 0 < length into.new → self.new.left ≡ []) }
         ensures counts { self.old.plan.faults ≤ self.new.plan.faults }
     {
         if self.plan.fails_next() {

@@ -3,6 +3,7 @@ use crate::{
     Failed, FolderShelf, Gate, MemoryShelf, MemorySink, MemorySource, NoGate, ReadSource, ReadStop,
     Shelf, Sink, Source, WriteSink, read_whole, write_whole,
 };
+use fw_base::Digest;
 use std::alloc::{AllocError, Global};
 use std::io::{Error, ErrorKind, Read, Write};
 use std::test::Fail;
@@ -75,66 +76,80 @@ fn a_large_input_comes_whole(rt: HostRuntime) -> Result<(), Fail> {
 fn a_sink_takes_what_fits(rt: HostRuntime) -> Result<(), Fail> {
     let alloc = rt.alloc();
     let mut sink = MemorySink::new(alloc, 4, numbers(alloc, &[2])?)?;
-    assert_eq!(rt; sink.write(b"abc"), Ok(3));
-    assert_eq!(rt; sink.write(b""), Err(Failed));
-    assert_eq!(rt; sink.write(b"def"), Ok(1));
-    assert_eq!(rt; sink.write(b""), Ok(0));
-    assert_eq!(rt; sink.write(b"e"), Err(Failed));
-    assert_eq!(rt; sink.bytes(), b"abcd".as_slice());
-    assert_eq!(rt; sink.calls(), 5);
+    let pieces: [&[u8]; 5] = [b"abc", b"", b"def", b"", b"e"];
+    let answers = [Ok(3), Err(Failed), Ok(1), Ok(0), Err(Failed)];
+    for (piece, answer) in pieces.iter().zip(answers) {
+        assert_eq!(rt; sink.write(piece), answer);
+    }
+    assert_eq!(rt; (sink.bytes(), sink.calls()), (b"abcd".as_slice(), 5));
     Ok(())
 }
 
 #[test]
 fn a_whole_text_is_written_or_its_front(rt: HostRuntime) -> Result<(), Fail> {
     let alloc = rt.alloc();
-    let mut sink = MemorySink::new(alloc, 5, Vec::new(alloc))?;
-    assert_eq!(rt; write_whole(&mut sink, b"hello"), Ok(()));
-    assert_eq!(rt; write_whole(&mut sink, b"x"), Err(Failed));
-    assert_eq!(rt; sink.bytes(), b"hello".as_slice());
-    let mut small = MemorySink::new(alloc, 2, Vec::new(alloc))?;
-    assert_eq!(rt; write_whole(&mut small, b"hello"), Err(Failed));
-    assert_eq!(rt; small.bytes(), b"he".as_slice());
+    for (room, answer, want) in [(5, Ok(()), "hello"), (2, Err(Failed), "he")] {
+        let mut sink = MemorySink::new(alloc, room, Vec::new(alloc))?;
+        assert_eq!(rt; write_whole(&mut sink, b"hello"), answer);
+        assert_eq!(rt; sink.bytes(), want.as_bytes());
+    }
     Ok(())
+}
+
+fn two_files(alloc: Global) -> Result<Vec<(Digest, Vec<u8>)>, AllocError> {
+    let mut files = Vec::new(alloc);
+    files.push(([1; 32], bytes(alloc, "first")?))?;
+    files.push(([1; 32], bytes(alloc, "second one")?))?;
+    files.push(([2; 32], Vec::new(alloc)))?;
+    Ok(files)
 }
 
 #[test]
 fn a_shelf_has_the_first_of_a_name(rt: HostRuntime) -> Result<(), Fail> {
     let alloc = rt.alloc();
-    let mut files = Vec::new(alloc);
-    files.push(([1; 32], bytes(alloc, "first")?))?;
-    files.push(([1; 32], bytes(alloc, "second one")?))?;
-    files.push(([2; 32], Vec::new(alloc)))?;
-    let mut shelf = MemoryShelf::new(files, numbers(alloc, &[4])?);
-    let mut into = [0; 3];
-    assert_eq!(rt; shelf.length(&[1; 32]), Ok(Some(5)));
-    assert_eq!(rt; shelf.length(&[2; 32]), Ok(Some(0)));
-    assert_eq!(rt; shelf.length(&[3; 32]), Ok(None));
-    assert_eq!(rt; shelf.read(&[1; 32], 1, &mut into), Err(Failed));
-    assert_eq!(rt; shelf.read(&[1; 32], 1, &mut into), Ok(3));
-    assert_eq!(rt; into, *b"irs");
-    assert_eq!(rt; shelf.read(&[1; 32], 4, &mut into), Ok(1));
-    assert_eq!(rt; into, *b"trs");
-    assert_eq!(rt; shelf.read(&[1; 32], u64::MAX, &mut into), Ok(0));
-    assert_eq!(rt; shelf.read(&[3; 32], 0, &mut into), Ok(0));
-    assert_eq!(rt; shelf.calls(), 8);
+    let mut shelf = MemoryShelf::new(two_files(alloc)?, numbers(alloc, &[3])?);
+    let answers = [Ok(Some(5)), Ok(Some(0)), Err(Failed), Ok(None)];
+    for (name, answer) in [[1; 32], [2; 32], [3; 32], [3; 32]].iter().zip(answers) {
+        assert_eq!(rt; shelf.length(name), answer);
+    }
+    Ok(())
+}
+
+#[test]
+fn a_shelf_is_read_from_a_place_on(rt: HostRuntime) -> Result<(), Fail> {
+    let alloc = rt.alloc();
+    let mut shelf = MemoryShelf::new(two_files(alloc)?, numbers(alloc, &[2])?);
+    for (name, at, answer, want) in [
+        ([1; 32], 1, Ok(3), *b"irs"),
+        ([1; 32], 1, Err(Failed), *b"..."),
+        ([1; 32], 4, Ok(1), *b"t.."),
+        ([1; 32], u64::MAX, Ok(0), *b"..."),
+        ([3; 32], 0, Ok(0), *b"..."),
+    ] {
+        let mut into = *b"...";
+        assert_eq!(rt; (shelf.read(&name, at, &mut into), into), (answer, want));
+    }
     Ok(())
 }
 
 #[test]
 fn a_folder_is_a_shelf(rt: HostRuntime) -> Result<(), Fail> {
-    let alloc = rt.alloc();
-    fs::create_dir(&rt, "payloads")?;
-    let digits = "payloads/0a0a0a0a0a0a0a0a0a0a0a0a0a0a0a0a0a0a0a0a0a0a0a0a0a0a0a0a0a0a0a0a";
-    fs::write(&rt, digits, "hello")?;
-    let mut shelf = FolderShelf::new(rt, String::from_str(alloc, "payloads")?);
-    let mut into = [0; 3];
-    assert_eq!(rt; shelf.length(&[10; 32]), Ok(Some(5)));
-    assert_eq!(rt; shelf.length(&[11; 32]), Ok(None));
-    assert_eq!(rt; shelf.read(&[10; 32], 1, &mut into), Ok(3));
-    assert_eq!(rt; into, *b"ell");
-    assert_eq!(rt; shelf.read(&[10; 32], 5, &mut into), Ok(0));
-    assert_eq!(rt; shelf.read(&[11; 32], 0, &mut into), Err(Failed));
+    fs::create_dir_all(&rt, "out/payloads")?;
+    let path = "out/payloads/0a0a0a0a0a0a0a0a0a0a0a0a0a0a0a0a0a0a0a0a0a0a0a0a0a0a0a0a0a0a0a0a";
+    fs::write(&rt, path, "hello")?;
+    let folder = String::from_str(rt.alloc(), "out/payloads")?;
+    let mut shelf = FolderShelf::new(rt.clone()?, folder);
+    let lengths = [shelf.length(&[10; 32]), shelf.length(&[11; 32])];
+    assert_eq!(rt; lengths, [Ok(Some(5)), Ok(None)]);
+    for (name, at, answer, want) in [
+        ([10; 32], 1, Ok(3), *b"ell"),
+        ([10; 32], 5, Ok(0), *b"..."),
+        ([11; 32], 0, Err(Failed), *b"..."),
+    ] {
+        let mut into = *b"...";
+        assert_eq!(rt; (shelf.read(&name, at, &mut into), into), (answer, want));
+    }
+    fs::remove_dir_all(&rt, "out/payloads")?;
     Ok(())
 }
 
@@ -176,19 +191,20 @@ impl Write for Flaky {
 #[test]
 fn a_reader_is_a_source(rt: HostRuntime) {
     let mut source = ReadSource::new(Flaky { calls: 0 });
-    let mut into = [0; 4];
-    assert_eq!(rt; source.read(&mut into), Ok(1));
-    assert_eq!(rt; into[0], b'a');
-    assert_eq!(rt; source.read(&mut into), Err(Failed));
-    assert_eq!(rt; source.read(&mut into), Ok(0));
+    let mut into = *b"....";
+    let answers = [
+        source.read(&mut into),
+        source.read(&mut into),
+        source.read(&mut into),
+    ];
+    assert_eq!(rt; (answers, into), ([Ok(1), Err(Failed), Ok(0)], *b"a..."));
 }
 
 #[test]
 fn a_writer_is_a_sink(rt: HostRuntime) {
     let mut sink = WriteSink::new(Flaky { calls: 0 });
-    assert_eq!(rt; sink.write(b"abc"), Ok(1));
-    assert_eq!(rt; sink.write(b"bc"), Err(Failed));
-    assert_eq!(rt; sink.write(b"bc"), Err(Failed));
+    let answers = [sink.write(b"abc"), sink.write(b"bc"), sink.write(b"bc")];
+    assert_eq!(rt; answers, [Ok(1), Err(Failed), Err(Failed)]);
 }
 
 fn crosses_threads<T: Send + Drop>(_object: T) {}
