@@ -1,0 +1,5 @@
+pub mod Faults
+pub mod Plans
+pub mod Shelves
+pub mod Sinks
+pub mod Sources
