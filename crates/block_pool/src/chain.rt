@@ -1,5 +1,5 @@
 //! A chain of blocks, each in a box of its own, so that a block moves without memory.
-ghost use Rattle.std.specs.Prelude.{◌≡◌, ◌+◌, ◌≤◌, ◌↔◌, [], length, take, OnOk, OnErr, IsTrue};
+ghost use Rattle.std.specs.Prelude.{◌≡◌, ◌+◌, ◌≤◌, [], length, take, OnOk, OnErr};
 ghost use Rattle.std.specs.List.{concat};
 ghost use Rattle.sha2.specs.Sha256.{sha256};
 ghost use Rattle.block_pool.specs.Bytes.{first_block};
@@ -71,16 +71,6 @@ impl Chain {
         ensures { result ≡ [] }
     {
         Chain { link: Link::End }
-    }
-
-    /// Whether there is no block.
-    pub(crate) fn is_empty(&self) -> bool
-        ensures { IsTrue result ↔ (self.now ≡ []) }
-    {
-        match self.link {
-            Link::End => true,
-            Link::More(_) => false,
-        }
     }
 
     /// Makes one more block, in front. This alone takes memory.

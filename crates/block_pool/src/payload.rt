@@ -1,8 +1,7 @@
 //! Payloads: blocks whose first bytes have a known digest.
-ghost use Rattle.std.specs.Prelude.{◌≡◌, ◌+◌, ◌*◌, ◌-◌, ◌<◌, ◌≤◌, ◌^◌, length, take, min};
+ghost use Rattle.std.specs.Prelude.{◌≡◌, ◌*◌, ◌≤◌, length, take, min};
 ghost use Rattle.std.specs.List.{concat};
 ghost use Rattle.sha2.specs.Sha256.{sha256};
-ghost use Rattle.block_pool.specs.Bytes.{first_block};
 
 use crate::blocks::Blocks;
 use crate::stack::Stack;

@@ -1,11 +1,10 @@
 //! A chain with the number of its blocks.
-ghost use Rattle.std.specs.Prelude.{◌≡◌, ◌+◌, ◌*◌, ◌-◌, ◌<◌, ◌≤◌, ◌^◌, [], length, min, take, OnOk, OnErr};
+ghost use Rattle.std.specs.Prelude.{◌≡◌, ◌+◌, ◌<◌, ◌≤◌, ◌^◌, [], length, take, OnOk, OnErr};
 ghost use Rattle.std.specs.List.{concat};
 ghost use Rattle.sha2.specs.Sha256.{sha256};
 ghost use Rattle.block_pool.specs.Bytes.{AreBlocks, first_block, unwound};
 ghost use Rattle.block_pool.specs.Moves.{first_overwritten};
 
-use crate::BLOCK_BYTES;
 use crate::chain::Chain;
 use fw_base::{Digest, NoMemory};
 use std::alloc::Global;
