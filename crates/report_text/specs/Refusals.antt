@@ -1,0 +1,78 @@
+-- How a refusal is written: its number and its words.
+use Rattle.std.specs.Prelude.{ℕ, List, [], ◌++◌, codes}
+use Rattle.std.specs.Fmt.{decimal}
+use Rattle.hex.specs.Hex.{encode_lower}
+use Rattle.requirements.specs.declared.unmet.Unmet.{Unmet}
+use Rattle.requirements.specs.declared.unmet.UnmetCause.{UnmetCause}
+use Rattle.requirements.specs.declared.unmet.UnmetCause.TheVariants as causes
+use Rattle.update_log.specs.declared.refusal.FetchNote.{FetchNote}
+use Rattle.update_log.specs.declared.refusal.FetchNote.TheVariants as notes
+use Rattle.update_log.specs.declared.refusal.Refusal.{Refusal}
+use Rattle.update_log.specs.declared.refusal.Refusal.TheVariants as refusals
+use Rattle.report_text.specs.Words.{problem_word}
+
+-- why a requirement doesn't hold: its number and its word
+abbrev pub cause_words : UnmetCause → List ℕ
+cause_words causes.IdMissing = codes "1 id-missing"
+cause_words causes.VersionCompare = codes "2 version-compare"
+cause_words causes.NoBootloaderVersion = codes "3 no-bootloader-version"
+cause_words causes.VendorMismatch = codes "4 vendor-mismatch"
+cause_words causes.NoSuchDevice = codes "5 no-such-device"
+cause_words causes.NoSuchAncestor = codes "6 no-such-ancestor"
+cause_words (causes.DeviceInUse entry) = codes "7 device-in-use"
+cause_words causes.HardwareMissing = codes "8 hardware-missing"
+cause_words causes.HardwareForbidden = codes "9 hardware-forbidden"
+cause_words causes.ClientFeatureMissing = codes "10 client-feature-missing"
+
+-- the entry that is in the way
+abbrev pub cause_entry : UnmetCause → List ℕ
+cause_entry (causes.DeviceInUse entry) = codes " " ++ decimal entry
+cause_entry _ = []
+
+abbrev pub cause_text : UnmetCause → List ℕ
+cause_text cause = cause_words cause ++ cause_entry cause
+
+-- what a fetch found; a whole payload is no reason for a refusal
+abbrev pub note_text : FetchNote → List ℕ
+note_text (notes.Whole digest len raw) = codes "whole"
+note_text notes.Missing = codes "missing"
+note_text (notes.Length found) = codes "length " ++ decimal found
+note_text (notes.Mismatch found) = codes "mismatch " ++ encode_lower found
+note_text notes.ShelfFault = codes "shelf-fault"
+
+-- the number and the word of a refusal
+abbrev pub refusal_words : Refusal → List ℕ
+refusal_words refusals.NoDevice = codes "1 no-device"
+refusal_words refusals.NoRelease = codes "2 no-release"
+refusal_words (refusals.Busy entry) = codes "3 busy"
+refusal_words (refusals.Unsettled entry) = codes "4 unsettled"
+refusal_words refusals.NotUpdatable = codes "5 not-updatable"
+refusal_words refusals.Locked = codes "6 locked"
+refusal_words (refusals.Problem problem) = codes "7 problem"
+refusal_words refusals.SameVersion = codes "8 same-version"
+refusal_words refusals.Older = codes "9 older"
+refusal_words (refusals.Unmet unmet) = codes "10 unmet"
+refusal_words (refusals.Veto plugin) = codes "11 veto"
+refusal_words (refusals.Size len min max) = codes "12 size"
+refusal_words (refusals.NoRoom need free) = codes "13 no-room"
+refusal_words (refusals.Payload note) = codes "14 payload"
+refusal_words refusals.RowsFull = codes "15 rows-full"
+refusal_words refusals.KeeperFault = codes "16 keeper-fault"
+
+-- what a refusal says beside its word, each part behind a blank
+abbrev pub refusal_details : Refusal → List ℕ
+refusal_details (refusals.Busy entry) = codes " " ++ decimal entry
+refusal_details (refusals.Unsettled entry) = codes " " ++ decimal entry
+refusal_details (refusals.Problem problem) = codes " " ++ problem_word problem
+refusal_details (refusals.Unmet unmet) = codes " " ++ decimal unmet.index ++ codes " " ++ cause_text unmet.cause
+refusal_details (refusals.Veto plugin) = codes " " ++ plugin
+refusal_details (refusals.Size len min max) = codes " " ++ decimal len ++ codes " " ++ decimal min ++ codes " " ++ decimal max
+refusal_details (refusals.NoRoom need free) = codes " " ++ decimal need ++ codes " " ++ decimal free
+refusal_details (refusals.Payload note) = codes " " ++ note_text note
+refusal_details _ = []
+
+abbrev pub refusal_text : Refusal → List ℕ
+refusal_text refusal = refusal_words refusal ++ refusal_details refusal
+
+abbrev pub refused_text : Refusal → List ℕ
+refused_text refusal = codes "refused " ++ refusal_text refusal

@@ -1,0 +1,17 @@
+//! The report: a campaign's log as lines of text.
+//!
+//! The bytes are those of the definition in `specs/`, which is written from the format. What could
+//! not be written is a front of them.
+#![tactic(auto)]
+
+mod answers;
+mod lines;
+mod lookup;
+mod parts;
+mod report;
+mod stop;
+mod words;
+
+
+pub use report::write_report;
+pub use stop::ReportStop;

@@ -1,0 +1,121 @@
+//! The words of the report.
+ghost use Rattle.std.specs.Prelude.{◌≡◌};
+ghost use Rattle.report_text.specs.Words.{op_word, outcome_word, mark_word, state_word, mode_word, problem_word};
+ghost use Rattle.report_text.specs.Refusals.{cause_words, refusal_words};
+
+use emulated_boards::{BoardFault, Mark};
+use fw_facts::{Mode, Problem};
+use history_keeper::RowState;
+use requirements::UnmetCause;
+use update_log::{Op, Refusal};
+
+pub fn op_word(op: Op) -> &'static str
+    ensures { result.now ≡ op_word op }
+{
+    match op {
+        Op::Prepare => "prepare",
+        Op::Detach => "detach",
+        Op::Write => "write",
+        Op::Attach => "attach",
+        Op::Reload => "reload",
+        Op::Cleanup => "cleanup",
+    }
+}
+
+pub fn outcome_word(outcome: &Result<(), BoardFault>) -> &'static str
+    ensures { result.now ≡ outcome_word outcome.now }
+{
+    match outcome {
+        Ok(()) => "ok",
+        Err(BoardFault::Failed) => "fault-failed",
+        Err(BoardFault::Torn) => "fault-torn",
+        Err(BoardFault::Gone) => "fault-gone",
+        Err(BoardFault::Stranger) => "fault-stranger",
+    }
+}
+
+pub fn mark_word(mark: &Mark) -> &'static str
+    ensures { result.now ≡ mark_word mark.now }
+{
+    match mark {
+        Mark::Entered => "entered",
+        Mark::Began { .. } => "began",
+        Mark::Ended { .. } => "ended",
+        Mark::Left => "left",
+    }
+}
+
+pub fn state_word(state: RowState) -> &'static str
+    ensures { result.now ≡ state_word state }
+{
+    match state {
+        RowState::Pending => "pending",
+        RowState::Success => "success",
+        RowState::Failed => "failed",
+        RowState::NeedsReboot => "needs-reboot",
+        RowState::Begun => "begun",
+    }
+}
+
+pub fn mode_word(mode: Mode) -> &'static str
+    ensures { result.now ≡ mode_word mode }
+{
+    match mode {
+        Mode::Runtime => "runtime",
+        Mode::Bootloader => "bootloader",
+    }
+}
+
+pub fn problem_word(problem: Problem) -> &'static str
+    ensures { result.now ≡ problem_word problem }
+{
+    match problem {
+        Problem::SystemPowerTooLow => "system-power-too-low",
+        Problem::Unreachable => "unreachable",
+        Problem::PowerTooLow => "power-too-low",
+        Problem::UpdatePending => "update-pending",
+        Problem::RequireAcPower => "require-ac-power",
+        Problem::LidIsClosed => "lid-is-closed",
+        Problem::UpdateInProgress => "update-in-progress",
+    }
+}
+
+pub fn cause_words(cause: UnmetCause) -> &'static str
+    ensures { result.now ≡ cause_words cause }
+{
+    match cause {
+        UnmetCause::IdMissing => "1 id-missing",
+        UnmetCause::VersionCompare => "2 version-compare",
+        UnmetCause::NoBootloaderVersion => "3 no-bootloader-version",
+        UnmetCause::VendorMismatch => "4 vendor-mismatch",
+        UnmetCause::NoSuchDevice => "5 no-such-device",
+        UnmetCause::NoSuchAncestor => "6 no-such-ancestor",
+        UnmetCause::DeviceInUse { .. } => "7 device-in-use",
+        UnmetCause::HardwareMissing => "8 hardware-missing",
+        UnmetCause::HardwareForbidden => "9 hardware-forbidden",
+        UnmetCause::ClientFeatureMissing => "10 client-feature-missing",
+    }
+}
+
+pub fn refusal_words(refusal: &Refusal) -> &'static str
+    ensures { result.now ≡ refusal_words refusal.now }
+{
+    match refusal {
+        Refusal::NoDevice => "1 no-device",
+        Refusal::NoRelease => "2 no-release",
+        Refusal::Busy { .. } => "3 busy",
+        Refusal::Unsettled { .. } => "4 unsettled",
+        Refusal::NotUpdatable => "5 not-updatable",
+        Refusal::Locked => "6 locked",
+        Refusal::Problem(_) => "7 problem",
+        Refusal::SameVersion => "8 same-version",
+        Refusal::Older => "9 older",
+        Refusal::Unmet(_) => "10 unmet",
+        Refusal::Veto { .. } => "11 veto",
+        Refusal::Size { .. } => "12 size",
+        Refusal::NoRoom { .. } => "13 no-room",
+        Refusal::Payload(_) => "14 payload",
+        Refusal::RowsFull => "15 rows-full",
+        Refusal::KeeperFault => "16 keeper-fault",
+    }
+}

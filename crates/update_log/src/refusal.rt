@@ -1,0 +1,58 @@
+//! Why a request is refused.
+use fw_base::{Digest, Name};
+use fw_facts::Problem;
+use requirements::Unmet;
+
+/// What the fetch of a payload found.
+#[derive(Clone, Copy, Debug, PartialEq, Eq)]
+pub enum FetchNote {
+    /// All of the payload, with its SHA-256 digest, its length in bytes and the raw number of the
+    /// version in its image, which is 0 for an image that is no good.
+    Whole { digest: Digest, len: u32, raw: u32 },
+    /// No payload under the digest.
+    Missing,
+    /// A payload of another length, in bytes.
+    Length { found: u64 },
+    /// A payload of another digest.
+    Mismatch { found: Digest },
+    /// The shelf failed.
+    ShelfFault,
+}
+
+/// Why a request is refused. The first condition that isn't met is named, in this order, and its
+/// number counts from 1.
+#[derive(Clone, Copy, Debug)]
+pub enum Refusal {
+    /// No such device, or it isn't there.
+    NoDevice,
+    /// No release of that version for the device.
+    NoRelease,
+    /// The device is being updated by this entry.
+    Busy { entry: u32 },
+    /// The device has this entry, which is pending, begun or waits for a boot.
+    Unsettled { entry: u32 },
+    /// The device isn't updatable.
+    NotUpdatable,
+    /// The device is locked.
+    Locked,
+    /// The device has a problem.
+    Problem(Problem),
+    /// The device shows this version already.
+    SameVersion,
+    /// The device shows a newer version.
+    Older,
+    /// A requirement of the release doesn't hold.
+    Unmet(Unmet),
+    /// A plugin forbids it.
+    Veto { plugin: Name },
+    /// The payload's size, in bytes, is outside what the device takes.
+    Size { len: u32, min: u32, max: u32 },
+    /// The payload needs more blocks than are free.
+    NoRoom { need: u32, free: u32 },
+    /// The payload couldn't be had.
+    Payload(FetchNote),
+    /// The history is full.
+    RowsFull,
+    /// The history couldn't be written.
+    KeeperFault,
+}
