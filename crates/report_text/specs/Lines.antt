@@ -1,5 +1,5 @@
 -- The line of each event.
-use Rattle.std.specs.Prelude.{ℕ, Bool, true, false, ◌==◌, if◌then◌else◌, List, [], ◌∷◌, ◌++◌, codes, Option, Some, None, Result, ⊤, find, option_and_then, slice_get, length}
+use Rattle.std.specs.Prelude.{ℕ, Bool, ◌==◌, if◌then◌else◌, List, [], ◌∷◌, ◌++◌, codes, Option, Some, None, Result, ⊤, find, option_and_then, slice_get, length}
 use Rattle.std.specs.Option.{option_or}
 use Rattle.std.specs.List.{list_any, flat_map}
 use Rattle.std.specs.Str.{bytes_eq}
@@ -7,7 +7,6 @@ use Rattle.std.specs.Fmt.{decimal}
 use Rattle.hex.specs.Hex.{encode_lower}
 use Rattle.guid_ids.specs.Identifiers.{guid_text}
 use Rattle.version_formats.specs.Formats.{render}
-use Rattle.fw_facts.specs.declared.seen.Mode.{Mode}
 use Rattle.fw_facts.specs.declared.seen.Seen.{Seen}
 use Rattle.fw_facts.specs.declared.seen.Seen.TheVariants as seen
 use Rattle.fw_facts.specs.declared.sheet.Sheet.{Sheet}
@@ -24,7 +23,6 @@ use Rattle.update_log.specs.declared.answer.ResumeAnswer.{ResumeAnswer}
 use Rattle.update_log.specs.declared.answer.ResumeAnswer.TheVariants as resumes
 use Rattle.update_log.specs.declared.answer.PlugAnswer.{PlugAnswer}
 use Rattle.update_log.specs.declared.answer.PlugAnswer.TheVariants as plugs
-use Rattle.update_log.specs.declared.refusal.Refusal.{Refusal}
 use Rattle.update_log.specs.declared.refusal.Refusal.TheVariants as refusals
 use Rattle.update_log.specs.declared.request.Request.{Request}
 use Rattle.update_log.specs.declared.event.Event.{Event}

@@ -2,7 +2,6 @@
 use Rattle.std.specs.Prelude.{ℕ, List, [], ◌++◌, codes}
 use Rattle.std.specs.Fmt.{decimal}
 use Rattle.hex.specs.Hex.{encode_lower}
-use Rattle.requirements.specs.declared.unmet.Unmet.{Unmet}
 use Rattle.requirements.specs.declared.unmet.UnmetCause.{UnmetCause}
 use Rattle.requirements.specs.declared.unmet.UnmetCause.TheVariants as causes
 use Rattle.update_log.specs.declared.refusal.FetchNote.{FetchNote}

@@ -1,5 +1,5 @@
 -- The words of the report.
-use Rattle.std.specs.Prelude.{ℕ, List, ◌++◌, codes, Result, Ok, Err, ⊤}
+use Rattle.std.specs.Prelude.{ℕ, List, codes, Result, Ok, Err, ⊤}
 use Rattle.fw_facts.specs.declared.problem.Problem.{Problem}
 use Rattle.fw_facts.specs.declared.problem.Problem.TheVariants as problems
 use Rattle.fw_facts.specs.declared.seen.Mode.{Mode}

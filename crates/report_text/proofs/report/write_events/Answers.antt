@@ -1,4 +1,4 @@
-use Rattle.std.proofs.Common.{arith, [], reverse}
+use Rattle.std.proofs.Common.{arith, []}
 use Rattle.std.proofs.lemmas.Result.{err_from_is_err_and}
 use Rattle.report_text.specs.Report.{lines_after}
 use Rattle.report_text.proofs.Events.{event_written, event_stopped}

@@ -1,7 +1,7 @@
 use Rattle.std.proofs.lemmas.Result.{err_from_is_err_and}
-use Rattle.std.proofs.Common.{length, [], ◌++◌}
-use Rattle.outer_traits.proofs.Fronts.{front_first, front_later, took_more}
-use Rattle.report_text.specs.Report.{first_line, lines_after, last_line}
+use Rattle.std.proofs.Common.{[]}
+use Rattle.outer_traits.proofs.Fronts.{front_first, front_later}
+use Rattle.report_text.specs.Report.{first_line, lines_after}
 use Rattle.report_text.proofs.report.write_report.Goals as goal
 
 pub returns-in_err-write_first-clause-front : goal.returns-in_err-write_first-clause-front
