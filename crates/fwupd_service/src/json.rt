@@ -84,17 +84,17 @@ pub fn port(value: &Value) -> Option<Name> {
 
 /// A version, and its three numbers: 8, 8 and 16 bits.
 #[derive(Clone, Copy)]
-pub struct Triple {
+pub struct Numbered {
     pub version: Version,
     pub raw: u32,
 }
 
 /// A version of three decimal numbers with dots between, at most 255, 255 and 65,535.
-pub fn triple(value: &Value) -> Option<Triple> {
+pub fn triple(value: &Value) -> Option<Numbered> {
     let text = text(value)?;
     let version = Version::read(text).ok()?;
     let raw = raw_of(text)?;
-    Some(Triple { version, raw })
+    Some(Numbered { version, raw })
 }
 
 /// The raw number that has this text as a triplet.

@@ -1,0 +1,9 @@
+//! The top call: all that the program does.
+#![tactic(auto)]
+
+mod document;
+mod json;
+pub mod status;
+mod words;
+
+pub use status::Status;
