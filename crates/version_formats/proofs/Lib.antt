@@ -1,1 +1,3 @@
 pub mod FormatLemmas
+pub mod OrderLemmas
+pub mod DigitLemmas
