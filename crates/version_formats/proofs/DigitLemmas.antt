@@ -1,5 +1,5 @@
 -- Runs of digits, compared by their lengths and then digit by digit.
-use Rattle.std.proofs.Common.{◌≡◌, ◌≢◌, ℕ, zero, suc, ◌+◌, ◌-◌, ◌*◌, ◌^◌, ◌<◌, ◌≤◌, ◌==◌, Bool, true, false, cond, eqb, List, [], ◌∷◌, length, drop, Ordering, refl, sym, ap, ◌∙◌, subst, inl, inr, arith}
+use Rattle.std.proofs.Common.{◌≡◌, ℕ, suc, ◌+◌, ◌-◌, ◌*◌, ◌^◌, ◌<◌, ◌≤◌, ◌==◌, Bool, true, List, [], ◌∷◌, length, drop, Ordering, refl, sym, ap, ◌∙◌, subst, inl, inr, arith}
 use Rattle.std.proofs.Math.Nat.{pow-suc, pow-le-pow_right, mul-le-mul_left}
 use Rattle.std.proofs.lemmas.Bool.{cases_eq, cases_order, eq-eqb, ne_eqb}
 use Rattle.std.proofs.lemmas.Bool.Decides.{nat_tests}
@@ -197,4 +197,4 @@ nat_cmp-runs left right pl pr =
     let dr = digits_from_pass right pr in
     rw (← value-significant left, ← value-significant right)
     (nat_cmp-significant (significant left) (significant right) (significant-digits left dl) (significant-digits right dr)
-      (significant-Significant left dl) (significant-Significant right dr))
+    (significant-Significant left dl) (significant-Significant right dr))

@@ -1,10 +1,10 @@
 -- What the comparison in place rests on.
-use Rattle.std.proofs.Common.{◌≡◌, ℕ, zero, suc, ◌+◌, ◌-◌, ◌*◌, ◌^◌, ◌<◌, ◌≤◌, ◌==◌, Bool, true, false, List, [], ◌∷◌, ◌++◌, length, map, take, drop, get_or, Option, Some, None, unwrap_or, cond, nat_lt, Ordering, refl, sym, ap, ◌∙◌, subst, inl, inr, arith, position}
+use Rattle.std.proofs.Common.{◌≡◌, ℕ, ◌+◌, ◌<◌, ◌≤◌, ◌==◌, Bool, true, false, List, [], ◌∷◌, length, map, take, drop, Option, Some, None, unwrap_or, cond, nat_lt, Ordering, refl, sym, ap, ◌∙◌, inl, inr, arith, position}
 use Rattle.std.proofs.lemmas.Bool.{cases_Bool, ltb-true, ltb-false}
 use Rattle.std.proofs.lemmas.List.{get_or-take, length-take}
 use Rattle.std.proofs.lemmas.List.Splits.{slice_split_first, slice_split_none, slice_split-cons_yes, slice_split-cons_no}
 use Rattle.std.proofs.lemmas.List.Sums.{fails_before_first, prefix_len-le-length, prefix_len_passes}
-use Rattle.std.specs.List.{slice_split, onto_first, position_or_len, before_first, after_first, prefix_len, AllPass, take_while}
+use Rattle.std.specs.List.{slice_split, onto_first, position_or_len, prefix_len, AllPass, take_while}
 use Rattle.std.specs.Ordering.{ordering_then}
 use Rattle.std.specs.Option.{MatchOption}
 use Rattle.std.specs.declared.cmp.Ordering.TheVariants.{Less, Equal, Greater}
@@ -44,7 +44,6 @@ unfolding sections
 sections_no_dot text absent =
     let all = position_none is_dot text absent in
     ap (map section_of) (slice_split_none is_dot text (λ k d h. fails_before_first is_dot text k d (omega arith)))
-
 
 -- ---- the digits of a section
 

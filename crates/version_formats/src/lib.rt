@@ -7,6 +7,7 @@
 
 pub mod comparing;
 pub mod format;
+pub mod laws;
 pub mod rendering;
 pub mod version;
 

@@ -8,4 +8,4 @@ returns c =
     let right_is : c.without_zeros-right.result.now ≡ significant c.args.right.now = c.without_zeros-right.ensures in
     c.then.ensures
     ∙ rw (c.cmp.ensures, c.cmp-2.ensures, left_is, right_is)
-      (sym (nat_cmp-runs c.args.left.now c.args.right.now c.requires.left_digits c.requires.right_digits))
+    (sym (nat_cmp-runs c.args.left.now c.args.right.now c.requires.left_digits c.requires.right_digits))

@@ -1,6 +1,5 @@
-use Rattle.std.proofs.Common.{◌∙◌, sym, ap, List, ℕ, ◌+◌, ◌∷◌}
+use Rattle.std.proofs.Common.{◌∙◌, sym, ◌+◌}
 use Rattle.std.proofs.lemmas.List.{take_rest}
-use Rattle.version_formats.specs.VersionOrder.{Section, section_of, sections}
 use Rattle.version_formats.proofs.OrderLemmas.{sections_at_dot, sections_no_dot}
 use Rattle.version_formats.proofs.comparing.first_section.Goals as goal
 

@@ -1,4 +1,4 @@
-use Rattle.std.proofs.Common.{◌∙◌, ap, List, ℕ, drop}
+use Rattle.std.proofs.Common.{◌∙◌, ap, ℕ, drop}
 use Rattle.std.proofs.lemmas.List.{take_rest}
 use Rattle.version_formats.proofs.comparing.without_zeros.Goals as goal
 
