@@ -1,1 +1,5 @@
 pub mod FormatLemmas
+pub mod OrderLemmas
+pub mod DigitLemmas
+pub mod VersionLaws
+pub mod RenderLaws

@@ -5,10 +5,13 @@
 //! here takes memory.
 #![tactic(auto)]
 
+pub mod comparing;
 pub mod format;
+pub mod laws;
 pub mod rendering;
 pub mod version;
 
+pub use comparing::compare;
 pub use format::Format;
 pub use rendering::render;
 pub use version::{Version, VersionFault};
