@@ -33,6 +33,20 @@ pub record IsNoJson (bytes : List ℕ) (place : Place) (reason : Reason) : Type 
   pub whole : place ≡ text_place
   pub said : reason ≡ NotJson
 
+-- all bytes of the input came, and they are a JSON text
+pub record ReadJson (old new : Option (List ℕ)) : Type 0 where
+  pub bytes : List ℕ
+  pub came : Came bytes old new
+  pub read : WasRead bytes new
+  pub text : IsSome (json_of bytes)
+
+-- all bytes of the input came, and they are none
+pub record ReadNoJson (old new : Option (List ℕ)) : Type 0 where
+  pub bytes : List ℕ
+  pub came : Came bytes old new
+  pub read : WasRead bytes new
+  pub text : json_of bytes ≡ None
+
 -- what a status says of the bytes that came, and of what the source has left
 abbrev pub Heard : Status → List ℕ → Option (List ℕ) → Type 0
 Heard statuses.Usage bytes left = bytes ≡ []
