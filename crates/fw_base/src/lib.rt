@@ -17,3 +17,6 @@ pub use line::{Line, LineFault};
 pub use listed::Listed;
 pub use memory::NoMemory;
 pub use name::{Name, NameFault};
+
+#[cfg(test)]
+mod tests;
