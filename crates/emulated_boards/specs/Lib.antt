@@ -1,0 +1,5 @@
+pub mod Boards
+pub mod Conditions
+pub mod Images
+pub mod Journals
+pub mod Plans
