@@ -158,6 +158,8 @@ fn a_guid_is_its_own(rt: HostRuntime) -> Result<(), Fail> {
         Some(guid)
     );
     assert_eq!(rt; Guid::from_bytes(*guid.bytes()), guid);
+    let python = b"886313e1-3b8a-5372-9b90-0c9aee199e5d";
+    assert_eq!(rt; Some(guid_of(b"python.org")), Guid::read(python));
     for other in [
         "2082b5e07a64478ab1b2e3404fab6dad",
         "{2082b5e0-7a64-478a-b1b2-e3404fab6dad}",
