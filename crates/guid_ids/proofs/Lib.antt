@@ -1,1 +1,2 @@
 pub mod GuidLemmas
+pub mod HardwareLemmas

@@ -1,7 +1,7 @@
 -- Identifiers: GUIDs (RFC 9562), device IDs (SHA-1 of FIPS 180-4) and hardware IDs.
 -- Every hash is that of a whole list of bytes.
-use Rattle.std.specs.Prelude.{ℕ, ◌==◌, Bool, ◌&&◌, if◌then◌else◌, List, [], ◌∷◌, ◌++◌, length, take, slice_index, slice_range, Option, Some, None, unwrap_or}
-use Rattle.std.specs.List.{flat_map, join_with_byte, list_any}
+use Rattle.std.specs.Prelude.{ℕ, ◌==◌, nat_le, Bool, ◌&&◌, if◌then◌else◌, List, [], ◌∷◌, ◌++◌, length, take, slice_index, slice_range, Option, Some, None, unwrap_or}
+use Rattle.std.specs.List.{flat_map, join_with_byte, list_all, list_any}
 use Rattle.std.specs.Result.{result_ok}
 use Rattle.hex.specs.Hex.{encode_lower, decode_sized}
 use Rattle.sha1.specs.Sha1.{sha1}
@@ -66,6 +66,14 @@ unfoldable pub named_device : List ℕ → Option (List ℕ)
 named_device text = result_ok (decode_sized text 20)
 
 -- ---- hardware IDs
+
+-- a byte of printable ASCII
+abbrev pub is_smbios_byte : ℕ → Bool
+is_smbios_byte b = nat_le 0x20 b && nat_le b 0x7E
+
+-- the bytes, where they are up to 255 of printable ASCII
+abbrev pub smbios_read : List ℕ → Option (List ℕ)
+smbios_read bytes = if nat_le (length bytes) 255 && list_all is_smbios_byte bytes then Some bytes else None
 
 -- 70ffd812-4c7f-4c7d-0000-000000000000
 abbrev pub hardware_namespace : List ℕ

@@ -11,8 +11,9 @@ use uuid::Uuid;
 /// The bytes of a GUID's text.
 pub const GUID_TEXT_LEN: usize = 36;
 
-/// A GUID (RFC 9562): 16 bytes, seen as their list. Its order is that of its bytes.
-#[derive(Clone, Copy, Debug, PartialEq, Eq, PartialOrd, Ord, Hash)]
+/// A GUID (RFC 9562): 16 bytes, seen as their list. Its order is that of its bytes, and its default
+/// is the nil UUID.
+#[derive(Clone, Copy, Debug, Default, PartialEq, Eq, PartialOrd, Ord, Hash)]
 pub struct Guid {
     bytes: [u8; 16],
 }
@@ -47,6 +48,13 @@ impl Guid {
         in_groups(&hex_digits(&self.bytes))
     }
 
+    /// The GUID with these bytes.
+    pub fn from_bytes(bytes: [u8; 16]) -> Guid
+        ensures { result ≡ bytes }
+    {
+        Guid { bytes }
+    }
+
     /// The 16 bytes.
     pub fn bytes(&self) -> &[u8; 16]
         ensures { result.now ≡ self.now }
@@ -62,9 +70,7 @@ pub fn guid_of(bytes: &[u8]) -> Guid
 {
     match Guid::read(bytes) {
         Some(named) => named,
-        None => Guid {
-            bytes: *Uuid::new_v5(&Uuid::NAMESPACE_DNS, bytes).as_bytes(),
-        },
+        None => Guid::from_bytes(*Uuid::new_v5(&Uuid::NAMESPACE_DNS, bytes).as_bytes()),
     }
 }
 

@@ -6,6 +6,13 @@
 
 pub mod device;
 pub mod guid;
+pub mod hardware;
+pub mod smbios;
 
 pub use device::{DeviceId, device_id};
 pub use guid::{Guid, guid_of};
+pub use hardware::{HardwareIds, SmbiosFields, hardware_ids};
+pub use smbios::SmbiosText;
+
+#[cfg(test)]
+mod tests;

@@ -1,12 +1,12 @@
 -- A word names at most one format.
-use Rattle.std.proofs.Common.{◌≡◌, zero, suc, eqb, ◌++◌, ◌+◌, ◌<◌, ap, ◌∙◌, append_assoc, take, get_or, length, map, decimal, arith, ℕ, false, List, [], ◌∷◌, Option, Some, Result, Ok, Err, refl, sym, find}
+use Rattle.std.proofs.Common.{◌≡◌, zero, suc, eqb, ◌==◌, if◌then◌else◌, ◌++◌, ◌+◌, ◌<◌, ap, ◌∙◌, append_assoc, take, get_or, length, map, decimal, arith, ℕ, false, List, [], ◌∷◌, Option, Some, Result, Ok, Err, refl, sym, find}
 use Rattle.std.proofs.lemmas.Bool.{cond_both, ne_eqb, true≢false}
 use Rattle.std.proofs.lemmas.List.{take_more, map-append}
 use Rattle.std.proofs.lemmas.Slice.Eq.{bytes_eq-Decides}
 use Rattle.std.specs.Prelude.{IfSome, OnOk, IsOk}
 use Rattle.std.specs.List.{join_with_byte}
 use Rattle.std.specs.Str.{bytes_eq}
-use Rattle.version_formats.specs.Formats.{format_word, dot, dotted, with_section}
+use Rattle.version_formats.specs.Formats.{format_word, dot, dotted}
 use Rattle.version_formats.specs.declared.format.Format.{Format}
 use Rattle.version_formats.specs.declared.format.Format.TheVariants.{Plain, Number, Pair, Triplet, Quad, Bcd, DellBios, DellBiosMsb, SurfaceLegacy, Surface, IntelMe, IntelMe2, Hex}
 
@@ -53,16 +53,22 @@ join_more c first (second ∷ parts) part =
     let rest = join_with_byte c (second ∷ parts) in
     ap (λ (xs : List ℕ). first ++ (c ∷ xs)) (join_more c second parts part) ∙ sym (append_assoc first (c ∷ rest) (c ∷ part))
 
+-- what stands in front of the number at a place
+abbrev pub separator : ℕ → List ℕ
+separator place = if place == 0 then [] else dot ∷ []
+
 pub dotted_more : (numbers : List ℕ) (i : ℕ) → i < length numbers
-    → dotted (take (i + 1) numbers) ≡ with_section (dotted (take i numbers)) i (decimal (get_or numbers i 0))
+    → dotted (take (i + 1) numbers) ≡ dotted (take i numbers) ++ separator i ++ decimal (get_or numbers i 0)
 dotted_more [] i h = absurd (omega arith)
 dotted_more (number ∷ numbers) zero h = refl
 dotted_more (number ∷ numbers) (suc i) h =
     let next = get_or numbers i 0 in
+    let before = dotted (number ∷ take i numbers) in
     let later : eqb (suc i) 0 ≡ false = ne_eqb (suc i) 0 (λ e. absurd (omega arith)) in
     ap dotted (take_more (number ∷ numbers) (suc i) 0 h)
     ∙ ap (join_with_byte dot) (map-append decimal (number ∷ take i numbers) (next ∷ []))
     ∙ join_more dot (decimal number) (map decimal (take i numbers)) (decimal next)
+    ∙ sym (append_assoc before (dot ∷ []) (decimal next))
     ∙ rw later refl
 
 -- what holds of an `Ok`, of a result that is one

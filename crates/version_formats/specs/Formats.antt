@@ -1,5 +1,5 @@
 -- The version formats: their words, and the text that each writes for a raw number.
-use Rattle.std.specs.Prelude.{ℕ, ◌+◌, ◌*◌, ◌/◌, ◌%◌, ◌^◌, ◌==◌, if◌then◌else◌, List, [], ◌∷◌, ◌++◌, map, codes, decimal}
+use Rattle.std.specs.Prelude.{ℕ, ◌+◌, ◌*◌, ◌/◌, ◌%◌, ◌^◌, List, [], ◌∷◌, ◌++◌, map, codes, decimal}
 use Rattle.std.specs.Int.{w32, to_be_bytes}
 use Rattle.std.specs.List.{join_with_byte}
 use Rattle.hex.specs.Hex.{encode_lower}
@@ -37,10 +37,6 @@ bcd raw low = 10 * bits raw (low + 4) 4 + bits raw low 4
 -- decimal numbers with dots between them
 abbrev pub dotted : List ℕ → List ℕ
 dotted numbers = join_with_byte dot (map decimal numbers)
-
--- a text with one more section behind the first `place` ones
-abbrev pub with_section : List ℕ → ℕ → List ℕ → List ℕ
-with_section text place section = if place == 0 then text ++ section else text ++ dot ∷ section
 
 -- the text of a raw number of 32 bits
 unfoldable pub render : Format → ℕ → List ℕ

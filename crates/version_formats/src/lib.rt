@@ -15,3 +15,6 @@ pub use comparing::compare;
 pub use format::Format;
 pub use rendering::render;
 pub use version::{Version, VersionFault};
+
+#[cfg(test)]
+mod tests;

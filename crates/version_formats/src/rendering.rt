@@ -1,10 +1,10 @@
 //! The text that a format writes for a raw number.
-ghost use Rattle.std.specs.Prelude.{◌≡◌, ◌≤◌, ◌<◌, ◌+◌, ◌^◌, ◌++◌, length, decimal, map};
+ghost use Rattle.std.specs.Prelude.{◌≡◌, ◌≤◌, ◌<◌, ◌+◌, ◌^◌, ◌==◌, ◌++◌, ◌∷◌, [], if◌then◌else◌, length, decimal, map};
 ghost use Rattle.std.specs.Int.{w32, to_be_bytes};
 ghost use Rattle.std.specs.List.{join_with_byte};
 ghost use Rattle.hex.specs.Hex.{encode_lower};
 ghost use Rattle.arrayvec.specs.ArrayVec.{array_vec_len};
-ghost use Rattle.version_formats.specs.Formats.{render, dotted, bits, bcd, with_section};
+ghost use Rattle.version_formats.specs.Formats.{render, dot, dotted, bits, bcd};
 
 use crate::{Format, Version};
 use arrayvec::ArrayVec;
@@ -78,7 +78,7 @@ fn dotted(numbers: &[u32]) -> Version
 /// Appends a number in decimal, after a dot where it is not the first.
 fn push_number(text: &mut ArrayVec<u8, 64>, place: usize, number: u32)
     requires { array_vec_len text.old + 11 ≤ 64 }
-    ensures items { text.new.items ≡ with_section text.old.items place (decimal number) }
+    ensures items { text.new.items ≡ text.old.items ++ (if place == 0 then [] else dot ∷ []) ++ decimal number }
     ensures len { array_vec_len text.new ≤ array_vec_len text.old + 11 }
 {
     if place > 0 {

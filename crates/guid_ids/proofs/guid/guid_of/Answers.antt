@@ -12,4 +12,4 @@ pub returns-in-None : goal.returns-in-None
 unfolding guid
 returns-in-None c =
     let unnamed : named_guid c.args.bytes.now ≡ None = sym c.read.ensures ∙ c.in-None.is in
-    rw unnamed (c.as_bytes.ensures ∙ c.new_v5.ensures.value)
+    rw unnamed (c.from_bytes.ensures ∙ c.as_bytes.ensures ∙ c.new_v5.ensures.value)

@@ -1,14 +1,14 @@
-use Rattle.std.proofs.Common.{◌∙◌, ap, sym, decimal, get_or, arith}
+use Rattle.std.proofs.Common.{◌∙◌, ap, sym, decimal, get_or, List, ℕ, ◌++◌, arith}
 use Rattle.std.proofs.lemmas.List.{take_all}
-use Rattle.version_formats.specs.Formats.{dotted, with_section}
-use Rattle.version_formats.proofs.FormatLemmas.{dotted_more}
+use Rattle.version_formats.specs.Formats.{dotted}
+use Rattle.version_formats.proofs.FormatLemmas.{dotted_more, separator}
 use Rattle.version_formats.proofs.rendering.dotted.Goals as goal
 
 pub loop-place-preserved : goal.loop-place-preserved
 loop-place-preserved c =
     let place = c.loop-place.place in (
       c.push_number.ensures.items
-          ∙ ap (λ text. with_section text place (decimal (get_or c.args.numbers.now place 0))) c.loop-place.invariant.0
+          ∙ ap (λ (text : List ℕ). text ++ separator place ++ decimal (get_or c.args.numbers.now place 0)) c.loop-place.invariant.0
           ∙ sym (dotted_more c.args.numbers.now place c.loop-place-test.true),
       omega (arith, c.push_number.ensures.len, c.loop-place.invariant.1),
     )
