@@ -1,5 +1,5 @@
 -- The table as it is laid, and what it shows once one seat took in all passes.
-use Rattle.std.proofs.Common.{◌≡◌, ◌≢◌, ℕ, zero, suc, ◌+◌, ◌^◌, ◌<◌, ◌≤◌, List, [], ◌∷◌, ◌++◌, All, map, length, get_or, sum_by, sym, refl, ap, ◌∙◌, subst, arith, Option, Some, None, IfSome, append-nil}
+use Rattle.std.proofs.Common.{◌≡◌, ◌≢◌, ℕ, zero, suc, ◌^◌, ◌<◌, ◌≤◌, List, [], ◌∷◌, ◌++◌, All, map, length, sym, refl, ap, ◌∙◌, subst, arith, Option, Some, None, IfSome, append-nil}
 use Rattle.std.proofs.lemmas.List.{length-map}
 use Rattle.std.proofs.lemmas.List.Elements.{All-weaker, All-cons, All-nil, All-head, All-tail}
 use mathlib.Core.Option as maybe
@@ -12,7 +12,7 @@ use Rattle.turn_lock.specs.declared.view.SeatView.TheVariants.{Opening, Inside}
 use Rattle.turn_lock.specs.Lists.{BeginsWith, beyond, made_by}
 use Rattle.turn_lock.specs.Shown.{PassView}
 use Rattle.turn_lock.specs.Views.{accounts_of, account_count, ticket_of, CanTakeIn, knowledge_of}
-use Rattle.turn_lock.specs.Rule.{Past, slot_of, list_of, AnswersFor, Fits, TakesTurns}
+use Rattle.turn_lock.specs.Rule.{slot_of, list_of, AnswersFor, Fits, TakesTurns}
 use Rattle.turn_lock.proofs.Counting.{beyond_append, two-le-sum_by}
 use Rattle.turn_lock.proofs.Others.{some_not_none}
 use Rattle.turn_lock.proofs.Passes.{answers}

@@ -1,16 +1,15 @@
 -- What a step that changes one seat leaves as it is at the others.
-use Rattle.std.proofs.Common.{◌≡◌, ◌≢◌, ℕ, ◌+◌, ◌<◌, ◌≤◌, ◌⊎◌, List, ◌++◌, length, set, sym, refl, ap, ◌∙◌, subst, ⊎_elim, inl, inr, arith, Option, Some, None}
+use Rattle.std.proofs.Common.{◌≡◌, ◌≢◌, ℕ, ◌+◌, ◌<◌, ◌≤◌, ◌⊎◌, List, ◌++◌, length, set, sym, refl, ap, ◌∙◌, subst, ⊎_elim, inl, inr, arith, Some, None}
 use Rattle.std.proofs.lemmas.List.Elements.{All-weaker}
 use mathlib.Core.Option.{some, some-injective}
 use lib.ListN.{get_elem?}
-use Rattle.atomic_table.specs.Table.{State}
 use Rattle.atomic_table.proofs.Lists.{at_set, set_else}
 use Rattle.turn_lock.specs.declared.view.Knowledge.{Knowledge}
 use Rattle.turn_lock.specs.declared.view.SeatView.{SeatView}
 use Rattle.turn_lock.specs.declared.view.SeatView.TheVariants.{Opening, Idle, Waiting, Inside, Closing, Spent}
 use Rattle.turn_lock.specs.Lists.{made_by}
 use Rattle.turn_lock.specs.Views.{ticket_of}
-use Rattle.turn_lock.specs.Rule.{Past, IsTrueOf, AnswersFor, Fits, TakesTurns}
+use Rattle.turn_lock.specs.Rule.{Past, IsTrueOf, AnswersFor, Fits}
 
 module _ {X : Type 0} where
   pub some_is : (x y : X) → Some x ≡ Some y → x ≡ y

@@ -1,5 +1,5 @@
 -- Split and join keep the rule.
-use Rattle.std.proofs.Common.{◌≡◌, ◌≢◌, ℕ, ◌+◌, ◌<◌, ◌≤◌, ◌⊎◌, List, [], ◌∷◌, ◌++◌, All, length, set, sum_by, count_by, sym, refl, ap, ◌∙◌, subst, ⊎_elim, inl, inr, arith, Option, Some, None, length-set, length-append}
+use Rattle.std.proofs.Common.{◌≡◌, ◌≢◌, ℕ, ◌+◌, ◌<◌, List, [], ◌∷◌, ◌++◌, All, length, set, sym, refl, ap, ◌∙◌, subst, ⊎_elim, inl, inr, arith, Option, Some, length-set, length-append}
 use Rattle.std.proofs.lemmas.List.Elements.{All-cons, All-nil, All-weaker}
 use Rattle.std.proofs.lemmas.List.Sums.{sum_by_push}
 use mathlib.Core.Option.{some, some-injective}
@@ -9,8 +9,7 @@ use Rattle.atomic_table.proofs.Lists.{at_set, set_here, set_else, at_longer}
 use Rattle.turn_lock.specs.declared.view.Knowledge.{Knowledge}
 use Rattle.turn_lock.specs.declared.view.SeatView.{SeatView}
 use Rattle.turn_lock.specs.declared.view.SeatView.TheVariants.{Opening, Idle, Waiting, Inside, Closing, Spent}
-use Rattle.turn_lock.specs.Lists.{made_by}
-use Rattle.turn_lock.specs.Views.{knows, accounts_of, account_count, has_ticket, ticket_of, one_more_made, next_pass, CanTakeIn, taken_in}
+use Rattle.turn_lock.specs.Views.{knows, accounts_of, account_count, ticket_of, one_more_made, next_pass, CanTakeIn, taken_in}
 use Rattle.turn_lock.specs.Rule.{Past, IsTrueOf, AnswersFor, Fits, TakesTurns}
 use Rattle.turn_lock.proofs.Counting.{at_within, at_end, sum_by-set_at}
 use Rattle.turn_lock.proofs.Others.{some_not_none, spent_stay, seats_stay, apart_stays, stays}

@@ -1,5 +1,5 @@
 -- Draw, look and pass on keep the rule.
-use Rattle.std.proofs.Common.{drop, ◌≡◌, ◌≢◌, ℕ, ◌+◌, ◌%◌, ◌^◌, ◌<◌, ◌≤◌, eqb, List, [], ◌∷◌, ◌++◌, length, get_or, set, sym, refl, ap, ◌∙◌, subst, ⊎_elim, arith, cond, Option, Some, None, IfSome, length-set, append-nil, append_assoc}
+use Rattle.std.proofs.Common.{drop, ◌≡◌, ◌≢◌, ℕ, ◌+◌, ◌%◌, ◌^◌, eqb, List, [], ◌∷◌, ◌++◌, get_or, set, sym, refl, ap, ◌∙◌, subst, ⊎_elim, arith, cond, Option, Some, None, IfSome, length-set, append-nil, append_assoc}
 use Rattle.std.proofs.lemmas.List.Elements.{filter-append}
 use Rattle.std.proofs.lemmas.List.Sums.{count_by-le-length}
 use mathlib.Core.Logic.{dite}
@@ -14,7 +14,7 @@ use Rattle.turn_lock.specs.declared.view.SeatView.{SeatView}
 use Rattle.turn_lock.specs.declared.view.SeatView.TheVariants.{Idle, Waiting, Inside, Spent}
 use Rattle.turn_lock.specs.Lists.{BeginsWith, made_by, beyond, AddsAtMostOne}
 use Rattle.turn_lock.specs.Views.{saw, grown, own_of, account_count, has_ticket, ticket_of}
-use Rattle.turn_lock.specs.Steps.{Seated, HasTurn, Draws, Looks, PassesOn}
+use Rattle.turn_lock.specs.Steps.{Seated, Draws, Looks, PassesOn}
 use Rattle.turn_lock.specs.Rule.{Past, slot_of, list_of, IsTrueOf, Fits, TakesTurns}
 use Rattle.turn_lock.proofs.Counting.{at_within, beyond_append, sum_by-set_at, made_by-own, made_by-other, ring_more}
 use Rattle.turn_lock.proofs.Others.{some_is, some_not_none, spent_stay, seats_stay, apart_stays, stays, same_known, ticket_in}

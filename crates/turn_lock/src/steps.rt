@@ -17,6 +17,7 @@ use std::sync::Wait;
 
 // The word that counts the tickets drawn, and the word that counts the turns ended, both modulo 2^64.
 pub(crate) const TICKETS: usize = 0;
+
 pub(crate) const TURNS: usize = 1;
 
 // The slot that the value is in.
@@ -52,11 +53,7 @@ pub(crate) enum Found {
 }
 
 /// Look: has the turn of the seat's ticket come?
-pub(crate) fn look<V: Chronicle>(
-    table: &LockTable<V>,
-    seat: &mut LockSeat<V>,
-    ticket: u64,
-) -> Found
+pub(crate) fn look<V: Chronicle>(table: &LockTable<V>, seat: &mut LockSeat<V>, ticket: u64) -> Found
     requires seat { SitsAt table.now.table_id seat.old.table_id }
     requires ticket { HasTicket ticket (own_of seat.old.me.0) seat.old.me }
     ensures seat { seat.new.table_id ≡ seat.old.table_id }

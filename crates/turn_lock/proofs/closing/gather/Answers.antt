@@ -1,4 +1,4 @@
-use Rattle.std.proofs.Common.{◌≡◌, List, [], ◌∷◌, ◌++◌, All, map, ap, sym, ◌∙◌, subst, append_assoc, Some}
+use Rattle.std.proofs.Common.{List, [], ◌∷◌, ◌++◌, map, ap, sym, ◌∙◌, subst, append_assoc, Some}
 use Rattle.std.proofs.lemmas.List.Elements.{All-pop}
 use mathlib.Core.List.{map-append}
 use Rattle.turn_lock.specs.declared.view.Knowledge.{Knowledge}

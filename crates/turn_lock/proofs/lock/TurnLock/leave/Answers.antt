@@ -23,9 +23,11 @@ regain-requires g c = let e = g.V.Chronicle.entries in
 pub returns-clause-same : goal.returns-clause-same
 returns-clause-same g c =
     let Pass : Type 0 = PassView g.row.V-Entry.Denot in
-    let idle = c.pass_on.ensures.idle _ c.turn.inside.value (put_back _ _ _ c.turn.invariant c.put.ensures.filled) in
-    (ap (λ (p : Pass). p.number) c.regain.ensures, ap (λ (p : Pass). p.base) c.regain.ensures
-    ∙ (ap (λ (m : Seated g.row.V.Denot g.row.V-Entry.Denot). (own_of m.0).base) idle ∙ ap (λ (t : TurnView g.row.V.Denot g.row.V-Entry.Denot). t.base) c.turn.view_is))
+    let idle = c.pass_on.ensures.idle _ c.turn.inside.value (put_back _ _ _ c.turn.invariant c.put.ensures.filled) in (
+      ap (λ (p : Pass). p.number) c.regain.ensures,
+      ap (λ (p : Pass). p.base) c.regain.ensures
+          ∙ (ap (λ (m : Seated g.row.V.Denot g.row.V-Entry.Denot). (own_of m.0).base) idle ∙ ap (λ (t : TurnView g.row.V.Denot g.row.V-Entry.Denot). t.base) c.turn.view_is),
+    )
 
 pub returns-clause-seen : goal.returns-clause-seen
 returns-clause-seen g c =

@@ -1,4 +1,4 @@
-use Rattle.std.proofs.Common.{◌≡◌, ◌∙◌, ℕ, List, All, map, ap, subst}
+use Rattle.std.proofs.Common.{◌≡◌, ◌∙◌, List, All, map, ap, subst}
 use Rattle.std.proofs.lemmas.List.Elements.{All-same}
 use Rattle.turn_lock.specs.declared.opening.Start.{Start}
 use Rattle.turn_lock.specs.Shown.{PassView, IsReady, IsFresh}
