@@ -1,5 +1,6 @@
 -- Lemmas on lists that are read by place, on counts over them, and on entries of a number.
-use Rattle.std.proofs.Common.{◌≡◌, ◌≢◌, ℕ, zero, suc, ◌+◌, ◌%◌, ◌<◌, ◌≤◌, ◌⊎◌, List, [], ◌∷◌, ◌++◌, length, get_or, set, sum_by, sym, refl, ap, ◌∙◌, inl, inr, ⊎_elim, arith, eq-eqb, ne_eqb}
+use Rattle.std.proofs.Common.{◌≡◌, ◌≢◌, ℕ, zero, suc, ◌+◌, ◌%◌, ◌<◌, ◌≤◌, ◌⊎◌, List, [], ◌∷◌, ◌++◌, All, length, get_or, set, sum_by, sym, refl, ap, ◌∙◌, inl, inr, ⊎_elim, arith, eq-eqb, ne_eqb, length-append}
+use Rattle.std.proofs.lemmas.List.Elements.{All-head, All-tail}
 use Rattle.std.proofs.lemmas.List.Sums.{sum_by-cons, sum_by-set}
 use mathlib.Core.Option.{some, some-injective, some-ne-none}
 use lib.ListN.{get_elem?}
@@ -22,6 +23,9 @@ module _ {A : Type 0} where
   at_end [] a b (suc j) e = absurd (some-ne-none b (sym e))
   at_end (x ∷ xs) a b zero e = inl e
   at_end (x ∷ xs) a b (suc j) e = ⊎_elim (λ h. inl h) (λ h. inr (ap suc h.0, h.1)) (at_end xs a b j e)
+
+  pub one_longer : (before after : List A) (a : A) → after ≡ before ++ a ∷ [] → length after ≡ length before + 1
+  one_longer before after a is = ap length is ∙ length-append before (a ∷ [])
 
   pub beyond_append : (seen more : List A) → beyond seen (seen ++ more) ≡ more
   beyond_append [] more = refl
@@ -50,6 +54,12 @@ module _ {E : Type 0} (by : E → ℕ) where
 
   pub made_by-other : (n m : ℕ) (e : E) → by e ≡ m → n ≢ m → made_by by n (e ∷ []) ≡ []
   made_by-other n m e is ne = rw (ne_eqb (by e) n (λ h. ne (sym h ∙ is))) refl
+
+  -- a number that is past those of all entries has none
+  pub made_by-past : (m n : ℕ) (list : List E) → m ≤ n → All (λ (e : E). by e < m) list → made_by by n list ≡ []
+  made_by-past m n [] low all = refl
+  made_by-past m n (e ∷ es) low all = let head = All-head (λ (x : E). by x < m) e es all in
+      rw (ne_eqb (by e) n (λ is. omega arith)) (made_by-past m n es low (All-tail (λ (x : E). by x < m) e es all))
 
 -- one more in a ring
 pub ring_more : (n : ℕ) → (n % 18446744073709551616 + 1) % 18446744073709551616 ≡ (n + 1) % 18446744073709551616

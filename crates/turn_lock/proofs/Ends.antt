@@ -1,7 +1,7 @@
 -- The table as it is laid, and what it shows once one seat took in all passes.
 use Rattle.std.proofs.Common.{◌≡◌, ◌≢◌, ℕ, zero, suc, ◌^◌, ◌<◌, ◌≤◌, List, [], ◌∷◌, ◌++◌, All, map, length, sym, refl, ap, ◌∙◌, subst, arith, Option, Some, None, IfSome, append-nil}
 use Rattle.std.proofs.lemmas.List.{length-map}
-use Rattle.std.proofs.lemmas.List.Elements.{All-weaker, All-cons, All-nil, All-head, All-tail}
+use Rattle.std.proofs.lemmas.List.Elements.{All-weaker, All-cons, All-nil, All-head, All-tail, All-same}
 use mathlib.Core.Option as maybe
 use mathlib.Core.Option.{some, some-injective, some-ne-none}
 use lib.ListN.{get_elem?}
@@ -10,19 +10,19 @@ use Rattle.turn_lock.specs.declared.view.Knowledge.{Knowledge}
 use Rattle.turn_lock.specs.declared.view.SeatView.{SeatView}
 use Rattle.turn_lock.specs.declared.view.SeatView.TheVariants.{Opening, Inside}
 use Rattle.turn_lock.specs.Lists.{BeginsWith, beyond, made_by}
-use Rattle.turn_lock.specs.Shown.{PassView}
+use Rattle.turn_lock.specs.Shown.{PassView, HasItsEntries}
 use Rattle.turn_lock.specs.Views.{accounts_of, account_count, ticket_of, CanTakeIn, knowledge_of}
 use Rattle.turn_lock.specs.Rule.{slot_of, list_of, AnswersFor, Fits, TakesTurns}
 use Rattle.turn_lock.proofs.Counting.{beyond_append, two-le-sum_by}
 use Rattle.turn_lock.proofs.Others.{some_not_none}
 use Rattle.turn_lock.proofs.Passes.{answers}
 
--- what `close` says of the value, of its passes, and of the numbers that no pass has
+-- what `close` says of the value and of the passes
 pub record IsClosed {X E : Type 0} (entries : X → List E) (by : E → ℕ) (seats : ℕ) (start : List E) (passes : List (PassView E)) (x : X) : Type 0 where
   pub begins : BeginsWith (entries x) start
   pub seen : All (λ (p : PassView E). BeginsWith (entries x) p.seen) passes
-  pub mine : All (λ (p : PassView E). p.mine ≡ made_by by p.number (beyond start (entries x))) passes
-  pub others : (number : ℕ) → seats ≤ number → made_by by number (beyond start (entries x)) ≡ []
+  pub mine : All (HasItsEntries by start (entries x)) passes
+  pub makers : All (λ (e : E). by e < seats) (beyond start (entries x))
 
 module _ {A B : Type 0} (P : B → Type 0) (f : A → B) where
   -- what holds of each image
@@ -62,7 +62,7 @@ module _ {X E : Type 0} (entries : X → List E) (by : E → ℕ) (seats : ℕ) 
     within = (omega arith, low);
     answered = refl;
     each = only_opener x;
-    unmade = λ n low. refl;
+    makers = All-nil (λ (e : E). by e < 0);
   }
 
   -- where a seat answers for all passes, no other is inside, so the value is at home
@@ -93,10 +93,10 @@ module _ {X E : Type 0} (entries : X → List E) (by : E → ℕ) (seats : ℕ) 
         vals 0 (Some x) (ap (λ (hs : List (maybe.Option (Option X))). get_elem? hs 0) homes),
         record {
           begins = (t.since, list);
-          seen = All-weaker (λ (p : PassView E). A (knowledge_of p)) (λ (p : PassView E). BeginsWith (entries x) p.seen) (λ p a. (a.known.seen.0, stands ∙ a.known.seen.1)) ps all;
-          mine = All-weaker (λ (p : PassView E). A (knowledge_of p)) (λ (p : PassView E). p.mine ≡ made_by by p.number (beyond start (entries x)))
-              (λ p a. a.known.mine ∙ ap (made_by by p.number) (sym since)) ps all;
-          others = λ n low. ap (made_by by n) since ∙ r.unmade n (omega arith);
+          seen = All-weaker (λ (p : PassView E). A (knowledge_of p)) (λ (p : PassView E). BeginsWith (entries x) p.seen) (λ p a. (a.is_true.seen.0, stands ∙ a.is_true.seen.1)) ps all;
+          mine = All-weaker (λ (p : PassView E). A (knowledge_of p)) (HasItsEntries by start (entries x))
+              (λ p a. a.is_true.mine ∙ ap (made_by by p.number) (sym since)) ps all;
+          makers = All-same (λ (e : E). by e < seats) (beyond start (entries x)) t.since since (All-weaker (λ (e : E). by e < t.made) (λ (e : E). by e < seats) (λ e low. omega arith) t.since r.makers);
         },
       )
 

@@ -3,4 +3,5 @@ pub mod Others
 pub mod Turns
 pub mod Passes
 pub mod Ends
-pub mod Tokens
+pub mod Fields
+pub mod Gathering

@@ -58,7 +58,7 @@ module _ {X E : Type 0} (by : E → ℕ) where
   stays past past' views views' j (Inside k h) made_is begins spent known ticket inside f = inside k h refl f
   stays past past' views views' j (Closing hs) made_is begins spent known ticket inside f =
       All-weaker (AnswersFor by past views j) (AnswersFor by past' views' j)
-      (λ h a. record { known = known h a.joined a.known; joined = ⊎_elim (λ here. inl here) (λ gone. inr (spent h.number gone)) a.joined }) hs f
+      (λ h a. record { is_true = known h a.joined a.is_true; joined = ⊎_elim (λ here. inl here) (λ gone. inr (spent h.number gone)) a.joined }) hs f
   stays past past' views views' j Spent made_is begins spent known ticket inside f = tt
 
   -- a pass knows the truth as long as the list is the same

@@ -11,7 +11,7 @@ use Rattle.turn_lock.specs.declared.view.SeatView.{SeatView}
 use Rattle.turn_lock.specs.declared.view.SeatView.TheVariants.{Opening, Idle, Waiting, Inside, Closing, Spent}
 use Rattle.turn_lock.specs.Views.{knows, accounts_of, account_count, ticket_of, one_more_made, next_pass, CanTakeIn, taken_in}
 use Rattle.turn_lock.specs.Rule.{Past, IsTrueOf, AnswersFor, Fits, TakesTurns}
-use Rattle.turn_lock.proofs.Counting.{at_within, at_end, sum_by-set_at}
+use Rattle.turn_lock.proofs.Counting.{at_within, at_end, sum_by-set_at, made_by-past}
 use Rattle.turn_lock.proofs.Others.{some_not_none, spent_stay, seats_stay, apart_stays, stays}
 use Rattle.turn_lock.proofs.Turns.{tickets}
 
@@ -19,7 +19,7 @@ module _ {X E : Type 0} (by : E → ℕ) where
   -- a seat that can take in passes answers for each of its own
   pub answers : (past : Past X E) (views : List (SeatView E)) (seat : ℕ) (v : SeatView E) → CanTakeIn v → Fits by past views seat v → All (AnswersFor by past views seat) (accounts_of v)
   answers past views seat (Opening made begin) can f = absurd can
-  answers past views seat (Idle h) can f = All-cons (AnswersFor by past views seat) h [] (record { known = f.1; joined = inl f.0 }) (All-nil (AnswersFor by past views seat))
+  answers past views seat (Idle h) can f = All-cons (AnswersFor by past views seat) h [] (record { is_true = f.1; joined = inl f.0 }) (All-nil (AnswersFor by past views seat))
   answers past views seat (Waiting k h) can f = absurd can
   answers past views seat (Inside k h) can f = absurd can
   answers past views seat (Closing hs) can f = f
@@ -54,7 +54,7 @@ module _ {X E : Type 0} (entries : X → List E) (by : E → ℕ) (seats : ℕ) 
       let within = r.within in
       let alive : ¬ (Opening made begin ≡ Spent) = λ e. cc in
       let known : (g : Knowledge E) → IsTrueOf by t g → IsTrueOf by t' g = λ g o. record { number = omega (arith, o.number); base = o.base; seen = o.seen; mine = o.mine } in
-      let fresh : IsTrueOf by t' (knows made (length begin) begin []) = record { number = omega (arith, f.1); base = ap length f.2; seen = (t.since, ap (λ (l : List E). l ++ t.since) (sym f.2)); mine = sym (r.unmade made (omega (arith, f.1))) } in
+      let fresh : IsTrueOf by t' (knows made (length begin) begin []) = record { number = omega (arith, f.1); base = ap length f.2; seen = (t.since, ap (λ (l : List E). l ++ t.since) (sym f.2)); mine = sym (made_by-past by t.made made t.since (omega (arith, f.1)) r.makers) } in
       let width : length longer ≡ t.made + 1 = length-set s.views id left ∙ r.sized in
       let count = sum_by-set_at tickets s.views id (Opening made begin) left at in
       let more = sum_by_push tickets longer right in
@@ -89,7 +89,7 @@ module _ {X E : Type 0} (entries : X → List E) (by : E → ℕ) (seats : ℕ) 
             (λ i v ne iv. stays by t t' s.views views i v (λ zero_is. absurd (ne (zero_is ∙ sym f.0))) refl spent (λ g _ o. known g o)
             (λ k _ low high. (low, high)) (λ k g _ z. (z.0, known g z.1, z.2, z.3, z.4, z.5)) (r.each i v iv)) j u here)
             (λ last. let P : SeatView E → Type 0 = λ v. Fits by t' views j v in subst P last.1 (last.0 ∙ (width ∙ ap (λ (n : ℕ). n + 1) (sym f.1)), fresh)) (at_end longer right u j e);
-        unmade = λ n low. r.unmade n (omega arith);
+        makers = All-weaker (λ (e : E). by e < t.made) (λ (e : E). by e < t.made + 1) (λ e low. omega arith) t.since r.makers;
       }
 
   -- a seat takes in a pass
@@ -137,9 +137,9 @@ module _ {X E : Type 0} (entries : X → List E) (by : E → ℕ) (seats : ℕ) 
             (λ j u apart. let K : ℕ → SeatView E → Type 0 = λ i x. i ≢ other → Fits by t views i x in
             λ e. seats_stay K s.views id both
             (λ _. All-cons (AnswersFor by t views id) h (accounts_of v)
-            (record { known = g.1; joined = inr (let P : ℕ → Type 0 = λ n. get_elem? views n ≡ some Spent in subst P g.0 (set_here once other Spent (at_within once other (Idle h) there))) })
-            (All-weaker (AnswersFor by t s.views id) (AnswersFor by t views id) (λ q a. record { known = a.known; joined = ⊎_elim (λ own. inl own) (λ gone. inr (spent q.number gone)) a.joined }) (accounts_of v) (answers by t s.views id v can f)))
+            (record { is_true = g.1; joined = inr (let P : ℕ → Type 0 = λ n. get_elem? views n ≡ some Spent in subst P g.0 (set_here once other Spent (at_within once other (Idle h) there))) })
+            (All-weaker (AnswersFor by t s.views id) (AnswersFor by t views id) (λ q a. record { is_true = a.is_true; joined = ⊎_elim (λ own. inl own) (λ gone. inr (spent q.number gone)) a.joined }) (accounts_of v) (answers by t s.views id v can f)))
             (λ i x ni ix no. stays by t t s.views views i x (λ _. refl) refl spent (λ _ _ o. o) (λ k _ low high. (low, high)) (λ k q _ z. z) (r.each i x ix))
             j u e apart);
-        unmade = r.unmade;
+        makers = r.makers;
       }

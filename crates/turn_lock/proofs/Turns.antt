@@ -1,6 +1,6 @@
 -- Draw, look and pass on keep the rule.
-use Rattle.std.proofs.Common.{drop, ◌≡◌, ◌≢◌, ℕ, ◌+◌, ◌%◌, ◌^◌, eqb, List, [], ◌∷◌, ◌++◌, get_or, set, sym, refl, ap, ◌∙◌, subst, ⊎_elim, arith, cond, Option, Some, None, IfSome, length-set, append-nil, append_assoc}
-use Rattle.std.proofs.lemmas.List.Elements.{filter-append}
+use Rattle.std.proofs.Common.{All, ◌<◌, drop, ◌≡◌, ◌≢◌, ℕ, ◌+◌, ◌%◌, ◌^◌, eqb, List, [], ◌∷◌, ◌++◌, get_or, set, sym, refl, ap, ◌∙◌, subst, ⊎_elim, arith, cond, Option, Some, None, IfSome, length-set, append-nil, append_assoc}
+use Rattle.std.proofs.lemmas.List.Elements.{filter-append, All-nil, All-cons, All-append, All-weaker}
 use Rattle.std.proofs.lemmas.List.Sums.{count_by-le-length}
 use mathlib.Core.Logic.{dite}
 use mathlib.Core.Option as maybe
@@ -78,7 +78,7 @@ module _ {X E : Type 0} (entries : X → List E) (by : E → ℕ) (seats : ℕ) 
           each = seats_stay (Fits by t' (set s.views id w)) s.views id w (f.0, known h f.1, omega arith, omega arith)
               (λ j u ne ju. stays by t t' s.views (set s.views id w) j u (λ _. refl) refl (λ n. spent_stay s.views id (Idle h) w at alive (n + 1)) (λ g _ o. known g o)
               (λ k _ low high. (low, omega arith)) (λ k g _ z. (z.0, known g z.1, z.2, omega (arith, z.3), z.4, z.5)) (r.each j u ju));
-          unmade = r.unmade;
+          makers = r.makers;
         },
         (λ h' e. (t.drawn, sym word, ap (λ (x : Seated X E). (Waiting t.drawn (own_of x.0), [])) e)),
       ))
@@ -142,7 +142,7 @@ module _ {X E : Type 0} (entries : X → List E) (by : E → ℕ) (seats : ℕ) 
           each = seats_stay (Fits by t' (set s.views id w)) s.views id w (f.0, mine, now, f.3, stands, refl)
               (λ j u ne ju. stays by t t' s.views (set s.views id w) j u (λ _. refl) refl (λ n. spent_stay s.views id (Waiting k h) w at alive (n + 1)) (λ g _ o. known g o)
               (λ n _ low high. (low, high)) (λ n g _ z. (z.0, known g z.1, z.2, z.3, z.4, refl)) (r.each j u ju));
-          unmade = r.unmade;
+          makers = r.makers;
         },
         (f.1.seen.0, stands ∙ f.1.seen.1),
         f.1.mine ∙ ap (made_by by h.number) (sym (ap (drop h.base) stands ∙ (ap (λ (n : ℕ). drop n (list_of t)) f.1.base ∙ beyond_append t.start t.since))),
@@ -181,6 +181,7 @@ module _ {X E : Type 0} (entries : X → List E) (by : E → ℕ) (seats : ℕ) 
 
   -- the entries are all of this number
   record AreOf (number : ℕ) (more : List E) : Type 0 where
+    all : All (λ (e : E). by e ≡ number) more
     own : made_by by number more ≡ more
     others : (m : ℕ) → m ≢ number → made_by by m more ≡ []
 
@@ -235,8 +236,7 @@ module _ {X E : Type 0} (entries : X → List E) (by : E → ℕ) (seats : ℕ) 
               alive (some-injective (Inside k h) Spent (sym at ∙ subst Q (ap (λ (n : ℕ). n + 1) same ∙ sym f.0) gone))) way) o)
               (λ n tu low high. let apart : n ≢ t.ended = λ e. ne (r.apart j id n u (Inside k h) ju at tu (ap (λ (i : ℕ). Some i) (f.2 ∙ sym e))) in (omega arith, high))
               (λ n g same z. absurd (ne (r.apart j id n u (Inside k h) ju at (ap ticket_of same) (ap (λ (i : ℕ). Some i) (f.2 ∙ sym z.2))))) (r.each j u ju));
-          unmade = λ n low. let o = f.1.number in filter-append (λ e. eqb (by e) n) t.since more
-              ∙ (ap (λ (l : List E). l ++ made_by by n more) (r.unmade n low) ∙ one.others n (λ e. omega arith));
+          makers = let P : E → Type 0 = λ e. by e < t.made in All-append P t.since more r.makers (All-weaker (λ (e : E). by e ≡ h.number) P (λ e is. let o = f.1.number in omega arith) more one.all);
         },
         (λ h' x' same. let hand_is : h ≡ h' = ap (λ (m : Seated X E). own_of m.0) same.1 in
             let Q : Seated X E → Option X = λ m. carried_value m.1 in
@@ -247,6 +247,6 @@ module _ {X E : Type 0} (entries : X → List E) (by : E → ℕ) (seats : ℕ) 
       → Allows R slots id me 1 (λ n. (n + 1) % 2 ^ 64) (PassesOn entries st me)
   passes_on slots id me k h x is adds st = let P : Seated X E → Type 0 = λ m. Allows R slots id m 1 (λ n. (n + 1) % 2 ^ 64) (PassesOn entries st m) in subst P (sym is)
       (⊎_elim
-      (λ same. ends_turn slots id k h x [] (same ∙ sym (append-nil h.seen)) (record { own = refl; others = λ m _. refl }) st)
-      (λ more. ends_turn slots id k h x (more.0 ∷ []) more.2 (record { own = made_by-own by h.number more.0 more.1; others = λ m ne. made_by-other by m h.number more.0 more.1 ne }) st)
+      (λ same. ends_turn slots id k h x [] (same ∙ sym (append-nil h.seen)) (record { all = All-nil (λ (e : E). by e ≡ h.number); own = refl; others = λ m _. refl }) st)
+      (λ more. ends_turn slots id k h x (more.0 ∷ []) more.2 (record { all = All-cons (λ (e : E). by e ≡ h.number) more.0 [] more.1 (All-nil (λ (e : E). by e ≡ h.number)); own = made_by-own by h.number more.0 more.1; others = λ m ne. made_by-other by m h.number more.0 more.1 ne }) st)
       adds)

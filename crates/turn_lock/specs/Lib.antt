@@ -3,4 +3,4 @@ pub mod Shown
 pub mod Views
 pub mod Steps
 pub mod Rule
-pub mod Tokens
+pub mod Fields

@@ -12,8 +12,8 @@ module _ {E : Type 0} where
 
   -- the entries that hold this number, in order
   abbrev pub made_by : (E → ℕ) → ℕ → List E → List E
-  made_by by number list = filter (λ e. by e == number) list
+  made_by by number list = filter (λ entry. by entry == number) list
 
   -- the list is what was seen, or that and one entry which holds this number
   abbrev pub AddsAtMostOne : (E → ℕ) → ℕ → List E → List E → Type 0
-  AddsAtMostOne by number seen list = (list ≡ seen) ⊎ ((e : E) × (by e ≡ number) × (list ≡ seen ++ e ∷ []))
+  AddsAtMostOne by number seen list = (list ≡ seen) ⊎ ((entry : E) × (by entry ≡ number) × (list ≡ seen ++ entry ∷ []))

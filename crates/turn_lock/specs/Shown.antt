@@ -1,7 +1,8 @@
 -- What contracts see of a lock, of a pass and of a turn.
-use Rattle.std.specs.Prelude.{◌≡◌, ℕ, Bool, true, List, [], length}
+use Rattle.std.specs.Prelude.{◌≡◌, ℕ, Bool, true, false, List, [], length}
 use base.Stored.{Coded, coded×, coded_ℕ, coded_list, coded_bool, coded_via}
 use Rattle.atomic_table.specs.Seated.{TableId, table_id_coded}
+use Rattle.turn_lock.specs.Lists.{beyond, made_by}
 
 -- which lock it is
 abbrev pub LockId : Type 0
@@ -34,11 +35,19 @@ pub record TurnView (X E : Type 0) : Type 0 where
 module _ {E : Type 0} where
   -- the pass is one of this lock, and has no turn
   abbrev pub IsReady : LockId → PassView E → Type 0
-  IsReady lock p = (p.lock ≡ lock) × (p.ready ≡ true)
+  IsReady lock pass = (pass.lock ≡ lock) × (pass.ready ≡ true)
 
   -- the pass has seen this list, which is the list when the lock was made, and no entry is its own
   abbrev pub IsFresh : List E → PassView E → Type 0
-  IsFresh list p = (p.seen ≡ list) × (p.base ≡ length list) × (p.mine ≡ [])
+  IsFresh list pass = (pass.seen ≡ list) × (pass.base ≡ length list) × (pass.mine ≡ [])
+
+  -- the pass's own entries are those of its number that the list has beyond the start, in order
+  abbrev pub HasItsEntries : (E → ℕ) → List E → List E → PassView E → Type 0
+  HasItsEntries by start list pass = pass.mine ≡ made_by by pass.number (beyond start list)
+
+  -- the turn is one of this lock, and this pass's
+  abbrev pub IsTurnOf : {X : Type 0} → LockId → PassView E → TurnView X E → Type 0
+  IsTurnOf lock pass turn = (turn.lock ≡ lock) × (turn.number ≡ pass.number) × (pass.ready ≡ false)
 
   -- the pass of this number as it is made
   abbrev pub new_pass : LockId → List E → ℕ → PassView E

@@ -1,7 +1,8 @@
 //! A ticket lock round one value that keeps its history as a list of entries.
-//! Threads enter by passes and wait their turn; a turn adds at most one entry. What it keeps, for any
-//! schedule: there is one list, each pass sees a beginning of it, and the entries that hold the
-//! pass's number are the ones that it made, in order.
+//! Clients on threads share the value: each has a pass, enters, adds at most one entry and leaves.
+//! The one statement that is used above: there is one list, each pass has seen a beginning of it,
+//! and its own entries are those of the list that hold its number, in order (`specs/Rule.antt`).
+//! The daemon's state stands behind it.
 #![tactic(auto)]
 
 mod chronicle;

@@ -1,8 +1,8 @@
 //! The lock.
-ghost use Rattle.std.specs.Prelude.{◌≡◌, ◌++◌, ◌≤◌, ℕ, true, false, [], All, length, map, drop, IfOk, IfErr};
+ghost use Rattle.std.specs.Prelude.{◌≡◌, ◌++◌, ◌<◌, ◌≤◌, All, length, map, drop, IfOk, IfErr};
 ghost use Rattle.std.specs.List.{range_with_len};
 ghost use Rattle.turn_lock.specs.Lists.{AddsAtMostOne, BeginsWith, beyond, made_by};
-ghost use Rattle.turn_lock.specs.Shown.{IsReady, IsFresh};
+ghost use Rattle.turn_lock.specs.Shown.{IsReady, IsFresh, IsTurnOf, HasItsEntries};
 
 use crate::chronicle::Chronicle;
 use crate::closing::gather;
@@ -16,8 +16,8 @@ use std::snapshot::Snapshot;
 use std::sync::Wait;
 
 /// A ticket lock round one value. It can't be dropped: `close` ends it.
-/// Contracts see which lock it is, how many passes it has, and the list that its value stood for when
-/// it was made.
+/// Contracts see which lock it is, how many passes it has, and the list that its value stood for
+/// when it was made.
 pub struct TurnLock<V: Chronicle> {
     table: OwnTable<V>,
     seats: u32,
@@ -30,17 +30,16 @@ impl<V: Chronicle> Model for TurnLock<V> {
 
     ghost coded = { lock_code V.Entry.code };
 
-    ghost use Rattle.std.specs.Prelude.{◌≡◌, ◌≤◌};
-    ghost use Rattle.turn_lock.specs.Steps.{IsLaid};
+    ghost use Rattle.turn_lock.specs.Fields.{lock_view, IsLock};
 
-    ghost view = { λ l. record { id = l.table.shared.table_id; seats = l.seats; start = V.entries l.table.shared.key.value.value } };
+    ghost view = { λ l. lock_view l.table.shared.table_id (V.entries l.table.shared.key.value.value) l.seats };
 
-    ghost invariant = { λ l. IsLaid l.table.shared.table_id × (l.table.shared.key.seats ≡ l.seats) × (1 ≤ l.seats) };
+    ghost invariant = { λ l. IsLock l.table.shared.table_id l.table.shared.key.seats l.seats };
 }
 
 impl<V: Chronicle> TurnLock<V> {
-    /// A lock round the value, with this many passes, which are numbered from 0.
-    /// Only this call takes memory. `Refused` is want of memory.
+    /// A lock round the value, and its passes, which are numbered from 0.
+    /// No other call takes memory. `Refused` is want of memory, and hands the value back.
     pub fn new(
         alloc: Global,
         value: V,
@@ -70,14 +69,15 @@ impl<V: Chronicle> TurnLock<V> {
         Ok((TurnLock { table, seats }, passes))
     }
 
-    /// Waits until it is this pass's turn. No clause says that it ever is.
+    /// Waits until it is the pass's turn. No clause says that it comes.
     pub fn enter<R: Wait>(&self, rt: &R, pass: &mut Pass<V::Entry>) -> Turn<V>
         requires ready { IsReady self.now.id pass.old }
 
-        ensures pass { (pass.new.number ≡ pass.old.number) × (pass.new.ready ≡ false) }
-        ensures turn { (result.lock ≡ self.now.id) × (result.number ≡ pass.old.number) }
+        ensures same { pass.new.number ≡ pass.old.number }
+        ensures turn { IsTurnOf self.now.id pass.new result }
         ensures known { (result.base ≡ pass.old.base) × (result.mine ≡ pass.old.mine) }
 
+        // the list as the turn begins
         ensures list { result.seen ≡ V.entries result.value }
         ensures begins { BeginsWith result.seen pass.old.seen }
         ensures mine { result.mine ≡ made_by V.by result.number (drop result.base result.seen) }
@@ -89,9 +89,10 @@ impl<V: Chronicle> TurnLock<V> {
         Turn { value, seat }
     }
 
-    /// Ends the turn that this lock gave the pass. It waits for nobody.
+    /// Ends the turn that this lock gave the pass. The value may have gained one entry of the pass.
+    /// It waits for nobody.
     pub fn leave(&self, turn: Turn<V>, pass: &mut Pass<V::Entry>)
-        requires turn { (turn.lock ≡ self.now.id) × (turn.number ≡ pass.old.number) × (pass.old.ready ≡ false) }
+        requires turn { IsTurnOf self.now.id pass.old turn }
         requires adds { AddsAtMostOne V.by turn.number turn.seen (V.entries turn.value) }
 
         ensures ready { IsReady self.now.id pass.new }
@@ -106,15 +107,16 @@ impl<V: Chronicle> TurnLock<V> {
         pass.regain(seat);
     }
 
-    /// Ends the lock. These are all its passes, in any order, and none has a turn.
+    /// Ends the lock, and gives the value back. The passes are all that it has, in any order, and
+    /// none has a turn.
     pub fn close(self, passes: Vec<Pass<V::Entry>>) -> V
         requires all { length passes.items ≡ self.seats }
         requires ready { All (IsReady self.id) passes.items }
 
         ensures begins { BeginsWith (V.entries result) self.start }
         ensures seen { All (λ p. BeginsWith (V.entries result) p.seen) passes.items }
-        ensures mine { All (λ p. p.mine ≡ made_by V.by p.number (beyond self.start (V.entries result))) passes.items }
-        ensures others { (number : ℕ) → self.seats ≤ number → made_by V.by number (beyond self.start (V.entries result)) ≡ [] }
+        ensures mine { All (HasItsEntries V.by self.start (V.entries result)) passes.items }
+        ensures makers { All (λ e. V.by e < self.seats) (beyond self.start (V.entries result)) }
     {
         let TurnLock { table, seats: _ } = self;
         let closer = gather(&table.shared, passes);

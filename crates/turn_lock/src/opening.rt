@@ -20,7 +20,7 @@ pub struct Refused<V> {
 }
 
 /// What the rule is told when the lock is made.
-pub struct Start<V> {
+pub(crate) struct Start<V> {
     pub seats: u32,
     pub value: Snapshot<V>,
 }

@@ -1,17 +1,17 @@
 //! The right to enter a lock.
 ghost use Rattle.std.specs.Prelude.{◌≡◌, ℕ, ◌∷◌, true, false, List, []};
 ghost use Rattle.turn_lock.specs.declared.view.SeatView.TheVariants.{Idle};
-ghost use Rattle.turn_lock.specs.Views.{knows};
-ghost use Rattle.turn_lock.specs.Tokens.{pass_view};
+ghost use Rattle.turn_lock.specs.Views.{knowledge_of, knows};
+ghost use Rattle.turn_lock.specs.Fields.{pass_view};
 
 use crate::view::SeatView;
 use atomic_table::{Badge, Seat};
 use std::marker::Model;
 use std::mem;
 
-/// The right to enter a lock again and again, one turn at a time.
-/// Contracts see its number, the list as it saw it last, and its own entries since the lock was made.
-/// While its turn lasts, the two lists are with the turn.
+/// The right to enter a lock, again and again.
+/// Contracts see its number, the list as it saw it last, and its own entries since the lock was
+/// made. While its turn lasts, the two lists are with the turn.
 #[derive(Drop)]
 pub struct Pass<E> {
     number: u32,
@@ -25,7 +25,7 @@ impl<E> Model for Pass<E> {
 
     ghost coded = { pass_code E.code };
 
-    ghost use Rattle.turn_lock.specs.Tokens.{pass_view, IsPass};
+    ghost use Rattle.turn_lock.specs.Fields.{pass_view, IsPass};
 
     ghost view = { λ p. pass_view p.badge.table_id p.number p.badge.views };
 
@@ -54,7 +54,7 @@ impl<E> Pass<E> {
     pub(crate) fn lend<S>(&mut self) -> Seat<S, SeatView<E>>
         requires { self.old.ready ≡ true }
         ensures pass { (self.new.number ≡ self.old.number) × (self.new.ready ≡ false) }
-        ensures seat { (result.table_id ≡ self.old.lock) × (result.me ≡ (Idle (knows self.old.number self.old.base self.old.seen self.old.mine), [])) }
+        ensures seat { (result.table_id ≡ self.old.lock) × (result.me ≡ (Idle (knowledge_of self.old), [])) }
     {
         mem::replace(&mut self.badge, Badge::blank()).into_seat()
     }

@@ -1,11 +1,9 @@
 //! The seven kinds of atomic step, one function each, and the wait for a turn.
 ghost use Rattle.std.specs.Prelude.{◌≡◌, ◌+◌, ◌∷◌, ◌<◌, ℕ, [], length};
-ghost use Rattle.turn_lock.specs.declared.view.Knowledge.{Knowledge};
 ghost use Rattle.turn_lock.specs.declared.view.SeatView.TheVariants.{Opening, Idle, Closing};
-ghost use Rattle.turn_lock.specs.Lists.{AddsAtMostOne};
 ghost use Rattle.turn_lock.specs.Shown.{IsReady, new_pass};
-ghost use Rattle.turn_lock.specs.Views.{CanTakeIn, accounts_of, grown, knowledge_of, own_of};
-ghost use Rattle.turn_lock.specs.Steps.{SitsAt, HasTicket, HasTurn, HasValue, Finds};
+ghost use Rattle.turn_lock.specs.Views.{CanTakeIn, accounts_of, knowledge_of, own_of};
+ghost use Rattle.turn_lock.specs.Steps.{SitsAt, HasTicket, HasTurn, Finds, MayEnd, Ends};
 
 use crate::chronicle::Chronicle;
 use crate::opening::Start;
@@ -92,12 +90,12 @@ pub(crate) fn put<V: Chronicle>(table: &LockTable<V>, seat: &mut LockSeat<V>, va
     let None = was else { unreachable!() };
 }
 
-/// Pass on: the seat's turn ends, and the value goes home with the entry that was added, if one was.
+/// Pass on: the seat's turn ends, and the value goes home, with an entry of the pass or as it was.
 pub(crate) fn pass_on<V: Chronicle>(table: &LockTable<V>, seat: &mut LockSeat<V>)
     requires seat { SitsAt table.now.table_id seat.old.table_id }
-    requires turn { (h : Knowledge V.Entry) × (x : V) × HasValue h x seat.old.me × AddsAtMostOne V.by h.number h.seen (V.entries x) }
+    requires turn { MayEnd V.entries V.by seat.old.me }
     ensures seat { seat.new.table_id ≡ seat.old.table_id }
-    ensures idle { (h : Knowledge V.Entry) (x : V) → HasValue h x seat.old.me → seat.new.me ≡ (Idle (grown h (V.entries x)), []) }
+    ensures idle { Ends V.entries seat.old.me seat.new.me }
 {
     table.fetch_add::<PassOn>(seat, TURNS, 1);
 }
@@ -133,7 +131,7 @@ pub(crate) fn take_in<V: Chronicle>(
     table.join_seat::<TakeIn>(closer, pass.lend());
 }
 
-/// Looks until the seat's turn has come. It sleeps between two looks, and each end of a turn wakes it.
+/// Looks until the seat's turn has come. It sleeps between two looks, until some turn ends.
 pub(crate) fn wait_for<V: Chronicle, R: Wait>(
     rt: &R,
     table: &LockTable<V>,

@@ -7,8 +7,9 @@ use crate::chronicle::Chronicle;
 use crate::steps::LockSeat;
 use std::marker::Model;
 
-/// The turn of a pass, which has the lock's value. It can't be dropped: `TurnLock::leave` ends it.
-/// Contracts see the number, `base` and own entries of its pass, the list as the turn began, and the value.
+/// The turn of a pass, with the lock's value. It can't be dropped: `TurnLock::leave` ends it.
+/// Contracts see the number and the own entries of its pass, the list as the turn began, and the
+/// value.
 pub struct Turn<V: Chronicle> {
     pub(crate) value: V,
     pub(crate) seat: LockSeat<V>,
@@ -21,7 +22,7 @@ impl<V: Chronicle> Model for Turn<V> {
 
     ghost coded = { turn_code V.code V.Entry.code };
 
-    ghost use Rattle.turn_lock.specs.Tokens.{turn_view, IsTurn};
+    ghost use Rattle.turn_lock.specs.Fields.{turn_view, IsTurn};
 
     ghost view = { λ t. turn_view t.seat.table_id t.seat.me.0 t.value };
 

@@ -2,7 +2,7 @@
 use std::collections::LinkedList;
 
 /// What a pass knows.
-pub struct Knowledge<E> {
+pub(crate) struct Knowledge<E> {
     /// The number that the entries of this pass hold.
     pub number: u32,
     /// How long the list was when the lock was made.
@@ -14,7 +14,7 @@ pub struct Knowledge<E> {
 }
 
 /// What a seat knows, by what it is doing.
-pub enum SeatView<E> {
+pub(crate) enum SeatView<E> {
     /// It makes the passes: how many it has made, and the list that they start with.
     Opening(u64, LinkedList<E>),
     /// It is a pass's, which has no ticket.

@@ -25,4 +25,4 @@ returns g c =
     subst (λ (n : ℕ). P n c.args.self.start c.in-Some.value) seats
     (subst (λ (l : List E). P c.self.inside.table.shared.key.seats l c.in-Some.value) start
     (subst (λ (x : g.row.V.Denot). P c.self.inside.table.shared.key.seats (e c.self.inside.table.shared.key.value.value) x) same z.2)) in
-    record { begins = closed.begins; seen = closed.seen; mine = closed.mine; others = closed.others }
+    record { begins = closed.begins; seen = closed.seen; mine = closed.mine; makers = closed.makers }

@@ -2,7 +2,7 @@ use Rattle.std.proofs.Common.{◌≡◌, ◌∙◌, List, All, map, ap, subst}
 use Rattle.std.proofs.lemmas.List.Elements.{All-same}
 use Rattle.turn_lock.specs.declared.opening.Start.{Start}
 use Rattle.turn_lock.specs.Shown.{PassView, IsReady, IsFresh}
-use Rattle.turn_lock.proofs.Tokens.{numbers-new_passes, new_passes-ready, new_passes-fresh}
+use Rattle.turn_lock.proofs.Fields.{numbers-new_passes, new_passes-ready, new_passes-fresh}
 use Rattle.turn_lock.proofs.lock.TurnLock.new.Goals as goal
 
 pub returns-clause-numbers : goal.returns-clause-numbers
