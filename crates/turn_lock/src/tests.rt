@@ -1,5 +1,5 @@
 // What no clause says: that the calls succeed and return, on one thread and on several.
-ghost use Rattle.std.specs.Prelude.{◌≡◌, ◌<◌, ◌++◌, ◌∷◌, ℕ, [], All, MatchResult, length, slice_index_or};
+ghost use Rattle.std.specs.Prelude.{◌≡◌, ◌++◌, ◌∷◌, [], All, IfOk, OnErr, length};
 ghost use Rattle.turn_lock.specs.declared.tests.Count.{Count};
 ghost use Rattle.turn_lock.specs.Shown.{PassView, IsReady};
 
@@ -30,7 +30,8 @@ impl Chronicle for Counts {
 
 impl Counts {
     fn add(&mut self, pass: u32, count: u32) -> Result<(), AllocError>
-        ensures { MatchResult result (λ _. self.new.items.items ≡ self.old.items.items ++ record { pass = pass; count = count } ∷ []) (λ _. self.new.items.items ≡ self.old.items.items) }
+        ensures added { IfOk result (λ _. self.new.items.items ≡ self.old.items.items ++ record { pass = pass; count = count } ∷ []) }
+        ensures same { OnErr result (self.new.items.items ≡ self.old.items.items) }
     {
         self.items.push(Count { pass, count })?;
         Ok(())
@@ -46,7 +47,8 @@ fn count_one<R: Wait>(
 ) -> Result<(), AllocError>
     requires { IsReady lock.now.id pass.old }
     ensures ready { IsReady lock.now.id pass.new }
-    ensures mine { MatchResult result (λ _. pass.new.mine ≡ pass.old.mine ++ record { pass = pass.old.number; count = count } ∷ []) (λ _. pass.new.mine ≡ pass.old.mine) }
+    ensures added { IfOk result (λ _. pass.new.mine ≡ pass.old.mine ++ record { pass = pass.old.number; count = count } ∷ []) }
+    ensures same { OnErr result (pass.new.mine ≡ pass.old.mine) }
 {
     let mut turn = lock.enter(rt, pass);
     let added = turn.state().add(pass.number(), count);
@@ -146,6 +148,7 @@ fn closed_at_once(alloc: Global, value: Counts) -> Vec<Count>
     }
 }
 
+// It passes too where one of the allocations of `new` fails: with `--fail-alloc` 2 to 5.
 #[test]
 fn one_seat_and_no_turn_closes_with_the_value(rt: HostRuntime) -> Result<(), Fail> {
     let mut value = no_counts(rt.alloc());
