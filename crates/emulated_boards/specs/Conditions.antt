@@ -28,6 +28,12 @@ shown it = shown_as it.presence (seen.Home (unwrap_or it.image.raw 0) it.mode)
     shown_as Gone home = seen.Gone
     shown_as Stranger home = seen.Stranger
 
+-- the port shows the board itself
+abbrev pub ShowsBoard : Seen → Type 0
+ShowsBoard (seen.Home raw mode) = Unit {0}
+ShowsBoard seen.Gone = ⊥
+ShowsBoard seen.Stranger = ⊥
+
 -- the image that runs behind a boot: the staged one, where there is one
 abbrev pub booted_image : Condition → Image
 booted_image it = unwrap_or it.staged it.image

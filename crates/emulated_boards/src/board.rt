@@ -1,8 +1,8 @@
 //! The emulated board.
-ghost use Rattle.std.specs.Prelude.{◌≡◌, ◌<◌, ◌≤◌, [], IsOk, OnOk, OnErr};
+ghost use Rattle.std.specs.Prelude.{◌≡◌, ◌<◌, ◌≤◌, ◌↔◌, [], IsOk, OnOk, OnErr};
 ghost use Rattle.emulated_boards.specs.Images.{image_of, payload_image};
 ghost use Rattle.emulated_boards.specs.Plans.{IsPlan};
-ghost use Rattle.emulated_boards.specs.Conditions.{booted, fresh, plugged, shown, unplugged};
+ghost use Rattle.emulated_boards.specs.Conditions.{ShowsBoard, booted, fresh, plugged, shown, unplugged};
 ghost use Rattle.emulated_boards.specs.Boards.{BoardStep, SameBoard, SameRecords, enter_loader, leave_loader, look, program, stage};
 ghost use Rattle.emulated_boards.specs.declared.condition.Presence.TheVariants.{Home};
 
@@ -157,7 +157,8 @@ impl Board {
 
     /// What the board's port shows.
     pub fn view(&self) -> Seen
-        ensures { result ≡ shown self.now.condition }
+        ensures shown { result ≡ shown self.now.condition }
+        ensures home { ShowsBoard result ↔ (self.now.condition.presence ≡ Home) }
     {
         self.condition.shown()
     }
