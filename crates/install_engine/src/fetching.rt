@@ -18,6 +18,7 @@ use outer_traits::{Failed, Shelf};
 pub fn fetch<P: Shelf>(shelf: &mut P, name: &Digest, size: u32, blocks: Blocks) -> Fetched
     requires { size ≤ 4096 * blocks.count }
     ensures found { IfSome (P.files shelf.old) (λ all. IfSome (told result) (λ found. found ≡ found_of (file_of all name.now) name.now size)) }
+    ensures bytes { IfSome (P.files shelf.old) (λ all. IfWhole result (λ payload. file_of all name.now ≡ Some payload.bytes)) }
 
     // These hold also where the shelf tells nothing.
     ensures digest { IfWhole result (λ payload. payload.digest ≡ name.now) }
