@@ -17,3 +17,6 @@ mod words;
 pub use ran::Ran;
 pub use run::run_campaign;
 pub use status::Status;
+
+#[cfg(test)]
+mod tests;
