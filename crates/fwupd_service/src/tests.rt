@@ -1,6 +1,6 @@
 //! What users see: each run's report, exit status and text.
 use crate::{Status, run_campaign};
-use fw_base::{Digest, read_digest};
+use fw_base::{Digest, NoMemory, read_digest};
 use outer_traits::{MemoryShelf, MemorySink, MemorySource};
 use std::alloc::{AllocError, Global};
 use std::test::Fail;
@@ -75,7 +75,7 @@ fn run_words(
     input: &[u8],
     file: Option<&[u8]>,
     failing: Failing,
-) -> Result<Shown, Fail> {
+) -> Result<Shown, NoMemory> {
     let mut files: Vec<(Digest, Vec<u8>)> = Vec::new(alloc);
     if let (Some(bytes), Some(digest)) = (file, read_digest(NEW_DIGEST.as_bytes())) {
         files.push((digest, bytes.to_vec(alloc)?))?;
@@ -275,4 +275,22 @@ fn words_that_are_no_command(rt: HostRuntime) -> Result<(), Fail> {
         assert!(rt; shown.output.is_empty());
     }
     Ok(())
+}
+
+/// Whichever allocation fails, the answer is the whole report, or want of memory and a front of it.
+#[test]
+fn want_of_memory_is_said(rt: HostRuntime) {
+    let Ok(text) = document(rt.alloc(), "usb1", "1.1.0") else {
+        return;
+    };
+    let words: &[&[u8]] = &[b"run"];
+    let Ok(shown) = run_words(rt.alloc(), words, text.as_bytes(), Some(NEW), NOTHING_FAILS) else {
+        return;
+    };
+    let code = shown.status.exit_code();
+    assert!(rt;
+        code == 0 && shown.output.as_slice() == REPORT || code == 6,
+        "status {code}"
+    );
+    assert!(rt; REPORT.starts_with(&shown.output));
 }
