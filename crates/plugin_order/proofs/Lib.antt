@@ -1,0 +1,9 @@
+pub mod ChainLaws
+pub mod Counting
+pub mod Found
+pub mod TableLaws
+pub mod SeatLaws
+pub mod NameOrder
+pub mod WalkLaws
+pub mod CycleNames
+pub mod LevelLaws
