@@ -39,10 +39,12 @@ history_more rows row h e free = record {
   where
     k_or_last : (k : ℕ) → k < length (rows ++ row ∷ []) → (k < length rows) ⊎ (k ≡ length rows)
     k_or_last k within = grind (arith, length_push rows row)
+
     old : (k : ℕ) → k < length rows → get_or (map (λ (r : Row). r.entry) (rows ++ row ∷ [])) k 0 ≡ k + 1
     old k before =
         let far : k < length (rows ++ row ∷ []) = omega (arith, length_push rows row) in
         get_or-map (λ (r : Row). r.entry) (rows ++ row ∷ []) k row 0 far ∙ ap (λ (r : Row). r.entry) (get_or_append_left rows (row ∷ []) row k before) ∙ sym (get_or-map (λ (r : Row). r.entry) rows k row 0 before) ∙ h.entries k before
+
     new : (k : ℕ) → k ≡ length rows → get_or (map (λ (r : Row). r.entry) (rows ++ row ∷ [])) k 0 ≡ k + 1
     new k same =
         let far : k < length (rows ++ row ∷ []) = omega (arith, length_push rows row) in

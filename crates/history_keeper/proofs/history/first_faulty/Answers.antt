@@ -25,7 +25,7 @@ loop-at-preserved c =
     still_history c.args.rows.now c.loop-at.at c.index-rows-at.result c.loop-at-test.true c.loop-at.invariant
     (ap (λ (r : Row). r.entry) (sym c.index-rows-at.is) ∙ c.if-row-at.false)
     (λ hit.
-      let P : Row → Type 0 = λ r. Clashes (take c.loop-at.at c.args.rows.now) r in
-      let here : Clashes (take c.loop-at.at c.args.rows.now) c.index-rows-at.result = subst P (sym c.index-rows-at.is) hit in
-      let no : false ≡ true = sym c.if-clashes.false ∙ c.clashes.ensures.1 here in
-      cc)
+    let P : Row → Type 0 = λ r. Clashes (take c.loop-at.at c.args.rows.now) r in
+    let here : Clashes (take c.loop-at.at c.args.rows.now) c.index-rows-at.result = subst P (sym c.index-rows-at.is) hit in
+    let no : false ≡ true = sym c.if-clashes.false ∙ c.clashes.ensures.1 here in
+    cc)
