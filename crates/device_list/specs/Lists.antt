@@ -23,8 +23,8 @@ names (Port port) view = bytes_eq port view.sheet.port
 abbrev pub place : Selector → List DeviceView → Option ℕ
 place selector views = position (names selector) views
 
--- Why a device isn't added, memory aside: its ID is there, or else the list is full.
-abbrev pub refused : List DeviceView → DeviceView → Option ListFault
-refused views view =
-    if is_some (place (Id view.sheet.device) views) then Some (Duplicate view.sheet.device)
+-- Why a device of that ID isn't added, memory aside: the ID is there, or else the list is full.
+abbrev pub refused : List DeviceView → List ℕ → Option ListFault
+refused views device =
+    if is_some (place (Id device) views) then Some (Duplicate device)
     else (if length views == 256 then Some Full else None)

@@ -1,5 +1,6 @@
 //! The list of devices.
-ghost use Rattle.std.specs.Prelude.{◌≡◌, ◌<◌, ◌⊎◌, [], ◌∷◌, ◌++◌, length, slice_get, slice_set, position, IfSome, IfErr, OnOk, OnErr};
+ghost use Rattle.std.specs.Prelude.{◌≡◌, ◌<◌, ◌⊎◌, false, [], ◌∷◌, ◌++◌, length, map, slice_get, slice_set, position, MatchResult, IfSome, IfErr, OnOk, OnErr, is_some, vec_len, vec_capacity};
+ghost use Rattle.std.specs.List.{list_any};
 ghost use Rattle.std.specs.Option.{ForSome};
 ghost use Rattle.std.specs.Str.{bytes_eq};
 ghost use Rattle.device_list.specs.Lists.{place, refused, shows, names};
@@ -50,20 +51,27 @@ impl Devices {
     pub fn add(&mut self, view: DeviceView) -> Result<(), ListFault>
         ensures added { OnOk result (self.new ≡ self.old ++ view ∷ []) }
         ensures unchanged { OnErr result (self.new ≡ self.old) }
-        ensures refused { IfSome (refused self.old view) (λ fault. result ≡ Err fault) }
-        ensures faults { IfErr result (λ fault. (fault ≡ ListFault.NoMemory) ⊎ (refused self.old view ≡ Some fault)) }
+        ensures refused { IfSome (refused self.old view.sheet.device) (λ fault. result ≡ Err fault) }
+        ensures faults { IfErr result (λ fault. (fault ≡ ListFault.NoMemory) ⊎ (refused self.old view.sheet.device ≡ Some fault)) }
     {
-        let device = view.sheet.device;
+        let device = device_of(&view);
+        match self.prepare(device) {
+            Ok(()) => append(&mut self.views, &mut self.ids, view),
+            Err(fault) => Err(fault),
+        }
+    }
+
+    // Whether a device of that ID may be added.
+    fn prepare(&self, device: DeviceId) -> Result<(), ListFault>
+        ensures refused { MatchResult result (λ _. refused self.now device ≡ None) (λ fault. refused self.now device ≡ Some fault) }
+        ensures free { OnOk result (list_any (names (Selector.Id device)) self.now ≡ false) }
+    {
         if self.by_id(&device).is_some() {
             return Err(ListFault::Duplicate { device });
         }
         if self.views.len() == DEVICES_MAX {
             return Err(ListFault::Full);
         }
-        if self.views.reserve(1).is_err() || self.ids.insert(device).is_err() {
-            return Err(ListFault::NoMemory);
-        }
-        let _ = self.views.push(view);
         Ok(())
     }
 
@@ -73,7 +81,7 @@ impl Devices {
         requires same_sheet { ForSome (slice_get self.old at) (λ old. old.sheet ≡ view.sheet) }
         ensures { self.new ≡ slice_set self.old at view }
     {
-        self.views[at] = view;
+        put(&mut self.views, at, view);
     }
 
     /// What the port shows from now on.
@@ -81,8 +89,7 @@ impl Devices {
         requires { at < length self.old }
         ensures { IfSome (slice_get self.old at) (λ view. self.new ≡ slice_set self.old at (record view { seen = seen })) }
     {
-        let view = &mut self.views[at];
-        view.seen = seen;
+        put_seen(&mut self.views, at, seen);
     }
 
     /// The entry that has a claim on the device from now on, if one has.
@@ -90,8 +97,7 @@ impl Devices {
         requires { at < length self.old }
         ensures { IfSome (slice_get self.old at) (λ view. self.new ≡ slice_set self.old at (record view { claim = claim })) }
     {
-        let view = &mut self.views[at];
-        view.claim = claim;
+        put_claim(&mut self.views, at, claim);
     }
 
     /// The views, in the order of adding.
@@ -103,7 +109,8 @@ impl Devices {
 
     /// The place of the device with that ID, present or not.
     pub fn by_id(&self, device: &DeviceId) -> Option<usize>
-        ensures { result ≡ place (Selector.Id device.now) self.now }
+        ensures first { result ≡ place (Selector.Id device.now) self.now }
+        ensures found { is_some result ≡ list_any (names (Selector.Id device.now)) self.now }
     {
         self.ids.get_index_of(device)
     }
@@ -143,4 +150,100 @@ fn is_shown(view: &DeviceView, guid: &Guid) -> bool
     ensures { result ≡ shows guid.now view.now }
 {
     view.guids().iter().any(|shown| guid == shown)
+}
+
+// Puts a device of a new ID behind the others.
+fn append(
+    views: &mut Vec<DeviceView>,
+    ids: &mut IndexSet<DeviceId>,
+    view: DeviceView,
+) -> Result<(), ListFault>
+    requires { list_any (bytes_eq view.sheet.device) ids.old.keys ≡ false }
+    ensures added { OnOk result (views.new.items ≡ views.old.items ++ view ∷ []) }
+    ensures id { OnOk result (ids.new.keys ≡ ids.old.keys ++ view.sheet.device ∷ []) }
+    ensures unchanged { OnErr result (views.new.items ≡ views.old.items) }
+    ensures same_ids { OnErr result (ids.new.keys ≡ ids.old.keys) }
+    ensures memory { IfErr result (λ fault. fault ≡ ListFault.NoMemory) }
+{
+    let device = device_of(&view);
+    match make_room(views, ids, device) {
+        Ok(()) => {
+            views.push(view).unwrap();
+            Ok(())
+        }
+        Err(fault) => Err(fault),
+    }
+}
+
+fn device_of(view: &DeviceView) -> DeviceId
+    ensures { result ≡ view.now.sheet.device }
+{
+    view.sheet.device
+}
+
+// Room for one more view, and its ID behind the others.
+fn make_room(
+    views: &mut Vec<DeviceView>,
+    ids: &mut IndexSet<DeviceId>,
+    device: DeviceId,
+) -> Result<(), ListFault>
+    requires { list_any (bytes_eq device) ids.old.keys ≡ false }
+    ensures same_views { views.new.items ≡ views.old.items }
+    ensures room { OnOk result (vec_len views.new < vec_capacity views.new) }
+    ensures added { OnOk result (ids.new.keys ≡ ids.old.keys ++ device ∷ []) }
+    ensures unchanged { OnErr result (ids.new.keys ≡ ids.old.keys) }
+    ensures memory { IfErr result (λ fault. fault ≡ ListFault.NoMemory) }
+{
+    reserve_one(views)?;
+    note_id(ids, device)
+}
+
+// Room for one more view.
+fn reserve_one(views: &mut Vec<DeviceView>) -> Result<(), ListFault>
+    ensures unchanged { views.new.items ≡ views.old.items }
+    ensures room { OnOk result (vec_len views.new < vec_capacity views.new) }
+    ensures memory { IfErr result (λ fault. fault ≡ ListFault.NoMemory) }
+{
+    match views.reserve(1) {
+        Ok(()) => Ok(()),
+        Err(_) => Err(ListFault::NoMemory),
+    }
+}
+
+// One more ID.
+fn note_id(ids: &mut IndexSet<DeviceId>, device: DeviceId) -> Result<(), ListFault>
+    requires { list_any (bytes_eq device) ids.old.keys ≡ false }
+    ensures added { OnOk result (ids.new.keys ≡ ids.old.keys ++ device ∷ []) }
+    ensures unchanged { OnErr result (ids.new.keys ≡ ids.old.keys) }
+    ensures memory { IfErr result (λ fault. fault ≡ ListFault.NoMemory) }
+{
+    match ids.insert(device) {
+        Ok(_) => Ok(()),
+        Err(_) => Err(ListFault::NoMemory),
+    }
+}
+
+fn put(views: &mut [DeviceView], at: usize, view: DeviceView)
+    requires place { at < length views.old }
+    requires same_sheet { ForSome (slice_get views.old at) (λ old. old.sheet ≡ view.sheet) }
+    ensures put { views.new ≡ slice_set views.old at view }
+    ensures same_ids { map (λ view. view.sheet.device) views.new ≡ map (λ view. view.sheet.device) views.old }
+{
+    views[at] = view;
+}
+
+fn put_seen(views: &mut [DeviceView], at: usize, seen: Seen)
+    requires { at < length views.old }
+    ensures put { IfSome (slice_get views.old at) (λ view. views.new ≡ slice_set views.old at (record view { seen = seen })) }
+    ensures same_ids { map (λ view. view.sheet.device) views.new ≡ map (λ view. view.sheet.device) views.old }
+{
+    views[at].seen = seen;
+}
+
+fn put_claim(views: &mut [DeviceView], at: usize, claim: Option<u32>)
+    requires { at < length views.old }
+    ensures put { IfSome (slice_get views.old at) (λ view. views.new ≡ slice_set views.old at (record view { claim = claim })) }
+    ensures same_ids { map (λ view. view.sheet.device) views.new ≡ map (λ view. view.sheet.device) views.old }
+{
+    views[at].claim = claim;
 }

@@ -6,6 +6,8 @@
 pub mod devices;
 pub mod fault;
 pub mod selector;
+#[cfg(test)]
+mod tests;
 
 pub use devices::{DEVICES_MAX, Devices};
 pub use fault::ListFault;
