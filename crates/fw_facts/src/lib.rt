@@ -8,8 +8,10 @@ pub mod problem;
 pub mod release;
 pub mod seen;
 pub mod sheet;
+pub mod view;
 
 pub use problem::Problem;
 pub use release::{Component, Release};
 pub use seen::{Mode, Seen};
 pub use sheet::Sheet;
+pub use view::DeviceView;

@@ -168,12 +168,14 @@ fn board(alloc: Global, value: &Value) -> Result<(Sheet, Vec<u8>), FormStop> {
     let physical = wanted(line(member(value, "physical")?))?;
     ensure(!physical.bytes().is_empty())?;
     let runtime_guids = guids(alloc, member(value, "instance-ids")?)?;
+    let loader_guids = guids(alloc, member(value, "instance-ids")?)?;
     let image = wanted(text(member(value, "image")?))?;
     ensure(image.len() <= IMAGE_MAX && image_raw(image).is_some())?;
     let sheet = Sheet {
         port,
         device: device_id(physical.bytes(), None),
         runtime_guids,
+        loader_guids,
         format: Format::Triplet,
     };
     Ok((sheet, image.to_vec(alloc)?))

@@ -1,10 +1,10 @@
 -- Histories, row by row.
-use Rattle.std.proofs.Common.{◌≡◌, ◌≢◌, ℕ, ◌+◌, ◌<◌, ◌≤◌, arith, List, [], ◌∷◌, ◌++◌, length, take, map, get_or, refl, sym, ap, subst, ◌⊎◌, ◌∙◌, inl, inr, length-append, length-take}
-use Rattle.std.specs.Prelude.{AllPairs, EachIndex}
+use Rattle.std.proofs.Common.{◌≡◌, ◌≢◌, ℕ, ◌+◌, ◌<◌, arith, List, [], ◌∷◌, ◌++◌, length, take, map, get_or, refl, sym, ap, subst, ◌⊎◌, ◌∙◌, inl, inr, length-take}
+use Rattle.std.specs.Prelude.{AllPairs}
 use Rattle.std.proofs.lemmas.List.Quantifiers.{all_pairs_push}
-use Rattle.std.proofs.lemmas.List.{get_or_append_left, get_or_push, get_or-take, get_or_default, get_or-map, map_push, length_push, take_more, take-map}
+use Rattle.std.proofs.lemmas.List.{get_or_append_left, get_or_push, get_or-take, get_or_default, get_or-map, length_push, take_more, take-map}
 use Rattle.history_keeper.specs.declared.row.Row.{Row}
-use Rattle.history_keeper.specs.Histories.{IsHistory, IsFirstFaulty, IsUnsettled, BothUnsettled, Clashes}
+use Rattle.history_keeper.specs.Histories.{IsHistory, IsFirstFaulty, BothUnsettled, Clashes}
 
 -- Nothing is a history.
 pub history_none : IsHistory []

@@ -1,5 +1,5 @@
 -- A keeper in memory.
-use Rattle.std.specs.Prelude.{◌≡◌, ◌==◌, ℕ, Bool, true, false, List, Option, Some, None, find, option_map}
+use Rattle.std.specs.Prelude.{◌==◌, ℕ, Bool, true, false, List, Option, Some, None, find, option_map}
 use Rattle.outer_traits.specs.Plans.{one_more}
 use Rattle.history_keeper.specs.declared.row.Row.{Row}
 use Rattle.history_keeper.specs.declared.change.Change.{Change}

@@ -1,6 +1,6 @@
-use Rattle.std.proofs.Common.{◌≡◌, ◌+◌, true, false, refl, List, take, ap, subst, sym, ◌∙◌, Some, None}
+use Rattle.std.proofs.Common.{◌≡◌, ◌+◌, true, false, refl, take, ap, subst, sym, ◌∙◌}
 use Rattle.history_keeper.specs.declared.row.Row.{Row}
-use Rattle.history_keeper.specs.Histories.{Clashes, IsFirstFaulty, IsHistory}
+use Rattle.history_keeper.specs.Histories.{Clashes, IsFirstFaulty}
 use Rattle.history_keeper.proofs.Prefixes.{first_faulty, still_history, history_front}
 use Rattle.history_keeper.proofs.history.first_faulty.Goals as goal
 use Rattle.history_keeper.proofs.history.first_faulty.Goals.{then-row-at-via-then-row-at, then-row-at-via-else-row-at+then-clashes}

@@ -1,0 +1,249 @@
+//! The list of devices.
+ghost use Rattle.std.specs.Prelude.{◌≡◌, ◌<◌, ◌⊎◌, false, [], ◌∷◌, ◌++◌, length, map, slice_get, slice_set, position, MatchResult, IfSome, IfErr, OnOk, OnErr, is_some, vec_len, vec_capacity};
+ghost use Rattle.std.specs.List.{list_any};
+ghost use Rattle.std.specs.Option.{ForSome};
+ghost use Rattle.std.specs.Str.{bytes_eq};
+ghost use Rattle.device_list.specs.Lists.{place, refused, shows, names};
+
+use crate::fault::ListFault;
+use crate::selector::Selector;
+use fw_base::Name;
+use fw_facts::{DeviceView, Seen};
+use guid_ids::{DeviceId, Guid};
+use indexmap::IndexSet;
+use std::alloc::Global;
+use std::marker::Model;
+
+/// The most devices of a list.
+pub const DEVICES_MAX: usize = 256;
+
+/// Devices in the order in which they were added, no two of one ID. Contracts see the list of their
+/// views.
+#[derive(Drop)]
+pub struct Devices {
+    views: Vec<DeviceView>,
+    ids: IndexSet<DeviceId>,
+}
+
+impl Model for Devices {
+    ghost use Rattle.std.specs.Prelude.{◌≡◌, ◌≤◌, List, length, map};
+    ghost use Rattle.fw_facts.specs.declared.view.DeviceView.{DeviceView};
+
+    ghost Value = { List DeviceView };
+
+    ghost view = { λ s. s.views.items };
+
+    ghost invariant = { λ s. (s.ids.keys ≡ map (λ view. view.sheet.device) s.views.items) × (length s.views.items ≤ 256) };
+}
+
+impl Devices {
+    /// The empty list.
+    pub fn new(alloc: Global) -> Devices
+        ensures { result ≡ [] }
+    {
+        Devices {
+            views: Vec::new(alloc),
+            ids: IndexSet::new(alloc),
+        }
+    }
+
+    /// Adds a device at the end. A fault leaves the list as it was.
+    pub fn add(&mut self, view: DeviceView) -> Result<(), ListFault>
+        ensures added { OnOk result (self.new ≡ self.old ++ view ∷ []) }
+        ensures unchanged { OnErr result (self.new ≡ self.old) }
+        ensures refused { IfSome (refused self.old view.sheet.device) (λ fault. result ≡ Err fault) }
+        ensures faults { IfErr result (λ fault. (fault ≡ ListFault.NoMemory) ⊎ (refused self.old view.sheet.device ≡ Some fault)) }
+    {
+        let device = device_of(&view);
+        match self.prepare(device) {
+            Ok(()) => append(&mut self.views, &mut self.ids, view),
+            Err(fault) => Err(fault),
+        }
+    }
+
+    // Whether a device of that ID may be added.
+    fn prepare(&self, device: DeviceId) -> Result<(), ListFault>
+        ensures refused { MatchResult result (λ _. refused self.now device ≡ None) (λ fault. refused self.now device ≡ Some fault) }
+        ensures free { OnOk result (list_any (names (Selector.Id device)) self.now ≡ false) }
+    {
+        if self.by_id(&device).is_some() {
+            return Err(ListFault::Duplicate { device });
+        }
+        if self.views.len() == DEVICES_MAX {
+            return Err(ListFault::Full);
+        }
+        Ok(())
+    }
+
+    /// Puts a view of the same sheet in the place of another.
+    pub fn replace(&mut self, at: usize, view: DeviceView)
+        requires place { at < length self.old }
+        requires same_sheet { ForSome (slice_get self.old at) (λ old. old.sheet ≡ view.sheet) }
+        ensures { self.new ≡ slice_set self.old at view }
+    {
+        put(&mut self.views, at, view);
+    }
+
+    /// What the port shows from now on.
+    pub fn set_seen(&mut self, at: usize, seen: Seen)
+        requires { at < length self.old }
+        ensures { IfSome (slice_get self.old at) (λ view. self.new ≡ slice_set self.old at (record view { seen = seen })) }
+    {
+        put_seen(&mut self.views, at, seen);
+    }
+
+    /// The entry that has a claim on the device from now on, if one has.
+    pub fn set_claim(&mut self, at: usize, claim: Option<u32>)
+        requires { at < length self.old }
+        ensures { IfSome (slice_get self.old at) (λ view. self.new ≡ slice_set self.old at (record view { claim = claim })) }
+    {
+        put_claim(&mut self.views, at, claim);
+    }
+
+    /// The views, in the order of adding.
+    pub fn views(&self) -> &[DeviceView]
+        ensures { result.now ≡ self.now }
+    {
+        &self.views
+    }
+
+    /// The place of the device with that ID, present or not.
+    pub fn by_id(&self, device: &DeviceId) -> Option<usize>
+        ensures first { result ≡ place (Selector.Id device.now) self.now }
+        ensures found { is_some result ≡ list_any (names (Selector.Id device.now)) self.now }
+    {
+        self.ids.get_index_of(device)
+    }
+
+    /// The place of the first present device that shows the GUID.
+    pub fn by_guid(&self, guid: &Guid) -> Option<usize>
+        ensures { result ≡ place (Selector.Guid guid.now) self.now }
+    {
+        first_showing(&self.views, guid)
+    }
+
+    /// The place of the first device that the selector names.
+    pub fn resolve(&self, selector: &Selector) -> Option<usize>
+        ensures { result ≡ place selector.now self.now }
+    {
+        match selector {
+            Selector::Id(device) => self.by_id(device),
+            Selector::Guid(guid) => self.by_guid(guid),
+            Selector::Port(port) => first_in_port(&self.views, port),
+        }
+    }
+}
+
+fn first_in_port(views: &[DeviceView], port: &Name) -> Option<usize>
+    ensures { result ≡ position (λ view. bytes_eq port.now view.sheet.port) views.now }
+{
+    views.iter().position(|view| *port == view.sheet.port)
+}
+
+fn first_showing(views: &[DeviceView], guid: &Guid) -> Option<usize>
+    ensures { result ≡ position (shows guid.now) views.now }
+{
+    views.iter().position(|view| is_shown(view, guid))
+}
+
+fn is_shown(view: &DeviceView, guid: &Guid) -> bool
+    ensures { result ≡ shows guid.now view.now }
+{
+    view.guids().iter().any(|shown| guid == shown)
+}
+
+// Puts a device of a new ID behind the others.
+fn append(
+    views: &mut Vec<DeviceView>,
+    ids: &mut IndexSet<DeviceId>,
+    view: DeviceView,
+) -> Result<(), ListFault>
+    requires { list_any (bytes_eq view.sheet.device) ids.old.keys ≡ false }
+    ensures added { OnOk result (views.new.items ≡ views.old.items ++ view ∷ []) }
+    ensures id { OnOk result (ids.new.keys ≡ ids.old.keys ++ view.sheet.device ∷ []) }
+    ensures unchanged { OnErr result (views.new.items ≡ views.old.items) }
+    ensures same_ids { OnErr result (ids.new.keys ≡ ids.old.keys) }
+    ensures memory { IfErr result (λ fault. fault ≡ ListFault.NoMemory) }
+{
+    let device = device_of(&view);
+    match make_room(views, ids, device) {
+        Ok(()) => {
+            views.push(view).unwrap();
+            Ok(())
+        }
+        Err(fault) => Err(fault),
+    }
+}
+
+fn device_of(view: &DeviceView) -> DeviceId
+    ensures { result ≡ view.now.sheet.device }
+{
+    view.sheet.device
+}
+
+// Room for one more view, and its ID behind the others.
+fn make_room(
+    views: &mut Vec<DeviceView>,
+    ids: &mut IndexSet<DeviceId>,
+    device: DeviceId,
+) -> Result<(), ListFault>
+    requires { list_any (bytes_eq device) ids.old.keys ≡ false }
+    ensures same_views { views.new.items ≡ views.old.items }
+    ensures room { OnOk result (vec_len views.new < vec_capacity views.new) }
+    ensures added { OnOk result (ids.new.keys ≡ ids.old.keys ++ device ∷ []) }
+    ensures unchanged { OnErr result (ids.new.keys ≡ ids.old.keys) }
+    ensures memory { IfErr result (λ fault. fault ≡ ListFault.NoMemory) }
+{
+    reserve_one(views)?;
+    note_id(ids, device)
+}
+
+// Room for one more view.
+fn reserve_one(views: &mut Vec<DeviceView>) -> Result<(), ListFault>
+    ensures unchanged { views.new.items ≡ views.old.items }
+    ensures room { OnOk result (vec_len views.new < vec_capacity views.new) }
+    ensures memory { IfErr result (λ fault. fault ≡ ListFault.NoMemory) }
+{
+    match views.reserve(1) {
+        Ok(()) => Ok(()),
+        Err(_) => Err(ListFault::NoMemory),
+    }
+}
+
+// One more ID.
+fn note_id(ids: &mut IndexSet<DeviceId>, device: DeviceId) -> Result<(), ListFault>
+    requires { list_any (bytes_eq device) ids.old.keys ≡ false }
+    ensures added { OnOk result (ids.new.keys ≡ ids.old.keys ++ device ∷ []) }
+    ensures unchanged { OnErr result (ids.new.keys ≡ ids.old.keys) }
+    ensures memory { IfErr result (λ fault. fault ≡ ListFault.NoMemory) }
+{
+    match ids.insert(device) {
+        Ok(_) => Ok(()),
+        Err(_) => Err(ListFault::NoMemory),
+    }
+}
+
+fn put(views: &mut [DeviceView], at: usize, view: DeviceView)
+    requires place { at < length views.old }
+    requires same_sheet { ForSome (slice_get views.old at) (λ old. old.sheet ≡ view.sheet) }
+    ensures put { views.new ≡ slice_set views.old at view }
+    ensures same_ids { map (λ view. view.sheet.device) views.new ≡ map (λ view. view.sheet.device) views.old }
+{
+    views[at] = view;
+}
+
+fn put_seen(views: &mut [DeviceView], at: usize, seen: Seen)
+    requires { at < length views.old }
+    ensures put { IfSome (slice_get views.old at) (λ view. views.new ≡ slice_set views.old at (record view { seen = seen })) }
+    ensures same_ids { map (λ view. view.sheet.device) views.new ≡ map (λ view. view.sheet.device) views.old }
+{
+    views[at].seen = seen;
+}
+
+fn put_claim(views: &mut [DeviceView], at: usize, claim: Option<u32>)
+    requires { at < length views.old }
+    ensures put { IfSome (slice_get views.old at) (λ view. views.new ≡ slice_set views.old at (record view { claim = claim })) }
+    ensures same_ids { map (λ view. view.sheet.device) views.new ≡ map (λ view. view.sheet.device) views.old }
+{
+    views[at].claim = claim;
+}
