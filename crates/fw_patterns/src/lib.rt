@@ -1,13 +1,17 @@
-// A library with one function.
+//! Patterns: globs and regular expressions over bytes.
+//!
+//! Which texts a pattern stands for is the relation of `specs/Relation.antt`, on cuts of the text; how
+//! a pattern is read, and which fault refuses it, is `specs/Reading.antt`. Matching keeps a set of
+//! places in the pattern: its time is at most the pattern's length times the text's, and it takes no
+//! memory.
 #![tactic(auto)]
 
-ghost use Rattle.std.specs.Prelude.{◌≡◌};
-ghost use Rattle.fw_patterns.specs.Echo.{echo_of};
+pub mod classes;
+pub mod fault;
+pub mod marks;
+pub mod order;
+pub mod signs;
+pub mod syntax;
 
-// The `ensures` clause is the contract: what `echo` returns is `echo_of` of its argument, a definition
-// in `specs/Echo.antt`, which a caller's clause can cite too.
-pub fn echo(x: usize) -> usize
-    ensures { result ≡ echo_of x }
-{
-    x
-}
+pub use fault::PatternFault;
+pub use syntax::{Atom, Branch, ByteRange, Piece, Repeat};
