@@ -1,5 +1,5 @@
 -- How a pattern is read: its syntax, or the first fault with its place.
-use Rattle.std.specs.Prelude.{◌≡◌, ◌⊎◌, ℕ, ◌+◌, ◌==◌, nat_lt, nat_le, Bool, true, false, ◌&&◌, ◌||◌, not, if◌then◌else◌, List, [], ◌∷◌, map, length, take, drop, Option, Some, None, Result, Ok, Err, MatchResult, position}
+use Rattle.std.specs.Prelude.{◌≡◌, ◌⊎◌, ℕ, ◌+◌, ◌==◌, nat_lt, nat_le, Bool, true, false, ◌&&◌, ◌||◌, not, if◌then◌else◌, List, [], ◌∷◌, ◌++◌, map, length, take, drop, Option, Some, None, Result, Ok, Err, MatchResult, position}
 use Rattle.std.specs.Char.{is_ascii_punctuation}
 use Rattle.std.specs.List.{before_first, list_any}
 use Rattle.fw_patterns.specs.declared.fault.PatternFault.{PatternFault}
@@ -11,6 +11,8 @@ use Rattle.fw_patterns.specs.declared.classes.ClassEnd.{ClassEnd}
 use Rattle.fw_patterns.specs.declared.classes.ClassEnd.TheVariants.{Closed, PatternEnd, Fault}
 use Rattle.fw_patterns.specs.declared.classes.Front.{Front}
 use Rattle.fw_patterns.specs.declared.classes.Front.TheVariants.{Nothing, Member, Dash, Ranged, LastDash}
+use Rattle.fw_patterns.specs.declared.classes.MemberStep.{MemberStep}
+use Rattle.fw_patterns.specs.declared.classes.MemberStep.TheVariants.{Wait, Add, NoMember}
 use Rattle.fw_patterns.specs.declared.marks.Mark.{Mark}
 use Rattle.fw_patterns.specs.declared.marks.Mark.TheVariants.{AtomMark, RepeatMark, StartMark, EndMark, BarMark, StrayMark}
 use Rattle.fw_patterns.specs.declared.marks.Placed.{Placed}
@@ -78,6 +80,11 @@ signs pending at (b ∷ rest) = sign_then (sign_step pending at b) (signs (Some 
 abbrev pub is_plain : ℕ → Sign → Bool
 is_plain byte s = not s.escaped && s.byte == byte
 
+-- whether signs begin with a byte that no backslash makes literal
+abbrev pub begins_with : ℕ → List Sign → Bool
+begins_with byte [] = false
+begins_with byte (s ∷ more) = is_plain byte s
+
 -- ---- classes
 
 abbrev pub opens : Sign → Bool
@@ -92,46 +99,60 @@ is_dash s = is_plain 45 s
 abbrev pub range : ℕ → ℕ → ByteRange
 range low high = record { low = low; high = high }
 
+abbrev pub single : ℕ → ByteRange
+single byte = range byte byte
+
 -- a range in front of what is read behind it
 abbrev pub with_range : ByteRange → Result (List ByteRange) PatternFault → Result (List ByteRange) PatternFault
 with_range r (Ok ranges) = Ok (r ∷ ranges)
 with_range r (Err fault) = Err fault
 
 -- a class whose members are read: it must be closed
-abbrev pub close_class : ℕ → ClassEnd → Result (List ByteRange) PatternFault
-close_class bracket Closed = Ok []
-close_class bracket PatternEnd = Err (Unclosed bracket)
-close_class bracket (Fault fault) = Err fault
+abbrev pub close_class : ℕ → ClassEnd → List ByteRange → Result (List ByteRange) PatternFault
+close_class bracket Closed last = Ok last
+close_class bracket PatternEnd last = Err (Unclosed bracket)
+close_class bracket (Fault fault) last = Err fault
 
 -- a `-` behind a range must be the last member
 abbrev pub last_dash : ℕ → ClassEnd → ℕ → Result (List ByteRange) PatternFault
-last_dash bracket Closed at = Ok (range 45 45 ∷ [])
+last_dash bracket Closed at = Ok (single 45 ∷ [])
 last_dash bracket PatternEnd at = Err (Unclosed bracket)
 last_dash bracket (Fault fault) at = Err (OutOfProfile at)
 
--- the ranges of a class's members, by what stands directly in front: nothing that counts, a member, a
--- member and a `-`, a range, or a range and a `-`. A member alone is the range from itself to itself.
+-- the last ranges of a class, by what stands directly in front of its end: a last `-` stands for itself
+abbrev pub last_ranges : ℕ → ClassEnd → Front → Result (List ByteRange) PatternFault
+last_ranges bracket end Nothing = close_class bracket end []
+last_ranges bracket end (Member at low) = close_class bracket end (single low ∷ [])
+last_ranges bracket end (Dash at low) = close_class bracket end (single low ∷ single 45 ∷ [])
+last_ranges bracket end Ranged = close_class bracket end []
+last_ranges bracket end (LastDash at) = last_dash bracket end at
+
+-- what a sign is behind what stands directly in front of it: a part of a range, or the end of one
+abbrev pub member_step : Front → Sign → MemberStep
+member_step Nothing s = if opens s then NoMember (OutOfProfile s.at) else Wait (Member s.at s.byte)
+member_step (Member at low) s =
+    if opens s then NoMember (OutOfProfile s.at)
+    else if is_dash s then Wait (Dash at low)
+    else Add (single low) (Member s.at s.byte)
+member_step (Dash at low) s =
+    if opens s then NoMember (OutOfProfile s.at)
+    else if nat_lt s.byte low then NoMember (BadRange at)
+    else Add (range low s.byte) Ranged
+member_step Ranged s =
+    if opens s then NoMember (OutOfProfile s.at)
+    else if is_dash s then Wait (LastDash s.at)
+    else Wait (Member s.at s.byte)
+member_step (LastDash at) s = NoMember (OutOfProfile at)
+
+abbrev pub member_then : MemberStep → (Front → Result (List ByteRange) PatternFault) → Result (List ByteRange) PatternFault
+member_then (Wait next) behind = behind next
+member_then (Add r next) behind = with_range r (behind next)
+member_then (NoMember fault) behind = Err fault
+
+-- the ranges of a class's members. A member alone is the range from itself to itself.
 unfoldable pub members : ℕ → ClassEnd → Front → List Sign → Result (List ByteRange) PatternFault
-members bracket end Nothing [] = close_class bracket end
-members bracket end (Member at low) [] = with_range (range low low) (close_class bracket end)
-members bracket end (Dash at low) [] = with_range (range low low) (with_range (range 45 45) (close_class bracket end))
-members bracket end Ranged [] = close_class bracket end
-members bracket end (LastDash at) [] = last_dash bracket end at
-members bracket end Nothing (s ∷ more) =
-    if opens s then Err (OutOfProfile s.at) else members bracket end (Member s.at s.byte) more
-members bracket end (Member at low) (s ∷ more) =
-    if opens s then Err (OutOfProfile s.at)
-    else if is_dash s then members bracket end (Dash at low) more
-    else with_range (range low low) (members bracket end (Member s.at s.byte) more)
-members bracket end (Dash at low) (s ∷ more) =
-    if opens s then Err (OutOfProfile s.at)
-    else if nat_lt s.byte low then Err (BadRange at)
-    else with_range (range low s.byte) (members bracket end Ranged more)
-members bracket end Ranged (s ∷ more) =
-    if opens s then Err (OutOfProfile s.at)
-    else if is_dash s then members bracket end (LastDash s.at) more
-    else members bracket end (Member s.at s.byte) more
-members bracket end (LastDash at) (s ∷ more) = Err (OutOfProfile at)
+members bracket end front [] = last_ranges bracket end front
+members bracket end front (s ∷ more) = member_then (member_step front s) (λ next. members bracket end next more)
 
 -- what follows the members that no `]` closes
 abbrev pub unclosed_by : Option PatternFault → ClassEnd
@@ -150,12 +171,17 @@ abbrev pub class_of : ℕ → Bool → Option PatternFault → List Sign → Res
 class_of bracket negated end [] = as_class negated (members bracket (class_end false end) Nothing [])
 class_of bracket negated end (first ∷ more) =
     if closes first then Err (OutOfProfile first.at)
-    else as_class negated (members bracket (class_end (list_any closes more) end) Nothing (before_first closes (first ∷ more)))
+    else as_class negated (members bracket (class_end (list_any closes (first ∷ more)) end) Nothing (before_first closes (first ∷ more)))
 
 -- the class behind a `[`
 abbrev pub class_at : ℕ → Option PatternFault → List Sign → Result Atom PatternFault
 class_at bracket end [] = class_of bracket false end []
 class_at bracket end (first ∷ more) = if is_plain 94 first then class_of bracket true end more else class_of bracket false end (first ∷ more)
+
+-- ranges in front of those that are read behind them
+abbrev pub in_front : List ByteRange → Result (List ByteRange) PatternFault → Result (List ByteRange) PatternFault
+in_front ranges (Ok behind) = Ok (ranges ++ behind)
+in_front ranges (Err fault) = Err fault
 
 -- ---- marks: what each sign means outside a class, and each class as one atom
 

@@ -1,4 +1,6 @@
 //! Why a text is no pattern.
+use fw_base::NoMemory;
+use std::alloc::AllocFailed;
 use thiserror::Error;
 
 /// The first fault of a pattern in reading order. A place counts bytes from 0.
@@ -21,13 +23,24 @@ pub enum PatternFault {
     NoMemory,
 }
 
-impl From<fw_base::NoMemory> for PatternFault {
-    ghost use Rattle.fw_patterns.specs.declared.fault.PatternFault.TheVariants.{NoMemory as OutOfMemory};
+impl From<NoMemory> for PatternFault {
     ghost use Rattle.std.specs.Prelude.{◌≡◌};
+    ghost use Rattle.fw_patterns.specs.declared.fault.PatternFault.TheVariants.{NoMemory as OutOfMemory};
 
     ghost from_gives = { λ _ fault. fault ≡ OutOfMemory };
 
-    fn from(_refused: fw_base::NoMemory) -> PatternFault {
+    fn from(_refused: NoMemory) -> PatternFault {
+        PatternFault::NoMemory
+    }
+}
+
+impl<T: Drop> From<AllocFailed<T>> for PatternFault {
+    ghost use Rattle.std.specs.Prelude.{◌≡◌};
+    ghost use Rattle.fw_patterns.specs.declared.fault.PatternFault.TheVariants.{NoMemory as OutOfMemory};
+
+    ghost from_gives = { λ _ fault. fault ≡ OutOfMemory };
+
+    fn from(_refused: AllocFailed<T>) -> PatternFault {
         PatternFault::NoMemory
     }
 }
