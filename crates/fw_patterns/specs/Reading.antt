@@ -15,6 +15,8 @@ use Rattle.fw_patterns.specs.declared.classes.MemberStep.{MemberStep}
 use Rattle.fw_patterns.specs.declared.classes.MemberStep.TheVariants.{Wait, Add, NoMember}
 use Rattle.fw_patterns.specs.declared.marks.Mark.{Mark}
 use Rattle.fw_patterns.specs.declared.marks.Mark.TheVariants.{AtomMark, RepeatMark, StartMark, EndMark, BarMark, StrayMark}
+use Rattle.fw_patterns.specs.declared.marks.MarkStep.{MarkStep}
+use Rattle.fw_patterns.specs.declared.marks.MarkStep.TheVariants.{Skipped, Marked, Stopped}
 use Rattle.fw_patterns.specs.declared.marks.Placed.{Placed}
 use Rattle.fw_patterns.specs.declared.order.Before.{Before}
 use Rattle.fw_patterns.specs.declared.order.Before.TheVariants.{BranchStart, Joint, AnAtom, AnEnd}
@@ -206,18 +208,26 @@ mark_of s =
 abbrev pub placed : ℕ → Mark → Placed
 placed at mark = record { at = at; mark = mark }
 
--- a class in front of what is behind it, or its fault
-abbrev pub class_mark : ℕ → Result Atom PatternFault → Stream Placed → Stream Placed
-class_mark at (Ok atom) behind = ahead (placed at (AtomMark atom)) behind
-class_mark at (Err fault) behind = stop (Some fault)
+-- a class as an atom, and its fault
+abbrev pub class_step : ℕ → Result Atom PatternFault → MarkStep
+class_step at (Ok atom) = Marked (placed at (AtomMark atom)) true
+class_step at (Err fault) = Stopped fault
 
--- the marks of signs, within a class up to its `]` none
+-- what a sign is within a class up to its `]`, and outside one
+abbrev pub mark_step : Bool → Option PatternFault → Sign → List Sign → MarkStep
+mark_step true end s behind = Skipped (not (closes s))
+mark_step false end s behind =
+    if opens s then class_step s.at (class_at s.at end behind) else Marked (placed s.at (mark_of s)) false
+
+abbrev pub mark_then : MarkStep → (Bool → Stream Placed) → Stream Placed
+mark_then (Skipped inside) behind = behind inside
+mark_then (Marked p inside) behind = ahead p (behind inside)
+mark_then (Stopped fault) behind = stop (Some fault)
+
+-- the marks of signs
 unfoldable pub marks : Bool → Option PatternFault → List Sign → Stream Placed
 marks inside end [] = stop end
-marks true end (s ∷ more) = marks (not (closes s)) end more
-marks false end (s ∷ more) =
-    if opens s then class_mark s.at (class_at s.at end more) (marks true end more)
-    else ahead (placed s.at (mark_of s)) (marks false end more)
+marks inside end (s ∷ more) = mark_then (mark_step inside end s more) (λ next. marks next end more)
 
 -- ---- order: a repeat stands directly behind an atom, `^` first in a branch and `$` last
 
