@@ -1,3 +1,4 @@
 pub mod SignLemmas
 pub mod ClassLemmas
 pub mod MarkLemmas
+pub mod BranchLemmas

@@ -6,6 +6,7 @@
 //! memory.
 #![tactic(auto)]
 
+pub mod branches;
 pub mod classes;
 pub mod fault;
 pub mod marks;
