@@ -327,11 +327,15 @@ fault_or None read = Ok read
 abbrev pub pattern_of : Stream Placed → Result (List Branch) PatternFault
 pattern_of s = fault_or (first_fault BranchStart s.end s.items) (branches s.items)
 
+-- the marks of a regex
+abbrev pub regex_marks : List ℕ → Stream Placed
+regex_marks text = let all = signs None 0 text in marks false all.end all.items
+
 -- what a regex reads to
 unfoldable pub regex_read : List ℕ → Result (List Branch) PatternFault
 regex_read text =
     if nat_lt most_bytes (length text) then Err (TooLong (length text))
-    else let all = signs None 0 text in pattern_of (marks false all.end all.items)
+    else pattern_of (regex_marks text)
 
 -- a byte that no glob has: `[`, `]`, `\` and what is no printable ASCII
 abbrev pub is_no_glob_byte : ℕ → Bool

@@ -1,5 +1,5 @@
 -- The pattern relation: which texts a pattern stands for. It speaks of cuts of the text alone.
-use Rattle.std.specs.Prelude.{◌≡◌, ℕ, ◌<◌, ◌≤◌, ◌==◌, nat_le, Bool, true, ◌&&◌, not, if◌then◌else◌, List, [], ◌∷◌, ◌++◌, length, Any}
+use Rattle.std.specs.Prelude.{◌≡◌, ℕ, ◌<◌, ◌≤◌, ◌==◌, nat_le, Bool, true, ◌&&◌, not, if◌then◌else◌, List, [], ◌∷◌, ◌++◌, length, Any, All, MatchBool}
 use Rattle.std.specs.List.{list_all, list_any}
 use Rattle.fw_patterns.specs.declared.syntax.ByteRange.{ByteRange}
 use Rattle.fw_patterns.specs.declared.syntax.Atom.{Atom}
@@ -52,3 +52,17 @@ pub record InBranch (branch : Branch) (text : List ℕ) : Type 0 where
 -- a pattern stands for a text where some branch does
 abbrev pub InPattern : List Branch → List ℕ → Type 0
 InPattern pattern text = Any (λ branch. InBranch branch text) pattern
+
+-- a glob stands for a text: `*` for any part, `?` for one byte, another byte for itself, one behind the other
+abbrev pub InGlob : List ℕ → List ℕ → Type 0
+InGlob [] text = text ≡ []
+InGlob (b ∷ more) text =
+    MatchBool (b == 42)
+    ((part : List ℕ) × (rest : List ℕ) × (text ≡ part ++ rest) × InGlob more rest)
+    (MatchBool (b == 63)
+    ((c : ℕ) × (rest : List ℕ) × (text ≡ c ∷ rest) × InGlob more rest)
+    ((rest : List ℕ) × (text ≡ b ∷ rest) × InGlob more rest))
+
+-- no branch has more pieces than a pattern has bytes
+abbrev pub AllShort : List Branch → Type 0
+AllShort pattern = All (λ branch. length branch.pieces ≤ 255) pattern

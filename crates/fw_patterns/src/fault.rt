@@ -1,6 +1,6 @@
 //! Why a text is no pattern.
 use fw_base::NoMemory;
-use std::alloc::AllocFailed;
+use std::alloc::{AllocError, AllocFailed};
 use thiserror::Error;
 
 /// The first fault of a pattern in reading order. A place counts bytes from 0.
@@ -30,6 +30,17 @@ impl From<NoMemory> for PatternFault {
     ghost from_gives = { λ _ fault. fault ≡ OutOfMemory };
 
     fn from(_refused: NoMemory) -> PatternFault {
+        PatternFault::NoMemory
+    }
+}
+
+impl From<AllocError> for PatternFault {
+    ghost use Rattle.std.specs.Prelude.{◌≡◌};
+    ghost use Rattle.fw_patterns.specs.declared.fault.PatternFault.TheVariants.{NoMemory as OutOfMemory};
+
+    ghost from_gives = { λ _ fault. fault ≡ OutOfMemory };
+
+    fn from(_refused: AllocError) -> PatternFault {
         PatternFault::NoMemory
     }
 }

@@ -11,8 +11,10 @@ pub mod classes;
 pub mod fault;
 pub mod marks;
 pub mod order;
+pub mod pattern;
 pub mod signs;
 pub mod syntax;
 
 pub use fault::PatternFault;
+pub use pattern::Pattern;
 pub use syntax::{Atom, Branch, ByteRange, Piece, Repeat};
