@@ -2,3 +2,4 @@ pub mod SignLemmas
 pub mod ClassLemmas
 pub mod MarkLemmas
 pub mod BranchLemmas
+pub mod PatternLemmas
