@@ -3,3 +3,5 @@ pub mod ClassLemmas
 pub mod MarkLemmas
 pub mod BranchLemmas
 pub mod PatternLemmas
+pub mod PlaceLemmas
+pub mod MatchLemmas

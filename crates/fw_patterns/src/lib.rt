@@ -10,6 +10,7 @@ pub mod branches;
 pub mod classes;
 pub mod fault;
 pub mod marks;
+pub mod matching;
 pub mod order;
 pub mod pattern;
 pub mod signs;

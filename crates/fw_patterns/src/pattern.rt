@@ -1,10 +1,12 @@
 //! Patterns: how they are read.
-ghost use Rattle.std.specs.Prelude.{◌≡◌, ◌⊎◌, ◌≤◌, IfOk, MatchResult, Ok, Err, length, map, position};
+ghost use Rattle.std.specs.Prelude.{◌≡◌, ◌⊎◌, ◌≤◌, ◌↔◌, IsTrue, IfOk, MatchResult, Ok, Err, length, map, position};
 ghost use Rattle.fw_patterns.specs.Reading.{Gives, glob_pattern, glob_piece, glob_read, is_no_glob_byte, regex_marks, regex_read};
+ghost use Rattle.fw_patterns.specs.Relation.{InPattern};
 ghost use Rattle.fw_patterns.specs.declared.fault.PatternFault.TheVariants.{NoMemory as OutOfMemory};
 
 use crate::branches::branches_of;
 use crate::marks::{Marks, marks_of};
+use crate::matching::branch_matches;
 use crate::order::first_fault;
 use crate::signs::{Signs, is_profile, signs_of};
 use crate::{Atom, Branch, PatternFault, Piece, Repeat};
@@ -71,6 +73,20 @@ impl Pattern {
                 })
             }
         }
+    }
+
+    /// Whether the pattern stands for a text.
+    ///
+    /// The time is at most the pattern's length times the text's, for every pattern and every text.
+    pub fn matches(&self, text: &[u8]) -> bool
+        ensures { IsTrue result ↔ InPattern self.now text.now }
+    {
+        for branch in self.branches.items() {
+            if branch_matches(branch, text) {
+                return true;
+            }
+        }
+        false
     }
 
     fn of_glob(alloc: Global, text: &[u8]) -> Result<Pattern, PatternFault>
