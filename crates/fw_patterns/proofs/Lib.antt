@@ -5,3 +5,4 @@ pub mod BranchLemmas
 pub mod PatternLemmas
 pub mod PlaceLemmas
 pub mod MatchLemmas
+pub mod GlobLemmas

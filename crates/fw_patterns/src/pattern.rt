@@ -1,7 +1,7 @@
 //! Patterns: how they are read.
-ghost use Rattle.std.specs.Prelude.{◌≡◌, ◌⊎◌, ◌≤◌, ◌↔◌, IsTrue, IfOk, MatchResult, Ok, Err, length, map, position};
+ghost use Rattle.std.specs.Prelude.{◌≡◌, ◌⊎◌, ◌≤◌, ◌↔◌, IsTrue, IfOk, MatchResult, List, ℕ, Ok, Err, length, map, position};
 ghost use Rattle.fw_patterns.specs.Reading.{Gives, glob_pattern, glob_piece, glob_read, is_no_glob_byte, regex_marks, regex_read};
-ghost use Rattle.fw_patterns.specs.Relation.{InPattern};
+ghost use Rattle.fw_patterns.specs.Relation.{InGlob, InPattern};
 ghost use Rattle.fw_patterns.specs.declared.fault.PatternFault.TheVariants.{NoMemory as OutOfMemory};
 
 use crate::branches::branches_of;
@@ -41,7 +41,8 @@ impl Pattern {
     ///
     /// The first fault in reading order is answered; a text of more than 255 bytes is refused first.
     pub fn glob(alloc: Global, text: &[u8]) -> Result<Pattern, PatternFault>
-        ensures { Gives (λ pattern. pattern) result (glob_read text.now) }
+        ensures read { Gives (λ pattern. pattern) result (glob_read text.now) }
+        ensures stands { IfOk result (λ pattern. (t : List ℕ) → InPattern pattern t ↔ InGlob text.now t) }
     {
         if text.len() > PATTERN_MAX {
             return Err(PatternFault::TooLong { len: text.len() });
