@@ -82,6 +82,7 @@ pub glob-stands : (glob : List ℕ) (pattern : List Branch) (text : List ℕ) �
     → InPattern pattern text ↔ InGlob glob text
 glob-stands glob pattern text is =
     let tied = branch true true (map glob_piece glob) in
-    rw is
-    (λ some. in_glob-from_follow glob text (follow-whole (map glob_piece glob) text (only (λ b. InBranch b text) tied some)),
-    λ g. (0, tied, omega arith, refl, branch-whole (map glob_piece glob) text (follow-from_in_glob glob text g)))
+    rw is (
+      λ some. in_glob-from_follow glob text (follow-whole (map glob_piece glob) text (only (λ b. InBranch b text) tied some)),
+      λ g. (0, tied, omega arith, refl, branch-whole (map glob_piece glob) text (follow-from_in_glob glob text g)),
+    )

@@ -36,8 +36,13 @@ module _ (atom : Atom) (Rest : List ℕ → Type 0) where
   cut-again : (repeat : Repeat) (b : ℕ) (left : List ℕ) → ((n : ℕ) → Times repeat n → Times repeat (suc n)) → stands_for atom b ≡ true
       → Cut (with_repeat repeat) Rest left → Cut (with_repeat repeat) Rest (b ∷ left)
   cut-again repeat b left more stands cut =
-      record { part = b ∷ cut.part; rest = cut.rest; cut = ap (λ (xs : List ℕ). b ∷ xs) cut.cut;
-        stands = record { bytes = and_from _ _ stands cut.stands.bytes; times = more (length cut.part) cut.stands.times }; holds = cut.holds }
+      record {
+        part = b ∷ cut.part;
+        rest = cut.rest;
+        cut = ap (λ (xs : List ℕ). b ∷ xs) cut.cut;
+        stands = record { bytes = and_from _ _ stands cut.stands.bytes; times = more (length cut.part) cut.stands.times };
+        holds = cut.holds;
+      }
 
   module _ (follows : List ℕ → Bool) (good : (text : List ℕ) → follows text ≡ true → Rest text) where
     cut-at_byte : (repeat : Repeat) (b : ℕ) (left : List ℕ) (again : Bool) → (again ≡ true → Cut (with_repeat repeat) Rest left)
@@ -48,8 +53,8 @@ module _ (atom : Atom) (Rest : List ℕ → Type 0) where
     cut-at_byte AnyTimes b left again more h = ⊎_elim
         (λ skipped. cut-none AnyTimes (b ∷ left) tt (good (b ∷ left) skipped))
         (λ stands.
-          let both = and_parts (stands_for atom b) again stands in
-          cut-again AnyTimes b left (λ n t. tt) both.0 (more both.1))
+        let both = and_parts (stands_for atom b) again stands in
+        cut-again AnyTimes b left (λ n t. tt) both.0 (more both.1))
         (or_cases (follows (b ∷ left)) (stands_for atom b && again) h)
     cut-at_byte SomeTimes b left again more h =
         let both = and_parts (stands_for atom b) (again || follows left) h in
@@ -60,8 +65,8 @@ module _ (atom : Atom) (Rest : List ℕ → Type 0) where
     cut-at_byte AtMostOnce b left again more h = ⊎_elim
         (λ skipped. cut-none AtMostOnce (b ∷ left) (omega arith) (good (b ∷ left) skipped))
         (λ stands.
-          let both = and_parts (stands_for atom b) (follows left) stands in
-          cut-once AtMostOnce b left (omega arith) both.0 (good left both.1))
+        let both = and_parts (stands_for atom b) (follows left) stands in
+        cut-once AtMostOnce b left (omega arith) both.0 (good left both.1))
         (or_cases (follows (b ∷ left)) (stands_for atom b && follows left) h)
 
     cut-at_end : (repeat : Repeat) → (may_be_none repeat && follows []) ≡ true → Cut (with_repeat repeat) Rest []
@@ -131,9 +136,13 @@ end_at-from_end false (b ∷ text) h = refl
 begin-from_cut : (to_end : Bool) (piece : Piece) (pieces : List Piece) (text : List ℕ) → Cut piece (Begin to_end pieces) text
     → Begin to_end (piece ∷ pieces) text
 begin-from_cut to_end piece pieces text c =
-    record { part = c.part ++ c.holds.part; after = c.holds.after;
+    record {
+      part = c.part ++ c.holds.part;
+      after = c.holds.after;
       cut = c.cut ∙ ap (λ (xs : List ℕ). c.part ++ xs) c.holds.cut ∙ sym (append_assoc c.part c.holds.part c.holds.after);
-      follow = (c.part, c.holds.part, refl, c.stands, c.holds.follow); ends = c.holds.ends }
+      follow = (c.part, c.holds.part, refl, c.stands, c.holds.follow);
+      ends = c.holds.ends;
+    }
 
 begin-from_pieces_at : (to_end : Bool) (pieces : List Piece) (text : List ℕ) → pieces_at to_end pieces text ≡ true → Begin to_end pieces text
 begin-from_pieces_at to_end [] text h =
@@ -151,7 +160,7 @@ pieces_at-part to_end (piece ∷ pieces) part after follow ends =
     let stands : Stands piece first = follow.3 in
     rw (follow.2, append_assoc first rest after)
     (piece_at-part piece.atom (pieces_at to_end pieces) piece.repeat first (rest ++ after) stands.bytes stands.times
-      (pieces_at-part to_end pieces rest after follow.4 ends))
+    (pieces_at-part to_end pieces rest after follow.4 ends))
 
 -- ---- branches
 
@@ -161,8 +170,15 @@ branch-from_begin branch text b =
 
 branch-behind : (branch : Branch) (b : ℕ) (text : List ℕ) → branch.from_start ≡ false → InBranch branch text → InBranch branch (b ∷ text)
 branch-behind branch b text free i =
-    record { before = b ∷ i.before; part = i.part; after = i.after; cut = ap (λ (xs : List ℕ). b ∷ xs) i.cut; follow = i.follow;
-      starts = λ tied. absurd (true≢false (sym tied ∙ free)); ends = i.ends }
+    record {
+      before = b ∷ i.before;
+      part = i.part;
+      after = i.after;
+      cut = ap (λ (xs : List ℕ). b ∷ xs) i.cut;
+      follow = i.follow;
+      starts = λ tied. absurd (true≢false (sym tied ∙ free));
+      ends = i.ends;
+    }
 
 free-from_not : (tied : Bool) → not tied ≡ true → tied ≡ false
 free-from_not true h = absurd (true≢false (sym h))
@@ -177,8 +193,8 @@ branch-from_branch_at branch [] h = branch-from_begin branch [] (begin-from_piec
 branch-from_branch_at branch (b ∷ text) h = ⊎_elim
     (λ here. branch-from_begin branch (b ∷ text) (begin-from_pieces_at branch.to_end branch.pieces (b ∷ text) here))
     (λ later.
-      let both = and_parts (not branch.from_start) (branch_at branch text) later in
-      branch-behind branch b text (free-from_not branch.from_start both.0) (branch-from_branch_at branch text both.1))
+    let both = and_parts (not branch.from_start) (branch_at branch text) later in
+    branch-behind branch b text (free-from_not branch.from_start both.0) (branch-from_branch_at branch text both.1))
     (or_cases (pieces_at branch.to_end branch.pieces (b ∷ text)) (not branch.from_start && branch_at branch text) h)
 
 branch_at-here : (branch : Branch) (text : List ℕ) → pieces_at branch.to_end branch.pieces text ≡ true → branch_at branch text ≡ true
@@ -191,19 +207,20 @@ branch_at-before branch [] text starts h = branch_at-here branch text h
 branch_at-before branch (b ∷ before) text starts h =
     let tied : branch.from_start ≡ true → ⊥ = λ t. absurd (omega (arith, ap length (starts t))) in
     or_right _ _ (and_from _ _ (not-from_free branch.from_start tied)
-      (branch_at-before branch before text (λ t. absurd (tied t)) h))
+    (branch_at-before branch before text (λ t. absurd (tied t)) h))
 
 branch_at-from_branch : (branch : Branch) (text : List ℕ) → InBranch branch text → branch_at branch text ≡ true
 branch_at-from_branch branch text i =
     rw (i.cut, append_assoc i.before i.part i.after) (branch_at-before branch i.before (i.part ++ i.after) i.starts
-      (pieces_at-part branch.to_end branch.pieces i.part i.after i.follow i.ends))
+    (pieces_at-part branch.to_end branch.pieces i.part i.after i.follow i.ends))
 
 -- an answer whether some branch stands for a text decides the relation
 pub some_branch-decides : (answer : Bool) (pattern : List Branch) (text : List ℕ) → answer ≡ some_branch pattern text
     → IsTrue answer ↔ InPattern pattern text
-some_branch-decides answer pattern text is =
-    (λ yes.
+some_branch-decides answer pattern text is = (
+  λ yes.
       let some = Any-from_list_any (λ branch. branch_at branch text) pattern (sym is ∙ yes) in
       (some.0, some.1, some.2, some.3, branch-from_branch_at some.1 text some.4),
-    λ some. is ∙ list_any-from_Any (λ branch. branch_at branch text) pattern
-      (some.0, some.1, some.2, some.3, branch_at-from_branch some.1 text some.4))
+  λ some. is ∙ list_any-from_Any (λ branch. branch_at branch text) pattern
+      (some.0, some.1, some.2, some.3, branch_at-from_branch some.1 text some.4),
+)

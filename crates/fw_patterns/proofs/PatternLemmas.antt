@@ -61,7 +61,7 @@ unfolding signs
 signs-length pending at [] = omega arith
 signs-length pending at (b ∷ rest) =
     let step = sign_then-length (sign_step pending at b) (signs (Some at) (at + 1) rest) (signs None (at + 1) rest) (length rest)
-      (signs-length (Some at) (at + 1) rest) (signs-length None (at + 1) rest) in
+    (signs-length (Some at) (at + 1) rest) (signs-length None (at + 1) rest) in
     omega (arith, step)
 
 mark_then-length : (step : MarkStep) (behind : Bool → Stream Placed) (n : ℕ) → ((inside : Bool) → length (behind inside).items ≤ n)

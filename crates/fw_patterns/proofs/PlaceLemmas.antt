@@ -15,8 +15,8 @@ TellFrom at to_end pieces left places = (j : ℕ) → at ≤ j → j ≤ length 
 
 pub here-at_byte : (to_end : Bool) (pieces : List Piece) (at : ℕ) (d : Piece) (byte : ℕ) (left : List ℕ) → at < length pieces
     → pieces_at to_end (drop at pieces) (byte ∷ left)
-      ≡ at_byte (get_or pieces at d).repeat (stands_for (get_or pieces at d).atom byte)
-        (pieces_at to_end (drop at pieces) left) (pieces_at to_end (drop (at + 1) pieces) left) (pieces_at to_end (drop (at + 1) pieces) (byte ∷ left))
+    ≡ at_byte (get_or pieces at d).repeat (stands_for (get_or pieces at d).atom byte)
+    (pieces_at to_end (drop at pieces) left) (pieces_at to_end (drop (at + 1) pieces) left) (pieces_at to_end (drop (at + 1) pieces) (byte ∷ left))
 here-at_byte to_end pieces at d byte left h = rw (drop_more pieces at d h) refl
 
 pub here-at_end : (to_end : Bool) (pieces : List Piece) (at : ℕ) (d : Piece) → at < length pieces
@@ -31,8 +31,8 @@ module _ (to_end : Bool) (pieces : List Piece) (byte : ℕ) (old places : List B
       → TellFrom m to_end pieces (byte ∷ left) (set places m value)
   TellFrom-back left value told before behind j low high = ⊎_elim
       (λ lt. let same : j ≡ m = omega arith in
-        rw (same, get_or-set_same places m value false long, told, before m (omega arith), before (m + 1) (omega arith), behind (m + 1) (omega arith) (omega arith))
-        (sym (rw (← is) at (here-at_byte to_end pieces m piece byte left inside))))
+      rw (same, get_or-set_same places m value false long, told, before m (omega arith), before (m + 1) (omega arith), behind (m + 1) (omega arith) (omega arith))
+      (sym (rw (← is) at (here-at_byte to_end pieces m piece byte left inside))))
       (λ ge. rw (get_or-set_other places m j value false (omega arith)) (behind j ge high))
       (cases_lt j (m + 1))
 
@@ -49,7 +49,7 @@ Tell-back to_end text left pieces places next some inside step told = rw (text-b
 
 pub branch_at-back : (branch : Branch) (text : List ℕ) (left : ℕ) → 0 < left → left ≤ length text
     → branch_at branch (drop (left - 1) text)
-      ≡ (pieces_at branch.to_end branch.pieces (drop (left - 1) text) || not branch.from_start && branch_at branch (drop left text))
+    ≡ (pieces_at branch.to_end branch.pieces (drop (left - 1) text) || not branch.from_start && branch_at branch (drop left text))
 branch_at-back branch text left some inside = rw (text-back text left some inside) refl
 
 pub branch_at-end : (branch : Branch) (text : List ℕ) → branch_at branch (drop (length text) text) ≡ pieces_at branch.to_end branch.pieces []

@@ -48,7 +48,12 @@ pub enum MemberStep {
 }
 
 /// The class behind a `[` at the place `bracket`, where `end` is the fault behind all signs.
-pub fn class_at(alloc: Global, bracket: usize, end: Option<PatternFault>, behind: &[Sign]) -> Result<Atom, PatternFault>
+pub fn class_at(
+    alloc: Global,
+    bracket: usize,
+    end: Option<PatternFault>,
+    behind: &[Sign],
+) -> Result<Atom, PatternFault>
     ensures { Gives (λ atom. atom) result (class_at bracket end behind.now) }
 {
     if begins_with(behind, b'^') {
@@ -59,7 +64,13 @@ pub fn class_at(alloc: Global, bracket: usize, end: Option<PatternFault>, behind
 }
 
 /// The class behind `[` and a `^` where there is one.
-fn class_of(alloc: Global, bracket: usize, negated: bool, end: Option<PatternFault>, behind: &[Sign]) -> Result<Atom, PatternFault>
+fn class_of(
+    alloc: Global,
+    bracket: usize,
+    negated: bool,
+    end: Option<PatternFault>,
+    behind: &[Sign],
+) -> Result<Atom, PatternFault>
     ensures { Gives (λ atom. atom) result (class_of bracket negated end behind.now) }
 {
     if begins_with(behind, b']') {
@@ -112,7 +123,12 @@ fn class_end(closed: bool, end: Option<PatternFault>) -> ClassEnd
 }
 
 /// The ranges of a class's members, where `bracket` is the place of its `[`.
-fn members(alloc: Global, bracket: usize, end: ClassEnd, signs: &[Sign]) -> Result<Vec<ByteRange>, PatternFault>
+fn members(
+    alloc: Global,
+    bracket: usize,
+    end: ClassEnd,
+    signs: &[Sign],
+) -> Result<Vec<ByteRange>, PatternFault>
     ensures { Gives (λ ranges. ranges.items) result (members bracket end Front.Nothing signs.now) }
 {
     let mut ranges = Vec::new(alloc);
@@ -136,12 +152,16 @@ fn member_step(front: Front, sign: Sign) -> MemberStep
 {
     match front {
         Front::LastDash(at) => MemberStep::NoMember(PatternFault::OutOfProfile { at }),
-        _ if sign.is_plain(b'[') => MemberStep::NoMember(PatternFault::OutOfProfile { at: sign.at }),
+        _ if sign.is_plain(b'[') => MemberStep::NoMember(PatternFault::OutOfProfile {
+            at: sign.at,
+        }),
         Front::Member(at, low) if sign.is_plain(b'-') => MemberStep::Wait(Front::Dash(at, low)),
         Front::Ranged if sign.is_plain(b'-') => MemberStep::Wait(Front::LastDash(sign.at)),
         Front::Nothing | Front::Ranged => MemberStep::Wait(Front::Member(sign.at, sign.byte)),
         Front::Member(_, low) => MemberStep::Add(single(low), Front::Member(sign.at, sign.byte)),
-        Front::Dash(at, low) if sign.byte < low => MemberStep::NoMember(PatternFault::BadRange { at }),
+        Front::Dash(at, low) if sign.byte < low => MemberStep::NoMember(PatternFault::BadRange {
+            at,
+        }),
         Front::Dash(_, low) => MemberStep::Add(range(low, sign.byte), Front::Ranged),
     }
 }
@@ -159,7 +179,12 @@ fn single(byte: u8) -> ByteRange
 }
 
 /// Appends the ranges that wait in front of a class's end.
-fn push_last(ranges: &mut Vec<ByteRange>, bracket: usize, end: ClassEnd, front: Front) -> Result<(), PatternFault>
+fn push_last(
+    ranges: &mut Vec<ByteRange>,
+    bracket: usize,
+    end: ClassEnd,
+    front: Front,
+) -> Result<(), PatternFault>
     ensures { MatchResult result
         (λ _. in_front ranges.old.items (last_ranges bracket end front) ≡ Ok ranges.new.items)
         (λ fault. (fault ≡ NoMemory) ⊎ (last_ranges bracket end front ≡ Err fault)) }

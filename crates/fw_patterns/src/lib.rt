@@ -19,3 +19,6 @@ pub mod syntax;
 pub use fault::PatternFault;
 pub use pattern::Pattern;
 pub use syntax::{Atom, Branch, ByteRange, Piece, Repeat};
+
+#[cfg(test)]
+mod tests;

@@ -77,7 +77,13 @@ pub fn marks_of(alloc: Global, signs: &[Sign], end: Option<PatternFault>) -> Res
     Ok(Marks { items, end })
 }
 
-fn mark_step(alloc: Global, inside: bool, end: Option<PatternFault>, sign: Sign, behind: &[Sign]) -> Result<MarkStep, NoMemory>
+fn mark_step(
+    alloc: Global,
+    inside: bool,
+    end: Option<PatternFault>,
+    sign: Sign,
+    behind: &[Sign],
+) -> Result<MarkStep, NoMemory>
     ensures { IfOk result (λ step. step ≡ mark_step inside end sign behind.now) }
 {
     if inside {

@@ -20,7 +20,12 @@ pub fn branch_matches(branch: &Branch, text: &[u8]) -> bool
     let mut left = text.len();
     while left > 0 {
         left -= 1;
-        step_back(&mut places, branch.pieces.items(), text[left], branch.to_end);
+        step_back(
+            &mut places,
+            branch.pieces.items(),
+            text[left],
+            branch.to_end,
+        );
         found = places[0] || !branch.from_start && found;
     }
     found
@@ -55,7 +60,13 @@ fn step_back(places: &mut [bool], pieces: &[Piece], byte: u8, to_end: bool)
         at -= 1;
         let again = places[at];
         let piece = &pieces[at];
-        places[at] = at_byte(piece.repeat, stands_for(&piece.atom, byte), again, behind, skipped);
+        places[at] = at_byte(
+            piece.repeat,
+            stands_for(&piece.atom, byte),
+            again,
+            behind,
+            skipped,
+        );
         behind = again;
     }
 }

@@ -12,5 +12,5 @@ loop-placed-preserved c =
     let draft = c.loop-placed.draft in
     rw (c.in_ok-take.ensures.repeat, c.in_ok-take.ensures.branches)
     (sym (over-push c.pop.new.self.items c.in-Some.placed draft.repeat (drafted draft))
-      ∙ ap (λ (marks : List Placed). over marks draft.repeat (drafted draft)) (sym c.in-Some.ensures.items)
-      ∙ c.loop-placed.invariant)
+    ∙ ap (λ (marks : List Placed). over marks draft.repeat (drafted draft)) (sym c.in-Some.ensures.items)
+    ∙ c.loop-placed.invariant)

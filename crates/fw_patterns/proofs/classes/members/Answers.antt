@@ -8,7 +8,7 @@ use Rattle.fw_patterns.proofs.classes.members.Goals.{in-Wait, in-Add+in_ok-push-
 pub returns-in-NoMember : goal.returns-in-NoMember
 returns-in-NoMember c =
     let refused = members-no c.args.bracket c.args.end c.loop-sign.front c.loop-sign.sign-index c.args.signs.now _ c.loop-sign-test.true c.in-NoMember.fault
-      (sym c.member_step.ensures ∙ c.in-NoMember.is) in
+    (sym c.member_step.ensures ∙ c.in-NoMember.is) in
     inr (sym c.loop-sign.invariant ∙ ap (in_front c.loop-sign.ranges.items) refused)
 
 pub loop-sign-preserved : goal.loop-sign-preserved
@@ -17,11 +17,11 @@ loop-sign-preserved c =
     elim c.match-member_step.branch [
       | in-Wait w ↦
           let left = members-wait c.args.bracket c.args.end c.loop-sign.front c.loop-sign.sign-index c.args.signs.now _ c.loop-sign-test.true _
-            (sym c.member_step.ensures ∙ w.in-Wait.is) in
+          (sym c.member_step.ensures ∙ w.in-Wait.is) in
           rw (w.ranges-is, w.front-is) (ap (in_front read) (sym left) ∙ c.loop-sign.invariant)
       | in-Add+in_ok-push-in-Add w ↦
           let left = members-add c.args.bracket c.args.end c.loop-sign.front c.loop-sign.sign-index c.args.signs.now _ c.loop-sign-test.true _ _
-            (sym c.member_step.ensures ∙ w.in-Add.is) in
+          (sym c.member_step.ensures ∙ w.in-Add.is) in
           rw (w.ranges-is, w.front-is, w.in_ok-push-in-Add.ensures.items)
           (in_front-push read _ _ ∙ ap (in_front read) (sym left) ∙ c.loop-sign.invariant)
     ]

@@ -5,13 +5,13 @@ use Rattle.fw_patterns.proofs.order.first_fault.Goals as goal
 pub returns-in-Err : goal.returns-in-Err
 returns-in-Err c =
     sym (first_fault-here c.loop-placed.before c.args.end c.loop-placed.placed-index c.args.marks.now c.placed-item.result c.loop-placed-test.true
-      c.placed-item.is c.in-Err.fault (sym c.step.ensures ∙ c.in-Err.is))
+    c.placed-item.is c.in-Err.fault (sym c.step.ensures ∙ c.in-Err.is))
     ∙ c.loop-placed.invariant
 
 pub loop-placed-preserved : goal.loop-placed-preserved
 loop-placed-preserved c =
     sym (first_fault-next c.loop-placed.before c.args.end c.loop-placed.placed-index c.args.marks.now c.placed-item.result c.loop-placed-test.true
-      c.placed-item.is c.in-Ok.next (sym c.step.ensures ∙ c.in-Ok.is))
+    c.placed-item.is c.in-Ok.next (sym c.step.ensures ∙ c.in-Ok.is))
     ∙ c.loop-placed.invariant
 
 pub returns : goal.returns

@@ -8,7 +8,7 @@ pub returns-then-branch_matches : goal.returns-then-branch_matches
 returns-then-branch_matches c =
     let whole = c.items-branch-items.ensures ∙ c.self.view_is in
     let more = some_branch-more c.args.self.now c.args.text.now c.loop-branch.branch-index c.branch-item.result
-      (rw whole at c.loop-branch-test.true) (rw whole at c.branch-item.is) in
+    (rw whole at c.loop-branch-test.true) (rw whole at c.branch-item.is) in
     some_branch-decides true c.args.self.now c.args.text.now
     (sym (rw (sym c.branch_matches.ensures ∙ c.if-branch_matches.true) at more) ∙ c.loop-branch.invariant)
 
@@ -16,7 +16,7 @@ pub loop-branch-preserved : goal.loop-branch-preserved
 loop-branch-preserved c =
     let whole = c.items-branch-items.ensures ∙ c.self.view_is in
     let more = some_branch-more c.args.self.now c.args.text.now c.loop-branch.branch-index c.branch-item.result
-      (rw whole at c.loop-branch-test.true) (rw whole at c.branch-item.is) in
+    (rw whole at c.loop-branch-test.true) (rw whole at c.branch-item.is) in
     sym (rw (sym c.branch_matches.ensures ∙ c.if-branch_matches.false) at more) ∙ c.loop-branch.invariant
 
 pub returns : goal.returns

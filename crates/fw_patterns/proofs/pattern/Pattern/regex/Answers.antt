@@ -13,12 +13,12 @@ invariant_of-result c =
 pub returns-in-Some : goal.returns-in-Some
 returns-in-Some c =
     inr (regex-bad c.args.text.now _ c.if-text-gt-PATTERN_MAX.false
-      (rw (← c.in_ok-marks.ensures.end, ← c.in_ok-marks.ensures.items, ← c.deref.ensures.value)
-      (sym c.first_fault.ensures ∙ c.in-Some.is)))
+    (rw (← c.in_ok-marks.ensures.end, ← c.in_ok-marks.ensures.items, ← c.deref.ensures.value)
+    (sym c.first_fault.ensures ∙ c.in-Some.is)))
 
 pub returns-in_ok-branches-in-None : goal.returns-in_ok-branches-in-None
 returns-in_ok-branches-in-None c =
     regex-good c.args.text.now c.if-text-gt-PATTERN_MAX.false
-      (rw (← c.in_ok-marks.ensures.end, ← c.in_ok-marks.ensures.items, ← c.deref.ensures.value)
-      (sym c.first_fault.ensures ∙ c.in-None.is))
+    (rw (← c.in_ok-marks.ensures.end, ← c.in_ok-marks.ensures.items, ← c.deref.ensures.value)
+    (sym c.first_fault.ensures ∙ c.in-None.is))
     ∙ ap Ok (rw (c.of.ensures, c.in_ok-branches-in-None.ensures, c.in_ok-marks.ensures.items) refl)
