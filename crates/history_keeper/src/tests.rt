@@ -69,7 +69,7 @@ fn the_first_row_that_breaks_a_rule(rt: HostRuntime) -> Result<(), Fail> {
                 RowState::NeedsReboot,
             )?,
         ];
-        assert_eq!(rt; first_faulty(&rows), want);
+        assert_eq!(rt; first_faulty(rt.alloc(), &rows)?, want);
     }
     Ok(())
 }
@@ -81,8 +81,8 @@ fn settled_rows_of_one_device_are_many(rt: HostRuntime) -> Result<(), Fail> {
         row(2, b"b", b"x", RowState::Begun)?,
         row(3, b"c", b"x", RowState::Failed)?,
     ];
-    assert_eq!(rt; first_faulty(&rows), None);
-    assert_eq!(rt; first_faulty(&[]), None);
+    assert_eq!(rt; first_faulty(rt.alloc(), &rows)?, None);
+    assert_eq!(rt; first_faulty(rt.alloc(), &[])?, None);
     Ok(())
 }
 
@@ -136,5 +136,24 @@ fn an_advance_changes_one_row(rt: HostRuntime) -> Result<(), Fail> {
     assert_eq!(rt; rows[1].reason, 10);
     assert_eq!(rt; rows[1].time_added, 1000);
     assert_eq!(rt; rows[1].time_changed, 2000);
+    Ok(())
+}
+
+#[test]
+fn as_many_rows_as_a_history_has(rt: HostRuntime) -> Result<(), Fail> {
+    let alloc = rt.alloc();
+    let mut rows = Vec::new(alloc);
+    for number in 0..65_536u32 {
+        let tag = [
+            b'a' + (number % 16) as u8,
+            b'a' + (number / 16 % 16) as u8,
+            b'a' + (number / 256 % 16) as u8,
+            b'a' + (number / 4096 % 16) as u8,
+        ];
+        rows.push(row(number + 1, &tag, &tag, RowState::Begun)?)?;
+    }
+    assert_eq!(rt; first_faulty(alloc, &rows)?, None);
+    rows.push(row(65_537, b"pppp", b"usb1", RowState::Success)?)?;
+    assert_eq!(rt; first_faulty(alloc, &rows)?, Some(65_536));
     Ok(())
 }
