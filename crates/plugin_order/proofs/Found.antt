@@ -1,11 +1,11 @@
 -- Numbers that are found one after another, each at a place of a list.
-use Rattle.std.proofs.Common.{◌≡◌, ◌≢◌, ℕ, zero, suc, ◌+◌, ◌<◌, ◌≤◌, ◌⊎◌, inl, inr, Option, Some, None, List, [], ◌∷◌, ◌++◌, length, get_or, set, drop, replicate, IsTrue, refl, sym, ap, ◌∙◌, subst, arith, Bool, length-append}
+use Rattle.std.proofs.Common.{◌≡◌, ℕ, zero, suc, ◌+◌, ◌<◌, ◌≤◌, ◌⊎◌, inl, inr, Option, Some, None, List, [], ◌∷◌, ◌++◌, length, get_or, set, drop, replicate, IsTrue, refl, sym, ap, ◌∙◌, subst, arith, Bool, length-append}
 use Rattle.std.proofs.lemmas.List.{get_or-set_same, get_or-set_other, get_or-replicate}
 use Rattle.std.proofs.Math.ListN.{get_or-append, get_or-eq_default, length-replicate}
 use Rattle.std.proofs.Math.Seq.{get_or-append_seam}
 use Rattle.std.proofs.lemmas.Bool.Decides.{eqb_tells, leb_tells}
 use Rattle.plugin_order.specs.declared.rules.Rules.{Rules}
-use Rattle.plugin_order.specs.Chains.{Chain, IsLongest, first_or, Leads, IsCycle}
+use Rattle.plugin_order.specs.Chains.{IsLongest, Leads, IsCycle}
 use Rattle.plugin_order.specs.Table.{holds, height_of}
 use Rattle.plugin_order.specs.Heights.{IsHeight}
 use Rattle.plugin_order.proofs.ChainLaws.{StandsOn}

@@ -1,14 +1,14 @@
 -- What heights and cycles of the table say of the sheets.
-use Rattle.std.proofs.Common.{◌≡◌, ℕ, zero, suc, ◌+◌, ◌<◌, ◌≤◌, Bool, List, [], ◌∷◌, ◌++◌, length, reverse, slice_index, IsTrue, refl, sym, ap, ◌∙◌, subst, arith, length-append}
+use Rattle.std.proofs.Common.{◌≡◌, ℕ, ◌+◌, ◌<◌, ◌≤◌, Bool, List, [], ◌∷◌, ◌++◌, length, reverse, IsTrue, refl, sym, ◌∙◌, subst, arith, length-append}
 use Rattle.std.proofs.lemmas.List.{reverse-append, length-reverse}
 use Rattle.plugin_order.specs.declared.sheet.PluginSheet.{PluginSheet}
-use Rattle.plugin_order.specs.Sheets.{runs_after, runs_before, is_better}
-use Rattle.plugin_order.specs.Chains.{Chain, IsLongest, first_or, Leads, IsCycle}
+use Rattle.plugin_order.specs.Sheets.{runs_after}
+use Rattle.plugin_order.specs.Chains.{Chain, IsLongest, first_or, Leads}
 use Rattle.plugin_order.specs.Arranged.{IsPlace, HasNoCycle}
 use Rattle.plugin_order.specs.declared.rules.Rules.{Rules}
 use Rattle.plugin_order.specs.Table.{holds}
 use Rattle.plugin_order.proofs.TableLaws.{holds-from}
-use Rattle.plugin_order.proofs.ChainLaws.{flipped, Leads-append, IsCycle-reverse, IsCycle-same, IsLongest-same, no_cycle}
+use Rattle.plugin_order.proofs.ChainLaws.{flipped, Leads-append, IsCycle-reverse, IsLongest-same, no_cycle}
 
 chain_back : (rule : ℕ → ℕ → Bool) (p : ℕ) (qs : List ℕ) → Chain rule p qs → Leads (flipped rule) (reverse qs) p
 chain_back rule p [] h = tt

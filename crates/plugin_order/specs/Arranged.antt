@@ -1,5 +1,5 @@
 -- What an arrangement of plugins is, and when there is none.
-use Rattle.std.specs.Prelude.{◌≡◌, ℕ, ◌<◌, ◌≤◌, ◌⊎◌, Bool, false, not, if◌then◌else◌, List, [], ◌∷◌, ◌++◌, length, map, slice_index, slice_index_or, slice_get, Some, All, IsPermutation, IsSorted}
+use Rattle.std.specs.Prelude.{◌≡◌, ℕ, ◌<◌, ◌≤◌, ◌⊎◌, Bool, false, not, if◌then◌else◌, List, [], ◌∷◌, ◌++◌, length, map, slice_index, slice_index_or, All, IsPermutation, IsSorted}
 use Rattle.std.specs.declared.cmp.Ordering.{Ordering}
 use Rattle.std.specs.Ordering.{nat_cmp, ordering_then, is_lt}
 use Rattle.std.specs.Cmp.Lexicographic.{slice_cmp}
@@ -8,7 +8,7 @@ use Rattle.plugin_order.specs.declared.sheet.PluginSheet.{PluginSheet}
 use Rattle.plugin_order.specs.declared.arrangement.Arrangement.{Arrangement}
 use Rattle.plugin_order.specs.declared.arrangement.OrderFault.{OrderFault}
 use Rattle.plugin_order.specs.declared.arrangement.OrderFault.TheVariants.{DuplicateName, Cycle, NoMemory}
-use Rattle.plugin_order.specs.Chains.{Chain, IsLongest, Leads, IsCycle}
+use Rattle.plugin_order.specs.Chains.{IsLongest, Leads, IsCycle}
 use Rattle.plugin_order.specs.Sheets.{names, runs_before, is_better, name_at, conflicts_at}
 
 -- k is the length of the longest chain of order rules that ends in p

@@ -1,5 +1,5 @@
 -- What the search for heights keeps.
-use Rattle.std.specs.Prelude.{◌≡◌, ℕ, ◌+◌, ◌<◌, ◌≤◌, ◌⊎◌, List, length, Option, Some, None, IsTrue, slice_index, vec_len}
+use Rattle.std.specs.Prelude.{◌≡◌, ℕ, ◌+◌, ◌<◌, ◌⊎◌, List, Option, Some, None, IsTrue, slice_index, vec_len}
 use Rattle.plugin_order.specs.declared.rules.Rules.{Rules}
 use Rattle.plugin_order.specs.declared.levels.Levels.{Levels}
 use Rattle.plugin_order.specs.declared.levels.Levels.TheVariants.{Heights, Cycle}

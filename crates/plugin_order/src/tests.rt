@@ -47,10 +47,17 @@ fn a_repeated_name(rt: HostRuntime) -> Result<(), Fail> {
         plain(alloc, b"a")?,
     ];
     match arrange(alloc, &sheets) {
-        Err(OrderFault::DuplicateName { name }) => assert_eq!(rt; name.bytes(), b"a".as_slice()),
-        _ => panic!(rt; "two plugins have one name"),
+        Err(fault) => assert!(rt; is_repeat(&fault, b"a")),
+        Ok(_) => panic!(rt; "two plugins have one name"),
     }
     Ok(())
+}
+
+fn is_repeat(fault: &OrderFault, wanted: &[u8]) -> bool {
+    match fault {
+        OrderFault::DuplicateName { name } => name.bytes() == wanted,
+        OrderFault::Cycle { .. } | OrderFault::NoMemory => false,
+    }
 }
 
 #[test]

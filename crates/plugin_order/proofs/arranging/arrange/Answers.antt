@@ -1,4 +1,4 @@
-use Rattle.std.proofs.Common.{◌≡◌, ℕ, ◌<◌, List, All, length, subst, sym, ap, ◌∙◌}
+use Rattle.std.proofs.Common.{ℕ, ◌<◌, List, All, length, subst, sym, ap, ◌∙◌}
 use Rattle.plugin_order.specs.Arranged.{IsInOrder, enabled}
 use Rattle.plugin_order.proofs.SeatLaws.{order_within}
 use Rattle.plugin_order.proofs.arranging.arrange.Goals as goal

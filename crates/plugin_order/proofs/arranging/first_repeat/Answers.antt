@@ -1,4 +1,4 @@
-use Rattle.std.proofs.Common.{◌≡◌, ℕ, ◌<◌, Bool, true, false, length, below_more, arith}
+use Rattle.std.proofs.Common.{◌≡◌, Bool, true, false, below_more, arith}
 use Rattle.plugin_order.specs.Arranged.{IsRepeat}
 use Rattle.plugin_order.proofs.arranging.first_repeat.Goals as goal
 

@@ -1,4 +1,4 @@
-use Rattle.std.proofs.Common.{◌≡◌, ℕ, ◌<◌, Bool, List, IsTrue, inl, length, reverse, slice_index, subst, sym, ◌∙◌, arith}
+use Rattle.std.proofs.Common.{ℕ, ◌<◌, List, inl, length, reverse, slice_index, subst, sym, ◌∙◌, arith}
 use Rattle.plugin_order.specs.declared.levels.Levels.TheVariants.{Heights, Cycle}
 use Rattle.plugin_order.specs.Sheets.{runs_after, runs_before}
 use Rattle.plugin_order.specs.Chains.{IsCycle}

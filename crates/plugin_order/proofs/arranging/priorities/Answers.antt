@@ -1,4 +1,4 @@
-use Rattle.std.proofs.Common.{◌≡◌, ℕ, ◌<◌, Bool, List, IsTrue, inr, length, slice_index, subst, sym, ◌∙◌, arith}
+use Rattle.std.proofs.Common.{ℕ, ◌<◌, List, inr, length, slice_index, subst, sym, arith}
 use Rattle.plugin_order.specs.declared.levels.Levels.TheVariants.{Heights, Cycle}
 use Rattle.plugin_order.specs.Sheets.{is_better}
 use Rattle.plugin_order.specs.Chains.{IsCycle}

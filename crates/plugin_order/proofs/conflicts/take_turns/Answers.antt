@@ -1,4 +1,4 @@
-use Rattle.std.proofs.Common.{List, ℕ, [], take, get_or, sym, subst}
+use Rattle.std.proofs.Common.{List, ℕ, [], take, sym, subst}
 use Rattle.plugin_order.specs.Arranged.{disabled, IsOff}
 use Rattle.plugin_order.proofs.WalkLaws.{disabled-more}
 use Rattle.plugin_order.proofs.conflicts.take_turns.Goals as goal

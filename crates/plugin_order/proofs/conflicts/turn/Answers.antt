@@ -1,5 +1,4 @@
-use Rattle.std.proofs.Common.{◌≡◌, ℕ, ◌<◌, ◌&&◌, not, true, false, length, slice_index_or, sym, ap, ◌∙◌}
-use Rattle.plugin_order.specs.Sheets.{names, name_at, conflicts_at}
+use Rattle.std.proofs.Common.{sym, ◌∙◌}
 use Rattle.plugin_order.proofs.WalkLaws.{turn_on, turn_off}
 use Rattle.plugin_order.proofs.conflicts.turn.Goals as goal
 

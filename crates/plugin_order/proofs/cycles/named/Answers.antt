@@ -1,4 +1,4 @@
-use Rattle.std.proofs.Common.{◌≡◌, ℕ, List, ◌++◌, map, take, drop, [], ap, ◌∙◌}
+use Rattle.std.proofs.Common.{◌≡◌, ℕ, List, ◌++◌, map, drop, ap, ◌∙◌}
 use Rattle.plugin_order.specs.Sheets.{name_at}
 use Rattle.plugin_order.proofs.CycleNames.{shows}
 use Rattle.plugin_order.proofs.cycles.named.Goals as goal

@@ -1,7 +1,7 @@
 use Rattle.std.proofs.Common.{◌≡◌, ◌<◌, ℕ, vec_len, length, List, Some, drop, subst, ap, slice_set, slice_index, ◌++◌, ◌∷◌, [], sym, ◌∙◌, arith}
 use Rattle.std.proofs.lemmas.Result.{IfOk-weaker}
 use Rattle.plugin_order.specs.Table.{holds, height_of}
-use Rattle.plugin_order.specs.Chains.{Leads, IsCycle}
+use Rattle.plugin_order.specs.Chains.{IsCycle}
 use Rattle.plugin_order.proofs.ChainLaws.{Leads-push}
 use Rattle.plugin_order.proofs.Found.{none_found, cycle_tail, kept_more}
 use Rattle.plugin_order.proofs.levels.cycle_from.Goals as goal

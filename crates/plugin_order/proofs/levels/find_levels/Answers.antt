@@ -1,7 +1,7 @@
-use Rattle.std.proofs.Common.{◌≡◌, ℕ, ◌+◌, ◌<◌, ◌≤◌, Some, None, IsTrue, count_by, is_none, length, slice_set, inl, inr, arith}
+use Rattle.std.proofs.Common.{◌≡◌, ◌+◌, ◌<◌, ◌≤◌, Some, count_by, is_none, length, slice_set, inl, inr, arith}
 use Rattle.std.proofs.lemmas.List.Sums.{count_by-le-length}
 use Rattle.plugin_order.specs.Chains.{IsLongest}
-use Rattle.plugin_order.specs.Table.{holds, height_of}
+use Rattle.plugin_order.specs.Table.{holds}
 use Rattle.plugin_order.proofs.ChainLaws.{longest_step}
 use Rattle.plugin_order.proofs.Counting.{count_none-set}
 use Rattle.plugin_order.proofs.Found.{none_found, set_found, stands}

@@ -1,4 +1,4 @@
-use Rattle.std.proofs.Common.{◌≡◌, ℕ, ◌+◌, ◌≤◌, Some, count_by, is_none, length}
+use Rattle.std.proofs.Common.{◌≡◌, ℕ, ◌+◌, ◌≤◌, Some, count_by, is_none}
 use Rattle.plugin_order.specs.Chains.{IsLongest}
 use Rattle.plugin_order.specs.Table.{holds, height_of}
 use Rattle.plugin_order.proofs.levels.find_levels.Given as goal

@@ -1,6 +1,6 @@
 use Rattle.std.proofs.Common.{length}
 use Rattle.plugin_order.specs.Sheets.{rule_of, between}
-use Rattle.plugin_order.proofs.TableLaws.{filled_none, filled_more, filled_row, filled_says}
+use Rattle.plugin_order.proofs.TableLaws.{filled_none, filled_more, filled_says}
 use Rattle.plugin_order.proofs.rules.Rules.of.Goals as goal
 
 pub loop-p-init : goal.loop-p-init
