@@ -106,6 +106,7 @@ pub record SameRecords (old new : BoardState) : Type 0 where
   pub room : new.room ≡ old.room
   pub plan : new.plan ≡ old.plan
   pub calls : new.calls ≡ old.calls
+  pub faults : new.faults ≡ old.faults
 
 -- only the room for marks may have changed
 pub record SameBoard (old new : BoardState) : Type 0 where
@@ -113,3 +114,4 @@ pub record SameBoard (old new : BoardState) : Type 0 where
   pub journal : new.journal ≡ old.journal
   pub plan : new.plan ≡ old.plan
   pub calls : new.calls ≡ old.calls
+  pub faults : new.faults ≡ old.faults

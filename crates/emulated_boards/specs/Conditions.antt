@@ -20,13 +20,19 @@ abbrev pub fresh : Image → Condition
 fresh image = record { image = image; staged = None; mode = start_mode image; presence = Home }
 
 -- what a port shows; a bad image has the raw version 0
-abbrev pub shown : Condition → Seen
-shown it = shown_as it.presence (seen.Home (unwrap_or it.image.raw 0) it.mode)
+abbrev pub view_of : Condition → Seen
+view_of it = seen_as it.presence (seen.Home (unwrap_or it.image.raw 0) it.mode)
   where
-    shown_as : Presence → Seen → Seen
-    shown_as Home home = home
-    shown_as Gone home = seen.Gone
-    shown_as Stranger home = seen.Stranger
+    seen_as : Presence → Seen → Seen
+    seen_as Home home = home
+    seen_as Gone home = seen.Gone
+    seen_as Stranger home = seen.Stranger
+
+-- the port shows the board itself
+abbrev pub ShowsBoard : Seen → Type 0
+ShowsBoard (seen.Home raw mode) = Unit {0}
+ShowsBoard seen.Gone = ⊥
+ShowsBoard seen.Stranger = ⊥
 
 -- the image that runs behind a boot: the staged one, where there is one
 abbrev pub booted_image : Condition → Image

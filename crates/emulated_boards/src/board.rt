@@ -1,8 +1,8 @@
 //! The emulated board.
-ghost use Rattle.std.specs.Prelude.{◌≡◌, ◌<◌, ◌≤◌, [], IsOk, OnOk, OnErr};
+ghost use Rattle.std.specs.Prelude.{◌≡◌, ◌<◌, ◌≤◌, ◌↔◌, [], IsOk, OnOk, OnErr};
 ghost use Rattle.emulated_boards.specs.Images.{image_of, payload_image};
 ghost use Rattle.emulated_boards.specs.Plans.{IsPlan};
-ghost use Rattle.emulated_boards.specs.Conditions.{booted, fresh, plugged, shown, unplugged};
+ghost use Rattle.emulated_boards.specs.Conditions.{ShowsBoard, booted, fresh, plugged, unplugged, view_of};
 ghost use Rattle.emulated_boards.specs.Boards.{BoardStep, SameBoard, SameRecords, enter_loader, leave_loader, look, program, stage};
 ghost use Rattle.emulated_boards.specs.declared.condition.Presence.TheVariants.{Home};
 
@@ -45,6 +45,7 @@ impl Board {
         ensures journal { result.journal ≡ [] }
         ensures plan { result.plan ≡ faults.items }
         ensures calls { result.calls ≡ 0 }
+        ensures faults { result.faults ≡ 0 }
     {
         Board {
             condition: Condition::fresh(Image::of_bytes(image)),
@@ -157,9 +158,10 @@ impl Board {
 
     /// What the board's port shows.
     pub fn view(&self) -> Seen
-        ensures { result ≡ shown self.now.condition }
+        ensures shown { result ≡ view_of self.now.condition }
+        ensures home { ShowsBoard result ↔ (self.now.condition.presence ≡ Home) }
     {
-        self.condition.shown()
+        self.condition.view()
     }
 
     /// Starts the board: a staged image becomes the image. An absent board isn't in its port.

@@ -1,6 +1,6 @@
 //! What a board carries and shows.
 ghost use Rattle.std.specs.Prelude.{◌≡◌};
-ghost use Rattle.emulated_boards.specs.Conditions.{away, booted, fresh, plugged, runs, shown, start_mode, torn, unplugged};
+ghost use Rattle.emulated_boards.specs.Conditions.{away, booted, fresh, plugged, runs, start_mode, torn, unplugged, view_of};
 
 use crate::fault::BoardFault;
 use crate::image::Image;
@@ -41,8 +41,8 @@ impl Condition {
     }
 
     /// What the port shows.
-    pub(crate) fn shown(&self) -> Seen
-        ensures { result ≡ shown self.now }
+    pub(crate) fn view(&self) -> Seen
+        ensures { result ≡ view_of self.now }
     {
         match self.presence {
             Presence::Home => Seen::Home {

@@ -44,6 +44,7 @@ impl FaultPlan {
         requires { IsPlan planned.items }
         ensures planned { result.planned.items ≡ planned.items }
         ensures calls { result.calls ≡ 0 }
+        ensures faults { result.faults ≡ 0 }
     {
         FaultPlan {
             planned,

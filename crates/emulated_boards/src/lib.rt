@@ -11,6 +11,8 @@ pub mod fault;
 pub mod image;
 mod journal;
 pub mod mark;
+#[cfg(test)]
+mod tests;
 
 pub use board::Board;
 pub use condition::{Condition, Presence};

@@ -38,3 +38,10 @@ Began statuses.SourceFault log = log ≡ []
 Began statuses.TooLong log = log ≡ []
 Began (statuses.Document place reason) log = log ≡ []
 Began statuses.NotBuilt log = log ≡ []
+
+-- how a campaign may end once it is read
+abbrev pub IsCampaignEnd : Status → Type 0
+IsCampaignEnd statuses.Done = Unit {0}
+IsCampaignEnd statuses.SinkFault = Unit {0}
+IsCampaignEnd statuses.NoMemory = Unit {0}
+IsCampaignEnd _ = ⊥

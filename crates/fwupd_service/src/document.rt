@@ -16,6 +16,7 @@ use std::alloc::Global;
 pub const DOCUMENT_MAX: usize = 16_777_216;
 
 /// Why there is no document.
+#[derive(Drop)]
 pub enum InputStop {
     SourceFault,
     /// More bytes came than a document may have.

@@ -1,0 +1,4 @@
+pub mod Changes
+pub mod Histories
+pub mod Keepers
+pub mod Memories

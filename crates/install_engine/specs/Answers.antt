@@ -26,12 +26,12 @@ abbrev pub IfWhole : Fetched → (SealedBytes → Type 0) → Type 0
 IfWhole (Whole payload) P = P payload
 IfWhole _ P = Unit {0}
 
--- this holds of the number of bytes, if that was not the one asked for
+-- this holds of the number of bytes that was found, if that was another one
 abbrev pub IfLength : Fetched → (ℕ → Type 0) → Type 0
 IfLength (Length found blocks) P = P found
 IfLength _ P = Unit {0}
 
--- this holds of the SHA-256 of the bytes and of the blocks that they lie in, if it was not the one asked for
+-- this holds of the SHA-256 that was found, if that was another one, and of the blocks with the bytes
 abbrev pub IfMismatch : Fetched → (List ℕ → BlockBytes → Type 0) → Type 0
 IfMismatch (Mismatch found blocks) P = P found blocks
 IfMismatch _ P = Unit {0}

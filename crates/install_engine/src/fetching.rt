@@ -15,9 +15,10 @@ use outer_traits::{Failed, Shelf};
 ///
 /// The length is asked for first, so that a file of another length is not read. A shelf of which
 /// fewer bytes come than it had said gives `Length` with the bytes that came.
-pub fn fetch<P: Shelf>(shelf: &mut P, name: &Digest, size: u32, blocks: Blocks) -> Fetched
+pub fn fetch<P: Shelf>(shelf: &mut P, name: &Digest, size: u32, mut blocks: Blocks) -> Fetched
     requires { size ≤ 4096 * blocks.count }
     ensures found { IfSome (P.files shelf.old) (λ all. IfSome (told result) (λ found. found ≡ found_of (file_of all name.now) name.now size)) }
+    ensures bytes { IfSome (P.files shelf.old) (λ all. IfWhole result (λ payload. file_of all name.now ≡ Some payload.bytes)) }
 
     // These hold also where the shelf tells nothing.
     ensures digest { IfWhole result (λ payload. payload.digest ≡ name.now) }
@@ -31,7 +32,6 @@ pub fn fetch<P: Shelf>(shelf: &mut P, name: &Digest, size: u32, blocks: Blocks) 
     ensures unchanged { P.files shelf.new ≡ P.files shelf.old }
     ensures counts { P.faults shelf.old ≤ P.faults shelf.new }
 {
-    let mut blocks = blocks;
     let length = match shelf.length(name) {
         Err(Failed) => return Fetched::ShelfFault(blocks),
         Ok(None) => return Fetched::Missing(blocks),

@@ -7,6 +7,8 @@
 
 mod fetched;
 mod fetching;
+#[cfg(test)]
+mod tests;
 
 pub use fetched::Fetched;
 pub use fetching::fetch;

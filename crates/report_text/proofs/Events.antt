@@ -16,7 +16,7 @@ from_here : (sheets : List Sheet) (log : List Event) (i : ℕ) (event : Event) �
     ≡ lines_of sheets (reverse (take i log)) event ++ lines_after sheets (reverse (take (i + 1) log)) (drop (i + 1) log)
 from_here sheets log i event lt is =
     let here : drop i log ≡ event ∷ drop (i + 1) log =
-        rw add-one (drop-cons log i event lt ∙ ap (λ (e : Event). e ∷ drop (suc i) log) (sym is)) in
+    rw add-one (drop-cons log i event lt ∙ ap (λ (e : Event). e ∷ drop (suc i) log) (sym is)) in
     ap (lines_after sheets (reverse (take i log))) here
     ∙ ap (λ (before : List Event). lines_of sheets (reverse (take i log)) event ++ lines_after sheets before (drop (i + 1) log)) (sym (newest_first log i event lt is))
 

@@ -10,7 +10,9 @@ use device_list::Selector;
 use history_keeper::RowState;
 use requirements::{Unmet, UnmetCause};
 use std::alloc::AllocError;
-use update_log::{AskAnswer, Back, ClaimAnswer, FetchNote, PlugAnswer, Query, Refusal, ResumeAnswer};
+use update_log::{
+    AskAnswer, Back, ClaimAnswer, FetchNote, PlugAnswer, Query, Refusal, ResumeAnswer,
+};
 
 fn put_cause(out: &mut Vec<u8>, cause: UnmetCause) -> Result<(), AllocError>
     ensures { OnOk result (out.new.items ≡ out.old.items ++ cause_text cause) }

@@ -12,6 +12,5 @@ mod report;
 mod stop;
 mod words;
 
-
 pub use report::write_report;
 pub use stop::ReportStop;

@@ -372,7 +372,13 @@ fn put_line(
                 told,
                 seen: *seen,
             };
-            put_end_line(out, sheet_of(sheets, *entry, before), *client, *entry, &ended)
+            put_end_line(
+                out,
+                sheet_of(sheets, *entry, before),
+                *client,
+                *entry,
+                &ended,
+            )
         }
         Event::Finish {
             client,

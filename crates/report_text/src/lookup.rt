@@ -39,10 +39,14 @@ fn device_taken(entry: u32, event: &Event) -> Option<Selector>
 {
     match event {
         Event::Claim {
-            request, answer, ..
+            request,
+            answer,
+            ..
         }
         | Event::Schedule {
-            request, answer, ..
+            request,
+            answer,
+            ..
         } => device_given(entry, request, answer),
         _ => None,
     }

@@ -91,7 +91,10 @@ pub enum Event {
         boards: Listed<BoardSeen>,
     },
     /// A question was answered.
-    Query { client: u32, query: Query },
+    Query {
+        client: u32,
+        query: Query,
+    },
     /// An install was asked for; `pending` is the entry of a row that was put off.
     Ask {
         client: u32,
@@ -121,7 +124,11 @@ pub enum Event {
         stored: Stored,
     },
     /// A step began.
-    Start { client: u32, entry: u32, op: Op },
+    Start {
+        client: u32,
+        entry: u32,
+        op: Op,
+    },
     /// A step ended: how, which marks it made, and what the port shows.
     End {
         client: u32,
@@ -159,7 +166,10 @@ pub enum Event {
         answer: PlugAnswer,
     },
     /// What a client held was given back.
-    GiveBack { client: u32, what: Back },
+    GiveBack {
+        client: u32,
+        what: Back,
+    },
     /// The power was cut.
     Cut,
 }
