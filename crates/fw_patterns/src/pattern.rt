@@ -138,17 +138,15 @@ fn glob_piece(byte: u8) -> Piece
     ensures { result ≡ glob_piece byte }
 {
     match byte {
-        b'*' => Piece {
-            atom: Atom::Any,
-            repeat: Repeat::AnyTimes,
-        },
-        b'?' => Piece {
-            atom: Atom::Any,
-            repeat: Repeat::Once,
-        },
-        byte => Piece {
-            atom: Atom::Byte(byte),
-            repeat: Repeat::Once,
-        },
+        b'*' => piece(Atom::Any, Repeat::AnyTimes),
+        b'?' => piece(Atom::Any, Repeat::Once),
+        byte => piece(Atom::Byte(byte), Repeat::Once),
     }
+}
+
+fn piece(atom: Atom, repeat: Repeat) -> Piece
+    ensures atom { result.atom ≡ atom }
+    ensures repeat { result.repeat ≡ repeat }
+{
+    Piece { atom, repeat }
 }
