@@ -20,10 +20,8 @@ const BOOTLOADER: Seen = Seen::Home {
     mode: Mode::Bootloader,
 };
 
-fn one_guid(alloc: Global, text: &[u8]) -> Result<Listed<Guid>, Fail> {
-    let mut guids = Vec::new(alloc);
-    guids.push(guid_of(text))?;
-    Ok(Listed::of(guids))
+fn listed(alloc: Global, guids: &[Guid]) -> Result<Listed<Guid>, Fail> {
+    Ok(Listed::of(guids.to_vec(alloc)?))
 }
 
 fn id(number: usize) -> DeviceId {
@@ -33,16 +31,24 @@ fn id(number: usize) -> DeviceId {
     DeviceId::from_bytes(bytes)
 }
 
-fn view(alloc: Global, number: usize, seen: Seen) -> Result<DeviceView, Fail> {
-    let sheet = Sheet {
+fn sheet(alloc: Global, number: usize, runtime: &[Guid], loader: &[Guid]) -> Result<Sheet, Fail> {
+    Ok(Sheet {
         port: Name::read(b"usb1")?,
         device: id(number),
-        runtime_guids: one_guid(alloc, b"firmware")?,
-        loader_guids: one_guid(alloc, b"loader")?,
+        runtime_guids: listed(alloc, runtime)?,
+        loader_guids: listed(alloc, loader)?,
         format: Format::Triplet,
-    };
+    })
+}
+
+fn view(alloc: Global, number: usize, seen: Seen) -> Result<DeviceView, Fail> {
     Ok(DeviceView {
-        sheet,
+        sheet: sheet(
+            alloc,
+            number,
+            &[guid_of(b"firmware")],
+            &[guid_of(b"loader")],
+        )?,
         seen,
         claim: None,
     })
@@ -114,5 +120,63 @@ fn no_id_twice_and_at_most_256(rt: HostRuntime) -> Result<(), Fail> {
     let more = devices.add(view(alloc, 256, RUNTIME)?);
     assert_eq!(rt; more, Err(ListFault::Full));
     assert_eq!(rt; devices.views().len(), DEVICES_MAX);
+    Ok(())
+}
+
+// The GUIDs of device `number`: those of a few small numbers, so that many devices share one.
+fn some_guids(alloc: Global, number: usize, count: usize) -> Result<Vec<Guid>, Fail> {
+    let mut guids = Vec::new(alloc);
+    for i in 0..count % 4 {
+        let mut bytes = [0; 16];
+        bytes[0] = (number / 2 % 8 + i * 3 % 8) as u8;
+        guids.push(Guid::from_bytes(bytes))?;
+    }
+    Ok(guids)
+}
+
+fn scanned(views: &[DeviceView], guid: &Guid) -> Option<usize> {
+    views
+        .iter()
+        .position(|view| view.guids().iter().any(|shown| shown == guid))
+}
+
+#[test]
+fn by_guid_is_a_plain_scan(rt: HostRuntime) -> Result<(), Fail> {
+    let alloc = rt.alloc();
+    for turn in 0..12usize {
+        let mut devices = Devices::new(alloc);
+        for number in 0..24usize {
+            let step = number * 7 % 16 + turn;
+            let runtime = some_guids(alloc, step, number)?;
+            let loader = some_guids(alloc, step % 5, number + turn)?;
+            devices.add(DeviceView {
+                sheet: sheet(alloc, number, &runtime, &loader)?,
+                seen: [Seen::Gone, RUNTIME, Seen::Stranger, BOOTLOADER][step % 4],
+                claim: None,
+            })?;
+            for first in 0..16u8 {
+                let mut bytes = [0; 16];
+                bytes[0] = first;
+                let guid = Guid::from_bytes(bytes);
+                assert_eq!(rt; devices.by_guid(&guid), scanned(devices.views(), &guid));
+            }
+        }
+    }
+    Ok(())
+}
+
+#[test]
+fn a_guid_of_both_modes_is_found_in_each(rt: HostRuntime) -> Result<(), Fail> {
+    let alloc = rt.alloc();
+    let both = guid_of(b"both");
+    let mut devices = Devices::new(alloc);
+    for (number, seen) in [Seen::Gone, BOOTLOADER, RUNTIME].into_iter().enumerate() {
+        devices.add(DeviceView {
+            sheet: sheet(alloc, number, &[both, both], &[both])?,
+            seen,
+            claim: None,
+        })?;
+    }
+    assert_eq!(rt; devices.by_guid(&both), Some(1));
     Ok(())
 }
