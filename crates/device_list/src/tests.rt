@@ -3,8 +3,8 @@
 ghost use Rattle.std.specs.Prelude.{◌≡◌, length, IfOk};
 
 use crate::{DEVICES_MAX, Devices, ListFault, Selector};
-use fw_base::{Listed, Name};
-use fw_facts::{DeviceView, Mode, Seen, Sheet};
+use fw_base::{Line, Listed, Name};
+use fw_facts::{DeviceFlags, DeviceView, Mode, Seen, Sheet};
 use guid_ids::{DeviceId, Guid, guid_of};
 use std::alloc::Global;
 use std::test::Fail;
@@ -31,13 +31,30 @@ fn id(number: usize) -> DeviceId {
     DeviceId::from_bytes(bytes)
 }
 
+// A board in port usb1. Look-ups read its device ID and its GUIDs alone.
 fn sheet(alloc: Global, number: usize, runtime: &[Guid], loader: &[Guid]) -> Result<Sheet, Fail> {
     Ok(Sheet {
         port: Name::read(b"usb1")?,
         device: id(number),
+        priority: 0,
+        plugin: Name::read(b"flash")?,
+        name: Line::read(b"")?,
+        vendor: Line::read(b"")?,
+        vendor_ids: Listed::of(Vec::new(alloc)),
         runtime_guids: listed(alloc, runtime)?,
         loader_guids: listed(alloc, loader)?,
+        counterparts: listed(alloc, &[])?,
+        flags: DeviceFlags::empty(),
         format: Format::Triplet,
+        protocol: None,
+        bootloader: None,
+        size_min: 0,
+        size_max: 4_194_304,
+        duration: 0,
+        parent: None,
+        unreachable: false,
+        power_low: false,
+        lid: false,
     })
 }
 
