@@ -140,15 +140,43 @@ fn no_id_twice_and_at_most_256(rt: HostRuntime) -> Result<(), Fail> {
     Ok(())
 }
 
-// The GUIDs of device `number`: those of a few small numbers, so that many devices share one.
-fn some_guids(alloc: Global, number: usize, count: usize) -> Result<Vec<Guid>, Fail> {
+// Up to three GUIDs out of eleven, so that many devices share one.
+fn some_guids(alloc: Global, from: usize, count: usize) -> Result<Vec<Guid>, Fail> {
     let mut guids = Vec::new(alloc);
     for i in 0..count % 4 {
-        let mut bytes = [0; 16];
-        bytes[0] = (number / 2 % 8 + i * 3 % 8) as u8;
-        guids.push(Guid::from_bytes(bytes))?;
+        guids.push(numbered(from % 5 + i * 2))?;
     }
     Ok(guids)
+}
+
+fn numbered(number: usize) -> Guid {
+    let mut bytes = [0; 16];
+    bytes[0] = (number % 256) as u8;
+    Guid::from_bytes(bytes)
+}
+
+fn seen(number: usize) -> Seen {
+    match number % 4 {
+        0 => Seen::Gone,
+        1 => RUNTIME,
+        2 => BOOTLOADER,
+        _ => Seen::Stranger,
+    }
+}
+
+// A list of that many devices, whose boards have GUIDs in common.
+fn mixed(alloc: Global, count: usize) -> Result<Devices, Fail> {
+    let mut devices = Devices::new(alloc);
+    for number in 0..count {
+        let runtime = some_guids(alloc, number, number % 7)?;
+        let loader = some_guids(alloc, number / 3, count)?;
+        devices.add(DeviceView {
+            sheet: sheet(alloc, number, &runtime, &loader)?,
+            seen: seen(number / 2),
+            claim: None,
+        })?;
+    }
+    Ok(devices)
 }
 
 fn scanned(views: &[DeviceView], guid: &Guid) -> Option<usize> {
@@ -157,27 +185,17 @@ fn scanned(views: &[DeviceView], guid: &Guid) -> Option<usize> {
         .position(|view| view.guids().iter().any(|shown| shown == guid))
 }
 
+fn agrees_with_a_scan(devices: &Devices) -> bool {
+    (0..12).all(|number| {
+        let guid = numbered(number);
+        devices.by_guid(&guid) == scanned(devices.views(), &guid)
+    })
+}
+
 #[test]
 fn by_guid_is_a_plain_scan(rt: HostRuntime) -> Result<(), Fail> {
-    let alloc = rt.alloc();
-    for turn in 0..12usize {
-        let mut devices = Devices::new(alloc);
-        for number in 0..24usize {
-            let step = number * 7 % 16 + turn;
-            let runtime = some_guids(alloc, step, number)?;
-            let loader = some_guids(alloc, step % 5, number + turn)?;
-            devices.add(DeviceView {
-                sheet: sheet(alloc, number, &runtime, &loader)?,
-                seen: [Seen::Gone, RUNTIME, Seen::Stranger, BOOTLOADER][step % 4],
-                claim: None,
-            })?;
-            for first in 0..16u8 {
-                let mut bytes = [0; 16];
-                bytes[0] = first;
-                let guid = Guid::from_bytes(bytes);
-                assert_eq!(rt; devices.by_guid(&guid), scanned(devices.views(), &guid));
-            }
-        }
+    for count in 0..32usize {
+        assert!(rt; agrees_with_a_scan(&mixed(rt.alloc(), count)?));
     }
     Ok(())
 }
