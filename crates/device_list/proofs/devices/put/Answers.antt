@@ -1,5 +1,4 @@
-use Rattle.std.proofs.Common.{ap, get_or, sym}
-use Rattle.fw_facts.specs.declared.sheet.Sheet.{Sheet}
+use Rattle.std.proofs.Common.{get_or, sym}
 use Rattle.fw_facts.specs.declared.view.DeviceView.{DeviceView}
 use Rattle.std.proofs.lemmas.Option.{slice_get-get_or}
 use Rattle.device_list.proofs.Places.{map-set_same}
