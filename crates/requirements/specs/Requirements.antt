@@ -68,8 +68,8 @@ unless holds cause = if holds then None else Some cause
 
 -- A version that has to be there, and has to pass.
 abbrev pub of_version : Test → UnmetCause → Option (List ℕ) → Option UnmetCause
-of_version test missing None = Some missing
-of_version test missing (Some version) = unless (passes test version) VersionCompare
+of_version test otherwise None = Some otherwise
+of_version test otherwise (Some version) = unless (passes test version) VersionCompare
 
 -- A version that has to pass, where there is a test.
 abbrev pub of_test : Option Test → Option (List ℕ) → Option UnmetCause
@@ -86,8 +86,8 @@ of_device test view = in_use view.claim
 
 -- A device that has to be there.
 abbrev pub of_found : Option Test → UnmetCause → Option DeviceView → Option UnmetCause
-of_found test missing None = Some missing
-of_found test missing (Some view) = of_device test view
+of_found test otherwise None = Some otherwise
+of_found test otherwise (Some view) = of_device test view
 
 -- That ancestor, where it shows the GUID.
 abbrev pub with_guid : List ℕ → Option DeviceView → Option DeviceView
