@@ -54,7 +54,8 @@ fn place_of_unmet(
     view: &DeviceView,
     list: &[Requirement],
 ) -> Option<usize>
-    ensures first { result ≡ position (λ requirement. is_some (cause machine.now features.now views.now view.now requirement)) list.now }
+    ensures first { result ≡ position
+        (λ requirement. is_some (cause machine.now features.now views.now view.now requirement)) list.now }
     ensures within { IfSome result (λ at. at < length list.now) }
 {
     list.iter().position(|requirement| cause(machine, features, views, view, requirement).is_some())
