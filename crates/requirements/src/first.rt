@@ -1,5 +1,5 @@
 //! The first requirement that doesn't hold.
-ghost use Rattle.std.specs.Prelude.{◌≡◌, ◌<◌, ◌^◌, IfSome, IsTrue, MatchOption, is_some, length, position, slice_get};
+ghost use Rattle.std.specs.Prelude.{◌≡◌, ◌<◌, ◌^◌, ForSome, IfSome, IsTrue, is_some, length, position, slice_get};
 ghost use Rattle.fw_facts.specs.Views.{is_home};
 ghost use Rattle.requirements.specs.Requirements.{cause, first_unmet, first_unmet_of};
 
@@ -22,7 +22,7 @@ pub fn first_unmet(
     list: &[Requirement],
 ) -> Option<Unmet>
     requires in_list { device < length views.now }
-    requires present { MatchOption (slice_get views.now device) ⊥ (λ view. IsTrue (is_home view.seen)) }
+    requires present { ForSome (slice_get views.now device) (λ view. IsTrue (is_home view.seen)) }
     requires few { length list.now < 2 ^ 32 }
     ensures { result ≡ first_unmet machine.now features.now views.now device list.now }
 {
