@@ -8,6 +8,7 @@
 mod causes;
 mod finding;
 mod first;
+pub mod laws;
 mod passing;
 pub mod unmet;
 
