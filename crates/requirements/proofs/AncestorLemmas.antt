@@ -1,5 +1,5 @@
 -- One step of the walk to an ancestor.
-use Rattle.std.proofs.Common.{◌≡◌, ℕ, suc, ◌+◌, ◌-◌, ◌<◌, List, Option, Some, None, refl, arith}
+use Rattle.std.proofs.Common.{◌≡◌, ℕ, suc, ◌+◌, ◌-◌, ◌<◌, List, Some, None, refl, arith}
 use Rattle.fw_facts.specs.declared.view.DeviceView.{DeviceView}
 use Rattle.requirements.specs.Requirements.{ancestor, parent}
 

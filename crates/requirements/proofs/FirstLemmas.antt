@@ -8,7 +8,6 @@ use Rattle.std.specs.Prelude.{MatchOption, nat_lt, position, slice_get}
 use Rattle.fw_facts.specs.declared.requirement.Requirement.{Requirement}
 use Rattle.requirements.specs.Requirements.{AllHold, IsFirstUnmet, cause_at, unmet_at}
 use Rattle.requirements.specs.declared.unmet.UnmetCause.{UnmetCause}
-use Rattle.requirements.specs.declared.unmet.Unmet.{Unmet}
 
 pub unmet_at-first : (why : Requirement → Option UnmetCause) (list : List Requirement) (at : ℕ) (r : Requirement) (c : UnmetCause)
     → position (λ requirement. is_some (why requirement)) list ≡ Some at → slice_get list at ≡ Some r → why r ≡ Some c

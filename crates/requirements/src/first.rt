@@ -1,5 +1,6 @@
 //! The first requirement that doesn't hold.
-ghost use Rattle.std.specs.Prelude.{◌≡◌, ◌<◌, ◌^◌, ForSome, IfSome, IsTrue, is_some, length, position, slice_get};
+ghost use Rattle.std.specs.Prelude.{◌≡◌, ◌<◌, ◌^◌, IfSome, IsTrue, is_some, length, position, slice_get};
+ghost use Rattle.std.specs.Option.{ForSome};
 ghost use Rattle.fw_facts.specs.Views.{is_home};
 ghost use Rattle.requirements.specs.Requirements.{cause, first_unmet, first_unmet_of};
 

@@ -23,6 +23,8 @@ type Row = (
 
 const HUB: usize = 0;
 
+const DOCK: usize = 1;
+
 const ROOT: usize = 2;
 
 const STRAY: usize = 7;
@@ -267,230 +269,214 @@ fn a_version_is_in_a_pattern(rt: HostRuntime) -> Result<(), Fail> {
     look(&rt, HUB, rows)
 }
 
-fn id(text: &[u8], test: Test) -> Result<Requirement, Fail> {
-    let name = name(text)?;
-    Ok(Requirement::Id { name, test })
+fn at_least_or_none(text: Option<&[u8]>) -> Result<Option<Test>, Fail> {
+    match text {
+        Some(text) => Ok(Some(at_least(text)?)),
+        None => Ok(None),
+    }
 }
 
 #[test]
 fn the_first_id_of_a_name_counts(rt: HostRuntime) -> Result<(), Fail> {
-    let alloc = rt.alloc();
     let compare = Some(UnmetCause::VersionCompare);
     let missing = Some(UnmetCause::IdMissing);
-    let rows = vec![in alloc;
-        (id(b"org.freedesktop.fwupd", at_least(b"1.8.0")?)?, None),
-        (id(b"org.freedesktop.fwupd", at_least(b"1.10.0")?)?, compare),
-        (id(b"com.example.twice", Test::Eq(version(b"1.0")?))?, None),
-        (
-            id(b"com.example.twice", Test::Eq(version(b"3.0")?))?,
-            compare
-        ),
-        (
-            id(b"com.example.none", Test::Ne(version(b"1.0")?))?,
-            missing
-        ),
-        (id(b"org.freedesktop", at_least(b"1.0")?)?, missing),
-    ]?;
+    let mut rows = Vec::new(rt.alloc());
+    let table: [(&[u8], &[u8], Option<UnmetCause>); 6] = [
+        (b"org.freedesktop.fwupd", b"1.8.0", None),
+        (b"org.freedesktop.fwupd", b"1.10.0", compare),
+        (b"com.example.twice", b"1.0", None),
+        (b"com.example.twice", b"3.0", compare),
+        (b"com.example.none", b"1.0", missing),
+        (b"org.freedesktop", b"1.0", missing),
+    ];
+    for (text, least, cause) in table {
+        let name = name(text)?;
+        let test = at_least(least)?;
+        rows.push((Requirement::Id { name, test }, cause))?;
+    }
     look(&rt, HUB, rows)
 }
 
+// The hub states the version 2.0 of its boot loader, and the root states none.
 #[test]
 fn the_boot_loader_states_its_version(rt: HostRuntime) -> Result<(), Fail> {
-    let alloc = rt.alloc();
-    let rows = vec![in alloc;
-        (
-            Requirement::Bootloader {
-                test: at_least(b"2.0")?
-            },
-            None
-        ),
-        (
-            Requirement::Bootloader {
-                test: at_least(b"2.1")?
-            },
-            Some(UnmetCause::VersionCompare)
-        ),
-    ]?;
-    look(&rt, HUB, rows)?;
-    let test = Test::Glob(glob(alloc, b"*")?);
-    let rows = vec![in alloc;
-        (
-            Requirement::Bootloader { test },
-            Some(UnmetCause::NoBootloaderVersion)
-        ),
-    ]?;
-    look(&rt, ROOT, rows)
+    let table: [(usize, &[u8], Option<UnmetCause>); 3] = [
+        (HUB, b"2.0", None),
+        (HUB, b"2.1", Some(UnmetCause::VersionCompare)),
+        (ROOT, b"0", Some(UnmetCause::NoBootloaderVersion)),
+    ];
+    for (device, least, cause) in table {
+        let mut rows = Vec::new(rt.alloc());
+        let test = at_least(least)?;
+        rows.push((Requirement::Bootloader { test }, cause))?;
+        look(&rt, device, rows)?;
+    }
+    Ok(())
 }
 
+// The root has no vendor ID.
 #[test]
 fn one_vendor_id_passes(rt: HostRuntime) -> Result<(), Fail> {
     let alloc = rt.alloc();
     let mismatch = Some(UnmetCause::VendorMismatch);
-    let mut rows = Vec::new(alloc);
-    for (test, cause) in [
-        (VendorTest::Same(name(b"PCI:0x1")?), None),
-        (VendorTest::Same(name(b"PCI:0x")?), mismatch),
-        (VendorTest::Same(name(b"USB:0x0a5c")?), mismatch),
-        (VendorTest::Same(name(b"PCI:*")?), mismatch),
-        (VendorTest::Glob(glob(alloc, b"PCI:*")?), None),
-        (VendorTest::Glob(glob(alloc, b"PCI")?), mismatch),
-        (
-            VendorTest::Regex(regex(alloc, b"USB:0x0A5C|USB:0x17EF")?),
-            None,
-        ),
-        (VendorTest::Regex(regex(alloc, b"^0x")?), mismatch),
-    ] {
-        rows.push((Requirement::VendorId { test }, cause))?;
+    let table: [(usize, &[u8], [Option<UnmetCause>; 2]); 6] = [
+        (HUB, b"PCI:0x1", [None, None]),
+        (HUB, b"PCI:0x", [mismatch, mismatch]),
+        (HUB, b"USB:0x0a5c", [mismatch, mismatch]),
+        (HUB, b"PCI:*", [mismatch, None]),
+        (HUB, b"*A5?", [mismatch, None]),
+        (ROOT, b"*", [mismatch, mismatch]),
+    ];
+    for (device, text, [same, in_glob]) in table {
+        let mut rows = Vec::new(alloc);
+        let test = VendorTest::Same(name(text)?);
+        rows.push((Requirement::VendorId { test }, same))?;
+        let test = VendorTest::Glob(glob(alloc, text)?);
+        rows.push((Requirement::VendorId { test }, in_glob))?;
+        look(&rt, device, rows)?;
     }
-    look(&rt, HUB, rows)?;
-    let test = VendorTest::Glob(glob(alloc, b"*")?);
-    let rows = vec![in alloc; (Requirement::VendorId { test }, mismatch)]?;
-    look(&rt, ROOT, rows)
+    Ok(())
 }
 
-fn other(text: &[u8], test: Option<Test>) -> Requirement {
-    let guid = guid_of(text);
-    Requirement::Device { guid, test }
+#[test]
+fn a_vendor_id_is_in_a_regular_expression(rt: HostRuntime) -> Result<(), Fail> {
+    let alloc = rt.alloc();
+    let table: [(&[u8], Option<UnmetCause>); 3] = [
+        (b"USB:0x0A5C|USB:0x17EF", None),
+        (b"0x1", None),
+        (b"^0x", Some(UnmetCause::VendorMismatch)),
+    ];
+    let mut rows = Vec::new(alloc);
+    for (text, cause) in table {
+        let test = VendorTest::Regex(regex(alloc, text)?);
+        rows.push((Requirement::VendorId { test }, cause))?;
+    }
+    look(&rt, HUB, rows)
 }
 
 // A device that isn't there, one that is being updated before one that isn't, and the other way round.
 #[test]
 fn the_first_device_with_a_guid_counts(rt: HostRuntime) -> Result<(), Fail> {
-    let alloc = rt.alloc();
     let compare = Some(UnmetCause::VersionCompare);
     let absent = Some(UnmetCause::NoSuchDevice);
     let busy = Some(UnmetCause::DeviceInUse { entry: 5 });
-    let rows = vec![in alloc;
-        (other(b"hub", None), None),
-        (other(b"root", Some(at_least(b"2.0.0")?)), None),
-        (other(b"root", Some(at_least(b"2.0.1")?)), compare),
-        (other(b"none", None), absent),
-        (other(b"dock", None), absent),
-        (other(b"busy", None), busy),
-        (other(b"busy", Some(at_least(b"9.0")?)), busy),
-        (other(b"twin", Some(at_least(b"1.0.0")?)), None),
-        (other(b"twin", Some(at_least(b"3.0.0")?)), compare),
-    ]?;
+    let mut rows = Vec::new(rt.alloc());
+    let table: [(&[u8], Option<&[u8]>, Option<UnmetCause>); 9] = [
+        (b"hub", None, None),
+        (b"root", Some(b"2.0.0"), None),
+        (b"root", Some(b"2.0.1"), compare),
+        (b"none", None, absent),
+        (b"dock", None, absent),
+        (b"busy", None, busy),
+        (b"busy", Some(b"9.0"), busy),
+        (b"twin", Some(b"1.0.0"), None),
+        (b"twin", Some(b"3.0.0"), compare),
+    ];
+    for (text, least, cause) in table {
+        let guid = guid_of(text);
+        let test = at_least_or_none(least)?;
+        rows.push((Requirement::Device { guid, test }, cause))?;
+    }
     look(&rt, HUB, rows)
 }
 
-fn above(depth: u8, text: &[u8], test: Option<Test>) -> Requirement {
-    let guid = guid_of(text);
-    Requirement::Ancestor { depth, guid, test }
-}
-
-// The hub's parent is absent, and its parent's parent is there.
+// The hub's parent is absent, and its parent's parent is there. The stray's parent is in no port, and
+// the last device's is being updated.
 #[test]
 fn the_walk_goes_on_through_an_absent_parent(rt: HostRuntime) -> Result<(), Fail> {
-    let alloc = rt.alloc();
     let none = Some(UnmetCause::NoSuchAncestor);
-    let rows = vec![in alloc;
-        (above(0, b"hub", None), None),
-        (above(1, b"dock", None), none),
-        (above(1, b"hub", None), none),
-        (above(1, b"root", None), none),
-        (above(2, b"root", None), None),
-        (above(2, b"root", Some(at_least(b"2.0.0")?)), None),
-        (
-            above(2, b"root", Some(at_least(b"2.0.1")?)),
-            Some(UnmetCause::VersionCompare)
-        ),
-        (above(2, b"busy", None), none),
-        (above(3, b"root", None), none),
-        (above(255, b"root", None), none),
-    ]?;
-    look(&rt, HUB, rows)
-}
-
-#[test]
-fn the_walk_ends_at_the_list(rt: HostRuntime) -> Result<(), Fail> {
-    let alloc = rt.alloc();
-    let none = Some(UnmetCause::NoSuchAncestor);
-    let rows = vec![in alloc;
-        (above(0, b"stray", None), None),
-        (above(1, b"stray", None), none),
-    ]?;
-    look(&rt, STRAY, rows)?;
+    let compare = Some(UnmetCause::VersionCompare);
     let busy = Some(UnmetCause::DeviceInUse { entry: 5 });
-    let rows = vec![in alloc;
-        (above(1, b"busy", None), busy),
-        (above(1, b"busy", Some(at_least(b"9.0")?)), busy),
-    ]?;
-    look(&rt, BUSY_CHILD, rows)
+    let table: [(usize, u8, &[u8], Option<&[u8]>, Option<UnmetCause>); 14] = [
+        (HUB, 0, b"hub", None, None),
+        (HUB, 1, b"dock", None, none),
+        (HUB, 1, b"hub", None, none),
+        (HUB, 1, b"root", None, none),
+        (HUB, 2, b"root", None, None),
+        (HUB, 2, b"root", Some(b"2.0.0"), None),
+        (HUB, 2, b"root", Some(b"2.0.1"), compare),
+        (HUB, 2, b"busy", None, none),
+        (HUB, 3, b"root", None, none),
+        (HUB, 255, b"root", None, none),
+        (STRAY, 0, b"stray", None, None),
+        (STRAY, 1, b"stray", None, none),
+        (BUSY_CHILD, 1, b"busy", None, busy),
+        (BUSY_CHILD, 1, b"busy", Some(b"9.0"), busy),
+    ];
+    for (device, depth, text, least, cause) in table {
+        let guid = guid_of(text);
+        let test = at_least_or_none(least)?;
+        let mut rows = Vec::new(rt.alloc());
+        rows.push((Requirement::Ancestor { depth, guid, test }, cause))?;
+        look(&rt, device, rows)?;
+    }
+    Ok(())
 }
 
 #[test]
 fn hardware_is_wanted_or_ruled_out(rt: HostRuntime) -> Result<(), Fail> {
     let alloc = rt.alloc();
     let mut rows = Vec::new(alloc);
-    let lists: [(&[&[u8]], bool); 5] = [
-        (&[], false),
-        (&[b"other"], false),
-        (&[b"board"], true),
-        (&[b"other", b"family"], true),
-        (&[b"family", b"other"], true),
+    let missing = Some(UnmetCause::HardwareMissing);
+    let forbidden = Some(UnmetCause::HardwareForbidden);
+    let table: [(&[&[u8]], Option<UnmetCause>, Option<UnmetCause>); 5] = [
+        (&[], missing, None),
+        (&[b"other"], missing, None),
+        (&[b"board"], None, forbidden),
+        (&[b"other", b"family"], None, forbidden),
+        (&[b"family", b"other"], None, forbidden),
     ];
-    for (texts, there) in lists {
-        let missing = if there {
-            None
-        } else {
-            Some(UnmetCause::HardwareMissing)
-        };
-        let forbidden = if there {
-            Some(UnmetCause::HardwareForbidden)
-        } else {
-            None
-        };
-        rows.push((
-            Requirement::Hardware {
-                any: guids(alloc, texts)?,
-            },
-            missing,
-        ))?;
-        rows.push((
-            Requirement::NotHardware {
-                any: guids(alloc, texts)?,
-            },
-            forbidden,
-        ))?;
+    for (texts, wanted, ruled_out) in table {
+        let any = guids(alloc, texts)?;
+        rows.push((Requirement::Hardware { any }, wanted))?;
+        let any = guids(alloc, texts)?;
+        rows.push((Requirement::NotHardware { any }, ruled_out))?;
     }
     look(&rt, HUB, rows)
 }
 
-fn client(text: &[u8]) -> Result<Requirement, Fail> {
-    let feature = name(text)?;
-    Ok(Requirement::Client { feature })
-}
-
 #[test]
 fn the_client_has_its_features(rt: HostRuntime) -> Result<(), Fail> {
-    let alloc = rt.alloc();
     let missing = Some(UnmetCause::ClientFeatureMissing);
-    let rows = vec![in alloc;
-        (client(b"detach-action")?, None),
-        (client(b"show-image")?, None),
-        (client(b"show")?, missing),
-    ]?;
+    let mut rows = Vec::new(rt.alloc());
+    let table: [(&[u8], Option<UnmetCause>); 3] = [
+        (b"detach-action", None),
+        (b"show-image", None),
+        (b"show", missing),
+    ];
+    for (text, cause) in table {
+        let feature = name(text)?;
+        rows.push((Requirement::Client { feature }, cause))?;
+    }
     look(&rt, HUB, rows)
 }
 
+// Devices that are wanted, by their GUIDs: where each is there, where the third isn't, and none at all.
 #[test]
 fn the_least_index_is_named(rt: HostRuntime) -> Result<(), Fail> {
     let alloc = rt.alloc();
     let scene = Scene::new(alloc)?;
-    let list = vec![in alloc;
-        client(b"show-image")?,
-        other(b"hub", None),
-        other(b"dock", None),
-        client(b"none")?,
-        client(b"detach-action")?,
-    ]?;
-    let unmet = Unmet {
+    let third = Unmet {
         index: 2,
         cause: UnmetCause::NoSuchDevice,
     };
-    assert_eq!(rt; scene.first_unmet(HUB, list.as_slice()), Some(Some(unmet)));
-    assert_eq!(rt; scene.first_unmet(HUB, &[]), Some(None));
-    assert_eq!(rt; scene.first_unmet(1, list.as_slice()), None);
+    let table: [(usize, &[&[u8]], Option<Option<Unmet>>); 4] = [
+        (
+            HUB,
+            &[b"hub", b"root", b"dock", b"busy", b"twin"],
+            Some(Some(third)),
+        ),
+        (HUB, &[b"hub", b"root", b"twin"], Some(None)),
+        (HUB, &[], Some(None)),
+        (DOCK, &[b"hub"], None),
+    ];
+    for (device, texts, expected) in table {
+        let mut list = Vec::new(alloc);
+        for text in texts {
+            let guid = guid_of(text);
+            list.push(Requirement::Device { guid, test: None })?;
+        }
+        assert_eq!(rt; scene.first_unmet(device, list.as_slice()), expected);
+    }
     Ok(())
 }

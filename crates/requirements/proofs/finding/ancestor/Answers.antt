@@ -1,8 +1,6 @@
-use Rattle.std.proofs.Common.{◌≡◌, ◌+◌, ◌-◌, ◌<◌, ℕ, Bor, arith, sym, ap, ◌∙◌}
+use Rattle.std.proofs.Common.{◌<◌, arith, sym, ap, ◌∙◌}
 use Rattle.std.specs.Option.{option_copied}
-use Rattle.fw_facts.specs.declared.view.DeviceView.{DeviceView}
 use Rattle.requirements.proofs.AncestorLemmas.{ancestor-step, ancestor-end}
-use Rattle.requirements.specs.Requirements.{ancestor, parent}
 use Rattle.requirements.proofs.finding.ancestor.Goals as goal
 
 pub loop-preserved : goal.loop-preserved
