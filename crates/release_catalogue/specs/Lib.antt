@@ -1,1 +1,5 @@
+pub mod Faults
+pub mod Kinds
 pub mod Lookup
+pub mod Reading
+pub mod Words

@@ -5,11 +5,19 @@
 #![tactic(auto)]
 
 pub mod catalogue;
+pub mod defaults;
+pub mod entries;
+pub mod kinds;
+pub mod members;
 pub mod place;
 pub mod reason;
 pub mod reference;
+pub mod spot;
+pub mod word;
 
 pub use catalogue::Catalogue;
 pub use place::Place;
 pub use reason::Reason;
 pub use reference::ReleaseRef;
+pub use spot::{Fault, Level, ReadStop, Spot};
+pub use word::Word;

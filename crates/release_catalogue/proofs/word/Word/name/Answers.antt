@@ -1,0 +1,5 @@
+use Rattle.release_catalogue.proofs.WordNames.{word_is_name}
+use Rattle.release_catalogue.proofs.word.Word.name.Goals as goal
+
+pub unwrap-requires : goal.unwrap-requires
+unwrap-requires c = ?
