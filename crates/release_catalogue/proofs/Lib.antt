@@ -1,2 +1,4 @@
 pub mod Loop
+pub mod Patterns
+pub mod Tests
 pub mod WordNames

@@ -1,5 +1,5 @@
 //! Lists.
-ghost use Rattle.std.specs.Prelude.{◌≡◌, ◌<◌, ◌^◌, ℕ, [], List, Result, length, map};
+ghost use Rattle.std.specs.Prelude.{◌≡◌, ◌<◌, ◌^◌, ℕ, [], IfOk, List, Result, length, map};
 ghost use Rattle.serde_json.specs.Data.{Data};
 ghost use Rattle.serde_json.specs.View.{view, items_view};
 ghost use Rattle.release_catalogue.specs.declared.spot.Spot.{Spot};
@@ -39,7 +39,8 @@ pub fn entries<E: Entry>(
     level: Level,
 ) -> Result<Vec<E>, ReadStop>
     requires few { length values.now < 2 ^ 32 }
-    ensures { Gives (λ v. map E.seen v.items) result (each E.reading (entry_spot base level) [] (items_view values.now)) }
+    ensures read { Gives (λ v. map E.seen v.items) result (each E.reading (entry_spot base level) [] (items_view values.now)) }
+    ensures as_many { IfOk result (λ v. length v.items ≡ length values.now) }
 {
     let mut read: Vec<E> = Vec::new(alloc);
     for (i, value) in values.iter().enumerate() {

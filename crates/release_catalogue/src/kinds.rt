@@ -77,7 +77,13 @@ pub fn name_among(value: &Value, spot: Spot, names: &[&str]) -> Result<Name, Rea
 fn is_among(name: &Name, names: &[&str]) -> bool
     ensures { result ≡ list_any (bytes_eq name.now) (map (λ s. s.now) names.now) }
 {
-    names.iter().any(|other| name.bytes() == other.as_bytes())
+    some_is(names, name)
+}
+
+fn some_is(texts: &[&str], name: &Name) -> bool
+    ensures { result ≡ list_any (λ s. bytes_eq name.now s.now) texts.now }
+{
+    texts.iter().any(|text| name.bytes() == text.as_bytes())
 }
 
 /// A line, else `WrongKind`.

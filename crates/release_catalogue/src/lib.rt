@@ -5,14 +5,20 @@
 #![tactic(auto)]
 
 pub mod catalogue;
+pub mod comparison;
+pub mod component;
 pub mod defaults;
 pub mod entries;
 pub mod kinds;
 pub mod members;
+pub mod pattern;
 pub mod place;
 pub mod reason;
 pub mod reference;
+pub mod release;
+pub mod requirement;
 pub mod spot;
+pub mod subject;
 pub mod word;
 
 pub use catalogue::Catalogue;

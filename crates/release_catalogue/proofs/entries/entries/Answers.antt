@@ -11,8 +11,8 @@ loop-i-init g c = record {
   read = rw c.new-read.ensures.items refl;
 }
 
-pub returns-in_err-entry : goal.returns-in_err-entry
-returns-in_err-entry g c =
+pub returns-in_err-entry-clause-read : goal.returns-in_err-entry-clause-read
+returns-in_err-entry-clause-read g c =
     let p = err_from_is_err_and c.from_residual.result c.from_residual.ensures.1 in
     rw (p.1, p.2) (ends c.in_err-entry.field-0.0 g.E.Entry.reading (entry_spot c.args.base c.args.level) (map g.E.Entry.seen c.loop-i.read.items) c.args.values.now c.loop-i.i c.index-values-i.result _ c.loop-i-test.true c.index-values-i.is c.loop-i.invariant.read (rw (c.as_slice.ensures.value, c.entry.ensures) at c.in_err-entry.ensures) c.loop-i.invariant.so_far)
 
@@ -25,5 +25,5 @@ loop-i-preserved g c =
       read = rw (e, length-append) (omega (arith, c.loop-i.invariant.read));
     }
 
-pub returns : goal.returns
-returns g c = is_done g.E.Entry.reading (entry_spot c.args.base c.args.level) (map g.E.Entry.seen c.loop-i.read.items) c.args.values.now c.loop-i.i _ c.loop-i-test.false c.loop-i.invariant.so_far
+pub returns-clause-read : goal.returns-clause-read
+returns-clause-read g c = is_done g.E.Entry.reading (entry_spot c.args.base c.args.level) (map g.E.Entry.seen c.loop-i.read.items) c.args.values.now c.loop-i.i _ c.loop-i-test.false c.loop-i.invariant.so_far

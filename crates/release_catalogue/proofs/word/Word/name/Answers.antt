@@ -2,4 +2,4 @@ use Rattle.release_catalogue.proofs.WordNames.{word_is_name}
 use Rattle.release_catalogue.proofs.word.Word.name.Goals as goal
 
 pub unwrap-requires : goal.unwrap-requires
-unwrap-requires c = ?
+unwrap-requires c = rw (c.read.ensures, c.as_bytes.ensures.value, c.text.ensures, word_is_name c.args.self) tt
