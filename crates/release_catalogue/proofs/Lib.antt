@@ -1,4 +1,4 @@
+pub mod GuidTexts
 pub mod Loop
-pub mod Patterns
 pub mod Tests
 pub mod WordNames

@@ -1,5 +1,5 @@
 //! Whom a requirement speaks of.
-ghost use Rattle.std.specs.Prelude.{◌≡◌, ◌==◌, ◌+◌, List, ℕ, IfOk, count_by, find, length, map};
+ghost use Rattle.std.specs.Prelude.{◌≡◌, ◌==◌, List, ℕ, IfOk, count_by, find, length, map, nat_lt};
 ghost use Rattle.std.specs.Str.{bytes_eq};
 ghost use Rattle.serde_json.specs.View.{view};
 ghost use Rattle.std.specs.Result.{result_ok};
@@ -129,7 +129,7 @@ fn firmware(text: &[u8], spot: Spot) -> Result<Subject, ReadStop>
 fn between_bars(alloc: Global, text: &[u8], spot: Spot) -> Result<Listed<Guid>, ReadStop>
     ensures { Gives (λ guids. guids) result (guids_between_bars spot text.now) }
 {
-    if count_parts(text) > GUIDS_MAX {
+    if has_too_many_parts(text) {
         return Err(fault_at(spot, Reason::TooMany));
     }
     let parts = parts_of(alloc, text)?;
@@ -139,10 +139,10 @@ fn between_bars(alloc: Global, text: &[u8], spot: Spot) -> Result<Listed<Guid>, 
     }
 }
 
-fn count_parts(text: &[u8]) -> usize
-    ensures { result ≡ length (parts_of text.now) }
+fn has_too_many_parts(text: &[u8]) -> bool
+    ensures { result ≡ nat_lt 64 (length (parts_of text.now)) }
 {
-    bars(text).saturating_add(1)
+    GUIDS_MAX - 1 < bars(text)
 }
 
 fn bars(text: &[u8]) -> usize
