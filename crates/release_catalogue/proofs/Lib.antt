@@ -1,4 +1,5 @@
 pub mod GuidTexts
+pub mod Lookups
 pub mod Loop
 pub mod Tests
 pub mod WordNames
