@@ -1,4 +1,5 @@
 pub mod GuidTexts
+pub mod Indexes
 pub mod Lookups
 pub mod Loop
 pub mod Tests

@@ -3,12 +3,14 @@ use Rattle.std.proofs.Common.{◌≡◌, ℕ, suc, ◌+◌, ◌≤◌, ◌<◌, 
 use Rattle.std.specs.Prelude.{find}
 use Rattle.std.specs.List.{enumerate_from, flat_map}
 use Rattle.std.specs.Option.{option_map}
+use Rattle.std.proofs.lemmas.List.Sums.{get_or-le-sum_by}
 use Rattle.std.proofs.Math.Seq.{drop-cons}
 use Rattle.std.proofs.Math.ListN.{drop_of_length-le}
 use Rattle.version_formats.specs.VersionOrder.{same_version}
 use Rattle.fw_facts.specs.declared.release.Component.{Component}
 use Rattle.fw_facts.specs.declared.release.Release.{Release}
 use Rattle.release_catalogue.specs.declared.reference.ReleaseRef.{ReleaseRef}
+use Rattle.release_catalogue.specs.Components.{releases_in}
 use Rattle.release_catalogue.specs.Lookup.{Chosen, chosen, matching, provides}
 use Rattle.release_catalogue.specs.Places.{first_equal, matching_from, chosen_place, matching_places}
 
@@ -88,33 +90,75 @@ chosen_is components guids version = refl
 
 pub passed_over : (guids : List (List ℕ)) (version : List ℕ) (components : List Component) (i : ℕ) (component : Component) → i < length components → component ≡ get_or components i component
     → provides guids component ≡ false → found_from guids version i (drop i components) ≡ found_from guids version (i + 1) (drop (i + 1) components)
-passed_over guids version components i component lt is no =
+passed_over guids version components i component lt is miss =
     rw (drop_at components i component lt is)
     (ap (λ (l : List Chosen). place_of (find (fits version) l))
-     (none_match guids i component 0 component.releases (flat_map (λ (entry : ℕ × Component). part entry.0 entry.1 0 entry.1.releases) (enumerate_from (i + 1) (drop (i + 1) components))) no))
+    (none_match guids i component 0 component.releases (flat_map (λ (entry : ℕ × Component). part entry.0 entry.1 0 entry.1.releases) (enumerate_from (i + 1) (drop (i + 1) components))) miss))
 
 looked_at : (guids : List (List ℕ)) (version : List ℕ) (components : List Component) (i : ℕ) (component : Component) → i < length components → component ≡ get_or components i component
     → provides guids component ≡ true
     → found_from guids version i (drop i components) ≡ after i (first_equal version 0 component.releases) (found_from guids version (i + 1) (drop (i + 1) components))
-looked_at guids version components i component lt is yes =
+looked_at guids version components i component lt is hit =
     rw (drop_at components i component lt is)
     (ap (λ (l : List Chosen). place_of (find (fits version) l))
-     (all_match guids i component 0 component.releases (flat_map (λ (entry : ℕ × Component). part entry.0 entry.1 0 entry.1.releases) (enumerate_from (i + 1) (drop (i + 1) components))) yes)
-     ∙ found_in version i component 0 component.releases (matching_from guids (i + 1) (drop (i + 1) components)))
+    (all_match guids i component 0 component.releases (flat_map (λ (entry : ℕ × Component). part entry.0 entry.1 0 entry.1.releases) (enumerate_from (i + 1) (drop (i + 1) components))) hit)
+    ∙ found_in version i component 0 component.releases (matching_from guids (i + 1) (drop (i + 1) components)))
 
 pub no_equal : (guids : List (List ℕ)) (version : List ℕ) (components : List Component) (i : ℕ) (component : Component) → i < length components → component ≡ get_or components i component
     → provides guids component ≡ true → first_equal version 0 component.releases ≡ None
     → found_from guids version i (drop i components) ≡ found_from guids version (i + 1) (drop (i + 1) components)
-no_equal guids version components i component lt is yes none =
-    looked_at guids version components i component lt is yes
+no_equal guids version components i component lt is hit none =
+    looked_at guids version components i component lt is hit
     ∙ ap (λ (o : Option ℕ). after i o (found_from guids version (i + 1) (drop (i + 1) components))) none
 
 pub is_found : (guids : List (List ℕ)) (version : List ℕ) (components : List Component) (i : ℕ) (component : Component) (release : ℕ) → i < length components → component ≡ get_or components i component
     → provides guids component ≡ true → first_equal version 0 component.releases ≡ Some release
     → found_from guids version i (drop i components) ≡ Some (record { component = i; release = release })
-is_found guids version components i component release lt is yes some =
-    looked_at guids version components i component lt is yes
+is_found guids version components i component release lt is hit some =
+    looked_at guids version components i component lt is hit
     ∙ ap (λ (o : Option ℕ). after i o (found_from guids version (i + 1) (drop (i + 1) components))) some
 
 pub none_found : (guids : List (List ℕ)) (version : List ℕ) (components : List Component) (i : ℕ) → length components ≤ i → found_from guids version i (drop i components) ≡ None
 none_found guids version components i le = rw (drop_of_length-le components le) refl
+
+-- ---- all matching releases
+
+-- The places of a component's releases.
+abbrev pub places_in : ℕ → List Release → List ReleaseRef
+places_in place releases = map (λ entry. record { component = place; release = entry.0 }) (enumerate_from 0 releases)
+
+abbrev pub places_from : List (List ℕ) → ℕ → List Component → List ReleaseRef
+places_from guids place components = map (λ chosen. chosen.at) (matching_from guids place components)
+
+places_of_part : (place : ℕ) (component : Component) (from : ℕ) (releases : List Release) (more : List Chosen)
+    → map (λ (chosen : Chosen). chosen.at) (part place component from releases ++ more)
+    ≡ map (λ (entry : ℕ × Release). let at : ReleaseRef = record { component = place; release = entry.0 } in at) (enumerate_from from releases) ++ map (λ (chosen : Chosen). chosen.at) more
+places_of_part place component from [] more = refl
+places_of_part place component from (release ∷ releases) more =
+    ap (λ (l : List ReleaseRef). record { component = place; release = from } ∷ l) (places_of_part place component (from + 1) releases more)
+
+pub places_skipped : (guids : List (List ℕ)) (components : List Component) (i : ℕ) (component : Component) → i < length components → component ≡ get_or components i component
+    → provides guids component ≡ false → places_from guids i (drop i components) ≡ places_from guids (i + 1) (drop (i + 1) components)
+places_skipped guids components i component lt is miss =
+    rw (drop_at components i component lt is)
+    (ap (λ (l : List Chosen). map (λ (chosen : Chosen). chosen.at) l)
+    (none_match guids i component 0 component.releases (flat_map (λ (entry : ℕ × Component). part entry.0 entry.1 0 entry.1.releases) (enumerate_from (i + 1) (drop (i + 1) components))) miss))
+
+pub places_taken : (guids : List (List ℕ)) (components : List Component) (i : ℕ) (component : Component) → i < length components → component ≡ get_or components i component
+    → provides guids component ≡ true
+    → places_from guids i (drop i components) ≡ places_in i component.releases ++ places_from guids (i + 1) (drop (i + 1) components)
+places_taken guids components i component lt is hit =
+    rw (drop_at components i component lt is)
+    (ap (λ (l : List Chosen). map (λ (chosen : Chosen). chosen.at) l)
+    (all_match guids i component 0 component.releases (flat_map (λ (entry : ℕ × Component). part entry.0 entry.1 0 entry.1.releases) (enumerate_from (i + 1) (drop (i + 1) components))) hit)
+    ∙ places_of_part i component 0 component.releases (matching_from guids (i + 1) (drop (i + 1) components)))
+
+pub places_done : (guids : List (List ℕ)) (components : List Component) (i : ℕ) → length components ≤ i → places_from guids i (drop i components) ≡ []
+places_done guids components i le = rw (drop_of_length-le components le) refl
+
+-- A component has no more releases than all of them.
+pub few_each : (components : List Component) (i : ℕ) (component : Component) → i < length components → component ≡ get_or components i component
+    → length component.releases ≤ releases_in components
+few_each components i component lt is =
+    let whole : length (get_or components i component).releases ≤ releases_in components = get_or-le-sum_by (λ (c : Component). length c.releases) components i component lt in
+    rw (← is) at whole

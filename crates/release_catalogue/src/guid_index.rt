@@ -3,7 +3,7 @@ ghost use Rattle.std.specs.Prelude.{◌≡◌, ◌<◌, ◌≤◌, ◌||◌, ◌
 ghost use Rattle.std.specs.List.{list_any};
 ghost use Rattle.std.specs.Str.{bytes_eq};
 ghost use Rattle.release_catalogue.specs.Lookup.{provides};
-ghost use Rattle.release_catalogue.specs.Places.{is_listed, IsIndexOf};
+ghost use Rattle.release_catalogue.specs.Places.{is_listed, listed, IsIndexOf};
 
 use crate::component::COMPONENTS_MAX;
 use fw_base::NoMemory;
@@ -28,13 +28,8 @@ pub fn index_of(alloc: Global, components: &[Component]) -> Result<GuidIndex, No
 }
 
 /// Notes that the component at a place provides the GUIDs.
-fn note_all(
-    alloc: Global,
-    index: &mut GuidIndex,
-    guids: &[Guid],
-    at: u32,
-) -> Result<(), NoMemory>
-    ensures { OnOk result ((guid : List ℕ) (place : ℕ) → is_listed guid place index.new.entries ≡ (is_listed guid place index.old.entries || ((at == place) && list_any (λ own. bytes_eq own guid) guids.now))) }
+fn note_all(alloc: Global, index: &mut GuidIndex, guids: &[Guid], at: u32) -> Result<(), NoMemory>
+    ensures { OnOk result ((guid : List ℕ) (place : ℕ) → is_listed guid place index.new.entries ≡ (is_listed guid place index.old.entries || ((at == place) && list_any (λ own. bytes_eq own guid || false) guids.now))) }
 {
     for guid in guids {
         note(alloc, index, *guid, at)?;
@@ -46,13 +41,21 @@ fn note_all(
 fn note(alloc: Global, index: &mut GuidIndex, own: Guid, at: u32) -> Result<(), NoMemory>
     ensures { OnOk result ((guid : List ℕ) (place : ℕ) → is_listed guid place index.new.entries ≡ (is_listed guid place index.old.entries || ((at == place) && bytes_eq own guid))) }
 {
-    let mut places = match index.swap_remove(&own) {
-        Some(places) => places,
-        None => Vec::new(alloc),
-    };
+    let mut places = take_places(alloc, index, own);
     places.push(at)?;
     index.insert(own, places)?;
     Ok(())
+}
+
+/// Takes the places of a GUID out of the index.
+fn take_places(alloc: Global, index: &mut GuidIndex, own: Guid) -> Vec<u32>
+    ensures places { result.items ≡ listed own index.old.entries }
+    ensures others { (guid : List ℕ) → bytes_eq own guid ≡ false → listed guid index.new.entries ≡ listed guid index.old.entries }
+{
+    match index.swap_remove(&own) {
+        Some(places) => places,
+        None => Vec::new(alloc),
+    }
 }
 
 /// Which components provide one of the GUIDs.
@@ -60,11 +63,17 @@ pub fn marks_of(index: &GuidIndex, guids: &[Guid]) -> [bool; COMPONENTS_MAX]
     requires { (guid : List ℕ) (place : ℕ) → is_listed guid place index.now.entries ≡ true → place < 4096 }
     ensures { (place : ℕ) → slice_index_or result place false ≡ list_any (λ guid. is_listed guid place index.now.entries) guids.now }
 {
-    let mut marks = [false; COMPONENTS_MAX];
+    let mut marks = no_marks();
     for guid in guids {
         mark_guid(index, guid, &mut marks);
     }
     marks
+}
+
+fn no_marks() -> [bool; COMPONENTS_MAX]
+    ensures { (place : ℕ) → slice_index_or result place false ≡ false }
+{
+    [false; COMPONENTS_MAX]
 }
 
 /// Marks the components that provide the GUID.

@@ -1,5 +1,5 @@
 //! Looking up releases.
-ghost use Rattle.std.specs.Prelude.{◌≡◌, ◌≤◌, ◌<◌, ◌^◌, ◌++◌, IfOk, OnOk, length, map, true, false, slice_index_or, ℕ};
+ghost use Rattle.std.specs.Prelude.{◌≡◌, ◌≤◌, ◌<◌, ◌^◌, ◌++◌, IfOk, IfSome, OnOk, length, map, true, false, slice_index_or, ℕ};
 ghost use Rattle.std.specs.List.{enumerate_from};
 ghost use Rattle.version_formats.specs.VersionOrder.{same_version};
 ghost use Rattle.release_catalogue.specs.Components.{releases_in};
@@ -30,11 +30,14 @@ pub fn find_in(
     let marks = providers(components, index, guids);
     for (at, component) in components.iter().enumerate() {
         if marks[at] {
-            if let Some(release) = first_equal(component.releases.items(), version) {
-                return Some(ReleaseRef {
-                    component: at as u32,
-                    release: release as u32,
-                });
+            match first_equal(component.releases.items(), version) {
+                Some(release) => {
+                    return Some(ReleaseRef {
+                        component: at as u32,
+                        release: release as u32,
+                    });
+                }
+                None => {}
             }
         }
     }
@@ -64,11 +67,7 @@ pub fn releases_in_for(
 }
 
 /// Which components provide one of the GUIDs.
-fn providers(
-    components: &[Component],
-    index: &GuidIndex,
-    guids: &[Guid],
-) -> [bool; COMPONENTS_MAX]
+fn providers(components: &[Component], index: &GuidIndex, guids: &[Guid]) -> [bool; COMPONENTS_MAX]
     requires few { length components.now ≤ 4096 }
     requires index { IsIndexOf index.now.entries components.now }
     ensures { (place : ℕ) → slice_index_or result place false ≡ provides_at guids.now place components.now }
@@ -79,6 +78,7 @@ fn providers(
 /// The place of the first release whose version is equal.
 fn first_equal(releases: &[Release], version: &Version) -> Option<usize>
     ensures first { result ≡ first_equal version.now 0 releases.now }
+    ensures within { IfSome result (λ place. place < length releases.now) }
 {
     for (place, release) in releases.iter().enumerate() {
         if is_equal(&release.version, version) {
