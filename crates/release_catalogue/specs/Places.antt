@@ -1,5 +1,5 @@
 -- Places of components and releases, and an index of them by GUID.
-use Rattle.std.specs.Prelude.{◌≡◌, ℕ, ◌==◌, Bool, false, List, [], ◌∷◌, length, Option, option_map, slice_get, find, map, filter}
+use Rattle.std.specs.Prelude.{◌≡◌, ◌≤◌, ℕ, ◌==◌, Bool, false, List, [], ◌∷◌, length, Option, option_map, slice_get, find, map, filter}
 use Rattle.std.specs.List.{list_any, enumerate_from, flat_map}
 use Rattle.std.specs.Map.{lookup}
 use Rattle.std.specs.Option.{option_map_or}
@@ -10,6 +10,7 @@ use Rattle.version_formats.specs.VersionOrder.{same_version}
 use Rattle.fw_facts.specs.declared.release.Component.{Component}
 use Rattle.fw_facts.specs.declared.release.Release.{Release}
 use Rattle.release_catalogue.specs.declared.reference.ReleaseRef.{ReleaseRef}
+use Rattle.release_catalogue.specs.Components.{releases_in}
 use Rattle.release_catalogue.specs.Lookup.{Chosen, chosen, matching, provides, releases_of}
 
 -- The place of the release that is chosen.
@@ -43,3 +44,9 @@ first_equal version place releases = option_map (λ entry. entry.0) (find (λ en
 abbrev pub matching_from : List (List ℕ) → ℕ → List Component → List Chosen
 matching_from guids place components =
     filter (λ chosen. provides guids chosen.component) (flat_map (λ entry. releases_of entry.0 entry.1) (enumerate_from place components))
+
+-- What a catalogue keeps: its components are few, their releases too, and the index is theirs.
+pub record IsKept (components : List Component) (entries : List (List ℕ × Vec ℕ Global)) : Type 0 where
+  pub few : length components ≤ 4096
+  pub few_releases : releases_in components ≤ 20000
+  pub index : IsIndexOf entries components

@@ -9,6 +9,7 @@ pub mod comparison;
 pub mod component;
 pub mod defaults;
 pub mod entries;
+pub mod fault;
 mod guid_index;
 pub mod kinds;
 mod lookup;
@@ -24,6 +25,7 @@ pub mod subject;
 pub mod word;
 
 pub use catalogue::Catalogue;
+pub use fault::CatalogueFault;
 pub use place::Place;
 pub use reason::Reason;
 pub use reference::ReleaseRef;
