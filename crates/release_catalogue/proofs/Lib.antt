@@ -2,5 +2,5 @@ pub mod GuidTexts
 pub mod Indexes
 pub mod Lookups
 pub mod Loop
-pub mod Tests
+pub mod Images
 pub mod WordNames

@@ -1,6 +1,6 @@
 use Rattle.std.proofs.Common.{ℕ, List, Bor, sym, ◌∙◌}
 use Rattle.std.specs.Str.{bytes_eq}
-use Rattle.release_catalogue.proofs.Tests.{any_of_map}
+use Rattle.release_catalogue.proofs.Images.{any_of_map}
 use Rattle.release_catalogue.proofs.kinds.is_among.Goals as goal
 
 pub returns : goal.returns

@@ -1,4 +1,4 @@
--- Tests on the items of a list.
+-- Tests on the images of items.
 use Rattle.std.proofs.Common.{◌≡◌, Bool, ◌||◌, List, [], ◌∷◌, map, refl, ap}
 use Rattle.std.specs.List.{list_any}
 
