@@ -1,5 +1,5 @@
 -- A sheet after quirks.
-use Rattle.std.specs.Prelude.{ℕ, Bool, if◌then◌else◌, List, [], ◌∷◌, ◌++◌, map, filter, Option, Some, None, unwrap_or}
+use Rattle.std.specs.Prelude.{ℕ, Bool, if◌then◌else◌, List, [], ◌∷◌, ◌++◌, filter, Option, None, unwrap_or}
 use Rattle.std.specs.List.{list_any, filter_map, flat_map, last_or}
 use Rattle.std.specs.Option.{option_or}
 use Rattle.std.specs.Str.{bytes_eq}
@@ -20,21 +20,25 @@ is_for guids quirk = list_any (λ guid. bytes_eq quirk.group guid) guids
 abbrev pub guids_of_sheet : Sheet → List (List ℕ)
 guids_of_sheet sheet = sheet.runtime_guids ++ sheet.loader_guids
 
--- The values of a key, in reading order.
-abbrev pub values : Key → List Quirk → List (List ℕ)
-values key quirks = map (λ quirk. quirk.value) (filter (λ quirk. is_key quirk.key key) quirks)
+-- What a quirk of the key is read as.
+abbrev pub value_in : {V : Type 0} → (List ℕ → Option V) → Key → Quirk → Option V
+value_in read key quirk = if is_key quirk.key key then read quirk.value else None
 
 -- The last value of the key that can be read.
 abbrev pub last_read : {V : Type 0} → (List ℕ → Option V) → Key → List Quirk → Option V
-last_read read key quirks = last_or None (filter_map read (values key quirks))
+last_read read key quirks = last_or None (filter_map (value_in read key) quirks)
 
 -- A single value: the last one that can be read, or else the one before.
 abbrev pub value_after : {V : Type 0} → (List ℕ → Option V) → Key → List Quirk → V → V
 value_after read key quirks before = unwrap_or (last_read read key quirks) before
 
+-- The elements of the comma list that a quirk of the key has.
+abbrev pub elements_in : Key → Quirk → List (List ℕ)
+elements_in key quirk = if is_key quirk.key key then elements_of quirk.value else []
+
 -- What the comma lists of the key name, in reading order, where it can be read.
 abbrev pub listed : {V : Type 0} → (List ℕ → Option V) → Key → List Quirk → List V
-listed read key quirks = filter_map read (flat_map elements_of (values key quirks))
+listed read key quirks = filter_map read (flat_map (elements_in key) quirks)
 
 -- The list, and behind it each of the others that isn't in it yet, in order.
 unfoldable pub added : List (List ℕ) → List (List ℕ) → List (List ℕ)

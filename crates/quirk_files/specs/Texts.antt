@@ -31,7 +31,10 @@ is_text line = list_all is_text_byte line && is_utf8 line
 abbrev pub is_empty : List ℕ → Bool
 is_empty text = length text == 0
 
--- The elements of a comma list: what stands between its commas, without blanks round it, and without
--- those that are empty.
+-- The elements among the parts of a comma list: the parts without blanks round them, but the empty ones.
+abbrev pub elements_among : List (List ℕ) → List (List ℕ)
+elements_among parts = filter (λ part. not (is_empty part)) (map trimmed parts)
+
+-- The elements of a comma list, which is parted at its commas.
 abbrev pub elements_of : List ℕ → List (List ℕ)
-elements_of value = filter (λ part. not (is_empty part)) (map trimmed (slice_split (λ b. b == 44) value))
+elements_of value = elements_among (slice_split (λ b. b == 44) value)

@@ -1,4 +1,7 @@
 //! Why a quirk file is not read.
+ghost use Rattle.std.specs.Prelude.{◌≡◌};
+ghost use Rattle.quirk_files.specs.declared.fault.QuirkFault.TheVariants as refusals;
+
 use fw_base::NoMemory;
 use thiserror::Error;
 
@@ -26,6 +29,8 @@ pub enum QuirkFault {
 }
 
 impl From<NoMemory> for QuirkFault {
+    ghost from_gives = { λ _ fault. fault ≡ refusals.NoMemory };
+
     fn from(_refused: NoMemory) -> QuirkFault {
         QuirkFault::NoMemory
     }

@@ -1,7 +1,7 @@
 //! The quirks of one file.
-ghost use Rattle.std.specs.Prelude.{◌≡◌, ◌≤◌, ◌++◌, ◌⊎◌, ◌∷◌, [], Some, None, length, filter, map, IfErr, OnOk, IfOk};
-ghost use Rattle.std.specs.Option.{option_or, option_to_list};
-ghost use Rattle.quirk_files.specs.Files.{file_fault, file_quirks, first_fault, group_begun, line_fault, quirk_given, quirks_of, without_return};
+ghost use Rattle.std.specs.Prelude.{◌≡◌, ◌≤◌, ◌++◌, ◌⊎◌, ◌∷◌, [], Some, None, length, if◌then◌else◌, filter, map, IfErr, OnOk, IfOk};
+ghost use Rattle.std.specs.Option.{option_to_list};
+ghost use Rattle.quirk_files.specs.Files.{file_fault, file_quirks, first_fault, line_fault, quirk_given, quirks_of, without_return};
 ghost use Rattle.quirk_files.specs.Sheets.{is_for};
 
 use crate::fault::QuirkFault;
@@ -55,37 +55,31 @@ impl FileQuirks {
 
     fn read_lines(alloc: Global, lines: &[&[u8]]) -> Result<FileQuirks, QuirkFault>
         requires { length lines.now ≤ 1048577 }
-        ensures read { IfOk result (λ file. file ≡ quirks_of (map (λ line. without_return line.now) lines.now)) }
-        ensures sound { OnOk result (first_fault (map (λ line. without_return line.now) lines.now) ≡ None) }
-        ensures refused { IfErr result (λ fault. (fault ≡ QuirkFault.NoMemory) ⊎ (first_fault (map (λ line. without_return line.now) lines.now) ≡ Some fault)) }
+        ensures read { IfOk result (λ file. file ≡ quirks_of (map without_return (map (λ line. line.now) lines.now))) }
+        ensures sound { OnOk result (first_fault (map without_return (map (λ line. line.now) lines.now)) ≡ None) }
+        ensures refused { IfErr result (λ fault. (fault ≡ QuirkFault.NoMemory) ⊎ (first_fault (map without_return (map (λ line. line.now) lines.now)) ≡ Some fault)) }
     {
         let mut file = FileQuirks::new(alloc);
         let mut group = None;
         for (at, line) in lines.iter().enumerate() {
             let line = without_return(line);
-            match line_fault(group.is_some(), at as u32 + 1, line) {
-                Some(fault) => return Err(fault),
-                None => file.take_line(alloc, &mut group, trimmed(line))?,
+            if let Some(fault) = line_fault(group.is_some(), at as u32 + 1, line) {
+                return Err(fault);
             }
+            file.take_line(alloc, group, trimmed(line))?;
+            group = group_begun(trimmed(line)).or(group);
         }
         Ok(file)
     }
 
-    // Takes the quirk of a line, or the group that it begins.
-    fn take_line(
-        &mut self,
-        alloc: Global,
-        group: &mut Option<Guid>,
-        line: &[u8],
-    ) -> Result<(), NoMemory>
-        ensures quirk { OnOk result (self.new ≡ self.old ++ option_to_list (quirk_given group.old line.now)) }
-        ensures group { OnOk result (group.new ≡ option_or (group_begun line.now) group.old) }
+    // Takes the quirk that a line gives.
+    fn take_line(&mut self, alloc: Global, group: Option<Guid>, line: &[u8]) -> Result<(), NoMemory>
+        ensures { OnOk result (self.new ≡ self.old ++ option_to_list (quirk_given group line.now)) }
     {
-        if let Some(quirk) = quirk_given(alloc, *group, line)? {
-            self.push(quirk)?;
+        match quirk_given(alloc, group, line)? {
+            Some(quirk) => self.push(quirk),
+            None => Ok(()),
         }
-        *group = group_begun(line).or(*group);
-        Ok(())
     }
 
     fn push(&mut self, quirk: Quirk) -> Result<(), NoMemory>
@@ -99,13 +93,26 @@ impl FileQuirks {
     pub fn push_for<'a>(&'a self, guids: &[Guid], quirks: &mut Vec<&'a Quirk>) -> Result<(), NoMemory>
         ensures { OnOk result (map (λ quirk. quirk.now) quirks.new.items ≡ map (λ quirk. quirk.now) quirks.old.items ++ filter (is_for guids.now) self.now) }
     {
-        for quirk in &self.quirks {
-            if is_for(guids, quirk) {
-                quirks.push(quirk)?;
-            }
-        }
-        Ok(())
+        push_for(guids, &self.quirks, quirks)
     }
+}
+
+fn push_for<'a>(guids: &[Guid], all: &'a [Quirk], quirks: &mut Vec<&'a Quirk>) -> Result<(), NoMemory>
+    ensures { OnOk result (map (λ quirk. quirk.now) quirks.new.items ≡ map (λ quirk. quirk.now) quirks.old.items ++ filter (is_for guids.now) all.now) }
+{
+    for quirk in all {
+        push_if(is_for(guids, quirk), quirk, quirks)?;
+    }
+    Ok(())
+}
+
+fn push_if<'a>(wanted: bool, quirk: &'a Quirk, quirks: &mut Vec<&'a Quirk>) -> Result<(), NoMemory>
+    ensures { OnOk result (map (λ quirk. quirk.now) quirks.new.items ≡ map (λ quirk. quirk.now) quirks.old.items ++ (if wanted then quirk.now ∷ [] else [])) }
+{
+    if wanted {
+        quirks.push(quirk)?;
+    }
+    Ok(())
 }
 
 fn line_fault(in_group: bool, number: u32, line: &[u8]) -> Option<QuirkFault>

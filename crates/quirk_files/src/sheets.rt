@@ -1,17 +1,16 @@
 //! What quirks do to a sheet.
-ghost use Rattle.std.specs.Prelude.{◌≡◌, map, IfOk, OnOk, OnErr};
+ghost use Rattle.std.specs.Prelude.{◌≡◌, ◌∷◌, [], ◌++◌, ◌||◌, not, if◌then◌else◌, map, IfOk, OnOk, OnErr};
 ghost use Rattle.std.specs.List.{filter_map, flat_map, list_any};
 ghost use Rattle.std.specs.Str.{bytes_eq};
-ghost use Rattle.indexmap.specs.IndexSet.{contains};
+ghost use Rattle.std.specs.Option.{option_to_list};
 ghost use Rattle.quirk_files.specs.Flags.{change_of, changed};
-ghost use Rattle.quirk_files.specs.Sheets.{values, last_read, listed, added, sheet_with, with_singles};
-ghost use Rattle.quirk_files.specs.Texts.{elements_of};
+ghost use Rattle.quirk_files.specs.Sheets.{elements_in, value_in, last_read, listed, added, sheet_with, with_singles};
 ghost use Rattle.quirk_files.specs.Values.{name_of, guid_of_element};
 
 use crate::changes::changed;
 use crate::key::Key;
 use crate::quirk::Quirk;
-use crate::texts::push_elements;
+use crate::texts::{parts, push_elements};
 use crate::values::{Changes, Formats, Guids, Lines, Names, Numbers, Reader};
 use fw_base::{Listed, Name, NoMemory};
 use fw_facts::{DeviceFlags, Sheet};
@@ -62,11 +61,20 @@ fn last_read<R: Reader>(reader: &R, key: Key, quirks: &[&Quirk]) -> Option<R::Va
 {
     let mut last = None;
     for quirk in quirks {
-        if quirk.key.is(key) {
-            last = reader.read(quirk.value.items()).or(last);
-        }
+        last = value_in(reader, key, quirk).or(last);
     }
     last
+}
+
+// What a quirk of the key is read as.
+fn value_in<R: Reader>(reader: &R, key: Key, quirk: &Quirk) -> Option<R::Value>
+    ensures { result ≡ value_in (R.reads reader.now) key quirk.now }
+{
+    if quirk.key.is(key) {
+        reader.read(quirk.value.items())
+    } else {
+        None
+    }
 }
 
 fn flags_after(
@@ -113,15 +121,29 @@ fn elements<'a>(
     key: Key,
     quirks: &[&'a Quirk],
 ) -> Result<Vec<&'a [u8]>, NoMemory>
-    ensures { IfOk result (λ elements. map (λ element. element.now) elements.items ≡ flat_map elements_of (values key (map (λ quirk. quirk.now) quirks.now))) }
+    ensures { IfOk result (λ elements. map (λ element. element.now) elements.items ≡ flat_map (elements_in key) (map (λ quirk. quirk.now) quirks.now)) }
 {
     let mut elements = Vec::new(alloc);
     for quirk in quirks {
-        if quirk.key.is(key) {
-            push_elements(alloc, &mut elements, quirk.value.items())?;
-        }
+        push_elements_in(alloc, &mut elements, key, quirk)?;
     }
     Ok(elements)
+}
+
+// Puts the elements of the comma list that a quirk of the key has behind others.
+fn push_elements_in<'a>(
+    alloc: Global,
+    elements: &mut Vec<&'a [u8]>,
+    key: Key,
+    quirk: &'a Quirk,
+) -> Result<(), NoMemory>
+    ensures { OnOk result (map (λ element. element.now) elements.new.items ≡ map (λ element. element.now) elements.old.items ++ elements_in key quirk.now) }
+{
+    if quirk.key.is(key) {
+        push_elements(elements, &parts(alloc, quirk.value.items(), b',')?)
+    } else {
+        Ok(())
+    }
 }
 
 // What can be read of the elements.
@@ -134,11 +156,21 @@ fn read_all<R: Reader>(
 {
     let mut read = Vec::new(alloc);
     for element in elements {
-        if let Some(value) = reader.read(element) {
-            read.push(value)?;
-        }
+        push_some(&mut read, reader.read(element))?;
     }
     Ok(read)
+}
+
+fn push_some<V: Drop>(list: &mut Vec<V>, value: Option<V>) -> Result<(), NoMemory>
+    ensures { OnOk result (list.new.items ≡ list.old.items ++ option_to_list value) }
+{
+    match value {
+        Some(value) => {
+            list.push(value)?;
+            Ok(())
+        }
+        None => Ok(()),
+    }
 }
 
 // The list, and behind it those of the others that aren't in it yet.
@@ -148,35 +180,87 @@ fn added_guids(alloc: Global, list: &[Guid], more: &[Guid]) -> Result<Vec<Guid>,
     let mut all = Vec::from_slice(alloc, list)?;
     let mut there = guids_there(alloc, list)?;
     for next in more {
-        if there.insert(*next)? {
-            all.push(*next)?;
-        }
+        add_guid(&mut all, &mut there, *next)?;
     }
     Ok(all)
 }
 
 fn guids_there(alloc: Global, list: &[Guid]) -> Result<IndexSet<Guid>, NoMemory>
-    ensures { IfOk result (λ there. (q : _) → contains bytes_eq there q ≡ list_any (bytes_eq q) list.now) }
+    ensures { IfOk result (λ there. (q : _) → list_any (bytes_eq q) there.keys ≡ list_any (bytes_eq q) list.now) }
 {
     let mut there = IndexSet::new(alloc);
     for guid in list {
-        let _ = there.insert(*guid)?;
+        let _ = is_new_guid(&mut there, *guid)?;
     }
     Ok(there)
 }
 
+// Puts a GUID behind the others, unless it is there.
+fn add_guid(
+    all: &mut Vec<Guid>,
+    there: &mut IndexSet<Guid>,
+    guid: Guid,
+) -> Result<(), NoMemory>
+    ensures all { OnOk result (all.new.items ≡ (if list_any (bytes_eq guid) there.old.keys then all.old.items else all.old.items ++ guid ∷ [])) }
+    ensures there { OnOk result ((q : _) → list_any (bytes_eq q) there.new.keys ≡ (list_any (bytes_eq q) there.old.keys || bytes_eq q guid)) }
+{
+    if is_new_guid(there, guid)? {
+        all.push(guid)?;
+    }
+    Ok(())
+}
+
+// Notes a GUID, and tells whether it was new.
+fn is_new_guid(there: &mut IndexSet<Guid>, guid: Guid) -> Result<bool, NoMemory>
+    ensures fresh { IfOk result (λ fresh. fresh ≡ not (list_any (bytes_eq guid) there.old.keys)) }
+    ensures there { OnOk result ((q : _) → list_any (bytes_eq q) there.new.keys ≡ (list_any (bytes_eq q) there.old.keys || bytes_eq q guid)) }
+{
+    let fresh = there.insert(guid)?;
+    Ok(fresh)
+}
+
+// The list, and behind it those of the others that aren't in it yet.
 fn added_names(alloc: Global, list: &[Name], more: &[Name]) -> Result<Vec<Name>, NoMemory>
     ensures { IfOk result (λ all. all.items ≡ added list.now more.now) }
 {
     let mut all = Vec::from_slice(alloc, list)?;
-    let mut there = IndexSet::new(alloc);
-    for name in list {
-        let _ = there.insert(name.bytes())?;
-    }
+    let mut there = names_there(alloc, list)?;
     for next in more {
-        if there.insert(next.bytes())? {
-            all.push(*next)?;
-        }
+        add_name(&mut all, &mut there, next)?;
     }
     Ok(all)
+}
+
+fn names_there(alloc: Global, list: &[Name]) -> Result<IndexSet<&[u8]>, NoMemory>
+    ensures { IfOk result (λ there. (q : _) → list_any (bytes_eq q) (map (λ name. name.now) there.keys) ≡ list_any (bytes_eq q) list.now) }
+{
+    let mut there = IndexSet::new(alloc);
+    for name in list {
+        let _ = is_new_name(&mut there, name.bytes())?;
+    }
+    Ok(there)
+}
+
+// Puts a name behind the others, unless it is there.
+fn add_name<'a>(
+    all: &mut Vec<Name>,
+    there: &mut IndexSet<&'a [u8]>,
+    name: &'a Name,
+) -> Result<(), NoMemory>
+    ensures all { OnOk result (all.new.items ≡ (if list_any (bytes_eq name.now) (map (λ name. name.now) there.old.keys) then all.old.items else all.old.items ++ name.now ∷ [])) }
+    ensures there { OnOk result ((q : _) → list_any (bytes_eq q) (map (λ name. name.now) there.new.keys) ≡ (list_any (bytes_eq q) (map (λ name. name.now) there.old.keys) || bytes_eq q name.now)) }
+{
+    if is_new_name(there, name.bytes())? {
+        all.push(*name)?;
+    }
+    Ok(())
+}
+
+// Notes a name, and tells whether it was new.
+fn is_new_name<'a>(there: &mut IndexSet<&'a [u8]>, name: &'a [u8]) -> Result<bool, NoMemory>
+    ensures fresh { IfOk result (λ fresh. fresh ≡ not (list_any (bytes_eq name.now) (map (λ name. name.now) there.old.keys))) }
+    ensures there { OnOk result ((q : _) → list_any (bytes_eq q) (map (λ name. name.now) there.new.keys) ≡ (list_any (bytes_eq q) (map (λ name. name.now) there.old.keys) || bytes_eq q name.now)) }
+{
+    let fresh = there.insert(name)?;
+    Ok(fresh)
 }

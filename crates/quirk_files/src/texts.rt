@@ -1,8 +1,8 @@
 //! What stands between blanks and commas.
-ghost use Rattle.std.specs.Prelude.{◌≡◌, ◌++◌, ◌==◌, map, IfOk, OnOk};
+ghost use Rattle.std.specs.Prelude.{◌≡◌, ◌==◌, [], ◌∷◌, ◌++◌, if◌then◌else◌, map, IfOk, OnOk};
 ghost use Rattle.std.specs.List.{list_all, slice_split};
 ghost use Rattle.std.specs.Str.{is_utf8};
-ghost use Rattle.quirk_files.specs.Texts.{elements_of, is_blank, is_text, is_text_byte, trimmed, without_front, without_back};
+ghost use Rattle.quirk_files.specs.Texts.{elements_among, is_empty, is_blank, is_text, is_text_byte, trimmed, without_front, without_back};
 
 use fw_base::NoMemory;
 use std::alloc::Global;
@@ -73,19 +73,21 @@ pub fn parts(alloc: Global, text: &[u8], separator: u8) -> Result<Vec<&[u8]>, No
     Ok(parts)
 }
 
-/// Puts the elements of a comma list behind others.
-pub fn push_elements<'a>(
-    alloc: Global,
-    elements: &mut Vec<&'a [u8]>,
-    list: &'a [u8],
-) -> Result<(), NoMemory>
-    ensures { OnOk result (map (λ element. element.now) elements.new.items ≡ map (λ element. element.now) elements.old.items ++ elements_of list.now) }
+/// Puts the elements of a comma list behind others, of which these are the parts.
+pub fn push_elements<'a>(elements: &mut Vec<&'a [u8]>, parts: &[&'a [u8]]) -> Result<(), NoMemory>
+    ensures { OnOk result (map (λ element. element.now) elements.new.items ≡ map (λ element. element.now) elements.old.items ++ elements_among (map (λ part. part.now) parts.now)) }
 {
-    for part in &parts(alloc, list, b',')? {
-        let element = trimmed(part);
-        if !element.is_empty() {
-            elements.push(element)?;
-        }
+    for part in parts {
+        push_element(elements, trimmed(part))?;
+    }
+    Ok(())
+}
+
+fn push_element<'a>(elements: &mut Vec<&'a [u8]>, element: &'a [u8]) -> Result<(), NoMemory>
+    ensures { OnOk result (map (λ element. element.now) elements.new.items ≡ map (λ element. element.now) elements.old.items ++ (if is_empty element.now then [] else element.now ∷ [])) }
+{
+    if !element.is_empty() {
+        elements.push(element)?;
     }
     Ok(())
 }

@@ -1,9 +1,8 @@
 use Rattle.std.proofs.Common.{◌≡◌, map, take}
 use Rattle.std.specs.List.{flat_map}
-use Rattle.quirk_files.specs.Sheets.{values}
-use Rattle.quirk_files.specs.Texts.{elements_of}
+use Rattle.quirk_files.specs.Sheets.{elements_in}
 use Rattle.quirk_files.proofs.sheets.elements.Given as goal
 
 abbrev pub invariant-loop-quirk : goal.invariant-loop-quirk
 invariant-loop-quirk l =
-    map (λ element. element.now) l.elements.items ≡ flat_map elements_of (values l.key (take l.quirk-index (map (λ quirk. quirk.now) l.quirks)))
+    map (λ element. element.now) l.elements.items ≡ flat_map (elements_in l.key) (take l.quirk-index (map (λ quirk. quirk.now) l.quirks))
