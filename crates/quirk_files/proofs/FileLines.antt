@@ -1,5 +1,5 @@
 -- The lines of a file, read one after the other.
-use Rattle.std.proofs.Common.{◌≡◌, ℕ, zero, suc, ◌+◌, ◌-◌, ◌<◌, ◌≤◌, Bool, List, [], ◌∷◌, ◌++◌, Bor, length, take, map, get_or, Option, Some, None, refl, sym, ap, ◌∙◌, arith}
+use Rattle.std.proofs.Common.{◌≡◌, ℕ, zero, suc, ◌+◌, ◌-◌, ◌<◌, ◌≤◌, Bool, List, [], ◌∷◌, ◌++◌, Bor, length, take, map, get_or, nat_lt, if◌then◌else◌, Option, Some, None, refl, sym, ap, ◌∙◌, arith}
 use Rattle.std.specs.Prelude.{is_some}
 use Rattle.std.specs.List.{filter_map, cons_option, last_or, slice_get, slice_split, range_with_len, count_by}
 use Rattle.std.specs.Option.{option_or, option_to_list}
@@ -7,9 +7,10 @@ use Rattle.std.proofs.lemmas.List.{take_more, get_or-map, length-map}
 use Rattle.std.proofs.lemmas.List.Elements.{filter_map-append}
 use Rattle.std.proofs.lemmas.List.Splits.{length-slice_split}
 use Rattle.std.proofs.lemmas.List.Sums.{count_by-le-length}
+use Rattle.std.proofs.lemmas.Bool.Decides.{nat_tests}
 use Rattle.quirk_files.specs.declared.fault.QuirkFault.{QuirkFault}
 use Rattle.quirk_files.specs.declared.quirk.Quirk.{Quirk}
-use Rattle.quirk_files.specs.Files.{line_fault, line_at, group_at, group_begun, fault_at, quirk_at, quirk_given, first_fault, quirks_of, without_return}
+use Rattle.quirk_files.specs.Files.{line_fault, line_at, group_at, group_begun, fault_at, quirk_at, quirk_given, first_fault, quirks_of, without_return, file_fault, lines_of}
 use Rattle.quirk_files.specs.Texts.{trimmed}
 use Rattle.quirk_files.proofs.Loops.{read_more, last_read_more}
 
@@ -105,3 +106,10 @@ few_lines lines p bytes split short =
     let few : count_by p bytes ≤ length bytes = count_by-le-length p bytes in
     let same : length (map (λ (l : Bor (List ℕ)). l.now) lines) ≡ length (slice_split p bytes) = ap length split in
     omega arith
+
+-- the fault of a file that is small enough is that of its lines
+by_size : {X : Type 0} (n most : ℕ) (large small : X) → n ≤ most → (if nat_lt most n then large else small) ≡ small
+by_size n most large small le = grind (arith, nat_tests)
+
+pub small_file : (bytes : List ℕ) → length bytes ≤ 1048576 → file_fault bytes ≡ first_fault (lines_of bytes)
+small_file bytes le = by_size (length bytes) 1048576 _ _ le

@@ -1,11 +1,11 @@
 -- One more turn of a loop over a list.
-use Rattle.std.proofs.Common.{◌≡◌, ℕ, ◌+◌, ◌<◌, ◌≤◌, ◌||◌, Bool, true, false, cond, not, List, [], ◌∷◌, ◌++◌, Bor, length, take, drop, map, filter, get_or, Option, Some, None, refl, sym, ap, ◌∙◌, append_assoc, append-nil, drop-cons, add-one, arith}
+use Rattle.std.proofs.Common.{◌≡◌, ℕ, ◌+◌, ◌<◌, ◌≤◌, ◌||◌, Bool, true, false, cond, not, List, [], ◌∷◌, ◌++◌, Bor, length, take, drop, map, filter, get_or, Option, Some, None, refl, sym, ap, ◌∙◌, append_assoc, append-nil, drop-cons, add-one}
 use Rattle.std.specs.List.{filter_map, cons_option, flat_map, last_or, list_any}
 use Rattle.std.specs.Option.{option_or, option_to_list}
 use Rattle.std.specs.Str.{bytes_eq}
 use Rattle.std.specs.Cmp.Lexicographic.{bytes_decides}
 use Rattle.std.proofs.lemmas.List.{take_more, map_more, take-map, drop_all, map-append}
-use Rattle.std.proofs.lemmas.List.Elements.{filter_map-append, filter-append, filter_more}
+use Rattle.std.proofs.lemmas.List.Elements.{filter_map-append, filter-append}
 use Rattle.std.proofs.lemmas.List.Folds.{list_any-append}
 use Rattle.std.proofs.lemmas.Grind.{flat_map-append}
 use Rattle.quirk_files.specs.declared.changes.FlagChange.{FlagChange}
@@ -141,10 +141,10 @@ last_step h f xs i d last next after lt was here read is =
     ∙ sym (ap (λ front. last_or None (filter_map h front)) (mapped_more f xs i d lt) ∙ last_read_more h (take i (map f xs)) (f (get_or xs i d)))
 
 pub read_step : {X Y Z : Type 0} (h : X → Option Y) (f : Z → X) (xs : List Z) (i : ℕ) (d : Z) (got after : List Y) (next : Option Y) → i < length xs
-    → got ≡ filter_map h (take i (map f xs)) → d ≡ get_or xs i d → next ≡ h (f d) → after ≡ got ++ option_to_list next
+    → got ≡ filter_map h (take i (map f xs)) → next ≡ h (f (get_or xs i d)) → after ≡ got ++ option_to_list next
     → after ≡ filter_map h (take (i + 1) (map f xs))
-read_step h f xs i d got after next lt was here read is =
-    is ∙ ap (λ o. got ++ option_to_list o) (read ∙ ap (λ z. h (f z)) here) ∙ ap (λ g. g ++ option_to_list (h (f (get_or xs i d)))) was
+read_step h f xs i d got after next lt was read is =
+    is ∙ ap (λ o. got ++ option_to_list o) read ∙ ap (λ g. g ++ option_to_list (h (f (get_or xs i d)))) was
     ∙ sym (ap (filter_map h) (mapped_more f xs i d lt) ∙ read_more h (take i (map f xs)) (f (get_or xs i d)))
 
 pub pieces_step : {X Y Z : Type 0} (p : X → List Y) (f : Z → X) (xs : List Z) (i : ℕ) (d : Z) (got after : List Y) → i < length xs
@@ -166,14 +166,32 @@ elements_more front x =
     ∙ filter-append (λ part. not (is_empty part)) (map trimmed front) (trimmed x ∷ [])
     ∙ ap (λ rest. elements_among front ++ rest) (element_alone x)
 
-pub elements_step : (parts : List (Bor (List ℕ))) (i : ℕ) (d : Bor (List ℕ)) (start got after : List (List ℕ)) (inner : List ℕ) → i < length parts
-    → got ≡ start ++ elements_among (take i (map (λ (part : Bor (List ℕ)). part.now) parts)) → d ≡ get_or parts i d → inner ≡ trimmed d.now
+-- what stands for a reference past the end
+abbrev pub no_reference : Bor (List ℕ)
+no_reference = record { ref_ptr = (0, 0); now = [] }
+
+pub elements_step : (parts : List (Bor (List ℕ))) (i : ℕ) (start got after : List (List ℕ)) (inner : List ℕ) → i < length parts
+    → got ≡ start ++ elements_among (take i (map (λ (part : Bor (List ℕ)). part.now) parts)) → inner ≡ trimmed (get_or parts i no_reference).now
     → after ≡ got ++ cond (is_empty inner) [] (inner ∷ [])
     → after ≡ start ++ elements_among (take (i + 1) (map (λ (part : Bor (List ℕ)). part.now) parts))
-elements_step parts i d start got after inner lt was here same is =
+elements_step parts i start got after inner lt was same is =
     let now : Bor (List ℕ) → List ℕ = λ part. part.now in
+    let d : Bor (List ℕ) = no_reference in
     let one : List ℕ → List (List ℕ) = λ t. cond (is_empty (trimmed t)) [] (trimmed t ∷ []) in
-    is ∙ ap (λ (t : List ℕ). got ++ cond (is_empty t) [] (t ∷ [])) same ∙ ap (λ (z : Bor (List ℕ)). got ++ one z.now) here
+    is ∙ ap (λ (t : List ℕ). got ++ cond (is_empty t) [] (t ∷ [])) same
     ∙ ap (λ (g : List (List ℕ)). g ++ one (get_or parts i d).now) was
     ∙ append_assoc start (elements_among (take i (map now parts))) (one (get_or parts i d).now)
     ∙ ap (λ (rest : List (List ℕ)). start ++ rest) (sym (ap elements_among (mapped_more now parts i d lt) ∙ elements_more (take i (map now parts)) (get_or parts i d).now))
+
+-- the quirks of some files and one more
+pub files_step : {X : Type 0} (p : X → Bool) (files : List (List X)) (i : ℕ) (file : List X) (start got after : List X) → i < length files
+    → got ≡ start ++ filter p (flat_map (λ f. f) (take i files)) → file ≡ get_or files i file → after ≡ got ++ filter p file
+    → after ≡ start ++ filter p (flat_map (λ f. f) (take (i + 1) files))
+files_step {X} p files i file start got after lt was here is =
+    let front : List (List X) = take i files in
+    let one : List X = get_or files i file in
+    is ∙ ap (λ (f : List X). got ++ filter p f) here ∙ ap (λ (g : List X). g ++ filter p one) was
+    ∙ append_assoc start (filter p (flat_map (λ f. f) front)) (filter p one)
+    ∙ ap (λ (rest : List X). start ++ rest)
+      (sym (ap (λ (fs : List (List X)). filter p (flat_map (λ f. f) fs)) (take_more files i file lt) ∙ ap (filter p) (pieces_more (λ f. f) front one)
+      ∙ filter-append p (flat_map (λ f. f) front) one))

@@ -1,9 +1,9 @@
 -- Texts: UTF-8, and hex digits read one after the other.
-use Rattle.std.proofs.Common.{◌≡◌, ℕ, ◌+◌, ◌*◌, ◌%◌, ◌^◌, ◌<◌, ◌≤◌, Bool, true, false, List, length, take, get_or, Result, Ok, Err, refl, sym, ap, subst, ◌∙◌, add-one, lit<, lit≤, arith}
+use Rattle.std.proofs.Common.{◌≡◌, ℕ, ◌+◌, ◌*◌, ◌%◌, ◌^◌, ◌<◌, ◌≤◌, Bool, true, false, List, length, take, get_or, Result, Ok, Err, refl, sym, subst, ◌∙◌, add-one, lit<, lit≤, arith}
 use Rattle.std.specs.Prelude.{MatchResult, IfOk}
 use Rattle.std.specs.Result.{is_ok}
 use Rattle.std.specs.Char.{digit_value}
-use Rattle.std.specs.List.{list_all, AllPass}
+use Rattle.std.specs.List.{list_all}
 use Rattle.std.specs.Str.{IsUtf8, is_utf8}
 use Rattle.std.specs.Str.Parse.{digits_value}
 use Rattle.std.proofs.Math.Nat.{pow-suc, pow-le-pow_right}

@@ -1,6 +1,6 @@
 -- Quirk files: the first fault of a file, and the quirks that it gives. Each line is looked at by
 -- itself, and belongs to the last group line before it.
-use Rattle.std.specs.Prelude.{ℕ, ◌+◌, ◌-◌, ◌==◌, nat_le, nat_lt, Bool, true, not, ◌&&◌, ◌||◌, if◌then◌else◌, List, [], length, take, drop, map, slice_index, slice_range, Option, Some, None, is_some, position, get_or}
+use Rattle.std.specs.Prelude.{ℕ, ◌+◌, ◌-◌, ◌==◌, nat_le, nat_lt, Bool, not, ◌&&◌, ◌||◌, if◌then◌else◌, List, [], length, take, drop, map, slice_index, slice_range, Option, Some, None, is_some, position, get_or}
 use Rattle.std.specs.List.{list_all, slice_split, slice_get, last_or, filter_map, range_with_len}
 use Rattle.std.specs.Option.{option_map}
 use Rattle.guid_ids.specs.Identifiers.{guid}

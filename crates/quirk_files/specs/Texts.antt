@@ -1,5 +1,5 @@
 -- Texts of quirk files: what a text line is, and what stands between blanks and commas.
-use Rattle.std.specs.Prelude.{ℕ, ◌-◌, ◌==◌, nat_lt, Bool, not, ◌&&◌, ◌||◌, if◌then◌else◌, List, length, take, drop, map, filter}
+use Rattle.std.specs.Prelude.{ℕ, ◌-◌, ◌==◌, nat_lt, Bool, not, ◌&&◌, ◌||◌, List, length, take, drop, map, filter}
 use Rattle.std.specs.List.{list_all, prefix_len, suffix_len, slice_split}
 use Rattle.std.specs.Str.{is_utf8}
 

@@ -1,10 +1,13 @@
 //! Books of quirks.
-ghost use Rattle.std.specs.Prelude.{◌≡◌, ◌++◌, ◌⊎◌, [], Some, None, IfErr, OnOk, OnErr, IfOk};
+ghost use Rattle.std.specs.Prelude.{◌≡◌, ◌++◌, ◌⊎◌, [], Some, None, filter, map, IfErr, OnOk, OnErr, IfOk};
+ghost use Rattle.std.specs.List.{flat_map};
 ghost use Rattle.quirk_files.specs.Files.{file_fault, file_quirks};
-ghost use Rattle.quirk_files.specs.Sheets.{sheet_after, guids_of_sheet};
+ghost use Rattle.quirk_files.specs.Sheets.{is_for, sheet_after, guids_of_sheet};
 
 use crate::fault::QuirkFault;
 use crate::file::FileQuirks;
+use crate::quirk::Quirk;
+use crate::sheets::set;
 use fw_base::NoMemory;
 use fw_facts::Sheet;
 use guid_ids::Guid;
@@ -60,10 +63,8 @@ impl QuirkBook {
     {
         let guids = guids_of_sheet(alloc, sheet)?;
         let mut quirks = Vec::new(alloc);
-        for file in &self.files {
-            file.push_for(&guids, &mut quirks)?;
-        }
-        crate::sheets::set(alloc, sheet, &quirks)
+        push_for(&self.files, &guids, &mut quirks)?;
+        set(alloc, sheet, &quirks)
     }
 }
 
@@ -73,4 +74,18 @@ fn guids_of_sheet(alloc: Global, sheet: &Sheet) -> Result<Vec<Guid>, NoMemory>
     let mut guids = Vec::from_slice(alloc, sheet.runtime_guids.items())?;
     guids.extend_from_slice(sheet.loader_guids.items())?;
     Ok(guids)
+}
+
+// Puts the quirks of the files that are for these GUIDs behind others, in reading order.
+fn push_for<'a>(
+    files: &'a [FileQuirks],
+    guids: &[Guid],
+    quirks: &mut Vec<&'a Quirk>,
+) -> Result<(), NoMemory>
+    ensures { OnOk result (map (λ quirk. quirk.now) quirks.new.items ≡ map (λ quirk. quirk.now) quirks.old.items ++ filter (is_for guids.now) (flat_map (λ file. file) files.now)) }
+{
+    for file in files {
+        file.push_for(guids, quirks)?;
+    }
+    Ok(())
 }

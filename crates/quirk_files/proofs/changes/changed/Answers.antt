@@ -1,4 +1,4 @@
-use Rattle.std.proofs.Common.{List, Bool, ℕ, ◌+◌, ◌∙◌, ap, sym, drop}
+use Rattle.std.proofs.Common.{List, Bool, ◌+◌, ◌∙◌, ap, sym, drop}
 use Rattle.fw_facts.specs.declared.flags.DeviceFlag.TheVariants.{Internal}
 use Rattle.quirk_files.specs.declared.changes.FlagChange.TheVariants.{Add}
 use Rattle.quirk_files.specs.Flags.{changed}
