@@ -87,6 +87,7 @@ any_added list x q = by_test (list_any (bytes_eq x) list) refl where
       let yes : list_any (bytes_eq q) list ≡ true = ap (λ (k : List ℕ). list_any (bytes_eq k) list) one ∙ there in
       rw yes refl
   same_too false e there = sym (or_false (list_any (bytes_eq q) list))
+
   by_test : (b : Bool) → list_any (bytes_eq x) list ≡ b → list_any (bytes_eq q) (cond b list (list ++ x ∷ [])) ≡ (list_any (bytes_eq q) list || bytes_eq q x)
   by_test true there = same_too (bytes_eq q x) refl there
   by_test false there = any_of_two list x q
@@ -193,5 +194,5 @@ files_step {X} p files i file start got after lt was here is =
     is ∙ ap (λ (f : List X). got ++ filter p f) here ∙ ap (λ (g : List X). g ++ filter p one) was
     ∙ append_assoc start (filter p (flat_map (λ f. f) front)) (filter p one)
     ∙ ap (λ (rest : List X). start ++ rest)
-      (sym (ap (λ (fs : List (List X)). filter p (flat_map (λ f. f) fs)) (take_more files i file lt) ∙ ap (filter p) (pieces_more (λ f. f) front one)
-      ∙ filter-append p (flat_map (λ f. f) front) one))
+    (sym (ap (λ (fs : List (List X)). filter p (flat_map (λ f. f) fs)) (take_more files i file lt) ∙ ap (filter p) (pieces_more (λ f. f) front one)
+    ∙ filter-append p (flat_map (λ f. f) front) one))

@@ -90,14 +90,22 @@ impl FileQuirks {
     }
 
     /// Puts the quirks for these GUIDs behind others, in their order.
-    pub fn push_for<'a>(&'a self, guids: &[Guid], quirks: &mut Vec<&'a Quirk>) -> Result<(), NoMemory>
+    pub fn push_for<'a>(
+        &'a self,
+        guids: &[Guid],
+        quirks: &mut Vec<&'a Quirk>,
+    ) -> Result<(), NoMemory>
         ensures { OnOk result (map (λ quirk. quirk.now) quirks.new.items ≡ map (λ quirk. quirk.now) quirks.old.items ++ filter (is_for guids.now) self.now) }
     {
         push_for(guids, &self.quirks, quirks)
     }
 }
 
-fn push_for<'a>(guids: &[Guid], all: &'a [Quirk], quirks: &mut Vec<&'a Quirk>) -> Result<(), NoMemory>
+fn push_for<'a>(
+    guids: &[Guid],
+    all: &'a [Quirk],
+    quirks: &mut Vec<&'a Quirk>,
+) -> Result<(), NoMemory>
     ensures { OnOk result (map (λ quirk. quirk.now) quirks.new.items ≡ map (λ quirk. quirk.now) quirks.old.items ++ filter (is_for guids.now) all.now) }
 {
     for quirk in all {

@@ -123,7 +123,11 @@ fn group_name(line: &[u8]) -> Option<&[u8]>
         return None;
     }
     let name = &line[1..line.len() - 1];
-    if is_group_name(name) { Some(name) } else { None }
+    if is_group_name(name) {
+        Some(name)
+    } else {
+        None
+    }
 }
 
 fn is_group_name(name: &[u8]) -> bool

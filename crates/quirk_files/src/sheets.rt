@@ -29,8 +29,12 @@ pub fn set(alloc: Global, sheet: &mut Sheet, quirks: &[&Quirk]) -> Result<(), No
     let flags = flags_after(alloc, sheet.flags, quirks)?;
     let runtime_guids = guids_after(alloc, sheet.runtime_guids.items(), Key::Guid, quirks)?;
     let vendor_ids = names_after(alloc, sheet.vendor_ids.items(), Key::VendorId, quirks)?;
-    let counterparts =
-        guids_after(alloc, sheet.counterparts.items(), Key::CounterpartGuid, quirks)?;
+    let counterparts = guids_after(
+        alloc,
+        sheet.counterparts.items(),
+        Key::CounterpartGuid,
+        quirks,
+    )?;
     set_singles(sheet, quirks);
     sheet.flags = flags;
     sheet.runtime_guids = runtime_guids;
@@ -116,11 +120,7 @@ fn names_after(
 }
 
 // The elements of the comma lists of a key, in reading order.
-fn elements<'a>(
-    alloc: Global,
-    key: Key,
-    quirks: &[&'a Quirk],
-) -> Result<Vec<&'a [u8]>, NoMemory>
+fn elements<'a>(alloc: Global, key: Key, quirks: &[&'a Quirk]) -> Result<Vec<&'a [u8]>, NoMemory>
     ensures { IfOk result (λ elements. map (λ element. element.now) elements.items ≡ flat_map (elements_in key) (map (λ quirk. quirk.now) quirks.now)) }
 {
     let mut elements = Vec::new(alloc);
@@ -196,11 +196,7 @@ fn guids_there(alloc: Global, list: &[Guid]) -> Result<IndexSet<Guid>, NoMemory>
 }
 
 // Puts a GUID behind the others, unless it is there.
-fn add_guid(
-    all: &mut Vec<Guid>,
-    there: &mut IndexSet<Guid>,
-    guid: Guid,
-) -> Result<(), NoMemory>
+fn add_guid(all: &mut Vec<Guid>, there: &mut IndexSet<Guid>, guid: Guid) -> Result<(), NoMemory>
     ensures all { OnOk result (all.new.items ≡ (if list_any (bytes_eq guid) there.old.keys then all.old.items else all.old.items ++ guid ∷ [])) }
     ensures there { OnOk result ((q : _) → list_any (bytes_eq q) there.new.keys ≡ (list_any (bytes_eq q) there.old.keys || bytes_eq q guid)) }
 {

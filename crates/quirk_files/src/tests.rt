@@ -26,8 +26,14 @@ const ROWS: [(&str, &str); 19] = [
         "Plugin=a\nPlugin=b\nPlugin=c d\nVersionFormat=tripple\nProtocol=\nProtocol=p\nProtocol=",
         "b|||triplet|p|0..4194304|0|0100000000|USB:0x0A5C,|2082,|",
     ),
-    ("Name=x\nVendor=y\nName =\nVendor=a\tb", "flash||y|triplet|-|0..4194304|0|0100000000|USB:0x0A5C,|2082,|"),
-    ("FirmwareSizeMax=007\nFirmwareSizeMin=0x\nInstallDuration=0x123456789", BEFORE),
+    (
+        "Name=x\nVendor=y\nName =\nVendor=a\tb",
+        "flash||y|triplet|-|0..4194304|0|0100000000|USB:0x0A5C,|2082,|",
+    ),
+    (
+        "FirmwareSizeMax=007\nFirmwareSizeMin=0x\nInstallDuration=0x123456789",
+        BEFORE,
+    ),
     (
         "FirmwareSizeMax=4194305\nFirmwareSizeMin=4194304",
         "flash|||triplet|-|4194304..4194304|0|0100000000|USB:0x0A5C,|2082,|",
@@ -61,10 +67,16 @@ const ROWS: [(&str, &str); 19] = [
         "# Plugin=x\r\n\r\n  \t\r\n Plugin = y\r",
         "y|||triplet|-|0..4194304|0|0100000000|USB:0x0A5C,|2082,|",
     ),
-    ("Plugin=a=b", "a=b|||triplet|-|0..4194304|0|0100000000|USB:0x0A5C,|2082,|"),
+    (
+        "Plugin=a=b",
+        "a=b|||triplet|-|0..4194304|0|0100000000|USB:0x0A5C,|2082,|",
+    ),
     ("[other]\nPlugin=x\n[ python.org]\nPlugin=x", BEFORE),
     // The loader side has the GUID of this instance ID.
-    ("[python.org]\nPlugin=l", "l|||triplet|-|0..4194304|0|0100000000|USB:0x0A5C,|2082,|"),
+    (
+        "[python.org]\nPlugin=l",
+        "l|||triplet|-|0..4194304|0|0100000000|USB:0x0A5C,|2082,|",
+    ),
     // Lines count in their order, and not in that of their groups.
     (
         "[python.org]\nPlugin=one\n[2082B5E0-7a64-478a-b1b2-e3404fab6dad]\nPlugin=two\nName=n\n[886313e1-3b8a-5372-9b90-0c9aee199e5d]\nPlugin=three",
@@ -73,7 +85,7 @@ const ROWS: [(&str, &str); 19] = [
     // A GUID that is added makes no group match.
     (
         "Guid=python.org\nGuid=other.org\n[other.org]\nPlugin=x",
-        "flash|||triplet|-|0..4194304|0|0100000000|USB:0x0A5C,|2082,8863,68cc,|",
+        "flash|||triplet|-|0..4194304|0|0100000000|USB:0x0A5C,|2082,8863,76d8,|",
     ),
 ];
 
@@ -159,8 +171,17 @@ fn told(alloc: Global, sheet: &Sheet) -> Result<String, Fail> {
         Some(protocol) => text(protocol.bytes()),
         None => "-",
     };
-    let mut told = format!(in alloc; "{}|{}|{}|{}|", text(sheet.plugin.bytes()), text(sheet.name.bytes()), text(sheet.vendor.bytes()), text(sheet.format.word()))?;
-    let numbers = format!(in alloc; "{protocol}|{}..{}|{}|", sheet.size_min, sheet.size_max, sheet.duration)?;
+    let mut told = format!(in alloc;
+        "{}|{}|{}|{}|",
+        text(sheet.plugin.bytes()),
+        text(sheet.name.bytes()),
+        text(sheet.vendor.bytes()),
+        text(sheet.format.word())
+    )?;
+    let numbers = format!(in alloc;
+        "{protocol}|{}..{}|{}|",
+        sheet.size_min, sheet.size_max, sheet.duration
+    )?;
     told.push_str(&numbers)?;
     tell_flags(&mut told, sheet.flags)?;
     told.push('|')?;

@@ -116,7 +116,10 @@ impl Reader for Changes {
 fn format_among(formats: &[Format], value: &[u8]) -> Option<Format>
     ensures { result ≡ find (λ format. bytes_eq (format_word format) value.now) formats.now }
 {
-    formats.iter().copied().find(|format| format.word() == value)
+    formats
+        .iter()
+        .copied()
+        .find(|format| format.word() == value)
 }
 
 fn within(most: u32, number: Option<u64>) -> Option<u32>
