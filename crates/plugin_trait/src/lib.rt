@@ -11,3 +11,6 @@ pub mod startup;
 
 pub use plugin::Plugin;
 pub use startup::start_all;
+
+#[cfg(test)]
+mod tests;
