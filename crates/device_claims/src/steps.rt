@@ -4,6 +4,7 @@
 ghost use Rattle.std.specs.Prelude.{◌≡◌, ◌≤◌, ◌<◌, ◌↔◌, [], IsTrue, length, None};
 ghost use Rattle.emulated_boards.specs.Images.{payload_image};
 ghost use Rattle.emulated_boards.specs.Conditions.{view_of};
+ghost use Rattle.emulated_boards.specs.declared.condition.Presence.TheVariants.{Home};
 ghost use Rattle.plugin_trait.specs.Steps.{Plain, Detached, Attached, Written};
 ghost use Rattle.device_claims.specs.Steps.{next_step, with_step};
 ghost use Rattle.device_claims.specs.States.{IsNext};
@@ -23,6 +24,16 @@ use std::marker::PhantomData;
 use update_log::Op;
 
 impl Parts {
+    /// Writes the payload to the board.
+    fn write(&mut self, plugin: &dyn Plugin) -> Result<(), BoardFault>
+        requires home { self.old.board.condition.presence ≡ Home }
+        requires room { 2 ≤ self.old.board.room }
+        ensures board { Written self.old.entry (payload_image self.old.payload) self.old.board result self.new.board }
+        ensures others { self.new ≡ record self.old { board = self.new.board } }
+    {
+        plugin.write(&mut self.board, self.entry, &self.payload)
+    }
+
     /// Notes a step that ended, with its answer and what the board shows.
     fn note(&mut self, op: Op, outcome: Result<(), BoardFault>)
         requires { length self.old.trace.steps < 6 }
@@ -128,7 +139,7 @@ impl Claim<LooseState> {
             mut parts,
             state: _,
         } = self;
-        let answer = plugin.write(&mut parts.board, parts.entry, &parts.payload);
+        let answer = parts.write(plugin);
         parts.note(Op::Write, answer);
         let state = PhantomData;
         (Claim { parts, state }, answer)
