@@ -14,3 +14,6 @@ pub use capsule::Capsule;
 pub use flash::Flash;
 pub use loader::Loader;
 pub use power::Power;
+
+#[cfg(test)]
+mod tests;
