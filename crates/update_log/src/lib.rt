@@ -5,13 +5,22 @@
 #![tactic(auto)]
 
 pub mod answer;
+pub mod decision;
 pub mod event;
+pub mod facts;
+pub mod laws;
+pub mod live;
 pub mod refusal;
 pub mod request;
 pub mod told;
+pub mod trace;
 
 pub use answer::{AskAnswer, ClaimAnswer, PlugAnswer, ResumeAnswer};
+pub use decision::{Decision, Stage};
 pub use event::{Back, BoardSeen, Event, Found, Log, Op, Query, Stored};
+pub use facts::{BootPlan, Facts, PluginVetoes};
+pub use live::{Held, LiveEntry, OpenStep};
 pub use refusal::{FetchNote, Refusal};
 pub use request::{InstallFlags, Request};
 pub use told::Told;
+pub use trace::{Trace, TraceStep, TraceSteps};
