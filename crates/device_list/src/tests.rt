@@ -3,8 +3,8 @@
 ghost use Rattle.std.specs.Prelude.{◌≡◌, length, IfOk};
 
 use crate::{DEVICES_MAX, Devices, ListFault, Selector};
-use fw_base::{Listed, Name};
-use fw_facts::{DeviceView, Mode, Seen, Sheet};
+use fw_base::{Line, Listed, Name};
+use fw_facts::{DeviceFlags, DeviceView, Mode, Seen, Sheet};
 use guid_ids::{DeviceId, Guid, guid_of};
 use std::alloc::Global;
 use std::test::Fail;
@@ -37,9 +37,25 @@ fn view(alloc: Global, number: usize, seen: Seen) -> Result<DeviceView, Fail> {
     let sheet = Sheet {
         port: Name::read(b"usb1")?,
         device: id(number),
+        priority: 0,
+        plugin: Name::read(b"flash")?,
+        name: Line::read(b"")?,
+        vendor: Line::read(b"")?,
+        vendor_ids: Listed::of(Vec::new(alloc)),
         runtime_guids: one_guid(alloc, b"firmware")?,
         loader_guids: one_guid(alloc, b"loader")?,
+        counterparts: Listed::of(Vec::new(alloc)),
+        flags: DeviceFlags::empty(),
         format: Format::Triplet,
+        protocol: None,
+        bootloader: None,
+        size_min: 0,
+        size_max: 4_194_304,
+        duration: 0,
+        parent: None,
+        unreachable: false,
+        power_low: false,
+        lid: false,
     };
     Ok(DeviceView {
         sheet,

@@ -1,1 +1,4 @@
+pub mod Flags
 pub mod Views
+pub mod Machines
+pub mod Problems

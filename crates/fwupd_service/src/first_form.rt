@@ -9,8 +9,8 @@ use crate::json::{
 };
 use device_list::Selector;
 use emulated_boards::image_raw;
-use fw_base::{Listed, NoMemory};
-use fw_facts::{Component, Release, Sheet};
+use fw_base::{Line, Listed, Name, NoMemory};
+use fw_facts::{Component, DeviceFlag, DeviceFlags, Release, Sheet};
 use guid_ids::{Guid, device_id};
 use serde_json::Value;
 use std::alloc::{AllocError, AllocFailed, Global};
@@ -55,6 +55,15 @@ fn wanted<T: Drop>(part: Option<T>) -> Result<T, FormStop> {
 
 fn ensure(holds: bool) -> Result<(), FormStop> {
     if holds { Ok(()) } else { Err(FormStop::Other) }
+}
+
+/// The name with these bytes.
+fn literal(bytes: &[u8]) -> Result<Name, FormStop> {
+    wanted(Name::read(bytes).ok())
+}
+
+fn empty_line() -> Result<Line, FormStop> {
+    wanted(Line::read(b"").ok())
 }
 
 /// A number up to `most`.
@@ -115,7 +124,7 @@ fn pool(machine: &Value) -> Result<u32, FormStop>
 fn component(alloc: Global, value: &Value, pool: u32) -> Result<Component, FormStop> {
     ensure(has_members(value, &["id", "name", "provides", "releases"]))?;
     let id = wanted(name(member(value, "id")?))?;
-    wanted(line(member(value, "name")?))?;
+    let name = wanted(line(member(value, "name")?))?;
     let provides = guids(alloc, member(value, "provides")?)?;
     let mut releases = Vec::new(alloc);
     for entry in wanted(some_entries(member(value, "releases")?))? {
@@ -123,7 +132,11 @@ fn component(alloc: Global, value: &Value, pool: u32) -> Result<Component, FormS
     }
     Ok(Component {
         id,
+        name,
         provides,
+        requirements: Listed::of(Vec::new(alloc)),
+        format: None,
+        protocol: None,
         releases: Listed::of(releases),
     })
 }
@@ -134,6 +147,7 @@ fn release(value: &Value, pool: u32) -> Result<Release, FormStop> {
     ensure(u64::from(size) <= 4096 * u64::from(pool))?;
     Ok(Release {
         version: wanted(triple(member(value, "version")?))?.version,
+        urgency: literal(b"unknown")?,
         digest: wanted(digest(member(value, "sha256")?))?,
         size,
     })
@@ -174,9 +188,25 @@ fn board(alloc: Global, value: &Value) -> Result<(Sheet, Vec<u8>), FormStop> {
     let sheet = Sheet {
         port,
         device: device_id(physical.bytes(), None),
+        priority: 0,
+        plugin: literal(b"flash")?,
+        name: empty_line()?,
+        vendor: empty_line()?,
+        vendor_ids: Listed::of(Vec::new(alloc)),
         runtime_guids,
         loader_guids,
+        counterparts: Listed::of(Vec::new(alloc)),
+        flags: DeviceFlags::empty().with(DeviceFlag::Updatable),
         format: Format::Triplet,
+        protocol: None,
+        bootloader: None,
+        size_min: 0,
+        size_max: PAYLOAD_MAX,
+        duration: 0,
+        parent: None,
+        unreachable: false,
+        power_low: false,
+        lid: false,
     };
     Ok((sheet, image.to_vec(alloc)?))
 }

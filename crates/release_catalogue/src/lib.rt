@@ -4,10 +4,12 @@
 //! the reader of the whole document shares.
 #![tactic(auto)]
 
+pub mod catalogue;
 pub mod place;
 pub mod reason;
 pub mod reference;
 
+pub use catalogue::Catalogue;
 pub use place::Place;
 pub use reason::Reason;
 pub use reference::ReleaseRef;

@@ -1,9 +1,9 @@
 -- Version order: versions are compared by their sections.
-use Rattle.std.specs.Prelude.{ℕ, ◌+◌, ◌==◌, if◌then◌else◌, List, [], ◌∷◌, ◌++◌, map, drop, take_while}
+use Rattle.std.specs.Prelude.{ℕ, Bool, ◌+◌, ◌==◌, if◌then◌else◌, List, [], ◌∷◌, ◌++◌, map, drop, take_while}
 use Rattle.std.specs.Char.{is_ascii_digit}
 use Rattle.std.specs.Cmp.Lexicographic.{slice_cmp}
 use Rattle.std.specs.List.{prefix_len, slice_split}
-use Rattle.std.specs.Ordering.{nat_cmp, ordering_then}
+use Rattle.std.specs.Ordering.{nat_cmp, ordering_then, is_eq}
 use Rattle.std.specs.declared.cmp.Ordering.{Ordering}
 use Rattle.std.specs.Str.Parse.{digits_value}
 use Rattle.version_formats.specs.Formats.{dot}
@@ -52,3 +52,7 @@ section_cmp left right = ordering_then (nat_cmp left.number right.number) (rest_
 -- versions are compared by their first differing section, and one whose sections begin the other's is lower
 unfoldable pub version_cmp : List ℕ → List ℕ → Ordering
 version_cmp left right = slice_cmp section_cmp (sections left) (sections right)
+
+-- two versions are equal in this order
+abbrev pub same_version : List ℕ → List ℕ → Bool
+same_version left right = is_eq (version_cmp left right)
