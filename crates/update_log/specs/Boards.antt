@@ -45,9 +45,9 @@ is_same_place _ _ = false
 abbrev pub goes_before : Facts → Board → Board → Bool
 goes_before facts a b =
     nat_lt b.sheet.priority a.sheet.priority
-        || ((a.sheet.priority == b.sheet.priority)
-            && (is_earlier (plugin_place facts a) (plugin_place facts b)
-                || (is_same_place (plugin_place facts a) (plugin_place facts b) && nat_lt a.number b.number)))
+    || ((a.sheet.priority == b.sheet.priority)
+    && (is_earlier (plugin_place facts a) (plugin_place facts b)
+    || (is_same_place (plugin_place facts a) (plugin_place facts b) && nat_lt a.number b.number)))
 
 -- Another board has the same device ID, is served, and goes before this one.
 abbrev pub is_beaten : Facts → Board → Board → Bool

@@ -47,7 +47,7 @@ CrashOf log crashed = LeftOf (past_of log) (past_of crashed)
 abbrev pub NextCampaign : Campaign → List Event → BootPlan → Campaign → Type 0
 NextCampaign c past plan after =
     ((slice_get c.plans (boots past) ≡ Some plan) × (after ≡ c))
-        ⊎ ((length c.plans ≡ boots past) × (after ≡ record c { plans = c.plans ++ plan ∷ [] }))
+    ⊎ ((length c.plans ≡ boots past) × (after ≡ record c { plans = c.plans ++ plan ∷ [] }))
 
 -- What a boot may list of a board whose journal is this: it tells the journal's tail, and shows the
 -- board gone where the plan says so, else home with what it may show.

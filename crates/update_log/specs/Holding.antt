@@ -62,7 +62,7 @@ abbrev pub holds_after : Event → List Held → List Held
 holds_after (Event.Boot number time limit found boards) before = []
 holds_after (Event.Ask client request pending (AskAnswer.Hold blocks release)) before =
     without_client client before
-        ++ record { client = client; request = request; pending = pending; blocks = blocks; release = release } ∷ []
+    ++ record { client = client; request = request; pending = pending; blocks = blocks; release = release } ∷ []
 holds_after (Event.Claim client request fetched answer) before = without_client client before
 holds_after (Event.Resume client entry fetched answer stored) before = without_client client before
 holds_after (Event.GiveBack client what) before = without_client client before

@@ -26,7 +26,7 @@ use Rattle.update_log.specs.declared.request.Request.{Request}
 use Rattle.update_log.specs.declared.request.InstallFlags.{InstallFlags}
 use Rattle.update_log.specs.declared.facts.Facts.{Facts}
 use Rattle.update_log.specs.declared.live.LiveEntry.{LiveEntry}
-use Rattle.update_log.specs.Given.{Chosen, chosen}
+use Rattle.release_catalogue.specs.Lookup.{Chosen, chosen}
 use Rattle.update_log.specs.Pasts.{time_of, is_keeper_fault}
 use Rattle.update_log.specs.Holding.{live}
 use Rattle.update_log.specs.Boards.{Board, devices, board_at, board_with}

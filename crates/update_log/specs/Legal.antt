@@ -34,7 +34,7 @@ use Rattle.update_log.specs.declared.decision.Stage.{Stage}
 use Rattle.update_log.specs.declared.live.LiveEntry.{LiveEntry}
 use Rattle.update_log.specs.declared.live.Held.{Held}
 use Rattle.update_log.specs.declared.live.OpenStep.{OpenStep}
-use Rattle.update_log.specs.Given.{Chosen}
+use Rattle.release_catalogue.specs.Lookup.{Chosen}
 use Rattle.update_log.specs.Pasts.{past_of, is_boot, is_counted, boots, counted, limit_of, off, last_of, finished}
 use Rattle.update_log.specs.Holding.{live, live_entry, is_live, hold, open_steps, open_step}
 use Rattle.update_log.specs.Known.{Target, target, row_of, is_board_of, board_found, known, rows, seen, doubt, views}
@@ -215,7 +215,7 @@ IsRefusedAsk entry _ _ = ⊥
 abbrev pub ResumeFetched : Facts → List Row → List Event → ℕ → Option FetchNote → ResumeAnswer → Type 0
 ResumeFetched facts opening past entry (Some note) answer =
     (held : Held) × (hold past 0 ≡ Some held) × (held.pending ≡ Some entry)
-        × ResumeAnswered note (target facts (views facts opening past) held.request) (verdict facts opening past 0 held.request (Stage.Resume entry held.release)) answer
+    × ResumeAnswered note (target facts (views facts opening past) held.request) (verdict facts opening past 0 held.request (Stage.Resume entry held.release)) answer
 ResumeFetched facts opening past entry None answer =
     (event : Event) × (last_of 0 past ≡ Some event) × IsRefusedAsk entry answer event
 

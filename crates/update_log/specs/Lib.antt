@@ -1,6 +1,5 @@
 pub mod Told
 pub mod Traces
-pub mod Given
 pub mod Pasts
 pub mod Holding
 pub mod Boards

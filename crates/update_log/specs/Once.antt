@@ -8,6 +8,7 @@ use Rattle.emulated_boards.specs.declared.mark.Mark.{Mark}
 use Rattle.history_keeper.specs.declared.row.Row.{Row}
 use Rattle.history_keeper.specs.declared.row.RowState.{RowState}
 use Rattle.history_keeper.specs.declared.change.Change.{Change}
+use Rattle.release_catalogue.specs.Lookup.{provides}
 use Rattle.update_log.specs.declared.event.Event.{Event}
 use Rattle.update_log.specs.declared.event.Op.{Op}
 use Rattle.update_log.specs.declared.event.Found.{Found}
@@ -18,8 +19,8 @@ use Rattle.update_log.specs.declared.request.Request.{Request}
 use Rattle.update_log.specs.declared.facts.Facts.{Facts}
 use Rattle.update_log.specs.Pasts.{past_of, boots}
 use Rattle.update_log.specs.Known.{Target, target, row_of, is_board_of, rows, seen, doubt, views}
-use Rattle.update_log.specs.Verdicts.{first_unmet_of}
-use Rattle.update_log.specs.Steps.{op_number, share_one, request_held}
+use Rattle.update_log.specs.Verdicts.{first_unmet_for}
+use Rattle.update_log.specs.Steps.{op_number, request_held}
 use Rattle.update_log.specs.Shows.{Campaign, IsPrefix, told, told_by, is_began, HasRaw, first_of_board}
 use Rattle.update_log.specs.Legal.{open_on, open_marks, is_whole}
 
@@ -125,8 +126,8 @@ pub record TakenWell (facts : Facts) (opening : List Row) (before : List Event) 
   pub request_is : request_taken before event ≡ Some request
   pub target_is : target facts (views facts opening before) request ≡ Some t
   pub digest : t.chosen.release.digest ≡ row.digest
-  pub matches : IsTrue (share_one t.chosen.component.provides (guids_of t.view))
-  pub met : first_unmet_of facts row.client (views facts opening before) t ≡ None
+  pub matches : IsTrue (provides (guids_of t.view) t.chosen.component)
+  pub met : first_unmet_for facts row.client (views facts opening before) t ≡ None
   pub payload : payload_taken event ≡ Some note
   pub whole : IsTrue (is_whole note t.chosen)
 
@@ -180,7 +181,7 @@ abbrev pub AfterStart : Facts → List Row → ℕ → ℕ → Mark → List Eve
 AfterStart facts opening board entry mark [] = Unit {0}
 AfterStart facts opening board entry mark (event ∷ past) =
     OnTrue (list_any (is_like mark) (told_by facts (rows facts opening past) event board)) (IsTrue (list_any (starts_write entry) past))
-        × AfterStart facts opening board entry mark past
+    × AfterStart facts opening board entry mark past
 
 -- The digest that the mark has, if it is an end.
 abbrev pub HasDigest : Mark → List ℕ → Type 0

@@ -143,8 +143,8 @@ HasMode Seen.Stranger other = ⊥
 abbrev pub RawAllowed : Campaign → List Row → List Event → ℕ → List Mark → ℕ → Type 0
 RawAllowed c opening past board marks raw =
     HasRaw (home_before c opening past board) raw
-        ⊎ ((raw ≡ 0) × IsTrue (list_any is_began marks || began_since c opening past board))
-        ⊎ IsWritten past (told c.facts opening past board ++ marks) raw
+    ⊎ ((raw ≡ 0) × IsTrue (list_any is_began marks || began_since c opening past board))
+    ⊎ IsWritten past (told c.facts opening past board ++ marks) raw
 
 -- The mode that a board may show at the end of a step which tells these marks: bootloader mode where
 -- it entered it, runtime mode where it left it, one of bootloader mode and that of before where a
@@ -153,7 +153,7 @@ abbrev pub ModeAllowed : List Mark → Seen → Mode → Type 0
 ModeAllowed marks before mode =
     MatchBool (list_any is_entered marks) (mode ≡ Mode.Bootloader)
     (MatchBool (list_any is_left marks) (mode ≡ Mode.Runtime)
-     (MatchBool (list_any is_began marks) (HasMode before mode ⊎ (mode ≡ Mode.Bootloader)) (HasMode before mode)))
+    (MatchBool (list_any is_began marks) (HasMode before mode ⊎ (mode ≡ Mode.Bootloader)) (HasMode before mode)))
 
 -- Both are home, or both gone, or both strangers.
 abbrev pub is_alike : Seen → Seen → Bool

@@ -2,7 +2,7 @@
 use Rattle.std.specs.Prelude.{ℕ, Bool, true, false, ◌&&◌, ◌||◌, not, ◌==◌, nat_lt, ◌-◌, List, [], ◌∷◌, ◌++◌, Option, Some, None, Result, Ok, Err, if◌then◌else◌, find, length, slice_get, is_ok, unwrap_or, option_map, option_and_then}
 use Rattle.std.specs.List.{list_any, list_all}
 use Rattle.std.specs.Str.{bytes_eq}
-use Rattle.version_formats.specs.VersionOrder.{version_cmp}
+use Rattle.version_formats.specs.VersionOrder.{same_version}
 use Rattle.fw_facts.specs.declared.flags.DeviceFlag.{DeviceFlag}
 use Rattle.fw_facts.specs.declared.seen.Seen.{Seen}
 use Rattle.fw_facts.specs.declared.seen.Mode.{Mode}
@@ -11,6 +11,7 @@ use Rattle.fw_facts.specs.Flags.{has_flag}
 use Rattle.fw_facts.specs.Views.{flags_of, is_home, version_of}
 use Rattle.history_keeper.specs.declared.row.Row.{Row}
 use Rattle.history_keeper.specs.declared.row.RowState.{RowState}
+use Rattle.release_catalogue.specs.Lookup.{provides}
 use Rattle.update_log.specs.declared.event.Event.{Event}
 use Rattle.update_log.specs.declared.event.Op.{Op}
 use Rattle.update_log.specs.declared.answer.ClaimAnswer.{ClaimAnswer}
@@ -21,7 +22,6 @@ use Rattle.update_log.specs.declared.trace.Trace.{Trace}
 use Rattle.update_log.specs.declared.trace.TraceStep.{TraceStep}
 use Rattle.update_log.specs.Holding.{hold}
 use Rattle.update_log.specs.Known.{Target, target, row_of, rows, views}
-use Rattle.update_log.specs.Verdicts.{is_equal}
 
 -- The steps, in the order in which they are taken, and the number of each.
 abbrev pub all_ops : List Op
@@ -89,14 +89,10 @@ may_be_next t op = nat_lt (last_number t.steps) (op_number op) && is_wanted t op
 abbrev pub next_step : Trace → Option Op
 next_step t = find (may_be_next t) all_ops
 
--- Some GUID is in both lists.
-abbrev pub share_one : List (List ℕ) → List (List ℕ) → Bool
-share_one these those = list_any (λ guid. list_any (bytes_eq guid) those) these
-
 -- A side fits where the sheet has a GUID of it that the component provides, or that is among the
 -- sheet's counterparts.
 abbrev pub side_fits : List (List ℕ) → Target → Bool
-side_fits side t = share_one side t.chosen.component.provides || share_one side t.view.sheet.counterparts
+side_fits side t = provides side t.chosen.component || list_any (λ guid. list_any (bytes_eq guid) side) t.view.sheet.counterparts
 
 abbrev pub mode_of : Seen → Mode
 mode_of (Seen.Home raw mode) = mode
@@ -149,7 +145,7 @@ next_op facts opening past entry = option_and_then next_step (trace facts openin
 -- The judgement of a row: success where the version shown compares equal to the row's new version,
 -- else failure. It looks at nothing else.
 abbrev pub judge : List ℕ → Row → RowState
-judge shown row = if is_equal (version_cmp shown row.version_new) then RowState.Success else RowState.Failed
+judge shown row = if same_version shown row.version_new then RowState.Success else RowState.Failed
 
 -- The same of a device, where it shows a version.
 abbrev pub judge_shown : Option (List ℕ) → Row → RowState

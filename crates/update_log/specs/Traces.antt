@@ -28,8 +28,8 @@ steps_kept steps = record { kept = six_places steps; len = length steps }
 count_kept : (s : Inside) → AreSteps s → length (take s.len s.kept) ≡ s.len
 count_kept s h =
     let whole : length s.kept ≡ length (take s.len s.kept) + (6 - length (take s.len s.kept)) =
-      ap length h.is ∙ length-append (take s.len s.kept) (replicate (6 - length (take s.len s.kept)) no_step)
-      ∙ ap (λ n. length (take s.len s.kept) + n) (length-replicate (6 - length (take s.len s.kept)) no_step) in
+    ap length h.is ∙ length-append (take s.len s.kept) (replicate (6 - length (take s.len s.kept)) no_step)
+    ∙ ap (λ n. length (take s.len s.kept) + n) (length-replicate (6 - length (take s.len s.kept)) no_step) in
     let front : length (take s.len s.kept) ≡ min s.len (length s.kept) = length-take s.len s.kept in
     let few : s.len ≤ 6 = h.few in
     omega arith

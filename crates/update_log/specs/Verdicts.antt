@@ -2,9 +2,8 @@
 use Rattle.std.specs.Prelude.{ℕ, Bool, true, false, ◌&&◌, ◌||◌, not, ◌==◌, nat_lt, nat_le, ◌-◌, List, [], ◌∷◌, Option, Some, None, if◌then◌else◌, find, length, slice_get, is_some, unwrap_or, option_map, option_and_then}
 use Rattle.std.specs.List.{list_any}
 use Rattle.std.specs.Str.{bytes_eq}
-use Rattle.std.specs.declared.cmp.Ordering.{Ordering}
-use Rattle.std.specs.declared.cmp.Ordering.TheVariants.{Less, Equal, Greater}
-use Rattle.version_formats.specs.VersionOrder.{version_cmp}
+use Rattle.std.specs.Ordering.{is_lt}
+use Rattle.version_formats.specs.VersionOrder.{version_cmp, same_version}
 use Rattle.fw_facts.specs.declared.flags.DeviceFlag.{DeviceFlag}
 use Rattle.fw_facts.specs.declared.view.DeviceView.{DeviceView}
 use Rattle.fw_facts.specs.Flags.{has_flag}
@@ -23,7 +22,8 @@ use Rattle.update_log.specs.declared.facts.Facts.{Facts}
 use Rattle.update_log.specs.declared.decision.Decision.{Decision}
 use Rattle.update_log.specs.declared.decision.Stage.{Stage}
 use Rattle.update_log.specs.declared.live.LiveEntry.{LiveEntry}
-use Rattle.update_log.specs.Given.{Chosen, first_unmet}
+use Rattle.requirements.specs.Requirements.{first_unmet}
+use Rattle.release_catalogue.specs.Lookup.{Chosen}
 use Rattle.update_log.specs.Holding.{live, is_live, held, blocks_of}
 use Rattle.update_log.specs.Known.{Target, target, row_of, row_with_tag, rows, views}
 
@@ -93,7 +93,7 @@ is_release a b = (a.component == b.component) && (a.release == b.release)
 abbrev pub is_that_release : Case → Chosen → Bool
 is_that_release c found =
     unwrap_or (option_map (λ r. is_release r found.at) (release_asked c.stage)) true
-        && unwrap_or (option_map (λ r. bytes_eq r.digest found.release.digest) (own_row c)) true
+    && unwrap_or (option_map (λ r. bytes_eq r.digest found.release.digest) (own_row c)) true
 
 -- A refusal, where a test passes.
 abbrev pub where_so : Bool → Refusal → Option Refusal
@@ -130,26 +130,23 @@ locked c t = where_so (has t DeviceFlag.Locked) Refusal.Locked
 abbrev pub hindered : Case → Target → Option Refusal
 hindered c t = option_map (λ problem. Refusal.Problem problem) (hindrance c.facts.machine t.view)
 
--- How the release's version compares with the one that the device shows.
-abbrev pub compared : Target → Ordering
-compared t = version_cmp t.chosen.release.version (unwrap_or (version_of t.view) [])
+-- The version that the device shows.
+abbrev pub shown_by : Target → List ℕ
+shown_by t = unwrap_or (version_of t.view) []
 
-abbrev pub is_equal : Ordering → Bool
-is_equal Less = false
-is_equal Equal = true
-is_equal Greater = false
+-- 8: the release has the same version, and a reinstall isn't allowed.
+abbrev pub installed : Case → Target → Option Refusal
+installed c t =
+    where_so
+    (same_version t.chosen.release.version (shown_by t) && not c.request.flags.allow_reinstall)
+    Refusal.SameVersion
 
-abbrev pub is_less : Ordering → Bool
-is_less Less = true
-is_less Equal = false
-is_less Greater = false
-
--- 8: it is the same, and a reinstall isn't allowed. 9: it is older, and that isn't allowed.
-abbrev pub same_version : Case → Target → Option Refusal
-same_version c t = where_so (is_equal (compared t) && not c.request.flags.allow_reinstall) Refusal.SameVersion
-
+-- 9: it has an older one, and that isn't allowed.
 abbrev pub older : Case → Target → Option Refusal
-older c t = where_so (is_less (compared t) && not c.request.flags.allow_older) Refusal.Older
+older c t =
+    where_so
+    (is_lt (version_cmp t.chosen.release.version (shown_by t)) && not c.request.flags.allow_older)
+    Refusal.Older
 
 -- The features of a client, from client 1 on. Any other has none.
 abbrev pub features_for : Facts → ℕ → List (List ℕ)
@@ -160,13 +157,13 @@ abbrev pub client_for : Case → ℕ
 client_for c = unwrap_or (option_map (λ r. r.client) (own_row c)) c.client
 
 -- The first requirement of the release that doesn't hold.
-abbrev pub first_unmet_of : Facts → ℕ → List DeviceView → Target → Option Unmet
-first_unmet_of facts client views t =
+abbrev pub first_unmet_for : Facts → ℕ → List DeviceView → Target → Option Unmet
+first_unmet_for facts client views t =
     first_unmet facts.machine (features_for facts client) views t.place t.chosen.component.requirements
 
 -- 10: a requirement doesn't hold.
 abbrev pub unmet : Case → Target → Option Refusal
-unmet c t = option_map (λ u. Refusal.Unmet u) (first_unmet_of c.facts (client_for c) c.views t)
+unmet c t = option_map (λ u. Refusal.Unmet u) (first_unmet_for c.facts (client_for c) c.views t)
 
 -- 11: a plugin forbids it. The first one in order with a rule that holds is named.
 abbrev pub vetoed : Case → Target → Option Refusal
@@ -204,8 +201,8 @@ rows_full c t = where_so (wants_row c.stage && nat_le rows_max (length c.rows)) 
 -- What may refuse a request whose device is present and has the release, in order.
 abbrev pub refusals : Case → Target → List (Option Refusal)
 refusals c t =
-    busy c t ∷ unsettled c t ∷ not_updatable c t ∷ locked c t ∷ hindered c t ∷ same_version c t ∷ older c t
-        ∷ unmet c t ∷ vetoed c t ∷ out_of_size c t ∷ no_room c t ∷ rows_full c t ∷ []
+    busy c t ∷ unsettled c t ∷ not_updatable c t ∷ locked c t ∷ hindered c t ∷ installed c t ∷ older c t
+    ∷ unmet c t ∷ vetoed c t ∷ out_of_size c t ∷ no_room c t ∷ rows_full c t ∷ []
 
 -- The first refusal that there is.
 abbrev pub first_refusal : List (Option Refusal) → Option Refusal

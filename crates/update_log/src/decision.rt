@@ -29,6 +29,9 @@ pub enum Decision {
         blocks: u32,
     },
     /// Its tag was taken before, by this entry.
-    Kept { entry: u32, state: RowState },
+    Kept {
+        entry: u32,
+        state: RowState,
+    },
     Refused(Refusal),
 }

@@ -4,12 +4,10 @@ ghost use Rattle.update_log.specs.Laws.{AtMostOnce, AtMostOnceAfterCrashes};
 /// Each write that a board lived through belongs to one accepted request.
 pub fn legal_once()
     ensures { AtMostOnce }
-{
-}
+{}
 
 /// What a crash leaves of a legal log is legal, whatever the next boot finds then is legal too, and
 /// the boards have still been written once.
 pub fn crash_once()
     ensures { AtMostOnceAfterCrashes }
-{
-}
+{}
