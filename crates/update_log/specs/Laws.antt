@@ -29,7 +29,7 @@ pub record IsSafeCrash (c : Campaign) (opening : List Row) (crashed : List Event
   pub legal : Legal c opening crashed
   pub boots : (states : List BoardState) (plan : BootPlan) (after : Campaign) (found : Found) (boards : List BoardSeen)
       → Fits c opening crashed states → NextCampaign c (past_of crashed) plan after
-      → IsNextBoot c opening (past_of crashed) plan states found boards
+      → IsNextBoot c.facts c.first opening (past_of crashed) plan states found boards
       → Legal after opening (rebooted crashed plan found boards) × Once after opening (rebooted crashed plan found boards) states
 
 -- At most once after crashes: so is every log that a crash may leave of a legal one.

@@ -76,11 +76,11 @@ is_absent plan board = list_any (λ a. a == board) plan.absent
 
 -- A boot lists a board under its number: gone where the plan says so, else home. Its untold marks
 -- begin those of the step that was open on it.
-pub record BoardListed (c : Campaign) (opening : List Row) (past : List Event) (plan : BootPlan) (board : ℕ) (b : BoardSeen) : Type 0 where
+pub record BoardListed (facts : Facts) (first : List Seen) (opening : List Row) (past : List Event) (plan : BootPlan) (board : ℕ) (b : BoardSeen) : Type 0 where
   pub number : b.board ≡ board
   pub presence : IsTrue (if is_absent plan board then is_gone b.seen else is_home b.seen)
-  pub untold : IsPrefix b.untold (open_marks c.facts opening past board)
-  pub shown : FreshShows c opening past board b.untold b.seen
+  pub untold : IsPrefix b.untold (open_marks facts opening past board)
+  pub shown : FreshShows facts first opening past board b.untold b.seen
 
 -- A boot is the next one, of the next plan, and lists each board.
 pub record BootAllowed (c : Campaign) (opening : List Row) (past : List Event) (number time : ℕ) (limit : Option ℕ) (found : Found) (boards : List BoardSeen) (plan : BootPlan) : Type 0 where
@@ -89,7 +89,7 @@ pub record BootAllowed (c : Campaign) (opening : List Row) (past : List Event) (
   pub time_is : time ≡ plan.time
   pub limit_is : limit ≡ plan.limit
   pub count : length boards ≡ length c.facts.sheets
-  pub listed : (board : ℕ) (b : BoardSeen) → slice_get boards board ≡ Some b → BoardListed c opening past plan board b
+  pub listed : (board : ℕ) (b : BoardSeen) → slice_get boards board ≡ Some b → BoardListed c.facts c.first opening past plan board b
   pub found_is : FoundAllowed found (doubt c.facts opening past)
 
 -- Ask.
@@ -243,11 +243,11 @@ ToldWhole _ _ told all = Unit {0}
 
 -- A client ends the step that it has open. It tells marks that begin the step's, and what it shows of
 -- the board is allowed.
-pub record EndAllowed (c : Campaign) (opening : List Row) (past : List Event) (client entry : ℕ) (op : Op) (outcome : Result (Unit {0}) BoardFault) (told : List Mark) (shown : Seen) : Type 0 where
+pub record EndAllowed (facts : Facts) (first : List Seen) (opening : List Row) (past : List Event) (client entry : ℕ) (op : Op) (outcome : Result (Unit {0}) BoardFault) (told : List Mark) (shown : Seen) : Type 0 where
   pub open_is : open_step past entry ≡ Some (record { client = client; entry = entry; op = op })
-  pub told_is : IsPrefix told (marks op entry (digest_of (rows c.facts opening past) entry))
-  pub whole : ToldWhole op outcome told (marks op entry (digest_of (rows c.facts opening past) entry))
-  pub shows : (board : ℕ) → IsTrue (is_board_of c.facts (rows c.facts opening past) entry board) → EndShows c opening past board told outcome shown
+  pub told_is : IsPrefix told (marks op entry (digest_of (rows facts opening past) entry))
+  pub whole : ToldWhole op outcome told (marks op entry (digest_of (rows facts opening past) entry))
+  pub shows : (board : ℕ) → IsTrue (is_board_of facts (rows facts opening past) entry board) → EndShows facts first opening past board told outcome shown
 
 -- Finish.
 
@@ -347,13 +347,13 @@ UnplugAllowed facts opening past selector answer =
     PlugAnswered (unplug_refused (found_view (views facts opening past) selector)) (λ seen. seen ≡ Seen.Gone) answer
 
 -- A plug that is done shows the board at home, with what it may show then.
-pub record PlugShows (c : Campaign) (opening : List Row) (past : List Event) (selector : Selector) (shown : Seen) : Type 0 where
+pub record PlugShows (facts : Facts) (first : List Seen) (opening : List Row) (past : List Event) (selector : Selector) (shown : Seen) : Type 0 where
   pub home : IsTrue (is_home shown)
-  pub fresh : (board : ℕ) → board_found c.facts (live past) (known c.facts opening past) selector ≡ Some board → FreshShows c opening past board [] shown
+  pub fresh : (board : ℕ) → board_found facts (live past) (known facts opening past) selector ≡ Some board → FreshShows facts first opening past board [] shown
 
-abbrev pub PlugAllowed : Campaign → List Row → List Event → Selector → PlugAnswer → Type 0
-PlugAllowed c opening past selector answer =
-    PlugAnswered (plug_refused (found_view (views c.facts opening past) selector)) (PlugShows c opening past selector) answer
+abbrev pub PlugAllowed : Facts → List Seen → List Row → List Event → Selector → PlugAnswer → Type 0
+PlugAllowed facts first opening past selector answer =
+    PlugAnswered (plug_refused (found_view (views facts opening past) selector)) (PlugShows facts first opening past selector) answer
 
 -- Give back.
 
@@ -391,13 +391,13 @@ Allowed c opening past (Event.Resume client entry fetched answer stored) =
 Allowed c opening past (Event.Start client entry op) =
     (l : LiveEntry) × StartAllowed c.facts opening past client entry op l
 Allowed c opening past (Event.End client entry op outcome told seen) =
-    EndAllowed c opening past client entry op outcome told seen
+    EndAllowed c.facts c.first opening past client entry op outcome told seen
 Allowed c opening past (Event.Finish client entry state stored) =
     (l : LiveEntry) × (closed : RowState) × FinishAllowed c.facts opening past client entry state stored l closed
 Allowed c opening past (Event.Judge client entry version state stored) =
     (row : Row) × (view : DeviceView) × JudgeAllowed c.facts opening past entry version state stored row view
 Allowed c opening past (Event.Unplug client device answer) = UnplugAllowed c.facts opening past device answer
-Allowed c opening past (Event.Plug client device answer) = PlugAllowed c opening past device answer
+Allowed c opening past (Event.Plug client device answer) = PlugAllowed c.facts c.first opening past device answer
 Allowed c opening past (Event.GiveBack client what) = BackAllowed past client what
 Allowed c opening past Event.Cut = CutAllowed past
 

@@ -42,18 +42,18 @@ ShowsFirst Seen.Stranger first = Unit {0}
 
 -- A board fits a past: its journal does; where no step is open on it and there was a boot, it shows
 -- what it was last seen to show; and where no write of it began, it shows its first image.
-pub record BoardFits (c : Campaign) (opening : List Row) (past : List Event) (board : ℕ) (b : BoardState) (tail : List Mark) : Type 0 where
-  pub journal : JournalFits c.facts opening past board b.journal tail
-  pub view : open_on c.facts opening past board ≡ None → 0 < boots past → b.view ≡ seen c.facts opening past board
-  pub first : list_any is_began b.journal ≡ false → ShowsFirst b.view (first_of_board c board)
+pub record BoardFits (facts : Facts) (first : List Seen) (opening : List Row) (past : List Event) (board : ℕ) (b : BoardState) (tail : List Mark) : Type 0 where
+  pub journal : JournalFits facts opening past board b.journal tail
+  pub view : open_on facts opening past board ≡ None → 0 < boots past → b.view ≡ seen facts opening past board
+  pub unwritten : list_any is_began b.journal ≡ false → ShowsFirst b.view (first_of_board first board)
 
 -- All boards fit.
-pub record FitsPast (c : Campaign) (opening : List Row) (past : List Event) (boards : List BoardState) : Type 0 where
-  pub count : length boards ≡ length c.facts.sheets
-  pub each : (board : ℕ) (b : BoardState) → slice_get boards board ≡ Some b → (tail : List Mark) × BoardFits c opening past board b tail
+pub record FitsPast (facts : Facts) (first : List Seen) (opening : List Row) (past : List Event) (boards : List BoardState) : Type 0 where
+  pub count : length boards ≡ length facts.sheets
+  pub each : (board : ℕ) (b : BoardState) → slice_get boards board ≡ Some b → (tail : List Mark) × BoardFits facts first opening past board b tail
 
 abbrev pub Fits : Campaign → List Row → List Event → List BoardState → Type 0
-Fits c opening log boards = FitsPast c opening (past_of log) boards
+Fits c opening log boards = FitsPast c.facts c.first opening (past_of log) boards
 
 -- The entry that a mark names.
 abbrev pub entry_named : Mark → Option ℕ
@@ -194,27 +194,27 @@ HasDigest Mark.Left d = Unit {0}
 -- request: the board is the device of the entry's row, no other mark like this one stands in any
 -- journal, one request of the entry was accepted, one event took the entry and took it well, the
 -- mark has the row's digest, and the steps stand in order, the write's before what was told of it.
-pub record WrittenOnce (c : Campaign) (opening : List Row) (past : List Event) (boards : List BoardState) (board : ℕ) (journal : List Mark) (mark : Mark) (entry : ℕ) (row : Row) : Type 0 where
-  pub row_is : row_of (rows c.facts opening past) entry ≡ Some row
-  pub board_is : IsTrue (is_board_of c.facts (rows c.facts opening past) entry board)
+pub record WrittenOnce (facts : Facts) (opening : List Row) (past : List Event) (boards : List BoardState) (board : ℕ) (journal : List Mark) (mark : Mark) (entry : ℕ) (row : Row) : Type 0 where
+  pub row_is : row_of (rows facts opening past) entry ≡ Some row
+  pub board_is : IsTrue (is_board_of facts (rows facts opening past) entry board)
   pub alone : how_many (is_like mark) journal ≡ 1
   pub nowhere_else : (other : ℕ) (b : BoardState) → slice_get boards other ≡ Some b → other ≢ board → how_many (is_like mark) b.journal ≡ 0
-  pub accepted_once : accepted c.facts opening entry past ≡ 1
+  pub accepted_once : accepted facts opening entry past ≡ 1
   pub taken_once : how_many (takes entry) past ≡ 1
-  pub taken_well : AtTaking entry (TakenBy c.facts opening row) past
+  pub taken_well : AtTaking entry (TakenBy facts opening row) past
   pub digest : HasDigest mark row.digest
   pub in_order : InOrder (strokes entry past)
-  pub after_start : AfterStart c.facts opening board entry mark past
+  pub after_start : AfterStart facts opening board entry mark past
 
 -- So does each mark of a write in a journal.
-abbrev pub MarkOnce : Campaign → List Row → List Event → List BoardState → ℕ → List Mark → Mark → Type 0
-MarkOnce c opening past boards board journal mark =
-    IfSome (entry_named mark) (λ entry. (row : Row) × WrittenOnce c opening past boards board journal mark entry row)
+abbrev pub MarkOnce : Facts → List Row → List Event → List BoardState → ℕ → List Mark → Mark → Type 0
+MarkOnce facts opening past boards board journal mark =
+    IfSome (entry_named mark) (λ entry. (row : Row) × WrittenOnce facts opening past boards board journal mark entry row)
 
 -- Each board was written once for each accepted request at most, and no two rows have one tag.
-pub record OncePast (c : Campaign) (opening : List Row) (past : List Event) (boards : List BoardState) : Type 0 where
-  pub marks : (board : ℕ) (b : BoardState) → slice_get boards board ≡ Some b → AllByRecursion (MarkOnce c opening past boards board b.journal) b.journal
-  pub tags : AllPairs (λ a b. a.tag ≢ b.tag) (rows c.facts opening past)
+pub record OncePast (facts : Facts) (opening : List Row) (past : List Event) (boards : List BoardState) : Type 0 where
+  pub marks : (board : ℕ) (b : BoardState) → slice_get boards board ≡ Some b → AllByRecursion (MarkOnce facts opening past boards board b.journal) b.journal
+  pub tags : AllPairs (λ a b. a.tag ≢ b.tag) (rows facts opening past)
 
 abbrev pub Once : Campaign → List Row → List Event → List BoardState → Type 0
-Once c opening log boards = OncePast c opening (past_of log) boards
+Once c opening log boards = OncePast c.facts opening (past_of log) boards

@@ -61,8 +61,8 @@ told facts opening (event ∷ past) board =
     told facts opening past board ++ told_by facts (rows facts opening past) event board
 
 -- What the board's first image shows.
-abbrev pub first_of_board : Campaign → ℕ → Seen
-first_of_board c board = unwrap_or (slice_get c.first board) Seen.Gone
+abbrev pub first_of_board : List Seen → ℕ → Seen
+first_of_board first board = unwrap_or (slice_get first board) Seen.Gone
 
 -- What is told, where the board is home by it, or else the older one.
 abbrev pub home_or : Option Seen → Seen → Seen
@@ -76,10 +76,10 @@ tells_home (Some seen) = is_home seen
 tells_home None = false
 
 -- The last that a past shows of the board at home, or what its first image shows where it shows none.
-abbrev pub home_before : Campaign → List Row → List Event → ℕ → Seen
-home_before c opening [] board = first_of_board c board
-home_before c opening (event ∷ past) board =
-    home_or (tells c.facts (live past) (known c.facts opening past) event board) (home_before c opening past board)
+abbrev pub home_before : Facts → List Seen → List Row → List Event → ℕ → Seen
+home_before facts first opening [] board = first_of_board first board
+home_before facts first opening (event ∷ past) board =
+    home_or (tells facts (live past) (known facts opening past) event board) (home_before facts first opening past board)
 
 abbrev pub is_began : Mark → Bool
 is_began Mark.Entered = false
@@ -101,12 +101,12 @@ is_left Mark.Left = true
 
 -- The begin of a write was told after the board was last shown at home, or after the start of the
 -- campaign where it never was. What the showing event itself told came before it showed.
-abbrev pub began_since : Campaign → List Row → List Event → ℕ → Bool
-began_since c opening [] board = false
-began_since c opening (event ∷ past) board =
-    if tells_home (tells c.facts (live past) (known c.facts opening past) event board)
+abbrev pub began_since : Facts → List Seen → List Row → List Event → ℕ → Bool
+began_since facts first opening [] board = false
+began_since facts first opening (event ∷ past) board =
+    if tells_home (tells facts (live past) (known facts opening past) event board)
     then false
-    else list_any is_began (told_by c.facts (rows c.facts opening past) event board) || began_since c opening past board
+    else list_any is_began (told_by facts (rows facts opening past) event board) || began_since facts first opening past board
 
 -- The raw version of a payload that was fetched.
 abbrev pub raw_fetched : Option FetchNote → Option ℕ
@@ -140,11 +140,11 @@ HasMode Seen.Stranger other = ⊥
 -- The raw version that a board may show, which tells these marks with it: that which it showed
 -- before, or 0 where the begin of a write was told since, or that of a payload whose whole write was
 -- told.
-abbrev pub RawAllowed : Campaign → List Row → List Event → ℕ → List Mark → ℕ → Type 0
-RawAllowed c opening past board marks raw =
-    HasRaw (home_before c opening past board) raw
-    ⊎ ((raw ≡ 0) × IsTrue (list_any is_began marks || began_since c opening past board))
-    ⊎ IsWritten past (told c.facts opening past board ++ marks) raw
+abbrev pub RawAllowed : Facts → List Seen → List Row → List Event → ℕ → List Mark → ℕ → Type 0
+RawAllowed facts first opening past board marks raw =
+    HasRaw (home_before facts first opening past board) raw
+    ⊎ ((raw ≡ 0) × IsTrue (list_any is_began marks || began_since facts first opening past board))
+    ⊎ IsWritten past (told facts opening past board ++ marks) raw
 
 -- The mode that a board may show at the end of a step which tells these marks: bootloader mode where
 -- it entered it, runtime mode where it left it, one of bootloader mode and that of before where a
@@ -164,13 +164,13 @@ is_alike _ _ = false
 
 -- What the end of a step may show of its board: a step that went well leaves it as present as it
 -- was, a board is home only where it was home, and its raw version and mode are allowed.
-pub record EndShows (c : Campaign) (opening : List Row) (past : List Event) (board : ℕ) (marks : List Mark) (outcome : Result (Unit {0}) BoardFault) (shown : Seen) : Type 0 where
-  pub stays : OnOk outcome (IsTrue (is_alike (seen c.facts opening past board) shown))
-  pub home : IsTrue (is_home shown) → IsTrue (is_home (seen c.facts opening past board))
-  pub raw : (raw : ℕ) (mode : Mode) → shown ≡ Seen.Home raw mode → RawAllowed c opening past board marks raw
-  pub mode : (raw : ℕ) (mode : Mode) → shown ≡ Seen.Home raw mode → ModeAllowed marks (home_before c opening past board) mode
+pub record EndShows (facts : Facts) (first : List Seen) (opening : List Row) (past : List Event) (board : ℕ) (marks : List Mark) (outcome : Result (Unit {0}) BoardFault) (shown : Seen) : Type 0 where
+  pub stays : OnOk outcome (IsTrue (is_alike (seen facts opening past board) shown))
+  pub home : IsTrue (is_home shown) → IsTrue (is_home (seen facts opening past board))
+  pub raw : (raw : ℕ) (mode : Mode) → shown ≡ Seen.Home raw mode → RawAllowed facts first opening past board marks raw
+  pub mode : (raw : ℕ) (mode : Mode) → shown ≡ Seen.Home raw mode → ModeAllowed marks (home_before facts first opening past board) mode
 
 -- What a boot or a plug may show of a board: an allowed raw version, and bootloader mode only with 0.
-pub record FreshShows (c : Campaign) (opening : List Row) (past : List Event) (board : ℕ) (marks : List Mark) (shown : Seen) : Type 0 where
-  pub raw : (raw : ℕ) (mode : Mode) → shown ≡ Seen.Home raw mode → RawAllowed c opening past board marks raw
+pub record FreshShows (facts : Facts) (first : List Seen) (opening : List Row) (past : List Event) (board : ℕ) (marks : List Mark) (shown : Seen) : Type 0 where
+  pub raw : (raw : ℕ) (mode : Mode) → shown ≡ Seen.Home raw mode → RawAllowed facts first opening past board marks raw
   pub mode : (raw : ℕ) → shown ≡ Seen.Home raw Mode.Bootloader → raw ≡ 0
