@@ -1,5 +1,6 @@
 pub mod Openings
 pub mod Pasts
+pub mod Places
 pub mod Lists
 pub mod StrokeFacts
 pub mod Rows

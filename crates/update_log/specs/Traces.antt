@@ -25,7 +25,7 @@ pub record AreSteps (s : Inside) : Type 0 where
 abbrev pub steps_kept : List TraceStep → Inside
 steps_kept steps = record { kept = six_places steps; len = length steps }
 
-count_kept : (s : Inside) → AreSteps s → length (take s.len s.kept) ≡ s.len
+pub count_kept : (s : Inside) → AreSteps s → length (take s.len s.kept) ≡ s.len
 count_kept s h =
     let whole : length s.kept ≡ length (take s.len s.kept) + (6 - length (take s.len s.kept)) =
     ap length h.is ∙ length-append (take s.len s.kept) (replicate (6 - length (take s.len s.kept)) no_step)
