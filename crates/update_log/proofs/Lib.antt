@@ -11,3 +11,4 @@ pub mod TakenKept
 pub mod MarksKept
 pub mod LegalOnce
 pub mod CrashOnce
+pub mod WorkedLogs

@@ -11,3 +11,4 @@ pub mod Legal
 pub mod Once
 pub mod Crashes
 pub mod Laws
+pub mod Examples

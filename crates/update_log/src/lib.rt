@@ -7,6 +7,7 @@
 pub mod answer;
 pub mod decision;
 pub mod event;
+pub mod examples;
 pub mod facts;
 pub mod laws;
 pub mod live;
