@@ -260,3 +260,223 @@ install-legal =
     let p10 : IsLegal one_plan [] past10 = (p9, takes-on past9 (start Op.Cleanup) (omega arith) refl refl, cleanup-starts) in
     let p11 : IsLegal one_plan [] past11 = (p10, takes-on past10 (ended Op.Cleanup [] new) (omega arith) refl refl, cleanup-ends) in
     (p11, takes-on past11 finish (omega arith) refl refl, finish-comes)
+
+-- ---- a torn write
+
+abbrev cut_boot : Event
+cut_boot = Event.Boot 1 1000 (Some 5) Found.Plain (shows 0 old [] ∷ [])
+
+abbrev torn1 : List Event
+torn1 = cut_boot ∷ []
+
+abbrev torn3 : List Event
+torn3 = claim ∷ ask ∷ torn1
+
+abbrev torn5 : List Event
+torn5 = ended Op.Prepare [] old ∷ start Op.Prepare ∷ torn3
+
+abbrev torn6 : List Event
+torn6 = start Op.Write ∷ torn5
+
+abbrev torn8 : List Event
+torn8 = Event.GiveBack 1 (Back.Entry 1) ∷ Event.Cut ∷ torn6
+
+abbrev second_boot : Event
+second_boot = Event.Boot 2 2000 None Found.Plain (shows 0 torn (Mark.Began 1 ∷ []) ∷ [])
+
+abbrev torn9 : List Event
+torn9 = second_boot ∷ torn8
+
+cut_boot-comes : IsLegal two_plans [] torn1
+cut_boot-comes =
+    (tt, takes-uncounted [] cut_boot refl (λ h. cc),
+     (_, record {
+       number_is = refl;
+       planned = refl;
+       time_is = refl;
+       limit_is = refl;
+       count = refl;
+       listed = each-of-one _ (shows 0 old []) (record { number = refl; presence = refl; untold = tt; shown = fresh-same _ _ _ _ _ _ _ refl });
+       found_is = tt;
+     }))
+
+torn-ask : Allowed two_plans [] torn1 ask
+unfolding chosen first_unmet version_cmp sections
+torn-ask = record { free = record { hold = refl; live = refl }; pending_is = tt; answer_is = rw old-text refl }
+
+torn-claim : Allowed two_plans [] (ask ∷ torn1) claim
+unfolding chosen first_unmet version_cmp sections
+torn-claim = (_, record { held_is = refl; request_is = refl; pending = refl; answer_is = rw old-text (inl refl) })
+
+torn-prepare : Allowed two_plans [] torn3 (start Op.Prepare)
+unfolding chosen first_unmet version_cmp sections
+torn-prepare = (_, record { live = refl; client_is = refl; closed = refl; next = refl })
+
+torn-prepared : Allowed two_plans [] (start Op.Prepare ∷ torn3) (ended Op.Prepare [] old)
+unfolding chosen first_unmet version_cmp sections
+torn-prepared =
+    record { open_is = refl; told_is = tt; whole = tt; shows = on-board _ (end-same _ _ _ _ 0 _ refl refl) }
+
+torn-write : Allowed two_plans [] torn5 (start Op.Write)
+unfolding chosen first_unmet version_cmp sections
+torn-write = (_, record { live = refl; client_is = refl; closed = refl; next = refl })
+
+torn-cut : Allowed two_plans [] torn6 Event.Cut
+torn-cut = record { on = refl; full = refl }
+
+torn-back : Allowed two_plans [] (Event.Cut ∷ torn6) (Event.GiveBack 1 (Back.Entry 1))
+torn-back = (_, refl, refl, refl)
+
+torn-boot : Allowed two_plans [] torn8 second_boot
+unfolding chosen first_unmet version_cmp sections
+torn-boot =
+    (_, record {
+      number_is = refl;
+      planned = refl;
+      time_is = refl;
+      limit_is = refl;
+      count = refl;
+      listed = each-of-one _ (shows 0 torn (Mark.Began 1 ∷ [])) (record { number = refl; presence = refl; untold = (refl, tt); shown = fresh-torn _ _ _ _ _ _ refl });
+      found_is = tt;
+    })
+
+pub cut_write-legal : IsLegal two_plans [] torn9
+cut_write-legal =
+    let below : (past : List Event) (event : Event) → 0 < boots past → off past ≡ false → limit_of past ≡ Some 5 → counted past < 5 → BootTakes past event =
+        λ past event b o l c. takes-below past event 5 b o l c in
+    let p2 : IsLegal two_plans [] (ask ∷ torn1) = (cut_boot-comes, below torn1 ask (omega arith) refl refl (omega arith), torn-ask) in
+    let p3 : IsLegal two_plans [] torn3 = (p2, below (ask ∷ torn1) claim (omega arith) refl refl (omega arith), torn-claim) in
+    let p4 : IsLegal two_plans [] (start Op.Prepare ∷ torn3) = (p3, below torn3 (start Op.Prepare) (omega arith) refl refl (omega arith), torn-prepare) in
+    let p5 : IsLegal two_plans [] torn5 = (p4, below (start Op.Prepare ∷ torn3) (ended Op.Prepare [] old) (omega arith) refl refl (omega arith), torn-prepared) in
+    let p6 : IsLegal two_plans [] torn6 = (p5, below torn5 (start Op.Write) (omega arith) refl refl (omega arith), torn-write) in
+    let p7 : IsLegal two_plans [] (Event.Cut ∷ torn6) = (p6, takes-uncounted torn6 Event.Cut refl (λ _. omega arith), torn-cut) in
+    let p8 : IsLegal two_plans [] torn8 = (p7, takes-uncounted (Event.Cut ∷ torn6) (Event.GiveBack 1 (Back.Entry 1)) refl (λ _. omega arith), torn-back) in
+    (p8, takes-uncounted torn8 second_boot refl (λ h. cc), torn-boot)
+
+judge-comes : Allowed two_plans [] torn9 (judged RowState.Failed)
+unfolding chosen first_unmet version_cmp sections
+judge-comes =
+    (_, _, record {
+      row_is = refl;
+      waits = refl;
+      device = refl;
+      home = refl;
+      version_is = ap Some torn-text;
+      state_is = refl;
+      stored_is = inl refl;
+    })
+
+pub torn-legal : TornWriteIsLegal
+torn-legal = (cut_write-legal, takes-on torn9 (judged RowState.Failed) (omega arith) refl refl, judge-comes)
+
+-- ---- an offline install, refused at the next boot
+
+abbrev first_boot : Event
+first_boot = Event.Boot 1 1000 None Found.Plain (shows 0 old [] ∷ shows 1 old [] ∷ [])
+
+abbrev schedule : Event
+schedule = Event.Schedule 1 offline_request (ClaimAnswer.Entry 1)
+
+abbrev absent_boot : Event
+absent_boot = Event.Boot 2 2000 None Found.Plain (shows 0 old [] ∷ shows 1 Seen.Gone [] ∷ [])
+
+abbrev ask_row : Event
+ask_row = Event.Ask 0 row_request (Some 1) (AskAnswer.Refused no_device)
+
+abbrev resume : Event
+resume = Event.Resume 0 1 None (ResumeAnswer.Refused no_device) Stored.Yes
+
+abbrev off1 : List Event
+off1 = first_boot ∷ []
+
+abbrev off2 : List Event
+off2 = schedule ∷ off1
+
+abbrev off3 : List Event
+off3 = absent_boot ∷ off2
+
+abbrev off4 : List Event
+off4 = ask_row ∷ off3
+
+first_boot-comes : Allowed two_boards [] [] first_boot
+first_boot-comes =
+    (_, record {
+      number_is = refl;
+      planned = refl;
+      time_is = refl;
+      limit_is = refl;
+      count = refl;
+      listed = each-of-two _ (shows 0 old []) (shows 1 old [])
+          (record { number = refl; presence = refl; untold = tt; shown = fresh-same _ _ _ _ _ _ _ refl })
+          (record { number = refl; presence = refl; untold = tt; shown = fresh-same _ _ _ _ _ _ _ refl });
+      found_is = tt;
+    })
+
+schedule-comes : Allowed two_boards [] off1 schedule
+unfolding chosen first_unmet version_cmp sections
+schedule-comes = record { free = record { hold = refl; live = refl }; answer_is = rw old-text (inl refl) }
+
+absent_boot-comes : Allowed two_boards [] off2 absent_boot
+absent_boot-comes =
+    (_, record {
+      number_is = refl;
+      planned = refl;
+      time_is = refl;
+      limit_is = refl;
+      count = refl;
+      listed = each-of-two _ (shows 0 old []) (shows 1 Seen.Gone [])
+          (record { number = refl; presence = refl; untold = tt; shown = fresh-same _ _ _ _ _ _ _ refl })
+          (record { number = refl; presence = refl; untold = tt; shown = fresh-gone _ _ _ _ _ _ });
+      found_is = tt;
+    })
+
+ask_row-comes : Allowed two_boards [] off3 ask_row
+unfolding chosen first_unmet version_cmp sections
+ask_row-comes =
+    record {
+      free = record { hold = refl; live = refl };
+      pending_is = (_, record { client_is = refl; row_is = refl; pending = refl; request_is = refl });
+      answer_is = rw old-text refl;
+    }
+
+resume-comes : Allowed two_boards [] off4 resume
+unfolding chosen first_unmet version_cmp sections
+resume-comes =
+    (_, record {
+      client_is = refl;
+      row_is = refl;
+      pending = refl;
+      fetched_is = (_, refl, (refl, refl));
+      stored_is = inl refl;
+    })
+
+pub offline-legal : OfflineInstallIsLegal
+offline-legal =
+    let p1 : IsLegal two_boards [] off1 = (tt, takes-uncounted [] first_boot refl (λ h. cc), first_boot-comes) in
+    let p2 : IsLegal two_boards [] off2 = (p1, takes-on off1 schedule (omega arith) refl refl, schedule-comes) in
+    let p3 : IsLegal two_boards [] off3 = (p2, takes-uncounted off2 absent_boot refl (λ h. cc), absent_boot-comes) in
+    let p4 : IsLegal two_boards [] off4 = (p3, takes-on off3 ask_row (omega arith) refl refl, ask_row-comes) in
+    (p4, takes-on off4 resume (omega arith) refl refl, resume-comes)
+
+-- ---- logs that break one rule
+
+-- The payload isn't the release's, so the claim must be refused.
+pub unhashed-not : UnhashedIsNot
+unfolding chosen first_unmet version_cmp sections
+unhashed-not legal =
+    let (held, a) = legal.2 in
+    let same = some-same _ held a.held_is in
+    let answer = subst (λ (h : Held). ClaimAnswered (FetchNote.Whole other_digest 14 0x01010000) (target one_plan.facts (views one_plan.facts [] past2) request) (next_entry one_plan.facts [] past2) (verdict one_plan.facts [] past2 1 request (Stage.Claim h.release)) (ClaimAnswer.Entry 1)) (sym same) a.answer_is in
+    let computed : ClaimAnswer.Entry 1 ≡ ClaimAnswer.Refused _ = rw old-text at answer in cc
+
+-- The entry isn't live after the restart, so none of its steps may start.
+pub gone_on-not : GoneOnIsNot
+gone_on-not legal = let (l, a) = legal.2 in let live = a.live in cc
+
+-- The version shown isn't the row's, so the row has failed.
+pub trusted-not : TrustedIsNot
+unfolding chosen first_unmet version_cmp sections
+trusted-not legal =
+    let (row, view, a) = legal.2 in
+    let same = some-same _ row a.row_is in
+    let state = subst (λ (r : Row). RowState.Success ≡ judge (codes "0.0.0") r) (sym same) a.state_is in cc
