@@ -1,5 +1,5 @@
 -- A step that is put behind the steps of a trace.
-use Rattle.std.proofs.Common.{◌≡◌, ℕ, zero, suc, ◌<◌, ◌≤◌, ◌+◌, ◌-◌, List, [], ◌∷◌, ◌++◌, refl, ap, sym, ◌∙◌, arith, length, take, set, length-append, append_assoc}
+use Rattle.std.proofs.Common.{◌≡◌, ℕ, zero, suc, ◌<◌, ◌+◌, ◌-◌, List, [], ◌∷◌, ◌++◌, refl, ap, sym, ◌∙◌, arith, length, take, set, append_assoc}
 use Rattle.std.specs.Prelude.{replicate}
 use Rattle.std.proofs.Math.Seq.{set-append_seam}
 use Rattle.std.proofs.lemmas.List.{length_push}
@@ -21,7 +21,7 @@ put-at : (kept steps : List TraceStep) (n : ℕ) (step : TraceStep) → kept ≡
 put-at kept steps n step e l h =
     let short : length steps < 6 = omega arith in
     let open_place : kept ≡ steps ++ no_step ∷ replicate (6 - (length steps + 1)) no_step =
-      e ∙ ap (λ r. steps ++ r) (one-less (length steps) short) in
+    e ∙ ap (λ r. steps ++ r) (one-less (length steps) short) in
     ap (λ k. set k n step) open_place
     ∙ ap (λ i. set (steps ++ no_step ∷ replicate (6 - (length steps + 1)) no_step) i step) (sym l)
     ∙ set-append_seam steps no_step (replicate (6 - (length steps + 1)) no_step) step
@@ -31,11 +31,12 @@ put-at kept steps n step e l h =
 pub step-put : (s : Inside) (step : TraceStep) → AreSteps s → s.len < 6 → (set s.kept s.len step ≡ six_places (take s.len s.kept ++ step ∷ [])) × (take (s.len + 1) (set s.kept s.len step) ≡ take s.len s.kept ++ step ∷ [])
 step-put s step h few =
     let n : length (take s.len s.kept) ≡ s.len = count_kept s h in
-    let put : set s.kept s.len step ≡ six_places (take s.len s.kept ++ step ∷ []) = put-at s.kept (take s.len s.kept) s.len step h.is n few in
-    (put,
-     ap (take (s.len + 1)) put
-     ∙ take-front (take s.len s.kept ++ step ∷ []) (replicate (6 - length (take s.len s.kept ++ step ∷ [])) no_step) (s.len + 1)
-       (sym (length_push (take s.len s.kept) step ∙ ap (λ k. k + 1) n)))
+    let put : set s.kept s.len step ≡ six_places (take s.len s.kept ++ step ∷ []) = put-at s.kept (take s.len s.kept) s.len step h.is n few in (
+      put,
+      ap (take (s.len + 1)) put
+          ∙ take-front (take s.len s.kept ++ step ∷ []) (replicate (6 - length (take s.len s.kept ++ step ∷ [])) no_step) (s.len + 1)
+          (sym (length_push (take s.len s.kept) step ∙ ap (λ k. k + 1) n)),
+    )
 
 pub are-steps : (s : Inside) (step : TraceStep) → AreSteps s → s.len < 6 → AreSteps (record { kept = set s.kept s.len step; len = s.len + 1 })
 are-steps s step h few =

@@ -1,6 +1,6 @@
 -- The examples: one fact an event.
-use Rattle.std.proofs.Common.{◌≡◌, ℕ, zero, suc, Bool, true, false, List, [], ◌∷◌, ◌++◌, refl, ap, sym, subst, inl, inr, arith, ◌<◌, ◌∙◌}
-use Rattle.std.specs.Prelude.{Option, Some, None, IsTrue, slice_get, codes, ◌==◌}
+use Rattle.std.proofs.Common.{◌≡◌, ℕ, zero, suc, true, false, List, [], ◌∷◌, refl, ap, sym, subst, inl, inr, arith, ◌<◌, ◌∙◌}
+use Rattle.std.specs.Prelude.{Some, None, IsTrue, slice_get, codes, ◌==◌}
 use Rattle.std.proofs.lemmas.Fmt.{decimal_digit}
 use Rattle.version_formats.specs.declared.format.Format.{Format}
 use Rattle.std.specs.List.{list_any}
@@ -18,7 +18,6 @@ use Rattle.update_log.specs.declared.event.Event.{Event}
 use Rattle.update_log.specs.declared.event.Op.{Op}
 use Rattle.update_log.specs.declared.event.Back.{Back}
 use Rattle.update_log.specs.declared.event.Stored.{Stored}
-use Rattle.update_log.specs.declared.event.BoardSeen.{BoardSeen}
 use Rattle.update_log.specs.declared.event.Found.{Found}
 use Rattle.update_log.specs.declared.answer.AskAnswer.{AskAnswer}
 use Rattle.update_log.specs.declared.answer.ClaimAnswer.{ClaimAnswer}
@@ -26,15 +25,14 @@ use Rattle.update_log.specs.declared.answer.ResumeAnswer.{ResumeAnswer}
 use Rattle.update_log.specs.declared.decision.Stage.{Stage}
 use Rattle.update_log.specs.declared.refusal.FetchNote.{FetchNote}
 use Rattle.update_log.specs.declared.facts.Facts.{Facts}
-use Rattle.update_log.specs.declared.facts.BootPlan.{BootPlan}
 use Rattle.update_log.specs.declared.live.Held.{Held}
-use Rattle.update_log.specs.Pasts.{past_of, boots, is_counted, is_boot, off, limit_of, counted}
-use Rattle.update_log.specs.Known.{seen, is_board_of, rows, target, views}
+use Rattle.update_log.specs.Pasts.{boots, is_counted, is_boot, off, limit_of, counted}
+use Rattle.update_log.specs.Known.{seen, target, views}
 use Rattle.update_log.specs.Verdicts.{verdict}
 use Rattle.update_log.specs.Steps.{judge}
-use Rattle.update_log.specs.Shows.{Campaign, EndShows, FreshShows, HasRaw, HasMode, home_before, is_began, is_entered, is_left, began_since}
-use Rattle.update_log.specs.Legal.{IsLegal, BootTakes, Allowed, BoardListed, ClaimAnswered, next_entry}
-use Rattle.update_log.specs.Examples.{one_plan, two_plans, two_boards, install, plain_boot, ask, claim, request, start, ended, both_marks, old, new, torn, digest, other_digest, well, shows, cut_write, torn_write, judged, offline_request, row_request, no_device, offline_install, unhashed, gone_on, trusted, InstallIsLegal, TornWriteIsLegal, OfflineInstallIsLegal, UnhashedIsNot, GoneOnIsNot, TrustedIsNot}
+use Rattle.update_log.specs.Shows.{EndShows, FreshShows, HasRaw, HasMode, home_before, is_began}
+use Rattle.update_log.specs.Legal.{IsLegal, BootTakes, Allowed, ClaimAnswered, next_entry}
+use Rattle.update_log.specs.Examples.{one_plan, two_plans, two_boards, plain_boot, ask, claim, request, start, ended, both_marks, old, new, torn, digest, other_digest, well, shows, judged, offline_request, row_request, no_device, InstallIsLegal, TornWriteIsLegal, OfflineInstallIsLegal, UnhashedIsNot, GoneOnIsNot, TrustedIsNot}
 use Rattle.update_log.proofs.Accepts.{some-same}
 
 -- The versions that the board shows.
@@ -118,35 +116,44 @@ abbrev past1 : List Event
 past1 = plain_boot ∷ []
 
 boot-comes : IsLegal one_plan [] past1
-boot-comes =
-    (tt, takes-uncounted [] plain_boot refl (λ h. cc),
-     (_, record {
-       number_is = refl;
-       planned = refl;
-       time_is = refl;
-       limit_is = refl;
-       count = refl;
-       listed = each-of-one _ (shows 0 old []) (record { number = refl; presence = refl; untold = tt; shown = fresh-same _ _ _ _ _ _ _ refl });
-       found_is = tt;
-     }))
+boot-comes = (
+  tt,
+  takes-uncounted [] plain_boot refl (λ h. cc),
+  (
+    _,
+    record {
+      number_is = refl;
+      planned = refl;
+      time_is = refl;
+      limit_is = refl;
+      count = refl;
+      listed = each-of-one _ (shows 0 old []) (record { number = refl; presence = refl; untold = tt; shown = fresh-same _ _ _ _ _ _ _ refl });
+      found_is = tt;
+    },
+  ),
+)
 
 abbrev past2 : List Event
 past2 = ask ∷ past1
 
 ask-comes : IsLegal one_plan [] past2
 unfolding chosen first_unmet version_cmp sections
-ask-comes =
-    (boot-comes, takes-on past1 ask (omega arith) refl refl,
-     record { free = record { hold = refl; live = refl }; pending_is = tt; answer_is = rw old-text refl })
+ask-comes = (
+  boot-comes,
+  takes-on past1 ask (omega arith) refl refl,
+  record { free = record { hold = refl; live = refl }; pending_is = tt; answer_is = rw old-text refl },
+)
 
 abbrev past3 : List Event
 past3 = claim ∷ past2
 
 claim-comes : IsLegal one_plan [] past3
 unfolding chosen first_unmet version_cmp sections
-claim-comes =
-    (ask-comes, takes-on past2 claim (omega arith) refl refl,
-     (_, record { held_is = refl; request_is = refl; pending = refl; answer_is = rw old-text (inl refl) }))
+claim-comes = (
+  ask-comes,
+  takes-on past2 claim (omega arith) refl refl,
+  (_, record { held_is = refl; request_is = refl; pending = refl; answer_is = rw old-text (inl refl) }),
+)
 
 abbrev past4 : List Event
 past4 = start Op.Prepare ∷ past3
@@ -237,16 +244,19 @@ finish = Event.Finish 1 1 RowState.Success Stored.Yes
 
 finish-comes : Allowed one_plan [] past11 finish
 unfolding chosen first_unmet version_cmp sections
-finish-comes =
-    (_, _, record {
-      live = refl;
-      client_is = refl;
-      open_none = refl;
-      done = refl;
-      closing = refl;
-      state_is = rw new-text refl;
-      unchanged = rw new-text (λ e. cc);
-    })
+finish-comes = (
+  _,
+  _,
+  record {
+    live = refl;
+    client_is = refl;
+    open_none = refl;
+    done = refl;
+    closing = refl;
+    state_is = rw new-text refl;
+    unchanged = rw new-text (λ e. cc);
+  },
+)
 
 pub install-legal : InstallIsLegal
 unfolding chosen first_unmet version_cmp sections
@@ -288,17 +298,22 @@ abbrev torn9 : List Event
 torn9 = second_boot ∷ torn8
 
 cut_boot-comes : IsLegal two_plans [] torn1
-cut_boot-comes =
-    (tt, takes-uncounted [] cut_boot refl (λ h. cc),
-     (_, record {
-       number_is = refl;
-       planned = refl;
-       time_is = refl;
-       limit_is = refl;
-       count = refl;
-       listed = each-of-one _ (shows 0 old []) (record { number = refl; presence = refl; untold = tt; shown = fresh-same _ _ _ _ _ _ _ refl });
-       found_is = tt;
-     }))
+cut_boot-comes = (
+  tt,
+  takes-uncounted [] cut_boot refl (λ h. cc),
+  (
+    _,
+    record {
+      number_is = refl;
+      planned = refl;
+      time_is = refl;
+      limit_is = refl;
+      count = refl;
+      listed = each-of-one _ (shows 0 old []) (record { number = refl; presence = refl; untold = tt; shown = fresh-same _ _ _ _ _ _ _ refl });
+      found_is = tt;
+    },
+  ),
+)
 
 torn-ask : Allowed two_plans [] torn1 ask
 unfolding chosen first_unmet version_cmp sections
@@ -329,21 +344,23 @@ torn-back = (_, refl, refl, refl)
 
 torn-boot : Allowed two_plans [] torn8 second_boot
 unfolding chosen first_unmet version_cmp sections
-torn-boot =
-    (_, record {
-      number_is = refl;
-      planned = refl;
-      time_is = refl;
-      limit_is = refl;
-      count = refl;
-      listed = each-of-one _ (shows 0 torn (Mark.Began 1 ∷ [])) (record { number = refl; presence = refl; untold = (refl, tt); shown = fresh-torn _ _ _ _ _ _ refl });
-      found_is = tt;
-    })
+torn-boot = (
+  _,
+  record {
+    number_is = refl;
+    planned = refl;
+    time_is = refl;
+    limit_is = refl;
+    count = refl;
+    listed = each-of-one _ (shows 0 torn (Mark.Began 1 ∷ [])) (record { number = refl; presence = refl; untold = (refl, tt); shown = fresh-torn _ _ _ _ _ _ refl });
+    found_is = tt;
+  },
+)
 
 pub cut_write-legal : IsLegal two_plans [] torn9
 cut_write-legal =
     let below : (past : List Event) (event : Event) → 0 < boots past → off past ≡ false → limit_of past ≡ Some 5 → counted past < 5 → BootTakes past event =
-        λ past event b o l c. takes-below past event 5 b o l c in
+    λ past event b o l c. takes-below past event 5 b o l c in
     let p2 : IsLegal two_plans [] (ask ∷ torn1) = (cut_boot-comes, below torn1 ask (omega arith) refl refl (omega arith), torn-ask) in
     let p3 : IsLegal two_plans [] torn3 = (p2, below (ask ∷ torn1) claim (omega arith) refl refl (omega arith), torn-claim) in
     let p4 : IsLegal two_plans [] (start Op.Prepare ∷ torn3) = (p3, below torn3 (start Op.Prepare) (omega arith) refl refl (omega arith), torn-prepare) in
@@ -355,16 +372,19 @@ cut_write-legal =
 
 judge-comes : Allowed two_plans [] torn9 (judged RowState.Failed)
 unfolding chosen first_unmet version_cmp sections
-judge-comes =
-    (_, _, record {
-      row_is = refl;
-      waits = refl;
-      device = refl;
-      home = refl;
-      version_is = ap Some torn-text;
-      state_is = refl;
-      stored_is = inl refl;
-    })
+judge-comes = (
+  _,
+  _,
+  record {
+    row_is = refl;
+    waits = refl;
+    device = refl;
+    home = refl;
+    version_is = ap Some torn-text;
+    state_is = refl;
+    stored_is = inl refl;
+  },
+)
 
 pub torn-legal : TornWriteIsLegal
 torn-legal = (cut_write-legal, takes-on torn9 (judged RowState.Failed) (omega arith) refl refl, judge-comes)
@@ -399,36 +419,40 @@ abbrev off4 : List Event
 off4 = ask_row ∷ off3
 
 first_boot-comes : Allowed two_boards [] [] first_boot
-first_boot-comes =
-    (_, record {
-      number_is = refl;
-      planned = refl;
-      time_is = refl;
-      limit_is = refl;
-      count = refl;
-      listed = each-of-two _ (shows 0 old []) (shows 1 old [])
-          (record { number = refl; presence = refl; untold = tt; shown = fresh-same _ _ _ _ _ _ _ refl })
-          (record { number = refl; presence = refl; untold = tt; shown = fresh-same _ _ _ _ _ _ _ refl });
-      found_is = tt;
-    })
+first_boot-comes = (
+  _,
+  record {
+    number_is = refl;
+    planned = refl;
+    time_is = refl;
+    limit_is = refl;
+    count = refl;
+    listed = each-of-two _ (shows 0 old []) (shows 1 old [])
+        (record { number = refl; presence = refl; untold = tt; shown = fresh-same _ _ _ _ _ _ _ refl })
+        (record { number = refl; presence = refl; untold = tt; shown = fresh-same _ _ _ _ _ _ _ refl });
+    found_is = tt;
+  },
+)
 
 schedule-comes : Allowed two_boards [] off1 schedule
 unfolding chosen first_unmet version_cmp sections
 schedule-comes = record { free = record { hold = refl; live = refl }; answer_is = rw old-text (inl refl) }
 
 absent_boot-comes : Allowed two_boards [] off2 absent_boot
-absent_boot-comes =
-    (_, record {
-      number_is = refl;
-      planned = refl;
-      time_is = refl;
-      limit_is = refl;
-      count = refl;
-      listed = each-of-two _ (shows 0 old []) (shows 1 Seen.Gone [])
-          (record { number = refl; presence = refl; untold = tt; shown = fresh-same _ _ _ _ _ _ _ refl })
-          (record { number = refl; presence = refl; untold = tt; shown = fresh-gone _ _ _ _ _ _ });
-      found_is = tt;
-    })
+absent_boot-comes = (
+  _,
+  record {
+    number_is = refl;
+    planned = refl;
+    time_is = refl;
+    limit_is = refl;
+    count = refl;
+    listed = each-of-two _ (shows 0 old []) (shows 1 Seen.Gone [])
+        (record { number = refl; presence = refl; untold = tt; shown = fresh-same _ _ _ _ _ _ _ refl })
+        (record { number = refl; presence = refl; untold = tt; shown = fresh-gone _ _ _ _ _ _ });
+    found_is = tt;
+  },
+)
 
 ask_row-comes : Allowed two_boards [] off3 ask_row
 unfolding chosen first_unmet version_cmp sections
@@ -441,14 +465,16 @@ ask_row-comes =
 
 resume-comes : Allowed two_boards [] off4 resume
 unfolding chosen first_unmet version_cmp sections
-resume-comes =
-    (_, record {
-      client_is = refl;
-      row_is = refl;
-      pending = refl;
-      fetched_is = (_, refl, (refl, refl));
-      stored_is = inl refl;
-    })
+resume-comes = (
+  _,
+  record {
+    client_is = refl;
+    row_is = refl;
+    pending = refl;
+    fetched_is = (_, refl, (refl, refl));
+    stored_is = inl refl;
+  },
+)
 
 pub offline-legal : OfflineInstallIsLegal
 offline-legal =

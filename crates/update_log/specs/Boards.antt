@@ -3,7 +3,7 @@
 -- Each sheet is a board's, in the document's order. Of the boards with one device ID, one is the
 -- device; a board whose plugin is missing or disabled is none. The devices stand in board order, and
 -- a device's place in their list isn't its board's number.
-use Rattle.std.specs.Prelude.{ℕ, Bool, true, false, ◌&&◌, ◌||◌, not, ◌==◌, nat_lt, ◌+◌, List, [], ◌∷◌, Option, Some, None, filter, find, position, slice_get, is_some, option_map, unwrap_or}
+use Rattle.std.specs.Prelude.{ℕ, Bool, false, ◌&&◌, ◌||◌, not, ◌==◌, nat_lt, ◌+◌, List, [], ◌∷◌, Option, Some, filter, find, position, slice_get, is_some, option_map}
 use Rattle.std.specs.List.{list_any}
 use Rattle.std.specs.Str.{bytes_eq}
 use Rattle.fw_facts.specs.declared.sheet.Sheet.{Sheet}

@@ -1,7 +1,7 @@
 -- Three logs that are legal, and three that break one rule each.
 --
 -- One board with the version 1.0.0, for which the catalogue has 1.1.0.
-use Rattle.std.specs.Prelude.{ℕ, Bool, true, false, List, [], ◌∷◌, ◌++◌, Option, Some, None, Result, Ok, Err, replicate, codes}
+use Rattle.std.specs.Prelude.{ℕ, true, false, List, [], ◌∷◌, ◌++◌, Some, None, Result, Ok, replicate, codes}
 use Rattle.version_formats.specs.declared.format.Format.{Format}
 use Rattle.fw_facts.specs.declared.flags.DeviceFlag.{DeviceFlag}
 use Rattle.fw_facts.specs.declared.machine.MachineFacts.{MachineFacts}
@@ -16,7 +16,6 @@ use Rattle.emulated_boards.specs.declared.mark.Mark.{Mark}
 use Rattle.emulated_boards.specs.declared.fault.BoardFault.{BoardFault}
 use Rattle.device_list.specs.declared.selector.Selector.{Selector}
 use Rattle.history_keeper.specs.declared.row.RowState.{RowState}
-use Rattle.requirements.specs.declared.unmet.Unmet.{Unmet}
 use Rattle.requirements.specs.declared.unmet.UnmetCause.{UnmetCause}
 use Rattle.release_catalogue.specs.declared.reference.ReleaseRef.{ReleaseRef}
 use Rattle.update_log.specs.declared.event.Event.{Event}
@@ -173,11 +172,11 @@ one_plan = one_board (record { time = 1000; limit = None; absent = [] } ∷ [])
 abbrev pub install : List Event
 install =
     plain_boot ∷ ask ∷ claim
-        ∷ start Op.Prepare ∷ ended Op.Prepare [] old
-        ∷ start Op.Write ∷ ended Op.Write both_marks new
-        ∷ start Op.Reload ∷ ended Op.Reload [] new
-        ∷ start Op.Cleanup ∷ ended Op.Cleanup [] new
-        ∷ Event.Finish 1 1 RowState.Success Stored.Yes ∷ []
+    ∷ start Op.Prepare ∷ ended Op.Prepare [] old
+    ∷ start Op.Write ∷ ended Op.Write both_marks new
+    ∷ start Op.Reload ∷ ended Op.Reload [] new
+    ∷ start Op.Cleanup ∷ ended Op.Cleanup [] new
+    ∷ Event.Finish 1 1 RowState.Success Stored.Yes ∷ []
 
 abbrev pub InstallIsLegal : Type 0
 InstallIsLegal = Legal one_plan [] install
@@ -192,11 +191,11 @@ two_plans =
 abbrev pub cut_write : List Event
 cut_write =
     Event.Boot 1 1000 (Some 5) Found.Plain (shows 0 old [] ∷ [])
-        ∷ ask ∷ claim
-        ∷ start Op.Prepare ∷ ended Op.Prepare [] old
-        ∷ start Op.Write
-        ∷ Event.Cut ∷ Event.GiveBack 1 (Back.Entry 1)
-        ∷ Event.Boot 2 2000 None Found.Plain (shows 0 torn (Mark.Began 1 ∷ []) ∷ []) ∷ []
+    ∷ ask ∷ claim
+    ∷ start Op.Prepare ∷ ended Op.Prepare [] old
+    ∷ start Op.Write
+    ∷ Event.Cut ∷ Event.GiveBack 1 (Back.Entry 1)
+    ∷ Event.Boot 2 2000 None Found.Plain (shows 0 torn (Mark.Began 1 ∷ []) ∷ []) ∷ []
 
 abbrev pub judged : RowState → Event
 judged state = Event.Judge 0 1 (codes "0.0.0") state Stored.Yes
@@ -214,11 +213,11 @@ abbrev pub two_boards : Campaign
 two_boards =
     record {
       facts =
-        facts (Requirement.Device guid_two None ∷ [])
-        (sheet (codes "usb1") device_one guid_one ∷ sheet (codes "usb2") device_two guid_two ∷ []);
+          facts (Requirement.Device guid_two None ∷ [])
+          (sheet (codes "usb1") device_one guid_one ∷ sheet (codes "usb2") device_two guid_two ∷ []);
       first = old ∷ old ∷ [];
       plans =
-        record { time = 1000; limit = None; absent = [] } ∷ record { time = 2000; limit = None; absent = 1 ∷ [] } ∷ [];
+          record { time = 1000; limit = None; absent = [] } ∷ record { time = 2000; limit = None; absent = 1 ∷ [] } ∷ [];
     }
 
 abbrev pub offline : InstallFlags
@@ -238,10 +237,10 @@ no_device = Refusal.Unmet (record { index = 0; cause = UnmetCause.NoSuchDevice }
 abbrev pub offline_install : List Event
 offline_install =
     Event.Boot 1 1000 None Found.Plain (shows 0 old [] ∷ shows 1 old [] ∷ [])
-        ∷ Event.Schedule 1 offline_request (ClaimAnswer.Entry 1)
-        ∷ Event.Boot 2 2000 None Found.Plain (shows 0 old [] ∷ shows 1 Seen.Gone [] ∷ [])
-        ∷ Event.Ask 0 row_request (Some 1) (AskAnswer.Refused no_device)
-        ∷ Event.Resume 0 1 None (ResumeAnswer.Refused no_device) Stored.Yes ∷ []
+    ∷ Event.Schedule 1 offline_request (ClaimAnswer.Entry 1)
+    ∷ Event.Boot 2 2000 None Found.Plain (shows 0 old [] ∷ shows 1 Seen.Gone [] ∷ [])
+    ∷ Event.Ask 0 row_request (Some 1) (AskAnswer.Refused no_device)
+    ∷ Event.Resume 0 1 None (ResumeAnswer.Refused no_device) Stored.Yes ∷ []
 
 abbrev pub OfflineInstallIsLegal : Type 0
 OfflineInstallIsLegal = Legal two_boards [] offline_install

@@ -1,5 +1,5 @@
 -- Which events may come after a past, and so which logs are legal.
-use Rattle.std.specs.Prelude.{◌≡◌, ◌≢◌, ◌⊎◌, ℕ, Bool, true, false, ◌&&◌, ◌||◌, not, ◌==◌, ◌<◌, ◌+◌, ◌/◌, ◌%◌, IsTrue, MatchBool, List, [], ◌∷◌, length, Option, Some, None, Result, Ok, Err, IfSome, if◌then◌else◌, find, slice_get, unwrap_or, option_map, option_and_then}
+use Rattle.std.specs.Prelude.{◌≡◌, ◌≢◌, ◌⊎◌, ℕ, Bool, true, false, ◌&&◌, not, ◌==◌, ◌<◌, ◌+◌, ◌/◌, ◌%◌, IsTrue, MatchBool, List, [], ◌∷◌, length, Option, Some, None, Result, Ok, IfSome, if◌then◌else◌, find, slice_get, unwrap_or, option_map, option_and_then}
 use Rattle.std.specs.List.{list_any}
 use Rattle.std.specs.Str.{bytes_eq}
 use Rattle.fw_facts.specs.declared.seen.Seen.{Seen}
