@@ -13,6 +13,8 @@ pub mod laws;
 pub mod live;
 pub mod refusal;
 pub mod request;
+#[cfg(test)]
+mod tests;
 pub mod told;
 pub mod trace;
 
