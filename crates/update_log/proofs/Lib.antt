@@ -3,6 +3,7 @@ pub mod Pasts
 pub mod Places
 pub mod Lists
 pub mod StrokeFacts
+pub mod Devices
 pub mod Rows
 pub mod StepsKept
 pub mod RowsKept
