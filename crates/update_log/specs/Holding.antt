@@ -108,5 +108,5 @@ open_steps [] = []
 open_steps (event ∷ past) = open_after event (open_steps past)
 
 -- The open step of an entry.
-abbrev pub open_step : List Event → ℕ → Option OpenStep
-open_step past entry = find (λ s. s.entry == entry) (open_steps past)
+abbrev pub step_open : List Event → ℕ → Option OpenStep
+step_open past entry = find (λ s. s.entry == entry) (open_steps past)

@@ -1,7 +1,10 @@
 //! The log: everything that happened in a campaign, as one list of events.
 //!
 //! An event is one atomic step of one client, or of the daemon itself. What the daemon decides, it
-//! decides on the events before; what it reports is what stands here.
+//! decides on the events before; what it reports is what stands here. `specs/` says, of that list
+//! alone, which logs are legal and when boards were written once for each accepted request, in this
+//! order: Pasts, Holding, Boards, Known, Verdicts, Steps, Shows, Legal, Once, Crashes. The laws are in
+//! `laws`, and logs that a reader can follow in `examples`.
 #![tactic(auto)]
 
 pub mod answer;
