@@ -1,1 +1,14 @@
 pub mod Told
+pub mod Traces
+pub mod Pasts
+pub mod Holding
+pub mod Boards
+pub mod Known
+pub mod Verdicts
+pub mod Steps
+pub mod Shows
+pub mod Legal
+pub mod Once
+pub mod Crashes
+pub mod Laws
+pub mod Examples

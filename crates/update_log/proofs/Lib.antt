@@ -1,0 +1,15 @@
+pub mod Openings
+pub mod Pasts
+pub mod Places
+pub mod Lists
+pub mod StrokeFacts
+pub mod Devices
+pub mod Rows
+pub mod StepsKept
+pub mod RowsKept
+pub mod Accepts
+pub mod TakenKept
+pub mod MarksKept
+pub mod LegalOnce
+pub mod CrashOnce
+pub mod WorkedLogs

@@ -1,0 +1,45 @@
+-- The laws of the log.
+use Rattle.std.specs.Prelude.{List, [], ◌∷◌, ◌++◌}
+use Rattle.history_keeper.specs.declared.row.Row.{Row}
+use Rattle.history_keeper.specs.Histories.{IsHistory}
+use Rattle.update_log.specs.declared.event.Event.{Event}
+use Rattle.update_log.specs.declared.event.Found.{Found}
+use Rattle.update_log.specs.declared.event.BoardSeen.{BoardSeen}
+use Rattle.update_log.specs.declared.facts.BootPlan.{BootPlan}
+use Rattle.update_log.specs.Pasts.{past_of}
+use Rattle.update_log.specs.Boards.{OneDevice}
+use Rattle.update_log.specs.declared.facts.Facts.{Facts}
+use Rattle.update_log.specs.Shows.{Campaign}
+use Rattle.update_log.specs.Legal.{Legal}
+use Rattle.update_log.specs.Once.{BoardState, Fits, Once}
+use Rattle.update_log.specs.Crashes.{CrashOf, NextCampaign, IsNextBoot, next_boot}
+
+-- At most once: of every campaign, every valid history before it, every log and all boards, if the
+-- log is legal and the boards fit it, then they were written once.
+abbrev pub AtMostOnce : Type 0
+AtMostOnce =
+    (c : Campaign) (opening : List Row) (log : List Event) (boards : List BoardState)
+    → IsHistory opening → Legal c opening log → Fits c opening log boards → Once c opening log boards
+
+-- The log with the next boot at its end.
+abbrev pub rebooted : List Event → BootPlan → Found → List BoardSeen → List Event
+rebooted log plan found boards = log ++ next_boot (past_of log) plan found boards ∷ []
+
+-- What holds of a log that a crash left: it is legal, and so is the next boot over any boards that
+-- fit the log, whatever it finds and shows, and those boards were written once.
+pub record IsSafeCrash (c : Campaign) (opening : List Row) (crashed : List Event) : Type 0 where
+  pub legal : Legal c opening crashed
+  pub boots : (states : List BoardState) (plan : BootPlan) (after : Campaign) (found : Found) (boards : List BoardSeen)
+      → Fits c opening crashed states → NextCampaign c (past_of crashed) plan after
+      → IsNextBoot c.facts c.first opening (past_of crashed) plan states found boards
+      → Legal after opening (rebooted crashed plan found boards) × Once after opening (rebooted crashed plan found boards) states
+
+-- At most once after crashes: so is every log that a crash may leave of a legal one.
+abbrev pub AtMostOnceAfterCrashes : Type 0
+AtMostOnceAfterCrashes =
+    (c : Campaign) (opening : List Row) (log : List Event) (crashed : List Event)
+    → IsHistory opening → Legal c opening log → CrashOf log crashed → IsSafeCrash c opening crashed
+
+-- The priority rule leaves one device for each ID, whatever the facts.
+abbrev pub OneDeviceAnID : Type 0
+OneDeviceAnID = (facts : Facts) → OneDevice facts

@@ -1,0 +1,18 @@
+//! Laws of the definitions alone.
+ghost use Rattle.update_log.specs.Laws.{AtMostOnce, AtMostOnceAfterCrashes, OneDeviceAnID};
+
+/// Each write that a board lived through belongs to one accepted request.
+pub fn legal_once()
+    ensures { AtMostOnce }
+{}
+
+/// What a crash leaves of a legal log is legal, whatever the next boot finds then is legal too, and
+/// the boards have still been written once.
+pub fn crash_once()
+    ensures { AtMostOnceAfterCrashes }
+{}
+
+/// Of the served boards with one device ID exactly one is a device.
+pub fn one_device()
+    ensures { OneDeviceAnID }
+{}
