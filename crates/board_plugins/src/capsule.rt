@@ -18,10 +18,9 @@
 //! ## Vetoes
 //!
 //! None.
-ghost use Rattle.std.specs.Prelude.{◌≡◌, ◌≤◌, [], IfOk};
+ghost use Rattle.std.specs.Prelude.{◌≡◌, [], IfOk};
 ghost use Rattle.emulated_boards.specs.Boards.{BoardStep, look, stage};
 ghost use Rattle.emulated_boards.specs.Images.{payload_image};
-ghost use Rattle.emulated_boards.specs.declared.condition.Presence.TheVariants.{Home};
 ghost use Rattle.plugin_trait.specs.Steps.{Untouched};
 ghost use Rattle.board_plugins.specs.Sheets.{capsule_sheet};
 
@@ -67,6 +66,18 @@ impl Plugin for Capsule {
 
     ghost vetoes_on = { λ _ _. [] };
 
+    ghost prepare_gives = { λ _ old answer new. Untouched old answer new };
+
+    ghost detach_gives = { λ _ old answer new. Untouched old answer new };
+
+    ghost write_gives = { λ _ entry payload old answer new. BoardStep old (stage entry (payload_image payload)) answer new };
+
+    ghost attach_gives = { λ _ old answer new. Untouched old answer new };
+
+    ghost reload_gives = { λ _ old answer new. BoardStep old look answer new };
+
+    ghost cleanup_gives = { λ _ old answer new. Untouched old answer new };
+
     fn sheet(&self) -> &PluginSheet {
         &self.sheet
     }
@@ -80,49 +91,35 @@ impl Plugin for Capsule {
     }
 
     /// Nothing.
-    fn prepare(&self, board: &mut Board) -> Result<(), BoardFault>
-        ensures { Untouched board.old result board.new }
-    {
+    fn prepare(&self, board: &mut Board) -> Result<(), BoardFault> {
         let _ = board;
         Ok(())
     }
 
     /// Nothing.
-    fn detach(&self, board: &mut Board) -> Result<(), BoardFault>
-        ensures { Untouched board.old result board.new }
-    {
+    fn detach(&self, board: &mut Board) -> Result<(), BoardFault> {
         let _ = board;
         Ok(())
     }
 
     /// Keeps the payload for the next boot.
-    fn write(&self, board: &mut Board, entry: u32, payload: &Payload) -> Result<(), BoardFault>
-        requires home { board.old.condition.presence ≡ Home }
-        requires room { 2 ≤ board.old.room }
-        ensures { BoardStep board.old (stage entry (payload_image payload.now)) result board.new }
-    {
+    fn write(&self, board: &mut Board, entry: u32, payload: &Payload) -> Result<(), BoardFault> {
         board.stage(entry, payload)
     }
 
     /// Nothing.
-    fn attach(&self, board: &mut Board) -> Result<(), BoardFault>
-        ensures { Untouched board.old result board.new }
-    {
+    fn attach(&self, board: &mut Board) -> Result<(), BoardFault> {
         let _ = board;
         Ok(())
     }
 
     /// Looks whether the device is there.
-    fn reload(&self, board: &mut Board) -> Result<(), BoardFault>
-        ensures { BoardStep board.old look result board.new }
-    {
+    fn reload(&self, board: &mut Board) -> Result<(), BoardFault> {
         board.look()
     }
 
     /// Nothing.
-    fn cleanup(&self, board: &mut Board) -> Result<(), BoardFault>
-        ensures { Untouched board.old result board.new }
-    {
+    fn cleanup(&self, board: &mut Board) -> Result<(), BoardFault> {
         let _ = board;
         Ok(())
     }

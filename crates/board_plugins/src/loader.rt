@@ -18,10 +18,9 @@
 //! ## Vetoes
 //!
 //! None.
-ghost use Rattle.std.specs.Prelude.{◌≡◌, ◌≤◌, [], IfOk};
+ghost use Rattle.std.specs.Prelude.{◌≡◌, [], IfOk};
 ghost use Rattle.emulated_boards.specs.Boards.{BoardStep, enter_loader, leave_loader, look, program};
 ghost use Rattle.emulated_boards.specs.Images.{payload_image};
-ghost use Rattle.emulated_boards.specs.declared.condition.Presence.TheVariants.{Home};
 ghost use Rattle.plugin_trait.specs.Steps.{Untouched};
 ghost use Rattle.board_plugins.specs.Sheets.{loader_sheet};
 
@@ -66,6 +65,18 @@ impl Plugin for Loader {
 
     ghost vetoes_on = { λ _ _. [] };
 
+    ghost prepare_gives = { λ _ old answer new. Untouched old answer new };
+
+    ghost detach_gives = { λ _ old answer new. BoardStep old enter_loader answer new };
+
+    ghost write_gives = { λ _ entry payload old answer new. BoardStep old (program entry (payload_image payload)) answer new };
+
+    ghost attach_gives = { λ _ old answer new. BoardStep old leave_loader answer new };
+
+    ghost reload_gives = { λ _ old answer new. BoardStep old look answer new };
+
+    ghost cleanup_gives = { λ _ old answer new. Untouched old answer new };
+
     fn sheet(&self) -> &PluginSheet {
         &self.sheet
     }
@@ -79,49 +90,33 @@ impl Plugin for Loader {
     }
 
     /// Nothing.
-    fn prepare(&self, board: &mut Board) -> Result<(), BoardFault>
-        ensures { Untouched board.old result board.new }
-    {
+    fn prepare(&self, board: &mut Board) -> Result<(), BoardFault> {
         let _ = board;
         Ok(())
     }
 
     /// Enters the boot loader.
-    fn detach(&self, board: &mut Board) -> Result<(), BoardFault>
-        requires { 1 ≤ board.old.room }
-        ensures { BoardStep board.old enter_loader result board.new }
-    {
+    fn detach(&self, board: &mut Board) -> Result<(), BoardFault> {
         board.enter_loader()
     }
 
     /// Makes the payload the device's firmware.
-    fn write(&self, board: &mut Board, entry: u32, payload: &Payload) -> Result<(), BoardFault>
-        requires home { board.old.condition.presence ≡ Home }
-        requires room { 2 ≤ board.old.room }
-        ensures { BoardStep board.old (program entry (payload_image payload.now)) result board.new }
-    {
+    fn write(&self, board: &mut Board, entry: u32, payload: &Payload) -> Result<(), BoardFault> {
         board.program(entry, payload)
     }
 
     /// Leaves the boot loader.
-    fn attach(&self, board: &mut Board) -> Result<(), BoardFault>
-        requires { 1 ≤ board.old.room }
-        ensures { BoardStep board.old leave_loader result board.new }
-    {
+    fn attach(&self, board: &mut Board) -> Result<(), BoardFault> {
         board.leave_loader()
     }
 
     /// Looks whether the device is there.
-    fn reload(&self, board: &mut Board) -> Result<(), BoardFault>
-        ensures { BoardStep board.old look result board.new }
-    {
+    fn reload(&self, board: &mut Board) -> Result<(), BoardFault> {
         board.look()
     }
 
     /// Nothing.
-    fn cleanup(&self, board: &mut Board) -> Result<(), BoardFault>
-        ensures { Untouched board.old result board.new }
-    {
+    fn cleanup(&self, board: &mut Board) -> Result<(), BoardFault> {
         let _ = board;
         Ok(())
     }

@@ -16,10 +16,9 @@
 //!
 //! On a machine without external power: no update of a device with the flag `internal`, whichever plugin
 //! serves it. On another machine none.
-ghost use Rattle.std.specs.Prelude.{◌≡◌, ◌≤◌, [], IfOk};
+ghost use Rattle.std.specs.Prelude.{◌≡◌, [], IfOk};
 ghost use Rattle.emulated_boards.specs.Boards.{BoardStep, look, program};
 ghost use Rattle.emulated_boards.specs.Images.{payload_image};
-ghost use Rattle.emulated_boards.specs.declared.condition.Presence.TheVariants.{Home};
 ghost use Rattle.plugin_trait.specs.Steps.{Untouched};
 ghost use Rattle.board_plugins.specs.Sheets.{power_sheet, power_vetoes};
 
@@ -71,6 +70,18 @@ impl Plugin for Power {
 
     ghost vetoes_on = { λ _ machine. power_vetoes machine };
 
+    ghost prepare_gives = { λ _ old answer new. Untouched old answer new };
+
+    ghost detach_gives = { λ _ old answer new. Untouched old answer new };
+
+    ghost write_gives = { λ _ entry payload old answer new. BoardStep old (program entry (payload_image payload)) answer new };
+
+    ghost attach_gives = { λ _ old answer new. Untouched old answer new };
+
+    ghost reload_gives = { λ _ old answer new. BoardStep old look answer new };
+
+    ghost cleanup_gives = { λ _ old answer new. Untouched old answer new };
+
     fn sheet(&self) -> &PluginSheet {
         &self.sheet
     }
@@ -90,49 +101,35 @@ impl Plugin for Power {
     }
 
     /// Nothing.
-    fn prepare(&self, board: &mut Board) -> Result<(), BoardFault>
-        ensures { Untouched board.old result board.new }
-    {
+    fn prepare(&self, board: &mut Board) -> Result<(), BoardFault> {
         let _ = board;
         Ok(())
     }
 
     /// Nothing.
-    fn detach(&self, board: &mut Board) -> Result<(), BoardFault>
-        ensures { Untouched board.old result board.new }
-    {
+    fn detach(&self, board: &mut Board) -> Result<(), BoardFault> {
         let _ = board;
         Ok(())
     }
 
     /// Makes the payload the device's firmware.
-    fn write(&self, board: &mut Board, entry: u32, payload: &Payload) -> Result<(), BoardFault>
-        requires home { board.old.condition.presence ≡ Home }
-        requires room { 2 ≤ board.old.room }
-        ensures { BoardStep board.old (program entry (payload_image payload.now)) result board.new }
-    {
+    fn write(&self, board: &mut Board, entry: u32, payload: &Payload) -> Result<(), BoardFault> {
         board.program(entry, payload)
     }
 
     /// Nothing.
-    fn attach(&self, board: &mut Board) -> Result<(), BoardFault>
-        ensures { Untouched board.old result board.new }
-    {
+    fn attach(&self, board: &mut Board) -> Result<(), BoardFault> {
         let _ = board;
         Ok(())
     }
 
     /// Looks whether the device is there.
-    fn reload(&self, board: &mut Board) -> Result<(), BoardFault>
-        ensures { BoardStep board.old look result board.new }
-    {
+    fn reload(&self, board: &mut Board) -> Result<(), BoardFault> {
         board.look()
     }
 
     /// Nothing.
-    fn cleanup(&self, board: &mut Board) -> Result<(), BoardFault>
-        ensures { Untouched board.old result board.new }
-    {
+    fn cleanup(&self, board: &mut Board) -> Result<(), BoardFault> {
         let _ = board;
         Ok(())
     }

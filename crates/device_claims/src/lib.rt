@@ -16,3 +16,6 @@ pub use claim::{Claim, Parts};
 pub use next::next_op;
 pub use state::{Begun, Closed, Flashed, Joined, Loose, Ready, Reloaded, State};
 pub use trace::{Trace, TraceStep, TraceSteps};
+
+#[cfg(test)]
+mod tests;

@@ -28,6 +28,7 @@ impl Parts {
     fn write(&mut self, plugin: &dyn Plugin) -> Result<(), BoardFault>
         requires home { self.old.board.condition.presence ≡ Home }
         requires room { 2 ≤ self.old.board.room }
+        ensures call { write_gives plugin.now self.old.entry self.old.payload self.old.board result self.new.board }
         ensures board { Written self.old.entry (payload_image self.old.payload) self.old.board result self.new.board }
         ensures others { self.new ≡ record self.old { board = self.new.board } }
     {
@@ -72,6 +73,7 @@ impl Claim<BegunState> {
 
     /// Prepares the board.
     pub fn prepare(self, plugin: &dyn Plugin) -> (Ready, Result<(), BoardFault>)
+        ensures call { prepare_gives plugin.now self.board result.1 result.0.board }
         ensures board { Plain self.board result.1 result.0.board }
         ensures noted { Noted Op.Prepare self result.1 result.0 }
     {
@@ -97,6 +99,7 @@ impl Claim<ReadyState> {
     /// Detaches the board.
     pub fn detach(self, plugin: &dyn Plugin) -> (Loose, Result<(), BoardFault>)
         requires { IsNext Op.Detach self.trace }
+        ensures call { detach_gives plugin.now self.board result.1 result.0.board }
         ensures board { Detached self.board result.1 result.0.board }
         ensures noted { Noted Op.Detach self result.1 result.0 }
     {
@@ -132,6 +135,7 @@ impl Claim<LooseState> {
     /// Writes the payload to the board.
     pub fn write(self, plugin: &dyn Plugin) -> (Flashed, Result<(), BoardFault>)
         requires { IsNext Op.Write self.trace }
+        ensures call { write_gives plugin.now self.entry self.payload self.board result.1 result.0.board }
         ensures board { Written self.entry (payload_image self.payload) self.board result.1 result.0.board }
         ensures noted { Noted Op.Write self result.1 result.0 }
     {
@@ -167,6 +171,7 @@ impl Claim<FlashedState> {
     /// Attaches the board.
     pub fn attach(self, plugin: &dyn Plugin) -> (Joined, Result<(), BoardFault>)
         requires { IsNext Op.Attach self.trace }
+        ensures call { attach_gives plugin.now self.board result.1 result.0.board }
         ensures board { Attached self.board result.1 result.0.board }
         ensures noted { Noted Op.Attach self result.1 result.0 }
         ensures next { IsNext Op.Reload result.0.trace }
@@ -196,6 +201,7 @@ impl Claim<FlashedState> {
 impl Claim<JoinedState> {
     /// Looks at the board again.
     pub fn reload(self, plugin: &dyn Plugin) -> (Reloaded, Result<(), BoardFault>)
+        ensures call { reload_gives plugin.now self.board result.1 result.0.board }
         ensures board { Plain self.board result.1 result.0.board }
         ensures noted { Noted Op.Reload self result.1 result.0 }
         ensures next { IsNext Op.Cleanup result.0.trace }
@@ -214,6 +220,7 @@ impl Claim<JoinedState> {
 impl Claim<ReloadedState> {
     /// Ends the update.
     pub fn cleanup(self, plugin: &dyn Plugin) -> (Closed, Result<(), BoardFault>)
+        ensures call { cleanup_gives plugin.now self.board result.1 result.0.board }
         ensures board { Plain self.board result.1 result.0.board }
         ensures noted { Noted Op.Cleanup self result.1 result.0 }
         ensures done { next_step result.0.trace ≡ None }

@@ -1,16 +1,15 @@
 //! A plugin of one's own, proved against the trait alone, started and called through its box.
-ghost use Rattle.std.specs.Prelude.{◌≡◌, ◌≤◌, ◌+◌, IfOk};
-ghost use Rattle.emulated_boards.specs.declared.condition.Presence.TheVariants.{Home};
+ghost use Rattle.emulated_boards.specs.Boards.{BoardStep, enter_loader, leave_loader, look, stage};
+ghost use Rattle.emulated_boards.specs.Images.{payload_image};
+ghost use Rattle.plugin_trait.specs.Steps.{Untouched};
 
 use super::*;
-use block_pool::{BadBlocks, Payload, Pool};
-use emulated_boards::{Board, BoardFault, Mark, PlannedFault};
+use block_pool::Payload;
+use emulated_boards::{Board, BoardFault};
 use fw_base::{Listed, Name};
-use fw_facts::{DeviceFlags, MachineFacts, MachineTest, Mode, Seen, VetoRule};
+use fw_facts::{DeviceFlags, MachineFacts, MachineTest, VetoRule};
 use plugin_order::PluginSheet;
-use sha2::{Digest as _, Sha256};
 use std::alloc::Global;
-use std::process::Abort;
 use std::test::Fail;
 
 /// Forbids every update while the lid is closed. It looks at a board before it stages a payload.
@@ -23,13 +22,24 @@ struct Lid {
 
 impl Plugin for Lid {
     ghost use Rattle.std.specs.Prelude.{[], if◌then◌else◌};
-    ghost use Rattle.std.specs.Prelude.{take};
 
     ghost own_sheet = { λ lid. lid.sheet };
 
     ghost own_vetoes = { λ lid. if lid.is_closed then lid.rules else [] };
 
     ghost vetoes_on = { λ lid machine. if machine.lid_closed then lid.rules else [] };
+
+    ghost prepare_gives = { λ _ old answer new. BoardStep old look answer new };
+
+    ghost detach_gives = { λ _ old answer new. BoardStep old enter_loader answer new };
+
+    ghost write_gives = { λ _ entry payload old answer new. BoardStep old (stage entry (payload_image payload)) answer new };
+
+    ghost attach_gives = { λ _ old answer new. BoardStep old leave_loader answer new };
+
+    ghost reload_gives = { λ _ old answer new. Untouched old answer new };
+
+    ghost cleanup_gives = { λ _ old answer new. Untouched old answer new };
 
     fn sheet(&self) -> &PluginSheet {
         &self.sheet

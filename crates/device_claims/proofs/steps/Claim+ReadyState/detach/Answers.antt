@@ -6,4 +6,4 @@ use Rattle.device_claims.proofs.steps.Claim+ReadyState.detach.Goals as goal
 
 pub invariant_of-result : goal.invariant_of-result
 invariant_of-result g c =
-    stands limits.loose ops.Detach _ _ _ c.note.ensures (omega arith) (omega (arith, room-detached _ _ _ c.detach-answer.ensures)) (omega arith) (omega arith)
+    stands limits.loose ops.Detach _ _ _ c.note.ensures (omega arith) (omega (arith, room-detached _ _ _ c.detach-answer.ensures.1)) (omega arith) (omega arith)

@@ -1,0 +1,5 @@
+use Rattle.plugin_trait.proofs.BoardSteps.{look_is_plain}
+use Rattle.board_plugins.proofs.capsule.CapsulePlugin.reload.Goals as goal
+
+pub returns-clause-rules : goal.returns-clause-rules
+returns-clause-rules c = look_is_plain _ _ _ c.look.ensures
