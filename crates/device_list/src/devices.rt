@@ -1,14 +1,16 @@
 //! The list of devices.
-ghost use Rattle.std.specs.Prelude.{◌≡◌, ◌<◌, ◌⊎◌, false, [], ◌∷◌, ◌++◌, length, map, slice_get, slice_set, position, MatchResult, IfSome, IfErr, OnOk, OnErr, is_some, vec_len, vec_capacity};
+ghost use Rattle.std.specs.Prelude.{◌≡◌, ℕ, List, All, ◌<◌, ◌⊎◌, false, [], ◌∷◌, ◌++◌, length, map, slice_get, slice_set, position, MatchResult, IfSome, IfErr, OnOk, OnErr, is_some, vec_len, vec_capacity};
 ghost use Rattle.std.specs.List.{list_any};
 ghost use Rattle.std.specs.Option.{ForSome};
 ghost use Rattle.std.specs.Str.{bytes_eq};
-ghost use Rattle.device_list.specs.Lists.{place, refused, shows, names};
+ghost use Rattle.device_list.specs.Lists.{place, refused, names};
+ghost use Rattle.device_list.specs.Guids.{has, listed, sheets, with_last, HasRoom};
 
 use crate::fault::ListFault;
+use crate::guid_index::{GuidIndex, first_showing, listed, note_board, reserve_board};
 use crate::selector::Selector;
 use fw_base::Name;
-use fw_facts::{DeviceView, Seen};
+use fw_facts::{DeviceView, Seen, Sheet};
 use guid_ids::{DeviceId, Guid};
 use indexmap::IndexSet;
 use std::alloc::Global;
@@ -23,17 +25,19 @@ pub const DEVICES_MAX: usize = 256;
 pub struct Devices {
     views: Vec<DeviceView>,
     ids: IndexSet<DeviceId>,
+    guids: GuidIndex,
 }
 
 impl Model for Devices {
-    ghost use Rattle.std.specs.Prelude.{◌≡◌, ◌≤◌, List, length, map};
+    ghost use Rattle.std.specs.Prelude.{List};
     ghost use Rattle.fw_facts.specs.declared.view.DeviceView.{DeviceView};
+    ghost use Rattle.device_list.specs.Guids.{IsIndexed};
 
     ghost Value = { List DeviceView };
 
     ghost view = { λ s. s.views.items };
 
-    ghost invariant = { λ s. (s.ids.keys ≡ map (λ view. view.sheet.device) s.views.items) × (length s.views.items ≤ 256) };
+    ghost invariant = { λ s. IsIndexed s.views.items s.ids.keys s.guids };
 }
 
 impl Devices {
@@ -44,6 +48,7 @@ impl Devices {
         Devices {
             views: Vec::new(alloc),
             ids: IndexSet::new(alloc),
+            guids: GuidIndex::new(alloc),
         }
     }
 
@@ -56,7 +61,7 @@ impl Devices {
     {
         let device = device_of(&view);
         match self.prepare(device) {
-            Ok(()) => append(&mut self.views, &mut self.ids, view),
+            Ok(()) => append(&mut self.views, &mut self.ids, &mut self.guids, view),
             Err(fault) => Err(fault),
         }
     }
@@ -119,7 +124,7 @@ impl Devices {
     pub fn by_guid(&self, guid: &Guid) -> Option<usize>
         ensures { result ≡ place (Selector.Guid guid.now) self.now }
     {
-        first_showing(&self.views, guid)
+        first_showing(&self.views, listed(&self.guids, guid), guid)
     }
 
     /// The place of the first device that the selector names.
@@ -140,35 +145,26 @@ fn first_in_port(views: &[DeviceView], port: &Name) -> Option<usize>
     views.iter().position(|view| *port == view.sheet.port)
 }
 
-fn first_showing(views: &[DeviceView], guid: &Guid) -> Option<usize>
-    ensures { result ≡ position (shows guid.now) views.now }
-{
-    views.iter().position(|view| is_shown(view, guid))
-}
-
-fn is_shown(view: &DeviceView, guid: &Guid) -> bool
-    ensures { result ≡ shows guid.now view.now }
-{
-    view.guids().iter().any(|shown| guid == shown)
-}
-
 // Puts a device of a new ID behind the others.
 fn append(
     views: &mut Vec<DeviceView>,
     ids: &mut IndexSet<DeviceId>,
+    guids: &mut GuidIndex,
     view: DeviceView,
 ) -> Result<(), ListFault>
     requires { list_any (bytes_eq view.sheet.device) ids.old.keys ≡ false }
     ensures added { OnOk result (views.new.items ≡ views.old.items ++ view ∷ []) }
     ensures id { OnOk result (ids.new.keys ≡ ids.old.keys ++ view.sheet.device ∷ []) }
+    ensures places { OnOk result ((guid : List ℕ) → listed guids.new guid ≡ with_last (has guid view.sheet) (length views.old.items) (listed guids.old guid)) }
     ensures unchanged { OnErr result (views.new.items ≡ views.old.items) }
     ensures same_ids { OnErr result (ids.new.keys ≡ ids.old.keys) }
+    ensures same_places { OnErr result ((guid : List ℕ) → listed guids.new guid ≡ listed guids.old guid) }
     ensures memory { IfErr result (λ fault. fault ≡ ListFault.NoMemory) }
 {
-    let device = device_of(&view);
-    match make_room(views, ids, device) {
+    match make_room(views, ids, guids, &view.sheet) {
         Ok(()) => {
-            views.push(view).unwrap();
+            note_board(guids, &view.sheet, views.len());
+            views.push_reserved(view);
             Ok(())
         }
         Err(fault) => Err(fault),
@@ -181,21 +177,26 @@ fn device_of(view: &DeviceView) -> DeviceId
     view.sheet.device
 }
 
-// Room for one more view, and its ID behind the others.
+// Room for one more view and its GUIDs, and its ID behind the others.
 fn make_room(
     views: &mut Vec<DeviceView>,
     ids: &mut IndexSet<DeviceId>,
-    device: DeviceId,
+    guids: &mut GuidIndex,
+    sheet: &Sheet,
 ) -> Result<(), ListFault>
-    requires { list_any (bytes_eq device) ids.old.keys ≡ false }
+    requires { list_any (bytes_eq sheet.now.device) ids.old.keys ≡ false }
     ensures same_views { views.new.items ≡ views.old.items }
     ensures room { OnOk result (vec_len views.new < vec_capacity views.new) }
-    ensures added { OnOk result (ids.new.keys ≡ ids.old.keys ++ device ∷ []) }
+    ensures same_places { (guid : List ℕ) → listed guids.new guid ≡ listed guids.old guid }
+    ensures runtime { OnOk result (All (HasRoom guids.new) sheet.now.runtime_guids) }
+    ensures loader { OnOk result (All (HasRoom guids.new) sheet.now.loader_guids) }
+    ensures added { OnOk result (ids.new.keys ≡ ids.old.keys ++ sheet.now.device ∷ []) }
     ensures unchanged { OnErr result (ids.new.keys ≡ ids.old.keys) }
     ensures memory { IfErr result (λ fault. fault ≡ ListFault.NoMemory) }
 {
     reserve_one(views)?;
-    note_id(ids, device)
+    reserve_board(guids, sheet)?;
+    note_id(ids, sheet.device)
 }
 
 // Room for one more view.
@@ -227,7 +228,7 @@ fn put(views: &mut [DeviceView], at: usize, view: DeviceView)
     requires place { at < length views.old }
     requires same_sheet { ForSome (slice_get views.old at) (λ old. old.sheet ≡ view.sheet) }
     ensures put { views.new ≡ slice_set views.old at view }
-    ensures same_ids { map (λ view. view.sheet.device) views.new ≡ map (λ view. view.sheet.device) views.old }
+    ensures same_sheets { sheets views.new ≡ sheets views.old }
 {
     views[at] = view;
 }
@@ -235,7 +236,7 @@ fn put(views: &mut [DeviceView], at: usize, view: DeviceView)
 fn put_seen(views: &mut [DeviceView], at: usize, seen: Seen)
     requires { at < length views.old }
     ensures put { IfSome (slice_get views.old at) (λ view. views.new ≡ slice_set views.old at (record view { seen = seen })) }
-    ensures same_ids { map (λ view. view.sheet.device) views.new ≡ map (λ view. view.sheet.device) views.old }
+    ensures same_sheets { sheets views.new ≡ sheets views.old }
 {
     views[at].seen = seen;
 }
@@ -243,7 +244,7 @@ fn put_seen(views: &mut [DeviceView], at: usize, seen: Seen)
 fn put_claim(views: &mut [DeviceView], at: usize, claim: Option<u32>)
     requires { at < length views.old }
     ensures put { IfSome (slice_get views.old at) (λ view. views.new ≡ slice_set views.old at (record view { claim = claim })) }
-    ensures same_ids { map (λ view. view.sheet.device) views.new ≡ map (λ view. view.sheet.device) views.old }
+    ensures same_sheets { sheets views.new ≡ sheets views.old }
 {
     views[at].claim = claim;
 }

@@ -15,3 +15,14 @@ pub enum ListFault {
     #[error("no memory")]
     NoMemory,
 }
+
+impl From<fw_base::NoMemory> for ListFault {
+    ghost use Rattle.std.specs.Prelude.{◌≡◌};
+    ghost use Rattle.device_list.specs.declared.fault.ListFault.TheVariants as faults;
+
+    ghost from_gives = { λ _ e. e ≡ faults.NoMemory };
+
+    fn from(_refused: fw_base::NoMemory) -> ListFault {
+        ListFault::NoMemory
+    }
+}

@@ -5,6 +5,7 @@
 
 pub mod devices;
 pub mod fault;
+mod guid_index;
 pub mod selector;
 #[cfg(test)]
 mod tests;

@@ -20,10 +20,8 @@ const BOOTLOADER: Seen = Seen::Home {
     mode: Mode::Bootloader,
 };
 
-fn one_guid(alloc: Global, text: &[u8]) -> Result<Listed<Guid>, Fail> {
-    let mut guids = Vec::new(alloc);
-    guids.push(guid_of(text))?;
-    Ok(Listed::of(guids))
+fn listed(alloc: Global, guids: &[Guid]) -> Result<Listed<Guid>, Fail> {
+    Ok(Listed::of(guids.to_vec(alloc)?))
 }
 
 fn id(number: usize) -> DeviceId {
@@ -33,8 +31,9 @@ fn id(number: usize) -> DeviceId {
     DeviceId::from_bytes(bytes)
 }
 
-fn view(alloc: Global, number: usize, seen: Seen) -> Result<DeviceView, Fail> {
-    let sheet = Sheet {
+// A board in port usb1. Look-ups read its device ID and its GUIDs alone.
+fn sheet(alloc: Global, number: usize, runtime: &[Guid], loader: &[Guid]) -> Result<Sheet, Fail> {
+    Ok(Sheet {
         port: Name::read(b"usb1")?,
         device: id(number),
         priority: 0,
@@ -42,9 +41,9 @@ fn view(alloc: Global, number: usize, seen: Seen) -> Result<DeviceView, Fail> {
         name: Line::read(b"")?,
         vendor: Line::read(b"")?,
         vendor_ids: Listed::of(Vec::new(alloc)),
-        runtime_guids: one_guid(alloc, b"firmware")?,
-        loader_guids: one_guid(alloc, b"loader")?,
-        counterparts: Listed::of(Vec::new(alloc)),
+        runtime_guids: listed(alloc, runtime)?,
+        loader_guids: listed(alloc, loader)?,
+        counterparts: listed(alloc, &[])?,
         flags: DeviceFlags::empty(),
         format: Format::Triplet,
         protocol: None,
@@ -56,9 +55,17 @@ fn view(alloc: Global, number: usize, seen: Seen) -> Result<DeviceView, Fail> {
         unreachable: false,
         power_low: false,
         lid: false,
-    };
+    })
+}
+
+fn view(alloc: Global, number: usize, seen: Seen) -> Result<DeviceView, Fail> {
     Ok(DeviceView {
-        sheet,
+        sheet: sheet(
+            alloc,
+            number,
+            &[guid_of(b"firmware")],
+            &[guid_of(b"loader")],
+        )?,
         seen,
         claim: None,
     })
@@ -130,5 +137,81 @@ fn no_id_twice_and_at_most_256(rt: HostRuntime) -> Result<(), Fail> {
     let more = devices.add(view(alloc, 256, RUNTIME)?);
     assert_eq!(rt; more, Err(ListFault::Full));
     assert_eq!(rt; devices.views().len(), DEVICES_MAX);
+    Ok(())
+}
+
+// Up to three GUIDs out of eleven, so that many devices share one.
+fn some_guids(alloc: Global, from: usize, count: usize) -> Result<Vec<Guid>, Fail> {
+    let mut guids = Vec::new(alloc);
+    for i in 0..count % 4 {
+        guids.push(numbered(from % 5 + i * 2))?;
+    }
+    Ok(guids)
+}
+
+fn numbered(number: usize) -> Guid {
+    let mut bytes = [0; 16];
+    bytes[0] = (number % 256) as u8;
+    Guid::from_bytes(bytes)
+}
+
+fn seen(number: usize) -> Seen {
+    match number % 4 {
+        0 => Seen::Gone,
+        1 => RUNTIME,
+        2 => BOOTLOADER,
+        _ => Seen::Stranger,
+    }
+}
+
+// A list of that many devices, whose boards have GUIDs in common.
+fn mixed(alloc: Global, count: usize) -> Result<Devices, Fail> {
+    let mut devices = Devices::new(alloc);
+    for number in 0..count {
+        let runtime = some_guids(alloc, number, number % 7)?;
+        let loader = some_guids(alloc, number / 3, count)?;
+        devices.add(DeviceView {
+            sheet: sheet(alloc, number, &runtime, &loader)?,
+            seen: seen(number / 2),
+            claim: None,
+        })?;
+    }
+    Ok(devices)
+}
+
+fn scanned(views: &[DeviceView], guid: &Guid) -> Option<usize> {
+    views
+        .iter()
+        .position(|view| view.guids().iter().any(|shown| shown == guid))
+}
+
+fn agrees_with_a_scan(devices: &Devices) -> bool {
+    (0..12).all(|number| {
+        let guid = numbered(number);
+        devices.by_guid(&guid) == scanned(devices.views(), &guid)
+    })
+}
+
+#[test]
+fn by_guid_is_a_plain_scan(rt: HostRuntime) -> Result<(), Fail> {
+    for count in 0..32usize {
+        assert!(rt; agrees_with_a_scan(&mixed(rt.alloc(), count)?));
+    }
+    Ok(())
+}
+
+#[test]
+fn a_guid_of_both_modes_is_found_in_each(rt: HostRuntime) -> Result<(), Fail> {
+    let alloc = rt.alloc();
+    let both = guid_of(b"both");
+    let mut devices = Devices::new(alloc);
+    for (number, seen) in [Seen::Gone, BOOTLOADER, RUNTIME].into_iter().enumerate() {
+        devices.add(DeviceView {
+            sheet: sheet(alloc, number, &[both, both], &[both])?,
+            seen,
+            claim: None,
+        })?;
+    }
+    assert_eq!(rt; devices.by_guid(&both), Some(1));
     Ok(())
 }

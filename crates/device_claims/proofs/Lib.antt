@@ -1,0 +1,3 @@
+pub mod NextStep
+pub mod Places
+pub mod Standing

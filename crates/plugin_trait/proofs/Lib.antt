@@ -1,0 +1,2 @@
+pub mod BoardSteps
+pub mod InTurn
