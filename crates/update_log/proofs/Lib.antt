@@ -13,3 +13,4 @@ pub mod MarksKept
 pub mod LegalOnce
 pub mod CrashOnce
 pub mod WorkedLogs
+pub mod Worked

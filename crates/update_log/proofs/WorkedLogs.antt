@@ -36,7 +36,7 @@ use Rattle.update_log.specs.Examples.{one_plan, two_plans, two_boards, plain_boo
 use Rattle.update_log.proofs.Accepts.{some-same}
 
 -- The versions that the board shows.
-old-text : render Format.Triplet 0x01000000 ≡ codes "1.0.0"
+pub old-text : render Format.Triplet 0x01000000 ≡ codes "1.0.0"
 unfolding render
 old-text = rw (decimal_digit 1 (omega arith), decimal_digit 0 (omega arith)) refl
 

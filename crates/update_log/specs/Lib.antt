@@ -12,3 +12,4 @@ pub mod Once
 pub mod Crashes
 pub mod Laws
 pub mod Examples
+pub mod WorkedAnswers

@@ -1,5 +1,6 @@
 //! Logs that are legal, and logs that aren't, shown by computation.
 ghost use Rattle.update_log.specs.Examples.{InstallIsLegal, TornWriteIsLegal, OfflineInstallIsLegal, UnhashedIsNot, GoneOnIsNot, TrustedIsNot};
+ghost use Rattle.update_log.specs.WorkedAnswers.{NeedsReboot, NeedsBootloader, InDoubt, SharedId, AreRefused};
 
 /// A whole install is legal.
 pub fn install_is_legal()
@@ -29,4 +30,14 @@ pub fn begun_goes_on_is_not()
 /// None is in which a torn write is judged a success.
 pub fn torn_success_is_not()
     ensures { TrustedIsNot }
+{}
+
+/// What is decided and found of small logs: with a device that needs a reboot or its boot loader,
+/// with a change in doubt, with boards that share an ID, and of what is refused.
+pub fn worked_answers()
+    ensures needs_reboot { NeedsReboot }
+    ensures needs_bootloader { NeedsBootloader }
+    ensures in_doubt { InDoubt }
+    ensures shared_id { SharedId }
+    ensures refused { AreRefused }
 {}
