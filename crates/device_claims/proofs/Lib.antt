@@ -1,3 +1,2 @@
 pub mod NextStep
-pub mod Places
 pub mod Standing

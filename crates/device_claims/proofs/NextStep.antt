@@ -10,9 +10,9 @@ use Rattle.emulated_boards.specs.Conditions.{view_of}
 use Rattle.fw_facts.specs.declared.seen.Seen.{Seen}
 use Rattle.update_log.specs.declared.event.Op.{Op}
 use Rattle.update_log.specs.declared.event.Op.TheVariants as ops
-use Rattle.device_claims.specs.declared.trace.Trace.{Trace}
-use Rattle.device_claims.specs.declared.trace.TraceStep.{TraceStep}
-use Rattle.device_claims.specs.Steps.{all_ops, op_number, last_step, last_number, last_seen, fits, is_wanted, may_be_next, next_step, with_step}
+use Rattle.update_log.specs.declared.trace.Trace.{Trace}
+use Rattle.update_log.specs.declared.trace.TraceStep.{TraceStep}
+use Rattle.update_log.specs.Steps.{all_ops, op_number, last_step, last_number, last_seen, fits, is_wanted, may_be_next, next_step, with_step}
 use Rattle.device_claims.specs.States.{IsNext, number_or_end}
 
 -- ---- the last step

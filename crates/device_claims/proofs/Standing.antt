@@ -8,8 +8,8 @@ use Rattle.emulated_boards.specs.declared.image.Image.{Image}
 use Rattle.plugin_trait.specs.Steps.{Detached, Attached, Written, Plain}
 use Rattle.update_log.specs.declared.event.Op.{Op}
 use Rattle.device_claims.specs.declared.claim.Parts.{Parts}
-use Rattle.device_claims.specs.declared.trace.TraceStep.{TraceStep}
-use Rattle.device_claims.specs.Steps.{with_step, last_seen, next_step}
+use Rattle.update_log.specs.declared.trace.TraceStep.{TraceStep}
+use Rattle.update_log.specs.Steps.{with_step, last_seen, next_step}
 use Rattle.device_claims.specs.Limits.{Limits}
 use Rattle.device_claims.specs.States.{Stands, number_or_end}
 use Rattle.device_claims.proofs.NextStep.{earliest_behind, latest_behind, last_seen-push, next-behind}

@@ -4,7 +4,7 @@ use Rattle.emulated_boards.specs.declared.fault.BoardFault.{BoardFault}
 use Rattle.emulated_boards.specs.Conditions.{view_of}
 use Rattle.update_log.specs.declared.event.Op.{Op}
 use Rattle.device_claims.specs.declared.claim.Parts.{Parts}
-use Rattle.device_claims.specs.Steps.{with_step}
+use Rattle.update_log.specs.Steps.{with_step}
 
 -- The new trace is the old one and this step, with its answer and what the board shows now; entry and
 -- payload stay.

@@ -2,9 +2,9 @@
 use Rattle.std.specs.Prelude.{◌≡◌, ℕ, ◌≤◌, ◌<◌, Option, Some, None, length}
 use Rattle.emulated_boards.specs.Conditions.{view_of}
 use Rattle.update_log.specs.declared.event.Op.{Op}
-use Rattle.device_claims.specs.declared.trace.Trace.{Trace}
+use Rattle.update_log.specs.declared.trace.Trace.{Trace}
 use Rattle.device_claims.specs.declared.claim.Parts.{Parts}
-use Rattle.device_claims.specs.Steps.{last_seen, next_step, op_number}
+use Rattle.update_log.specs.Steps.{last_seen, next_step, op_number}
 use Rattle.device_claims.specs.Limits.{Limits}
 
 -- The step is the next one of the entry.

@@ -2,10 +2,10 @@
 ghost use Rattle.std.specs.Prelude.{◌≡◌};
 
 use crate::state::State;
-use crate::trace::Trace;
 use block_pool::Payload;
 use emulated_boards::Board;
 use std::marker::{Model, PhantomData};
+use update_log::Trace;
 
 /// The board and the payload of an entry, and the steps that it has made.
 pub struct Parts {

@@ -7,15 +7,11 @@
 #![tactic(auto)]
 
 pub mod claim;
-pub mod next;
 pub mod state;
 pub mod steps;
-pub mod trace;
 
 pub use claim::{Claim, Parts};
-pub use next::next_op;
 pub use state::{Begun, Closed, Flashed, Joined, Loose, Ready, Reloaded, State};
-pub use trace::{Trace, TraceStep, TraceSteps};
 
 #[cfg(test)]
 mod tests;

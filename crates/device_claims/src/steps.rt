@@ -6,22 +6,20 @@ ghost use Rattle.emulated_boards.specs.Images.{payload_image};
 ghost use Rattle.emulated_boards.specs.Conditions.{view_of};
 ghost use Rattle.emulated_boards.specs.declared.condition.Presence.TheVariants.{Home};
 ghost use Rattle.plugin_trait.specs.Steps.{Plain, Detached, Attached, Written};
-ghost use Rattle.device_claims.specs.Steps.{next_step, with_step};
+ghost use Rattle.update_log.specs.Steps.{next_step, with_step};
 ghost use Rattle.device_claims.specs.States.{IsNext};
 ghost use Rattle.device_claims.specs.Claims.{Noted};
 
 use crate::claim::{Claim, Parts};
-use crate::next::next_op;
 use crate::state::{
     Begun, BegunState, Closed, Flashed, FlashedState, Joined, JoinedState, Loose, LooseState,
     Ready, ReadyState, Reloaded, ReloadedState,
 };
-use crate::trace::{Trace, TraceStep};
 use block_pool::Payload;
 use emulated_boards::{Board, BoardFault};
 use plugin_trait::Plugin;
 use std::marker::PhantomData;
-use update_log::Op;
+use update_log::{Op, Trace, TraceStep, next_op};
 
 impl Parts {
     /// Writes the payload to the board.

@@ -14,6 +14,7 @@ pub mod examples;
 pub mod facts;
 pub mod laws;
 pub mod live;
+pub mod next_step;
 pub mod refusal;
 pub mod request;
 #[cfg(test)]
@@ -26,6 +27,7 @@ pub use decision::{Decision, Stage};
 pub use event::{Back, BoardSeen, Event, Found, Log, Op, Query, Stored};
 pub use facts::{BootPlan, Facts, PluginVetoes};
 pub use live::{Held, LiveEntry, OpenStep};
+pub use next_step::next_op;
 pub use refusal::{FetchNote, Refusal};
 pub use request::{InstallFlags, Request};
 pub use told::Told;
