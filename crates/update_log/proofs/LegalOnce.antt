@@ -16,14 +16,15 @@ use Rattle.update_log.proofs.Openings.{distinct-tags, entries-from, tags-differ}
 use Rattle.update_log.proofs.RowsKept.{RowsKept, RowsStep, closed-settled, fixed, judged-settled, rows-step}
 use Rattle.update_log.proofs.StepsKept.{StepsKept, not-fresh, open-started, steps-boot, steps-claim, steps-end, steps-none, steps-quiet, steps-resumed, steps-start}
 use Rattle.update_log.proofs.StrokeFacts.{few-writes, writes}
-use Rattle.update_log.proofs.TakenKept.{Taken, TakenKept, WaitingKept, goes_on-grows, row_of-known, taken-boot, taken-claim, taken-end, taken-none, taken-quiet, taken-resume, taken-schedule, taken-start, waiting-advanced, waiting-boot, waiting-claim, waiting-none, waiting-resume, waiting-same, waiting-schedule}
+use Rattle.update_log.proofs.TakenKept.{Taken, TakenKept, WaitingKept, goes_on-grows, row_of-known, taken-at_most, taken-boot, taken-claim, taken-end, taken-none, taken-quiet, taken-resume, taken-schedule, taken-start, waiting-advanced, waiting-boot, waiting-claim, waiting-none, waiting-resume, waiting-same, waiting-schedule}
 use Rattle.update_log.specs.Holding.{live, open_steps}
 use Rattle.update_log.specs.Known.{Fate, board_of, doubt, fate, fate_stored, reason_of, refusal_number, row_of, rows, rows_by, seen}
 use Rattle.update_log.specs.Legal.{Allowed, BootTakes, IsLegal, ResumeAllowed, closing_stored}
-use Rattle.update_log.specs.Once.{AtTaking, BoardState, FitsPast, HasDigest, JournalFits, MarkOnce, OncePast, Stroke, TakenBy, WrittenOnce, accepts, entry_named, how_many, is_like, is_pending, strokes, takes}
+use Rattle.update_log.specs.Once.{AtTaking, BoardState, FitsPast, HasDigest, IsTakenOnce, JournalFits, MarkOnce, OncePast, Stroke, TakenBy, WrittenOnce, accepts, entry_named, how_many, is_like, is_pending, strokes, takes}
 use Rattle.update_log.specs.Pasts.{is_keeper_fault, time_of}
 use Rattle.update_log.specs.Shows.{Campaign, digest_of, marks, told, told_by}
 use Rattle.update_log.specs.Steps.{judge, trace}
+use Rattle.update_log.specs.WorkedAnswers.{waiting}
 use Rattle.update_log.specs.declared.answer.ResumeAnswer.{ResumeAnswer}
 use Rattle.update_log.specs.declared.event.Back.{Back}
 use Rattle.update_log.specs.declared.event.Event.{Event}
@@ -343,3 +344,11 @@ past-once facts opening past boards k f =
 
 pub journals-fit : (facts : Facts) (first : List Seen) (opening : List Row) (past : List Event) (boards : List BoardState) → FitsPast facts first opening past boards → JournalsFit facts opening past boards
 journals-fit facts first opening past boards f = λ board b e. let t = f.each board b e in let w = t.1 in (t.0, w.journal)
+
+pub taken-once : (c : Campaign) (opening : List Row) (past : List Event) → IsHistory opening → IsLegal c opening past → IsTakenOnce c.facts opening past
+taken-once c opening past valid legal =
+    let k = past-kept c opening past valid legal in
+    record {
+      tags = tags-differ (rows c.facts opening past) k.rows_kept.valid.tags;
+      taken = λ entry. taken-at_most c.facts opening past entry k.taken;
+    }

@@ -14,7 +14,7 @@ use Rattle.update_log.proofs.Accepts.{accepts-target}
 use Rattle.update_log.proofs.Lists.{All-both, All-filter, All-find, All-map, All-push, by_test, eqb-other, eqb-self, find-filter, find-filter_none, find-passes, find-push_other, find-push_some}
 use Rattle.update_log.proofs.Rows.{accepted-claim, found-grows, rows_by-grows, rows_by-refused}
 use Rattle.update_log.proofs.StrokeFacts.{is_open, last_ended, order-start}
-use Rattle.update_log.specs.Holding.{blocks_fetched, blocks_fetched_if, held, holds, live, live_entry, step_open, open_steps, request_held}
+use Rattle.update_log.specs.Holding.{blocks_fetched, blocks_fetched_if, held, holds, live, live_entry, open_steps, request_held, step_open}
 use Rattle.update_log.specs.Known.{Target, asked, fate_stored, known, rows, seen, target, views}
 use Rattle.update_log.specs.Legal.{ClaimAllowed, EndAllowed, StartAllowed, next_entry}
 use Rattle.update_log.specs.Once.{InOrder, Stroke, strokes}

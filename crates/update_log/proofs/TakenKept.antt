@@ -22,12 +22,12 @@ use Rattle.update_log.proofs.Rows.{accepted-claim, changed-grows, rows_by-refuse
 use Rattle.update_log.proofs.RowsKept.{GoesOn, NextChange, RowsKept, claim-not_kept, fixed, fixed_row, goes_on-fixed, no-tag, not_kept, row_of-past, schedule-not_kept, with_state-fixed}
 use Rattle.update_log.proofs.StrokeFacts.{and-true}
 use Rattle.update_log.specs.Holding.{blocks_fetched, blocks_fetched_if, held, holds, live, request_held}
-use Rattle.update_log.specs.Known.{Fate, Target, doubt, fate_stored, new_row, reason_of, refusal_number, row_of, row_with_tag, rows, rows_by, rows_found, seen, target, views}
+use Rattle.update_log.specs.Known.{Fate, Target, doubt, fate, fate_stored, known, new_row, reason_of, refusal_number, row_of, row_with_tag, rows, rows_by, rows_found, seen, target, views}
 use Rattle.update_log.specs.Legal.{ClaimAllowed, ResumeAllowed, ResumeAnswered, ResumeFetched, ScheduleAllowed, ScheduleAnswered, StartAllowed, is_fetched, is_whole, next_entry}
 use Rattle.update_log.specs.Once.{AtTaking, TakenBy, accepted, accepts, how_many, is_pending, is_pending_row, strokes, takes}
 use Rattle.update_log.specs.Pasts.{is_keeper_fault, time_of}
 use Rattle.update_log.specs.Shows.{told}
-use Rattle.update_log.specs.Verdicts.{Case, case_of, first_unmet_for, verdict}
+use Rattle.update_log.specs.Verdicts.{Case, case_of, first_unmet_for, has, verdict}
 use Rattle.update_log.specs.declared.answer.ClaimAnswer.{ClaimAnswer}
 use Rattle.update_log.specs.declared.answer.ResumeAnswer.{ResumeAnswer}
 use Rattle.update_log.specs.declared.decision.Decision.{Decision}
@@ -59,6 +59,7 @@ pub record TakenKept (facts : Facts) (opening : List Row) (past : List Event) : 
   pub unaccepted : (entry : ℕ) → length (rows facts opening past) < entry → accepted facts opening entry past ≡ 0
   pub live_taken : AllByRecursion (λ l. Taken facts opening past l.entry) (live past)
   pub begun : (entry : ℕ) → (strokes entry past ≡ []) ⊎ Taken facts opening past entry
+  pub each : (entry : ℕ) → (how_many (takes entry) past ≡ 0) ⊎ Taken facts opening past entry
 
 pub goes_on-grows : (old new : List Row) → GoesOn old new → length old ≤ length new
 goes_on-grows old new (inl e) = omega (arith, ap length e)
@@ -86,6 +87,7 @@ taken-quiet facts opening past event k g t a b l s =
       unaccepted = λ e h. rw (b e h) (k.unaccepted e (omega arith));
       live_taken = All-map _ _ (live (event ∷ past)) (lives l) (λ x w. taken-on facts opening past event x.entry g (t x.entry) (a x.entry w.known) w);
       begun = λ e. begins e (s e);
+      each = λ e. goes-on e (k.each e);
     }
   where
     lives : (live (event ∷ past) ≡ live past) ⊎ AllByRecursion (λ l. Taken facts opening past l.entry) (live (event ∷ past)) → AllByRecursion (λ l. Taken facts opening past l.entry) (live (event ∷ past))
@@ -95,6 +97,10 @@ taken-quiet facts opening past event k g t a b l s =
     begins : (e : ℕ) → (strokes e (event ∷ past) ≡ []) ⊎ Taken facts opening past e → (strokes e (event ∷ past) ≡ []) ⊎ Taken facts opening (event ∷ past) e
     begins e (inl n) = inl n
     begins e (inr w) = inr (taken-on facts opening past event e g (t e) (a e w.known) w)
+
+    goes-on : (e : ℕ) → (how_many (takes e) past ≡ 0) ⊎ Taken facts opening past e → (how_many (takes e) (event ∷ past) ≡ 0) ⊎ Taken facts opening (event ∷ past) e
+    goes-on e (inl n) = inl (rw (t e) n)
+    goes-on e (inr w) = inr (taken-on facts opening past event e g (t e) (a e w.known) w)
 
 -- a boot accepts a new entry at most
 pub boot-accepts : (number time : ℕ) (limit : Option ℕ) (found : Found) (boards : List BoardSeen) (change : Option Change) (rows : List Row) (e : ℕ) → IfSome change (λ c. NextChange c rows) → (e ≤ length rows) ⊎ (length (rows_found found change rows) < e) → accepts e change (Event.Boot number time limit found boards) ≡ false
@@ -158,6 +164,7 @@ taken-claimed facts opening past client request fetched entry k next g w =
           (All-map _ _ (live past) k.live_taken (λ x u. taken-on facts opening past event x.entry g (other x.entry u.known) (other x.entry u.known) u))
           w;
       begun = λ e. begins e (k.begun e);
+      each = λ e. by_test (entry == e) _ (λ t. let s : entry ≡ e = eqb-true entry e t in inr (subst (Taken facts opening (Event.Claim client request fetched (ClaimAnswer.Entry entry) ∷ past)) s w)) (λ f. goes-on e f (k.each e));
     }
   where
     begins : (e : ℕ) → (strokes e past ≡ []) ⊎ Taken facts opening past e → (strokes e past ≡ []) ⊎ Taken facts opening (Event.Claim client request fetched (ClaimAnswer.Entry entry) ∷ past) e
@@ -165,6 +172,10 @@ taken-claimed facts opening past client request fetched entry k next g w =
     begins e (inr u) =
         let f : (entry == e) ≡ false = eqb-other entry e (λ s. let le = u.known in omega arith) in
         inr (taken-on facts opening past (Event.Claim client request fetched (ClaimAnswer.Entry entry)) e g f f u)
+
+    goes-on : (e : ℕ) → (entry == e) ≡ false → (how_many (takes e) past ≡ 0) ⊎ Taken facts opening past e → (how_many (takes e) (Event.Claim client request fetched (ClaimAnswer.Entry entry) ∷ past) ≡ 0) ⊎ Taken facts opening (Event.Claim client request fetched (ClaimAnswer.Entry entry) ∷ past) e
+    goes-on e f (inl n) = inl (rw f n)
+    goes-on e f (inr u) = inr (taken-on facts opening past (Event.Claim client request fetched (ClaimAnswer.Entry entry)) e g f f u)
 
 pub taken-claim : (facts : Facts) (opening : List Row) (past : List Event) (client : ℕ) (request : Request) (fetched : FetchNote) (answer : ClaimAnswer) (held : Held) → RowsKept facts opening past → TakenKept facts opening past → GoesOn (rows facts opening past) (rows facts opening (Event.Claim client request fetched answer ∷ past)) → ClaimAllowed facts opening past client request fetched answer held → TakenKept facts opening (Event.Claim client request fetched answer ∷ past)
 taken-claim facts opening past client request fetched (ClaimAnswer.Entry entry) held r k g a =
@@ -216,7 +227,7 @@ none-pending n (r ∷ rows) e k h =
 
 pub taken-none : (facts : Facts) (opening : List Row) → EntriesFrom 1 opening → TakenKept facts opening []
 taken-none facts opening h =
-    record { untaken = λ _ _. refl; unaccepted = λ e g. none-pending 1 opening e h (omega arith); live_taken = tt; begun = λ _. inl refl }
+    record { untaken = λ _ _. refl; unaccepted = λ e g. none-pending 1 opening e h (omega arith); live_taken = tt; begun = λ _. inl refl; each = λ _. inl refl }
 
 -- a pending row is one that no event took, and whose request was accepted once
 pub record WaitingKept (facts : Facts) (opening : List Row) (past : List Event) : Type 0 where
@@ -473,6 +484,7 @@ taken-resumed facts opening past client entry fetched stored row r k q g a =
           (All-map _ _ (live past) k.live_taken (λ x u. taken-on facts opening past event x.entry g (others x.entry u) refl u))
           here;
       begun = λ e. begins e (k.begun e);
+      each = λ e. by_test (entry == e) _ (λ t. let s : entry ≡ e = eqb-true entry e t in inr (subst (Taken facts opening (Event.Resume client entry fetched ResumeAnswer.Begun stored ∷ past)) s here)) (λ f. goes-on e f (k.each e));
     }
   where
     event : Event
@@ -512,6 +524,10 @@ taken-resumed facts opening past client entry fetched stored row r k q g a =
     begins : (e : ℕ) → (strokes e past ≡ []) ⊎ Taken facts opening past e → (strokes e past ≡ []) ⊎ Taken facts opening (Event.Resume client entry fetched ResumeAnswer.Begun stored ∷ past) e
     begins e (inl n) = inl n
     begins e (inr u) = inr (taken-on facts opening past (Event.Resume client entry fetched ResumeAnswer.Begun stored) e g (others e u) refl u)
+
+    goes-on : (e : ℕ) → (entry == e) ≡ false → (how_many (takes e) past ≡ 0) ⊎ Taken facts opening past e → (how_many (takes e) (Event.Resume client entry fetched ResumeAnswer.Begun stored ∷ past) ≡ 0) ⊎ Taken facts opening (Event.Resume client entry fetched ResumeAnswer.Begun stored ∷ past) e
+    goes-on e f (inl n) = inl (rw f n)
+    goes-on e f (inr u) = inr (taken-on facts opening past (Event.Resume client entry fetched ResumeAnswer.Begun stored) e g f refl u)
 
 pub taken-resume : (facts : Facts) (opening : List Row) (past : List Event) (client entry : ℕ) (fetched : Option FetchNote) (answer : ResumeAnswer) (stored : Stored) (row : Row) → RowsKept facts opening past → TakenKept facts opening past → WaitingKept facts opening past → GoesOn (rows facts opening past) (rows facts opening (Event.Resume client entry fetched answer stored ∷ past)) → ResumeAllowed facts opening past client entry fetched answer stored row → TakenKept facts opening (Event.Resume client entry fetched answer stored ∷ past)
 taken-resume facts opening past client entry fetched ResumeAnswer.Begun stored row r k q g a = taken-resumed facts opening past client entry fetched stored row r k q g a
@@ -553,3 +569,11 @@ waiting-none facts opening v = record { untaken = λ _ _ _ _. refl; accepted_onc
         let none : how_many (is_pending_row e) rows ≡ 0 = none-below (n + 1) rows e v.1 (let at : r.entry ≡ e = eqb-true r.entry e t in let q : r.entry ≡ n = v.0 in omega arith) in
         rw (t, p', none) refl)
         (λ t. let rest : row_of rows e ≡ Some row = rw t at f in rw t (one-pending (n + 1) rows e row v.1 rest p))
+
+-- No entry is taken twice.
+pub taken-at_most : (facts : Facts) (opening : List Row) (past : List Event) (entry : ℕ) → TakenKept facts opening past → how_many (takes entry) past ≤ 1
+taken-at_most facts opening past entry k = at (k.each entry)
+  where
+    at : (how_many (takes entry) past ≡ 0) ⊎ Taken facts opening past entry → how_many (takes entry) past ≤ 1
+    at (inl n) = omega arith
+    at (inr t) = let one = t.once in omega arith

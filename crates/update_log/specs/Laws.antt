@@ -11,7 +11,7 @@ use Rattle.update_log.specs.Boards.{OneDevice}
 use Rattle.update_log.specs.declared.facts.Facts.{Facts}
 use Rattle.update_log.specs.Shows.{Campaign}
 use Rattle.update_log.specs.Legal.{Legal}
-use Rattle.update_log.specs.Once.{BoardState, Fits, Once}
+use Rattle.update_log.specs.Once.{BoardState, Fits, IsTakenOnce, Once}
 use Rattle.update_log.specs.Crashes.{CrashOf, NextCampaign, IsNextBoot, next_boot}
 
 -- At most once: of every campaign, every valid history before it, every log and all boards, if the
@@ -39,6 +39,12 @@ abbrev pub AtMostOnceAfterCrashes : Type 0
 AtMostOnceAfterCrashes =
     (c : Campaign) (opening : List Row) (log : List Event) (crashed : List Event)
     → IsHistory opening → Legal c opening log → CrashOf log crashed → IsSafeCrash c opening crashed
+
+-- Taken once: over any number of boots no tag has two rows, and no entry is taken twice.
+abbrev pub TakenOnce : Type 0
+TakenOnce =
+    (c : Campaign) (opening : List Row) (log : List Event)
+    → IsHistory opening → Legal c opening log → IsTakenOnce c.facts opening (past_of log)
 
 -- The priority rule leaves one device for each ID, whatever the facts.
 abbrev pub OneDeviceAnID : Type 0

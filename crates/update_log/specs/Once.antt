@@ -1,5 +1,5 @@
 -- Which boards fit a log, and that each write of theirs belongs to one accepted request.
-use Rattle.std.specs.Prelude.{◌≡◌, ◌≢◌, ℕ, suc, Bool, true, false, ◌&&◌, ◌==◌, ◌<◌, IsTrue, MatchBool, AllPairs, List, [], ◌∷◌, ◌++◌, length, Option, Some, None, IfSome, if◌then◌else◌, slice_get}
+use Rattle.std.specs.Prelude.{◌≤◌, ◌≡◌, ◌≢◌, ℕ, suc, Bool, true, false, ◌&&◌, ◌==◌, ◌<◌, IsTrue, MatchBool, AllPairs, List, [], ◌∷◌, ◌++◌, length, Option, Some, None, IfSome, if◌then◌else◌, slice_get}
 use Rattle.std.specs.List.{list_any, AllByRecursion}
 use Rattle.std.specs.Bool.{OnTrue}
 use Rattle.fw_facts.specs.declared.seen.Seen.{Seen}
@@ -219,3 +219,8 @@ pub record OncePast (facts : Facts) (opening : List Row) (past : List Event) (bo
 
 abbrev pub Once : Campaign → List Row → List Event → List BoardState → Type 0
 Once c opening log boards = OncePast c.facts opening (past_of log) boards
+
+-- No two rows have one tag, and no entry is taken twice, written or not.
+pub record IsTakenOnce (facts : Facts) (opening : List Row) (past : List Event) : Type 0 where
+  pub tags : AllPairs (λ a b. a.tag ≢ b.tag) (rows facts opening past)
+  pub taken : (entry : ℕ) → how_many (takes entry) past ≤ 1

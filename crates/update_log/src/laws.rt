@@ -1,5 +1,5 @@
 //! Laws of the definitions alone.
-ghost use Rattle.update_log.specs.Laws.{AtMostOnce, AtMostOnceAfterCrashes, OneDeviceAnID};
+ghost use Rattle.update_log.specs.Laws.{AtMostOnce, AtMostOnceAfterCrashes, OneDeviceAnID, TakenOnce};
 
 /// Each write that a board lived through belongs to one accepted request.
 pub fn legal_once()
@@ -10,6 +10,11 @@ pub fn legal_once()
 /// the boards have still been written once.
 pub fn crash_once()
     ensures { AtMostOnceAfterCrashes }
+{}
+
+/// Over any number of boots no tag has two rows, and no entry is taken twice, written or not.
+pub fn taken_once()
+    ensures { TakenOnce }
 {}
 
 /// Of the served boards with one device ID exactly one is a device.
