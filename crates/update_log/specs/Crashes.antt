@@ -19,7 +19,8 @@ use Rattle.update_log.specs.Legal.{FoundAllowed, is_gone, is_absent}
 use Rattle.update_log.specs.Once.{BoardState}
 
 -- The event as it is where the keeper fails in place of answering Ok: an entry and a begin become
--- refusal 16, and what was stored is at fault. An event that has no Ok of the keeper has none.
+-- refusal 16, and what was stored is at fault. Any other event has
+-- none: a boot that couldn't load is among those that may come next.
 abbrev pub faulted : Event → Option Event
 faulted (Event.Claim client request fetched (ClaimAnswer.Entry entry)) =
     Some (Event.Claim client request fetched (ClaimAnswer.Refused Refusal.KeeperFault))

@@ -57,7 +57,7 @@ is_live entries entry = list_any (λ l. l.entry == entry) entries
 abbrev pub without_client : ℕ → List Held → List Held
 without_client client holds = filter (λ h. not (h.client == client)) holds
 
--- The holds: of each client what its last ask in this boot gave it, where no claim, resumption or
+-- The holds: of each client what its last ask in this boot that was answered with a hold gave it, where no claim, resumption or
 -- giving back of that client came since.
 abbrev pub holds_after : Event → List Held → List Held
 holds_after (Event.Boot number time limit found boards) before = []

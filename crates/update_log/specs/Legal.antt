@@ -75,7 +75,7 @@ abbrev pub is_absent : BootPlan → ℕ → Bool
 is_absent plan board = list_any (λ a. a == board) plan.absent
 
 -- A boot lists a board under its number: gone where the plan says so, else home. Its untold marks
--- begin those of the step that was open on it.
+-- begin those of the step that was open on it, and what it shows is allowed.
 pub record BoardListed (facts : Facts) (first : List Seen) (opening : List Row) (past : List Event) (plan : BootPlan) (board : ℕ) (b : BoardSeen) : Type 0 where
   pub number : b.board ≡ board
   pub presence : IsTrue (if is_absent plan board then is_gone b.seen else is_home b.seen)
@@ -154,8 +154,8 @@ abbrev pub next_entry : Facts → List Row → List Event → ℕ
 next_entry facts opening past = length (rows facts opening past) + 1
 
 -- The answers that a claim may get, where that was decided and this was fetched: what was decided, if
--- it isn't to accept; else that the payload isn't the release's, or the next entry, or that the
--- history couldn't be written.
+-- it isn't to accept; else, where the payload isn't the release's, that; and where it is, the next
+-- entry, or that the history couldn't be written.
 abbrev pub ClaimAnswered : FetchNote → Option Target → ℕ → Decision → ClaimAnswer → Type 0
 ClaimAnswered fetched t next (Decision.Kept entry state) answer = answer ≡ ClaimAnswer.Kept entry state
 ClaimAnswered fetched t next (Decision.Refused refusal) answer = answer ≡ ClaimAnswer.Refused refusal
@@ -278,7 +278,8 @@ pub record FinishAllowed (facts : Facts) (opening : List Row) (past : List Event
 
 -- Judge.
 
--- The row can be judged: it is begun and not live, or waits for a boot since an earlier one.
+-- The row can be judged: it is begun and not live, or it waits for a boot and wasn't finished in this
+-- one.
 abbrev pub may_judge : List Event → RowState → ℕ → Bool
 may_judge past RowState.Begun entry = not (is_live (live past) entry)
 may_judge past RowState.NeedsReboot entry = not (finished entry past)

@@ -42,7 +42,8 @@ ShowsFirst Seen.Gone first = Unit {0}
 ShowsFirst Seen.Stranger first = Unit {0}
 
 -- A board fits a past: its journal does; where no step is open on it and there was a boot, it shows
--- what it was last seen to show; and where no write of it began, it shows its first image.
+-- what it was last seen to show; and where no write of it began, it shows the raw version of its
+-- first image, if it is there.
 pub record BoardFits (facts : Facts) (first : List Seen) (opening : List Row) (past : List Event) (board : ℕ) (b : BoardState) (tail : List Mark) : Type 0 where
   pub journal : JournalFits facts opening past board b.journal tail
   pub view : open_on facts opening past board ≡ None → 0 < boots past → b.view ≡ seen facts opening past board
@@ -212,7 +213,8 @@ abbrev pub MarkOnce : Facts → List Row → List Event → List BoardState → 
 MarkOnce facts opening past boards board journal mark =
     IfSome (entry_named mark) (λ entry. (row : Row) × WrittenOnce facts opening past boards board journal mark entry row)
 
--- Each board was written once for each accepted request at most, and no two rows have one tag.
+-- Each mark of a write in each journal belongs to one accepted request and one taking of its entry,
+-- and no two rows have one tag.
 pub record OncePast (facts : Facts) (opening : List Row) (past : List Event) (boards : List BoardState) : Type 0 where
   pub marks : (board : ℕ) (b : BoardState) → slice_get boards board ≡ Some b → AllByRecursion (MarkOnce facts opening past boards board b.journal) b.journal
   pub tags : AllPairs (λ a b. a.tag ≢ b.tag) (rows facts opening past)

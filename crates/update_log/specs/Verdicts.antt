@@ -74,7 +74,7 @@ wants_row (Stage.Claim release) = true
 wants_row Stage.Schedule = true
 wants_row (Stage.Resume entry release) = false
 
--- The row that has the request's tag. A pending row's request has none but that row's, and passes.
+-- The row that has the request's tag. A pending row's request skips this.
 abbrev pub kept : Case → Option Row
 kept c = if is_some (pending_of c.stage) then None else row_with_tag c.rows c.request.tag
 
@@ -116,10 +116,11 @@ is_in_the_way c t r =
 abbrev pub unsettled : Case → Target → Option Refusal
 unsettled c t = option_map (λ r. Refusal.Unsettled r.entry) (find (is_in_the_way c t) c.rows)
 
--- 5: the device takes no updates. 6: it is locked.
+-- The device has the flag.
 abbrev pub has : Target → DeviceFlag → Bool
 has t flag = has_flag flag (flags_of t.view)
 
+-- 5: the device takes no updates. 6: it is locked.
 abbrev pub not_updatable : Case → Target → Option Refusal
 not_updatable c t = where_so (not (has t DeviceFlag.Updatable)) Refusal.NotUpdatable
 

@@ -2,7 +2,7 @@
 ghost use Rattle.update_log.specs.Examples.{InstallIsLegal, TornWriteIsLegal, OfflineInstallIsLegal, UnhashedIsNot, GoneOnIsNot, TrustedIsNot};
 ghost use Rattle.update_log.specs.WorkedAnswers.{NeedsReboot, NeedsBootloader, InDoubt, SharedId, AreRefused};
 
-/// A whole install is legal.
+/// The log of a whole install, and it is legal.
 pub fn install_is_legal()
     ensures { InstallIsLegal }
 {}
@@ -17,17 +17,17 @@ pub fn offline_install_is_legal()
     ensures { OfflineInstallIsLegal }
 {}
 
-/// No log is legal that takes a payload with another digest.
+/// This log takes a payload with another digest, and isn't legal.
 pub fn unhashed_payload_is_not()
     ensures { UnhashedIsNot }
 {}
 
-/// None is in which a begun entry goes on after a restart.
+/// In this one a begun entry goes on after a restart: it isn't legal.
 pub fn begun_goes_on_is_not()
     ensures { GoneOnIsNot }
 {}
 
-/// None is in which a torn write is judged a success.
+/// In this one a torn write is judged a success: it isn't legal.
 pub fn torn_success_is_not()
     ensures { TrustedIsNot }
 {}
