@@ -1,5 +1,5 @@
 -- The components of a catalogue. The lines of a `do` are the fields in their order: word, kind, default.
-use Rattle.std.specs.Prelude.{ℕ, ◌+◌, List, [], ◌∷◌, length, codes, sum_by, nat_lt, Option, None, Result, Ok}
+use Rattle.std.specs.Prelude.{ℕ, ◌+◌, List, [], ◌∷◌, length, codes, sum_by, nat_lt, None, Result, Ok}
 use Rattle.fw_facts.specs.declared.release.Release.{Release}
 use Rattle.fw_facts.specs.declared.release.Component.{Component}
 use Rattle.serde_json.specs.Data.{Data}

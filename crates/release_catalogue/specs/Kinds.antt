@@ -1,5 +1,5 @@
 -- The kinds of the fields.
-use Rattle.std.specs.Prelude.{ℕ, suc, List, [], nat_lt, nat_le, Bool, ◌&&◌, Option, option_and_then, is_some, ⊤, Result, Ok, if◌then◌else◌}
+use Rattle.std.specs.Prelude.{ℕ, suc, List, [], nat_lt, nat_le, Bool, ◌&&◌, option_and_then, is_some, ⊤, Result, Ok, if◌then◌else◌}
 use Rattle.std.specs.List.{list_any}
 use Rattle.std.specs.Result.{result_ok}
 use Rattle.std.specs.Str.{bytes_eq}

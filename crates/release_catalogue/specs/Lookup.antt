@@ -1,5 +1,5 @@
 -- Looking up releases: the catalogue is a list of components, each with a list of releases.
-use Rattle.std.specs.Prelude.{ℕ, ◌+◌, Bool, List, [], ◌∷◌, ◌++◌, Option, map, filter, find, flat_map}
+use Rattle.std.specs.Prelude.{ℕ, Bool, List, Option, map, filter, find, flat_map}
 use Rattle.std.specs.List.{list_any, enumerate_from}
 use Rattle.std.specs.Str.{bytes_eq}
 use Rattle.version_formats.specs.VersionOrder.{same_version}

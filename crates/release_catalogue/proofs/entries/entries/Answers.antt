@@ -1,7 +1,7 @@
-use Rattle.std.proofs.Common.{◌≡◌, refl, map, ◌++◌, ◌∷◌, [], length, length-append, arith}
+use Rattle.std.proofs.Common.{◌≡◌, refl, map, ◌++◌, ◌∷◌, [], length-append, arith}
 use Rattle.std.proofs.lemmas.Result.{err_from_is_err_and}
 use Rattle.std.proofs.lemmas.List.{map_push}
-use Rattle.release_catalogue.specs.Reading.{each, entry_spot}
+use Rattle.release_catalogue.specs.Reading.{entry_spot}
 use Rattle.release_catalogue.proofs.Loop.{goes_on, ends, is_done}
 use Rattle.release_catalogue.proofs.entries.entries.Goals as goal
 
