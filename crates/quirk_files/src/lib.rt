@@ -7,6 +7,7 @@
 pub mod book;
 pub mod changes;
 pub mod fault;
+pub mod index;
 pub mod file;
 pub mod key;
 pub mod lines;
