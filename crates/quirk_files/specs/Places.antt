@@ -6,7 +6,7 @@ use Rattle.std.specs.Str.{bytes_eq}
 abbrev pub LastBelow : List (List ℕ) → List ℕ → ℕ → Option ℕ → Type 0
 LastBelow groups group n None = (k : ℕ) → k < n → bytes_eq (get_or groups k []) group ≡ false
 LastBelow groups group n (Some at) =
-    (at < n) × (bytes_eq (get_or groups at []) group ≡ true) × ((k : ℕ) → at < k → k < n → bytes_eq (get_or groups k []) group ≡ false)
+    (at < n) × ((bytes_eq (get_or groups at []) group ≡ true) × ((k : ℕ) → at < k → k < n → bytes_eq (get_or groups k []) group ≡ false))
 
 -- For each group, its last place, and for each place, the place before it of the same group.
 pub record IsIndexed (groups : List (List ℕ)) (last : List ℕ → Option ℕ) (before : List (Option ℕ)) : Type 0 where

@@ -6,6 +6,7 @@ ghost use Rattle.quirk_files.specs.Sheets.{is_for, sheet_after, guids_of_sheet};
 
 use crate::fault::QuirkFault;
 use crate::file::FileQuirks;
+use crate::index::Indexed;
 use crate::quirk::Quirk;
 use crate::sheets::set;
 use fw_base::NoMemory;
@@ -17,7 +18,7 @@ use std::marker::Model;
 /// The quirks of the files that were read, in reading order. Contracts see their list.
 #[derive(Drop)]
 pub struct QuirkBook {
-    files: Vec<FileQuirks>,
+    files: Vec<Indexed>,
 }
 
 impl Model for QuirkBook {
@@ -48,7 +49,7 @@ impl QuirkBook {
         ensures unchanged { OnErr result (self.new ≡ self.old) }
         ensures refused { IfErr result (λ fault. (fault ≡ QuirkFault.NoMemory) ⊎ (file_fault bytes.now ≡ Some fault)) }
     {
-        let file = FileQuirks::read(alloc, bytes)?;
+        let file = Indexed::of(alloc, FileQuirks::read(alloc, bytes)?.into_quirks())?;
         match self.files.push(file) {
             Ok(()) => Ok(()),
             Err(_) => Err(QuirkFault::NoMemory),
@@ -63,7 +64,7 @@ impl QuirkBook {
     {
         let guids = guids_of_sheet(alloc, sheet)?;
         let mut quirks = Vec::new(alloc);
-        push_for(&self.files, &guids, &mut quirks)?;
+        push_for(alloc, &self.files, &guids, &mut quirks)?;
         set(alloc, sheet, &quirks)
     }
 }
@@ -78,14 +79,15 @@ fn guids_of_sheet(alloc: Global, sheet: &Sheet) -> Result<Vec<Guid>, NoMemory>
 
 // Puts the quirks of the files that are for these GUIDs behind others, in reading order.
 fn push_for<'a>(
-    files: &'a [FileQuirks],
+    alloc: Global,
+    files: &'a [Indexed],
     guids: &[Guid],
     quirks: &mut Vec<&'a Quirk>,
 ) -> Result<(), NoMemory>
     ensures { OnOk result (map (λ quirk. quirk.now) quirks.new.items ≡ map (λ quirk. quirk.now) quirks.old.items ++ filter (is_for guids.now) (flat_map (λ file. file) files.now)) }
 {
     for file in files {
-        file.push_for(guids, quirks)?;
+        file.push_for(alloc, guids, quirks)?;
     }
     Ok(())
 }

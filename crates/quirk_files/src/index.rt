@@ -1,5 +1,5 @@
 //! The quirks of one file, found by their groups.
-ghost use Rattle.std.specs.Prelude.{◌≡◌, ◌≤◌, ◌<◌, ◌++◌, ◌∷◌, [], ℕ, List, length, if◌then◌else◌, filter, map, reverse, IfOk, OnOk};
+ghost use Rattle.std.specs.Prelude.{◌≡◌, ◌≤◌, ◌<◌, ◌++◌, ◌∷◌, [], ℕ, List, length, get_or, Some, None, if◌then◌else◌, filter, map, reverse, IfOk, OnOk};
 ghost use Rattle.std.specs.Str.{bytes_eq};
 ghost use Rattle.indexmap.specs.IndexMap.{get};
 ghost use Rattle.quirk_files.specs.Places.{IsIndexed, HeadsAre, later, latest, moved};
@@ -112,12 +112,26 @@ fn found<'a>(
     let mut found = Vec::new(alloc);
     let mut at = quirks.len();
     while let Some(place) = latest(&heads) {
-        found.push(&quirks[place])?;
-        heads = moved_heads(alloc, &heads, place, before[place])?;
+        found.push(quirk_at(quirks, place))?;
+        heads = moved_heads(alloc, &heads, place, before_at(before, place))?;
         at = place;
     }
     let _end = at;
     Ok(found)
+}
+
+fn quirk_at(quirks: &[Quirk], place: usize) -> &Quirk
+    requires { place < length quirks.now }
+    ensures { result.now ≡ get_or quirks.now place result.now }
+{
+    &quirks[place]
+}
+
+fn before_at(before: &[Option<usize>], place: usize) -> Option<usize>
+    requires { place < length before.now }
+    ensures { result ≡ get_or before.now place None }
+{
+    before[place]
 }
 
 fn heads(
