@@ -23,9 +23,11 @@ pub last_more : (groups : List (List ℕ)) (group q : List ℕ) (i : ℕ) (o : O
 last_more groups group q i o here was = by_test (bytes_eq group q) refl where
   at_it : bytes_eq (get_or groups i []) q ≡ bytes_eq group q
   at_it = ap (λ (g : List ℕ). bytes_eq g q) here
+
   grown : (o : Option ℕ) → bytes_eq group q ≡ false → LastBelow groups q i o → LastBelow groups q (i + 1) o
   grown None missed h = λ k lt. elim (by_order k i lt) [ inl below ↦ h k below | inr same ↦ ap (λ (n : ℕ). bytes_eq (get_or groups n []) q) same ∙ at_it ∙ missed ]
   grown (Some at) missed h = (omega (arith, h.0), (h.1.0, λ k after lt. elim (by_order k i lt) [ inl below ↦ h.1.1 k after below | inr same ↦ ap (λ (n : ℕ). bytes_eq (get_or groups n []) q) same ∙ at_it ∙ missed ]))
+
   by_test : (b : Bool) → bytes_eq group q ≡ b → LastBelow groups q (i + 1) (cond b (Some i) o)
   by_test true hit = (omega arith, (at_it ∙ hit, λ k after lt. absurd (omega arith)))
   by_test false missed = grown o missed was
@@ -236,11 +238,11 @@ pub found_all : (guids : List (List ℕ)) (quirks : List Quirk) (n : ℕ) (heads
 found_all guids quirks zero heads found le h none was = sym was
 found_all guids quirks (suc n) heads found le h none was =
     sym (was ∙ ap (λ (front : List Quirk). front ++ found)
-      (none_passes (is_for guids) quirks (suc n) (get_or quirks 0 (some_quirk quirks le)) le
-      (λ k lt. passes guids quirks k (get_or quirks 0 (some_quirk quirks le)) false (omega arith) (none_below (map (λ (q : Quirk). q.group) quirks) guids (suc n) heads h none k lt)))) where
-        some_quirk : (qs : List Quirk) → suc n ≤ length qs → Quirk
-        some_quirk [] l = absurd (omega arith)
-        some_quirk (q ∷ qs) l = q
+    (none_passes (is_for guids) quirks (suc n) (get_or quirks 0 (some_quirk quirks le)) le
+    (λ k lt. passes guids quirks k (get_or quirks 0 (some_quirk quirks le)) false (omega arith) (none_below (map (λ (q : Quirk). q.group) quirks) guids (suc n) heads h none k lt)))) where
+      some_quirk : (qs : List Quirk) → suc n ≤ length qs → Quirk
+      some_quirk [] l = absurd (omega arith)
+      some_quirk (q ∷ qs) l = q
 
 at_push : (before : List (Option ℕ)) (x : Option ℕ) (k : ℕ) → k ≡ length before → get_or (before ++ x ∷ []) k None ≡ x
 at_push [] x k is = rw is refl

@@ -49,7 +49,7 @@ impl QuirkBook {
         ensures unchanged { OnErr result (self.new ≡ self.old) }
         ensures refused { IfErr result (λ fault. (fault ≡ QuirkFault.NoMemory) ⊎ (file_fault bytes.now ≡ Some fault)) }
     {
-        let file = Indexed::of(alloc, FileQuirks::read(alloc, bytes)?.into_quirks())?;
+        let file = read_indexed(alloc, bytes)?;
         match self.files.push(file) {
             Ok(()) => Ok(()),
             Err(_) => Err(QuirkFault::NoMemory),
@@ -66,6 +66,21 @@ impl QuirkBook {
         let mut quirks = Vec::new(alloc);
         push_for(alloc, &self.files, &guids, &mut quirks)?;
         set(alloc, sheet, &quirks)
+    }
+}
+
+// The quirks of a file with their index, or its first fault.
+fn read_indexed(alloc: Global, bytes: &[u8]) -> Result<Indexed, QuirkFault>
+    ensures read { IfOk result (λ file. file ≡ file_quirks bytes.now) }
+    ensures sound { OnOk result (file_fault bytes.now ≡ None) }
+    ensures refused { IfErr result (λ fault. (fault ≡ QuirkFault.NoMemory) ⊎ (file_fault bytes.now ≡ Some fault)) }
+{
+    match FileQuirks::read(alloc, bytes) {
+        Ok(file) => match Indexed::of(alloc, file.into_quirks()) {
+            Ok(indexed) => Ok(indexed),
+            Err(_) => Err(QuirkFault::NoMemory),
+        },
+        Err(fault) => Err(fault),
     }
 }
 

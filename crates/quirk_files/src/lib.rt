@@ -7,8 +7,8 @@
 pub mod book;
 pub mod changes;
 pub mod fault;
-pub mod index;
 pub mod file;
+pub mod index;
 pub mod key;
 pub mod lines;
 pub mod quirk;

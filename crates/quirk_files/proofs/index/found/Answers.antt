@@ -18,12 +18,12 @@ loop-place-init c = record {
 pub quirk_at-requires : goal.quirk_at-requires
 quirk_at-requires c =
     let below : c.in-Some.place < c.loop-place.at = place_below c.args.guids.now c.args.quirks.now c.loop-place.at c.in-Some.place c.loop-place.heads.items
-      c.loop-place.invariant.heads_are (ap latest (sym c.deref.ensures.value) ∙ sym c.latest.ensures ∙ c.in-Some.is) in omega arith
+    c.loop-place.invariant.heads_are (ap latest (sym c.deref.ensures.value) ∙ sym c.latest.ensures ∙ c.in-Some.is) in omega arith
 
 pub before_at-requires : goal.before_at-requires
 before_at-requires c =
     let below : c.in-Some.place < c.loop-place.at = place_below c.args.guids.now c.args.quirks.now c.loop-place.at c.in-Some.place c.loop-place.heads.items
-      c.loop-place.invariant.heads_are (ap latest (sym c.deref.ensures.value) ∙ sym c.latest.ensures ∙ c.in-Some.is) in
+    c.loop-place.invariant.heads_are (ap latest (sym c.deref.ensures.value) ∙ sym c.latest.ensures ∙ c.in-Some.is) in
     let long = length-map c.args.quirks.now (λ (quirk : Quirk). quirk.group) in
     omega (arith, c.requires.long)
 
@@ -36,13 +36,13 @@ pub loop-place-preserved : goal.loop-place-preserved
 loop-place-preserved c =
     let last_head : latest c.loop-place.heads.items ≡ Some c.in-Some.place = ap latest (sym c.deref.ensures.value) ∙ sym c.latest.ensures ∙ c.in-Some.is in
     let below : c.in-Some.place < c.loop-place.at = place_below c.args.guids.now c.args.quirks.now c.loop-place.at c.in-Some.place c.loop-place.heads.items
-      c.loop-place.invariant.heads_are last_head in
+    c.loop-place.invariant.heads_are last_head in
     let moved_on : c.in_ok-heads-2.heads.items ≡ map (moved c.in-Some.place (get_or c.args.before.now c.in-Some.place None)) c.loop-place.heads.items =
-      c.in_ok-heads-2.ensures ∙ ap (λ (o : Option ℕ). map (moved c.in-Some.place o) c.deref-in-Some.result.now) c.before_at.ensures
-      ∙ ap (map (moved c.in-Some.place (get_or c.args.before.now c.in-Some.place None))) c.deref-in-Some.ensures.value in
+    c.in_ok-heads-2.ensures ∙ ap (λ (o : Option ℕ). map (moved c.in-Some.place o) c.deref-in-Some.result.now) c.before_at.ensures
+    ∙ ap (map (moved c.in-Some.place (get_or c.args.before.now c.in-Some.place None))) c.deref-in-Some.ensures.value in
     let one_found : filter (is_for c.args.guids.now) (take c.loop-place.at c.args.quirks.now) ≡ filter (is_for c.args.guids.now) (take c.in-Some.place c.args.quirks.now) ++ c.quirk_at.result.now ∷ [] =
-      place_found c.args.guids.now c.args.quirks.now c.loop-place.at c.in-Some.place c.loop-place.heads.items c.quirk_at.result.now c.loop-place.invariant.within
-      c.loop-place.invariant.heads_are last_head c.quirk_at.ensures in
+    place_found c.args.guids.now c.args.quirks.now c.loop-place.at c.in-Some.place c.loop-place.heads.items c.quirk_at.result.now c.loop-place.invariant.within
+    c.loop-place.invariant.heads_are last_head c.quirk_at.ensures in
     record {
       within = omega (arith, c.loop-place.invariant.within);
       heads_are = subst (HeadsAre (map (λ (quirk : Quirk). quirk.group) c.args.quirks.now) c.in-Some.place c.args.guids.now) (sym moved_on)
