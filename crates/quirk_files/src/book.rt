@@ -1,5 +1,5 @@
 //! Books of quirks.
-ghost use Rattle.std.specs.Prelude.{◌≡◌, ◌++◌, ◌⊎◌, [], Some, None, filter, map, IfErr, OnOk, OnErr, IfOk};
+ghost use Rattle.std.specs.Prelude.{◌≡◌, ◌++◌, ◌∷◌, ◌⊎◌, [], Some, None, filter, map, IfErr, OnOk, OnErr, IfOk};
 ghost use Rattle.std.specs.List.{flat_map};
 ghost use Rattle.quirk_files.specs.Files.{file_fault, file_quirks};
 ghost use Rattle.quirk_files.specs.Sheets.{is_for, sheet_after, guids_of_sheet};
@@ -43,6 +43,7 @@ impl QuirkBook {
 
     /// Reads a quirk file: its quirks come behind those that are there. A fault leaves the book as it
     /// was. The file is split at newlines, and a carriage return at the end of a line is dropped.
+    #[tactic(auto, using(crate::proofs::Loops::pieces_more))]
     pub fn read_file(&mut self, alloc: Global, bytes: &[u8]) -> Result<(), QuirkFault>
         ensures read { OnOk result (self.new ≡ self.old ++ file_quirks bytes.now) }
         ensures sound { OnOk result (file_fault bytes.now ≡ None) }
@@ -50,9 +51,9 @@ impl QuirkBook {
         ensures refused { IfErr result (λ fault. (fault ≡ QuirkFault.NoMemory) ⊎ (file_fault bytes.now ≡ Some fault)) }
     {
         let file = read_indexed(alloc, bytes)?;
-        match self.files.push(file) {
+        match push_file(&mut self.files, file) {
             Ok(()) => Ok(()),
-            Err(_) => Err(QuirkFault::NoMemory),
+            Err(NoMemory) => Err(QuirkFault::NoMemory),
         }
     }
 
@@ -82,6 +83,14 @@ fn read_indexed(alloc: Global, bytes: &[u8]) -> Result<Indexed, QuirkFault>
         },
         Err(fault) => Err(fault),
     }
+}
+
+fn push_file(files: &mut Vec<Indexed>, file: Indexed) -> Result<(), NoMemory>
+    ensures pushed { OnOk result (files.new.items ≡ files.old.items ++ file ∷ []) }
+    ensures unchanged { OnErr result (files.new.items ≡ files.old.items) }
+{
+    files.push(file)?;
+    Ok(())
 }
 
 fn guids_of_sheet(alloc: Global, sheet: &Sheet) -> Result<Vec<Guid>, NoMemory>
