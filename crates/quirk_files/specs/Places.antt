@@ -1,5 +1,5 @@
 -- Where the quirks of each group stand. No clause of a public call speaks of it.
-use Rattle.std.specs.Prelude.{◌≡◌, ℕ, ◌<◌, Bool, true, false, if◌then◌else◌, nat_lt, max, List, [], ◌∷◌, length, get_or, Option, Some, None}
+use Rattle.std.specs.Prelude.{◌≡◌, ℕ, ◌<◌, true, false, if◌then◌else◌, nat_lt, max, List, [], ◌∷◌, length, get_or, Option, Some, None}
 use Rattle.std.specs.Str.{bytes_eq}
 
 -- The last place below n at which the group stands, if it stands there at all.

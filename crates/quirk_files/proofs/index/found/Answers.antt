@@ -1,6 +1,6 @@
-use Rattle.std.proofs.Common.{◌≡◌, ◌∙◌, ◌<◌, ◌++◌, ◌∷◌, [], Bor, List, ℕ, map, filter, length, take, reverse, get_or, Option, Some, None, ap, sym, subst, append-nil, arith}
+use Rattle.std.proofs.Common.{◌≡◌, ◌∙◌, ◌<◌, ◌++◌, ◌∷◌, [], Bor, List, ℕ, map, filter, take, reverse, get_or, Option, Some, None, ap, sym, subst, arith}
 use Rattle.std.specs.Str.{bytes_eq}
-use Rattle.std.proofs.lemmas.List.{length-map, take_all}
+use Rattle.std.proofs.lemmas.List.{length-map}
 use Rattle.indexmap.specs.IndexMap.{get}
 use Rattle.quirk_files.specs.declared.quirk.Quirk.{Quirk}
 use Rattle.quirk_files.specs.Places.{HeadsAre, latest, moved}
