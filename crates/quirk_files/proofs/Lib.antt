@@ -1,3 +1,4 @@
 pub mod Loops
 pub mod Readings
 pub mod FileLines
+pub mod Indexing

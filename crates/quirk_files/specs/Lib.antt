@@ -4,3 +4,4 @@ pub mod Values
 pub mod Flags
 pub mod Files
 pub mod Sheets
+pub mod Places

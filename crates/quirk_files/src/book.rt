@@ -1,11 +1,12 @@
 //! Books of quirks.
-ghost use Rattle.std.specs.Prelude.{◌≡◌, ◌++◌, ◌⊎◌, [], Some, None, filter, map, IfErr, OnOk, OnErr, IfOk};
+ghost use Rattle.std.specs.Prelude.{◌≡◌, ◌++◌, ◌∷◌, ◌⊎◌, [], Some, None, filter, map, IfErr, OnOk, OnErr, IfOk};
 ghost use Rattle.std.specs.List.{flat_map};
 ghost use Rattle.quirk_files.specs.Files.{file_fault, file_quirks};
 ghost use Rattle.quirk_files.specs.Sheets.{is_for, sheet_after, guids_of_sheet};
 
 use crate::fault::QuirkFault;
 use crate::file::FileQuirks;
+use crate::index::Indexed;
 use crate::quirk::Quirk;
 use crate::sheets::set;
 use fw_base::NoMemory;
@@ -17,7 +18,7 @@ use std::marker::Model;
 /// The quirks of the files that were read, in reading order. Contracts see their list.
 #[derive(Drop)]
 pub struct QuirkBook {
-    files: Vec<FileQuirks>,
+    files: Vec<Indexed>,
 }
 
 impl Model for QuirkBook {
@@ -42,16 +43,17 @@ impl QuirkBook {
 
     /// Reads a quirk file: its quirks come behind those that are there. A fault leaves the book as it
     /// was. The file is split at newlines, and a carriage return at the end of a line is dropped.
+    #[tactic(auto, using(crate::proofs::Loops::pieces_more))]
     pub fn read_file(&mut self, alloc: Global, bytes: &[u8]) -> Result<(), QuirkFault>
         ensures read { OnOk result (self.new ≡ self.old ++ file_quirks bytes.now) }
         ensures sound { OnOk result (file_fault bytes.now ≡ None) }
         ensures unchanged { OnErr result (self.new ≡ self.old) }
         ensures refused { IfErr result (λ fault. (fault ≡ QuirkFault.NoMemory) ⊎ (file_fault bytes.now ≡ Some fault)) }
     {
-        let file = FileQuirks::read(alloc, bytes)?;
-        match self.files.push(file) {
+        let file = read_indexed(alloc, bytes)?;
+        match push_file(&mut self.files, file) {
             Ok(()) => Ok(()),
-            Err(_) => Err(QuirkFault::NoMemory),
+            Err(NoMemory) => Err(QuirkFault::NoMemory),
         }
     }
 
@@ -63,9 +65,32 @@ impl QuirkBook {
     {
         let guids = guids_of_sheet(alloc, sheet)?;
         let mut quirks = Vec::new(alloc);
-        push_for(&self.files, &guids, &mut quirks)?;
+        push_for(alloc, &self.files, &guids, &mut quirks)?;
         set(alloc, sheet, &quirks)
     }
+}
+
+// The quirks of a file with their index, or its first fault.
+fn read_indexed(alloc: Global, bytes: &[u8]) -> Result<Indexed, QuirkFault>
+    ensures read { IfOk result (λ file. file ≡ file_quirks bytes.now) }
+    ensures sound { OnOk result (file_fault bytes.now ≡ None) }
+    ensures refused { IfErr result (λ fault. (fault ≡ QuirkFault.NoMemory) ⊎ (file_fault bytes.now ≡ Some fault)) }
+{
+    match FileQuirks::read(alloc, bytes) {
+        Ok(file) => match Indexed::of(alloc, file.into_quirks()) {
+            Ok(indexed) => Ok(indexed),
+            Err(_) => Err(QuirkFault::NoMemory),
+        },
+        Err(fault) => Err(fault),
+    }
+}
+
+fn push_file(files: &mut Vec<Indexed>, file: Indexed) -> Result<(), NoMemory>
+    ensures pushed { OnOk result (files.new.items ≡ files.old.items ++ file ∷ []) }
+    ensures unchanged { OnErr result (files.new.items ≡ files.old.items) }
+{
+    files.push(file)?;
+    Ok(())
 }
 
 fn guids_of_sheet(alloc: Global, sheet: &Sheet) -> Result<Vec<Guid>, NoMemory>
@@ -78,14 +103,15 @@ fn guids_of_sheet(alloc: Global, sheet: &Sheet) -> Result<Vec<Guid>, NoMemory>
 
 // Puts the quirks of the files that are for these GUIDs behind others, in reading order.
 fn push_for<'a>(
-    files: &'a [FileQuirks],
+    alloc: Global,
+    files: &'a [Indexed],
     guids: &[Guid],
     quirks: &mut Vec<&'a Quirk>,
 ) -> Result<(), NoMemory>
     ensures { OnOk result (map (λ quirk. quirk.now) quirks.new.items ≡ map (λ quirk. quirk.now) quirks.old.items ++ filter (is_for guids.now) (flat_map (λ file. file) files.now)) }
 {
     for file in files {
-        file.push_for(guids, quirks)?;
+        file.push_for(alloc, guids, quirks)?;
     }
     Ok(())
 }

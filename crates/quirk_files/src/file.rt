@@ -1,8 +1,7 @@
 //! The quirks of one file.
-ghost use Rattle.std.specs.Prelude.{◌≡◌, ◌≤◌, ◌++◌, ◌⊎◌, ◌∷◌, [], Some, None, length, if◌then◌else◌, filter, map, IfErr, OnOk, IfOk};
+ghost use Rattle.std.specs.Prelude.{◌≡◌, ◌≤◌, ◌++◌, ◌⊎◌, ◌∷◌, [], Some, None, length, map, IfErr, OnOk, IfOk};
 ghost use Rattle.std.specs.Option.{option_to_list};
 ghost use Rattle.quirk_files.specs.Files.{file_fault, file_quirks, first_fault, line_fault, quirk_given, quirks_of, without_return};
-ghost use Rattle.quirk_files.specs.Sheets.{is_for};
 
 use crate::fault::QuirkFault;
 use crate::lines::{form_fault, group_begun, quirk_given, without_return};
@@ -89,38 +88,13 @@ impl FileQuirks {
         Ok(())
     }
 
-    /// Puts the quirks for these GUIDs behind others, in their order.
-    pub fn push_for<'a>(
-        &'a self,
-        guids: &[Guid],
-        quirks: &mut Vec<&'a Quirk>,
-    ) -> Result<(), NoMemory>
-        ensures { OnOk result (map (λ quirk. quirk.now) quirks.new.items ≡ map (λ quirk. quirk.now) quirks.old.items ++ filter (is_for guids.now) self.now) }
+    /// The quirks themselves.
+    pub fn into_quirks(self) -> Vec<Quirk>
+        ensures { result.items ≡ self }
     {
-        push_for(guids, &self.quirks, quirks)
+        let FileQuirks { quirks } = self;
+        quirks
     }
-}
-
-fn push_for<'a>(
-    guids: &[Guid],
-    all: &'a [Quirk],
-    quirks: &mut Vec<&'a Quirk>,
-) -> Result<(), NoMemory>
-    ensures { OnOk result (map (λ quirk. quirk.now) quirks.new.items ≡ map (λ quirk. quirk.now) quirks.old.items ++ filter (is_for guids.now) all.now) }
-{
-    for quirk in all {
-        push_if(is_for(guids, quirk), quirk, quirks)?;
-    }
-    Ok(())
-}
-
-fn push_if<'a>(wanted: bool, quirk: &'a Quirk, quirks: &mut Vec<&'a Quirk>) -> Result<(), NoMemory>
-    ensures { OnOk result (map (λ quirk. quirk.now) quirks.new.items ≡ map (λ quirk. quirk.now) quirks.old.items ++ (if wanted then quirk.now ∷ [] else [])) }
-{
-    if wanted {
-        quirks.push(quirk)?;
-    }
-    Ok(())
 }
 
 fn line_fault(in_group: bool, number: u32, line: &[u8]) -> Option<QuirkFault>
@@ -131,10 +105,4 @@ fn line_fault(in_group: bool, number: u32, line: &[u8]) -> Option<QuirkFault>
     } else {
         Some(QuirkFault::NotText { line: number })
     }
-}
-
-fn is_for(guids: &[Guid], quirk: &Quirk) -> bool
-    ensures { result ≡ is_for guids.now quirk.now }
-{
-    guids.contains(&quirk.group)
 }

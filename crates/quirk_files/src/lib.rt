@@ -8,6 +8,7 @@ pub mod book;
 pub mod changes;
 pub mod fault;
 pub mod file;
+pub mod index;
 pub mod key;
 pub mod lines;
 pub mod quirk;
