@@ -6,7 +6,6 @@ use Rattle.device_list.specs.Lists.{place}
 use Rattle.fw_facts.specs.Views.{guids_of}
 use Rattle.fw_facts.specs.declared.release.Component.{Component}
 use Rattle.fw_facts.specs.declared.view.DeviceView.{DeviceView}
-use Rattle.history_keeper.specs.Histories.{is_unsettled}
 use Rattle.history_keeper.specs.declared.row.Row.{Row}
 use Rattle.release_catalogue.specs.Lookup.{Chosen, all_releases, chosen, provides}
 use Rattle.release_catalogue.specs.declared.reference.ReleaseRef.{ReleaseRef}

@@ -24,7 +24,6 @@ use Rattle.update_log.specs.Once.{AtTaking, BoardState, FitsPast, HasDigest, IsT
 use Rattle.update_log.specs.Pasts.{is_keeper_fault, time_of}
 use Rattle.update_log.specs.Shows.{Campaign, digest_of, marks, told, told_by}
 use Rattle.update_log.specs.Steps.{judge, trace}
-use Rattle.update_log.specs.WorkedAnswers.{waiting}
 use Rattle.update_log.specs.declared.answer.ResumeAnswer.{ResumeAnswer}
 use Rattle.update_log.specs.declared.event.Back.{Back}
 use Rattle.update_log.specs.declared.event.Event.{Event}

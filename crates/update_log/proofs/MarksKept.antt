@@ -15,11 +15,10 @@ use Rattle.update_log.proofs.StepsKept.{OpenKept, StepsKept, not-fresh, open-sta
 use Rattle.update_log.proofs.StrokeFacts.{writes}
 use Rattle.update_log.proofs.TakenKept.{Taken, TakenKept, goes_on-grows}
 use Rattle.update_log.specs.Holding.{open_steps}
-use Rattle.update_log.specs.Known.{board_of, is_board_of, known, row_of, rows, seen}
+use Rattle.update_log.specs.Known.{board_of, is_board_of, row_of, rows, seen}
 use Rattle.update_log.specs.Legal.{BoardListed, BootAllowed, EndAllowed, open_marks, open_on}
 use Rattle.update_log.specs.Once.{AfterStart, HasDigest, Stroke, entry_named, how_many, is_like, is_write, starts_write, strokes}
 use Rattle.update_log.specs.Shows.{Campaign, IsPrefix, digest_of, marks, told, told_by, untold_of}
-use Rattle.update_log.specs.Verdicts.{kept}
 use Rattle.update_log.specs.declared.event.BoardSeen.{BoardSeen}
 use Rattle.update_log.specs.declared.event.Event.{Event}
 use Rattle.update_log.specs.declared.event.Found.{Found}

@@ -22,12 +22,12 @@ use Rattle.update_log.proofs.Rows.{accepted-claim, changed-grows, rows_by-refuse
 use Rattle.update_log.proofs.RowsKept.{GoesOn, NextChange, RowsKept, claim-not_kept, fixed, fixed_row, goes_on-fixed, no-tag, not_kept, row_of-past, schedule-not_kept, with_state-fixed}
 use Rattle.update_log.proofs.StrokeFacts.{and-true}
 use Rattle.update_log.specs.Holding.{blocks_fetched, blocks_fetched_if, held, holds, live, request_held}
-use Rattle.update_log.specs.Known.{Fate, Target, doubt, fate, fate_stored, known, new_row, reason_of, refusal_number, row_of, row_with_tag, rows, rows_by, rows_found, seen, target, views}
+use Rattle.update_log.specs.Known.{Fate, Target, doubt, fate_stored, new_row, reason_of, refusal_number, row_of, row_with_tag, rows, rows_by, rows_found, seen, target, views}
 use Rattle.update_log.specs.Legal.{ClaimAllowed, ResumeAllowed, ResumeAnswered, ResumeFetched, ScheduleAllowed, ScheduleAnswered, StartAllowed, is_fetched, is_whole, next_entry}
 use Rattle.update_log.specs.Once.{AtTaking, TakenBy, accepted, accepts, how_many, is_pending, is_pending_row, strokes, takes}
 use Rattle.update_log.specs.Pasts.{is_keeper_fault, time_of}
 use Rattle.update_log.specs.Shows.{told}
-use Rattle.update_log.specs.Verdicts.{Case, case_of, first_unmet_for, has, verdict}
+use Rattle.update_log.specs.Verdicts.{Case, case_of, first_unmet_for, verdict}
 use Rattle.update_log.specs.declared.answer.ClaimAnswer.{ClaimAnswer}
 use Rattle.update_log.specs.declared.answer.ResumeAnswer.{ResumeAnswer}
 use Rattle.update_log.specs.declared.decision.Decision.{Decision}
