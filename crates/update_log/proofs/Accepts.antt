@@ -84,12 +84,15 @@ accepts-target c device blocks release h = at-kept (kept c) h
     at-release t e true i g =
         (t, record { found = e; that = i; none = none-refuses c t (or-accept (first_refusal (refusals c t)) t.place (need t) device blocks t.chosen.at release g) })
     at-release t e false i g = cc
+
     at-target : (o : Option Target) → target c.facts c.views c.request ≡ o → on_found c o ≡ Decision.Accept device release blocks → (t : Target) × HasTarget c t
     at-target None e g = cc
     at-target (Some t) e g = at-release t e (is_that_release c t.chosen) refl g
+
     at-present : (o : Option ℕ) → on_present c o ≡ Decision.Accept device release blocks → (t : Target) × HasTarget c t
     at-present None g = cc
     at-present (Some at) g = at-target (target c.facts c.views c.request) refl g
+
     at-kept : (o : Option Row) → on_kept c o ≡ Decision.Accept device release blocks → (t : Target) × HasTarget c t
     at-kept None g = at-present (present c) g
     at-kept (Some row) g = cc
@@ -103,8 +106,8 @@ find-filtered p q [] x h = cc
 find-filtered p q (y ∷ ys) x h =
     by_test (q y) _
     (λ t. by_test (p y) _
-        (λ u. let e : Some y ≡ Some x = rw (t, u) at h in ap q (sym (some-same y x e)) ∙ t)
-        (λ u. find-filtered p q ys x (rw (t, u) at h)))
+    (λ u. let e : Some y ≡ Some x = rw (t, u) at h in ap q (sym (some-same y x e)) ∙ t)
+    (λ u. find-filtered p q ys x (rw (t, u) at h)))
     (λ t. find-filtered p q ys x (rw t at h))
 
 -- The component of a release that was chosen provides a GUID of the list.
@@ -122,10 +125,12 @@ target-matches facts views request t h = at (place request.device views) h
     at-chosen place view (Some c) e g =
         let same : record { place = place; view = view; chosen = c } ≡ t = some-same (record { place = place; view = view; chosen = c }) t g in
         ap (λ (u : Target). provides (guids_of u.view) u.chosen.component) (sym same)
-            ∙ chosen-provides facts.catalogue (guids_of view) request.version c e
+        ∙ chosen-provides facts.catalogue (guids_of view) request.version c e
+
     at-view : (place : ℕ) (o : Option DeviceView) → option_and_then (target_of facts request.version place) o ≡ Some t → provides (guids_of t.view) t.chosen.component ≡ true
     at-view place None g = cc
     at-view place (Some view) g = at-chosen place view (chosen facts.catalogue (guids_of view) request.version) refl g
+
     at : (o : Option ℕ) → option_and_then (target_at facts views request.version) o ≡ Some t → provides (guids_of t.view) t.chosen.component ≡ true
     at None g = cc
     at (Some place) g = at-view place (slice_get views place) g

@@ -84,33 +84,39 @@ come-alike c opening past g f e h = subst (MayCome c opening past) (some-same g 
 pub faulted-allowed : (c : Campaign) (opening : List Row) (past : List Event) (event f : Event) → faulted event ≡ Some f → BootTakes past event → Allowed c opening past event → MayCome c opening past f
 faulted-allowed c opening past (Event.Claim client request fetched (ClaimAnswer.Entry entry)) f e b a =
     let w = a.1 in
-    come-alike c opening past (Event.Claim client request fetched (ClaimAnswer.Refused Refusal.KeeperFault)) f e
-    (takes-alike past (Event.Claim client request fetched (ClaimAnswer.Entry entry)) _ b refl refl,
-     (a.0, record { held_is = w.held_is; request_is = w.request_is; pending = w.pending; answer_is = claim-faulted fetched _ _ _ entry w.answer_is }))
+    come-alike c opening past (Event.Claim client request fetched (ClaimAnswer.Refused Refusal.KeeperFault)) f e (
+      takes-alike past (Event.Claim client request fetched (ClaimAnswer.Entry entry)) _ b refl refl,
+      (a.0, record { held_is = w.held_is; request_is = w.request_is; pending = w.pending; answer_is = claim-faulted fetched _ _ _ entry w.answer_is }),
+    )
 faulted-allowed c opening past (Event.Schedule client request (ClaimAnswer.Entry entry)) f e b a =
-    come-alike c opening past (Event.Schedule client request (ClaimAnswer.Refused Refusal.KeeperFault)) f e
-    (takes-alike past (Event.Schedule client request (ClaimAnswer.Entry entry)) _ b refl refl,
-     record { free = a.free; answer_is = schedule-faulted _ _ entry a.answer_is })
+    come-alike c opening past (Event.Schedule client request (ClaimAnswer.Refused Refusal.KeeperFault)) f e (
+      takes-alike past (Event.Schedule client request (ClaimAnswer.Entry entry)) _ b refl refl,
+      record { free = a.free; answer_is = schedule-faulted _ _ entry a.answer_is },
+    )
 faulted-allowed c opening past (Event.Resume client entry fetched ResumeAnswer.Begun stored) f e b a =
     let w = a.1 in
-    come-alike c opening past (Event.Resume client entry fetched (ResumeAnswer.Refused Refusal.KeeperFault) Stored.Fault) f e
-    (takes-alike past (Event.Resume client entry fetched ResumeAnswer.Begun stored) _ b refl refl,
-     (a.0, record { client_is = w.client_is; row_is = w.row_is; pending = w.pending; fetched_is = fetched-faulted c.facts opening past entry fetched w.fetched_is; stored_is = refl }))
+    come-alike c opening past (Event.Resume client entry fetched (ResumeAnswer.Refused Refusal.KeeperFault) Stored.Fault) f e (
+      takes-alike past (Event.Resume client entry fetched ResumeAnswer.Begun stored) _ b refl refl,
+      (a.0, record { client_is = w.client_is; row_is = w.row_is; pending = w.pending; fetched_is = fetched-faulted c.facts opening past entry fetched w.fetched_is; stored_is = refl }),
+    )
 faulted-allowed c opening past (Event.Resume client entry fetched (ResumeAnswer.Refused refusal) Stored.Yes) f e b a =
     let w = a.1 in
-    come-alike c opening past (Event.Resume client entry fetched (ResumeAnswer.Refused refusal) Stored.Fault) f e
-    (takes-alike past (Event.Resume client entry fetched (ResumeAnswer.Refused refusal) Stored.Yes) _ b refl refl,
-     (a.0, record { client_is = w.client_is; row_is = w.row_is; pending = w.pending; fetched_is = w.fetched_is; stored_is = stored-faulted refusal w.stored_is }))
+    come-alike c opening past (Event.Resume client entry fetched (ResumeAnswer.Refused refusal) Stored.Fault) f e (
+      takes-alike past (Event.Resume client entry fetched (ResumeAnswer.Refused refusal) Stored.Yes) _ b refl refl,
+      (a.0, record { client_is = w.client_is; row_is = w.row_is; pending = w.pending; fetched_is = w.fetched_is; stored_is = stored-faulted refusal w.stored_is }),
+    )
 faulted-allowed c opening past (Event.Finish client entry state Stored.Yes) f e b a =
     let w = a.2 in
-    come-alike c opening past (Event.Finish client entry state Stored.Fault) f e
-    (takes-alike past (Event.Finish client entry state Stored.Yes) _ b refl refl,
-     (a.0, a.1, record { live = w.live; client_is = w.client_is; open_none = w.open_none; done = w.done; closing = w.closing; state_is = w.state_is; unchanged = unchanged-faulted a.1 w.unchanged }))
+    come-alike c opening past (Event.Finish client entry state Stored.Fault) f e (
+      takes-alike past (Event.Finish client entry state Stored.Yes) _ b refl refl,
+      (a.0, a.1, record { live = w.live; client_is = w.client_is; open_none = w.open_none; done = w.done; closing = w.closing; state_is = w.state_is; unchanged = unchanged-faulted a.1 w.unchanged }),
+    )
 faulted-allowed c opening past (Event.Judge client entry version state Stored.Yes) f e b a =
     let w = a.2 in
-    come-alike c opening past (Event.Judge client entry version state Stored.Fault) f e
-    (takes-alike past (Event.Judge client entry version state Stored.Yes) _ b refl refl,
-     (a.0, a.1, record { row_is = w.row_is; waits = w.waits; device = w.device; home = w.home; version_is = w.version_is; state_is = w.state_is; stored_is = inr refl }))
+    come-alike c opening past (Event.Judge client entry version state Stored.Fault) f e (
+      takes-alike past (Event.Judge client entry version state Stored.Yes) _ b refl refl,
+      (a.0, a.1, record { row_is = w.row_is; waits = w.waits; device = w.device; home = w.home; version_is = w.version_is; state_is = w.state_is; stored_is = inr refl }),
+    )
 faulted-allowed c opening past _ f e b a = cc
 
 pub crash-legal : (c : Campaign) (opening : List Row) (past crashed : List Event) → IsLegal c opening past → LeftOf past crashed → IsLegal c opening crashed
@@ -131,17 +137,21 @@ get-alike (x' ∷ xs) (y ∷ ys) (suc i) x l h = get-alike xs ys i x (omega arit
 
 -- The boot after a crash is allowed, in a campaign that has its plan.
 pub next-allowed : (c : Campaign) (opening : List Row) (past : List Event) (plan : BootPlan) (states : List BoardState) (found : Found) (boards : List BoardSeen) → slice_get c.plans (boots past) ≡ Some plan → FitsPast c.facts c.first opening past states → IsNextBoot c.facts c.first opening past plan states found boards → MayCome c opening past (next_boot past plan found boards)
-next-allowed c opening past plan states found boards planned fits n =
-    (record { booted = λ h. cc; on = λ h. cc; below = λ h. cc },
-     (plan, record {
-         number_is = refl;
-         planned = planned;
-         time_is = refl;
-         limit_is = refl;
-         count = n.count;
-         listed = λ board b e. listed board b e;
-         found_is = n.found_is;
-     }))
+next-allowed c opening past plan states found boards planned fits n = (
+  record { booted = λ h. cc; on = λ h. cc; below = λ h. cc },
+  (
+    plan,
+    record {
+      number_is = refl;
+      planned = planned;
+      time_is = refl;
+      limit_is = refl;
+      count = n.count;
+      listed = λ board b e. listed board b e;
+      found_is = n.found_is;
+    },
+  ),
+)
   where
     listed : (board : ℕ) (b : BoardSeen) → slice_get boards board ≡ Some b → BoardListed c.facts c.first opening past plan board b
     listed board b e =
@@ -200,11 +210,12 @@ BootSafe c opening past event states = IsLegal c opening (event ∷ past) × Onc
 pub boot-safe : (c : Campaign) (opening : List Row) (past : List Event) (plan : BootPlan) (states : List BoardState) (found : Found) (boards : List BoardSeen) → IsHistory opening → IsLegal c opening past → slice_get c.plans (boots past) ≡ Some plan → FitsPast c.facts c.first opening past states → IsNextBoot c.facts c.first opening past plan states found boards → BootSafe c opening past (next_boot past plan found boards) states
 boot-safe c opening past plan states found boards valid legal planned fits n =
     let a = next-allowed c opening past plan states found boards planned fits n in
-    let after : IsLegal c opening (next_boot past plan found boards ∷ past) = (legal, a.0, a.1) in
-    (after,
-     past-once c.facts opening (next_boot past plan found boards ∷ past) states
-     (past-kept c opening (next_boot past plan found boards ∷ past) valid after)
-     (next-fits c.facts c.first opening past plan states found boards fits n))
+    let after : IsLegal c opening (next_boot past plan found boards ∷ past) = (legal, a.0, a.1) in (
+      after,
+      past-once c.facts opening (next_boot past plan found boards ∷ past) states
+          (past-kept c opening (next_boot past plan found boards ∷ past) valid after)
+          (next-fits c.facts c.first opening past plan states found boards fits n),
+    )
 
 pub next-safe : (c after : Campaign) (opening : List Row) (past : List Event) (plan : BootPlan) (states : List BoardState) (found : Found) (boards : List BoardSeen) → IsHistory opening → IsLegal c opening past → FitsPast c.facts c.first opening past states → NextCampaign c past plan after → IsNextBoot c.facts c.first opening past plan states found boards → BootSafe after opening past (next_boot past plan found boards) states
 next-safe c after opening past plan states found boards valid legal fits (inl (planned, same)) n =
@@ -213,16 +224,16 @@ next-safe c after opening past plan states found boards valid legal fits (inl (p
 next-safe c after opening past plan states found boards valid legal fits (inr (count, same)) n =
     subst (λ (x : Campaign). BootSafe x opening past (next_boot past plan found boards) states) (sym same)
     (boot-safe (planned_on c plan) opening past plan states found boards valid (legal-on c plan opening past legal)
-        (ap (slice_get (c.plans ++ plan ∷ [])) (sym count) ∙ get-last c.plans plan) fits n)
+    (ap (slice_get (c.plans ++ plan ∷ [])) (sym count) ∙ get-last c.plans plan) fits n)
 
 pub crash-safe : (c : Campaign) (opening : List Row) (log crashed : List Event) → IsHistory opening → Legal c opening log → CrashOf log crashed → IsSafeCrash c opening crashed
 crash-safe c opening log crashed valid legal crash =
     let left : IsLegal c opening (past_of crashed) = crash-legal c opening (past_of log) (past_of crashed) legal crash in
     record {
-        legal = left;
-        boots = λ states plan after found boards fits next n.
-            let boot : Event = next_boot (past_of crashed) plan found boards in
-            let safe = next-safe c after opening (past_of crashed) plan states found boards valid left fits next n in
-            let push : past_of (crashed ++ boot ∷ []) ≡ boot ∷ past_of crashed = past-push crashed boot in
-            (subst (IsLegal after opening) (sym push) safe.0, subst (λ past. OncePast after.facts opening past states) (sym push) safe.1);
+      legal = left;
+      boots = λ states plan after found boards fits next n.
+          let boot : Event = next_boot (past_of crashed) plan found boards in
+          let safe = next-safe c after opening (past_of crashed) plan states found boards valid left fits next n in
+          let push : past_of (crashed ++ boot ∷ []) ≡ boot ∷ past_of crashed = past-push crashed boot in
+          (subst (IsLegal after opening) (sym push) safe.0, subst (λ past. OncePast after.facts opening past states) (sym push) safe.1);
     }

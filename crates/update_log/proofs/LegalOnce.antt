@@ -53,11 +53,11 @@ started-some past entry op rest e = λ n. not-fresh (strokes entry past) op rest
 pub past-quiet : (facts : Facts) (opening : List Row) (past : List Event) (event : Event) → PastKept facts opening past → RowsStep facts opening past event → rows facts opening (event ∷ past) ≡ rows facts opening past → ((e : ℕ) → strokes e (event ∷ past) ≡ strokes e past) → open_steps (event ∷ past) ≡ open_steps past → ((e : ℕ) → trace facts opening e (event ∷ past) ≡ trace facts opening e past) → ((P : LiveEntry → Type 0) → AllByRecursion P (live past) → AllByRecursion P (live (event ∷ past))) → ((e : ℕ) → takes e event ≡ false) → ((e : ℕ) → accepts e (doubt facts opening past) event ≡ false) → ((board : ℕ) → told_by facts (rows facts opening past) event board ≡ []) → PastKept facts opening (event ∷ past)
 past-quiet facts opening past event k r same s o t l tk ac tell =
     record {
-        rows_kept = r.kept;
-        steps = steps-quiet facts opening past event k.steps (omega (arith, ap length same)) s o t (l _ k.steps.live_is);
-        taken = taken-quiet facts opening past event k.taken r.goes_on tk (λ e _. ac e) (λ e _. ac e) (inr (l _ k.taken.live_taken)) (λ e. begins e (k.taken.begun e));
-        waiting = waiting-same facts opening past event k.waiting k.rows_kept.valid.entries same (λ e _. tk e) (λ e _. ac e);
-        marks = marks-quiet facts opening past event k.marks r.goes_on s tell o;
+      rows_kept = r.kept;
+      steps = steps-quiet facts opening past event k.steps (omega (arith, ap length same)) s o t (l _ k.steps.live_is);
+      taken = taken-quiet facts opening past event k.taken r.goes_on tk (λ e _. ac e) (λ e _. ac e) (inr (l _ k.taken.live_taken)) (λ e. begins e (k.taken.begun e));
+      waiting = waiting-same facts opening past event k.waiting k.rows_kept.valid.entries same (λ e _. tk e) (λ e _. ac e);
+      marks = marks-quiet facts opening past event k.marks r.goes_on s tell o;
     }
   where
     begins : (e : ℕ) → (strokes e past ≡ []) ⊎ Taken facts opening past e → (strokes e (event ∷ past) ≡ []) ⊎ Taken facts opening past e
@@ -68,11 +68,11 @@ past-quiet facts opening past event k r same s o t l tk ac tell =
 pub past-advanced : (facts : Facts) (opening : List Row) (past : List Event) (event : Event) (fate : Fate) (entry : ℕ) (state : RowState) (reason time : ℕ) → PastKept facts opening past → RowsStep facts opening past event → rows facts opening (event ∷ past) ≡ rows_by fate (Some (Change.Advance entry state reason time)) (rows facts opening past) → is_pending state ≡ false → ((e : ℕ) → strokes e (event ∷ past) ≡ strokes e past) → open_steps (event ∷ past) ≡ open_steps past → ((e : ℕ) → trace facts opening e (event ∷ past) ≡ trace facts opening e past) → ((P : LiveEntry → Type 0) → AllByRecursion P (live past) → AllByRecursion P (live (event ∷ past))) → ((e : ℕ) → takes e event ≡ false) → ((e : ℕ) → accepts e (doubt facts opening past) event ≡ false) → ((board : ℕ) → told_by facts (rows facts opening past) event board ≡ []) → PastKept facts opening (event ∷ past)
 past-advanced facts opening past event fate entry state reason time k r rows_are n s o t l tk ac tell =
     record {
-        rows_kept = r.kept;
-        steps = steps-quiet facts opening past event k.steps (goes_on-grows (rows facts opening past) (rows facts opening (event ∷ past)) r.goes_on) s o t (l _ k.steps.live_is);
-        taken = taken-quiet facts opening past event k.taken r.goes_on tk (λ e _. ac e) (λ e _. ac e) (inr (l _ k.taken.live_taken)) (λ e. begins e (k.taken.begun e));
-        waiting = waiting-advanced facts opening past event fate entry state reason time k.waiting k.taken k.rows_kept.valid.entries rows_are n tk ac;
-        marks = marks-quiet facts opening past event k.marks r.goes_on s tell o;
+      rows_kept = r.kept;
+      steps = steps-quiet facts opening past event k.steps (goes_on-grows (rows facts opening past) (rows facts opening (event ∷ past)) r.goes_on) s o t (l _ k.steps.live_is);
+      taken = taken-quiet facts opening past event k.taken r.goes_on tk (λ e _. ac e) (λ e _. ac e) (inr (l _ k.taken.live_taken)) (λ e. begins e (k.taken.begun e));
+      waiting = waiting-advanced facts opening past event fate entry state reason time k.waiting k.taken k.rows_kept.valid.entries rows_are n tk ac;
+      marks = marks-quiet facts opening past event k.marks r.goes_on s tell o;
     }
   where
     begins : (e : ℕ) → (strokes e past ≡ []) ⊎ Taken facts opening past e → (strokes e (event ∷ past) ≡ []) ⊎ Taken facts opening past e
@@ -94,22 +94,22 @@ past-resume facts opening past client entry fetched ResumeAnswer.Begun stored ro
     let pending : is_pending row.state ≡ true = (let p : row.state ≡ RowState.Pending = a.pending in rw p refl) in
     let none : how_many (takes entry) past ≡ 0 = k.waiting.untaken entry row a.row_is pending in
     record {
-        rows_kept = r.kept;
-        steps = steps-resumed facts opening past client entry fetched stored k.steps
-            (goes_on-grows (rows facts opening past) _ r.goes_on)
-            (row_of-known (rows facts opening past) entry row k.rows_kept.valid.entries a.row_is)
-            (untaken-unstarted facts opening past entry none (k.taken.begun entry))
-            (live-others facts opening past entry none k.taken.live_taken);
-        taken = taken-resume facts opening past client entry fetched ResumeAnswer.Begun stored row k.rows_kept k.taken k.waiting r.goes_on a;
-        waiting = waiting-resume facts opening past client entry fetched ResumeAnswer.Begun stored row k.rows_kept k.taken k.waiting a;
-        marks = marks-quiet facts opening past (Event.Resume client entry fetched ResumeAnswer.Begun stored) k.marks r.goes_on (λ e. refl) (λ board. refl) refl;
+      rows_kept = r.kept;
+      steps = steps-resumed facts opening past client entry fetched stored k.steps
+          (goes_on-grows (rows facts opening past) _ r.goes_on)
+          (row_of-known (rows facts opening past) entry row k.rows_kept.valid.entries a.row_is)
+          (untaken-unstarted facts opening past entry none (k.taken.begun entry))
+          (live-others facts opening past entry none k.taken.live_taken);
+      taken = taken-resume facts opening past client entry fetched ResumeAnswer.Begun stored row k.rows_kept k.taken k.waiting r.goes_on a;
+      waiting = waiting-resume facts opening past client entry fetched ResumeAnswer.Begun stored row k.rows_kept k.taken k.waiting a;
+      marks = marks-quiet facts opening past (Event.Resume client entry fetched ResumeAnswer.Begun stored) k.marks r.goes_on (λ e. refl) (λ board. refl) refl;
     }
 past-resume facts opening past client entry fetched (ResumeAnswer.Refused refusal) stored row k r a =
     by_test (is_keeper_fault refusal) _
     (λ t. past-advanced facts opening past event (fate_stored stored) entry RowState.Begun (reason_of (rows facts opening past) entry) (time_of past) k r (rw t refl)
-        refl (λ e. refl) refl (λ e. refl) (λ P h. h) (λ e. refl) (λ e. refl) (λ board. refl))
+    refl (λ e. refl) refl (λ e. refl) (λ P h. h) (λ e. refl) (λ e. refl) (λ board. refl))
     (λ t. past-advanced facts opening past event (fate_stored stored) entry RowState.Failed (refusal_number refusal) (time_of past) k r (rw t refl)
-        refl (λ e. refl) refl (λ e. refl) (λ P h. h) (λ e. refl) (λ e. refl) (λ board. refl))
+    refl (λ e. refl) refl (λ e. refl) (λ P h. h) (λ e. refl) (λ e. refl) (λ board. refl))
   where
     event : Event
     event = Event.Resume client entry fetched (ResumeAnswer.Refused refusal) stored
@@ -126,11 +126,11 @@ pub past-step : (c : Campaign) (opening : List Row) (past : List Event) (event :
 past-step c opening past (Event.Boot number time limit found boards) k b a =
     let r = rows-step c opening past (Event.Boot number time limit found boards) k.rows_kept b a in
     record {
-        rows_kept = r.kept;
-        steps = steps-boot c.facts opening past number time limit found boards k.steps;
-        taken = taken-boot c.facts opening past number time limit found boards k.rows_kept k.taken r.goes_on;
-        waiting = waiting-boot c.facts opening past number time limit found boards k.rows_kept k.taken k.waiting;
-        marks = marks-boot c opening past number time limit found boards a.0 k.steps k.taken k.marks r.goes_on a.1;
+      rows_kept = r.kept;
+      steps = steps-boot c.facts opening past number time limit found boards k.steps;
+      taken = taken-boot c.facts opening past number time limit found boards k.rows_kept k.taken r.goes_on;
+      waiting = waiting-boot c.facts opening past number time limit found boards k.rows_kept k.taken k.waiting;
+      marks = marks-boot c opening past number time limit found boards a.0 k.steps k.taken k.marks r.goes_on a.1;
     }
 past-step c opening past (Event.Query client query) k b a =
     past-quiet c.facts opening past (Event.Query client query) k (rows-step c opening past (Event.Query client query) k.rows_kept b a) refl (λ e. refl) refl (λ e. refl) (λ P h. h) (λ e. refl) (λ e. refl) (λ board. refl)
@@ -139,41 +139,41 @@ past-step c opening past (Event.Ask client request pending answer) k b a =
 past-step c opening past (Event.Claim client request fetched answer) k b a =
     let r = rows-step c opening past (Event.Claim client request fetched answer) k.rows_kept b a in
     record {
-        rows_kept = r.kept;
-        steps = steps-claim c.facts opening past client request fetched answer a.0 k.steps a.1;
-        taken = taken-claim c.facts opening past client request fetched answer a.0 k.rows_kept k.taken r.goes_on a.1;
-        waiting = waiting-claim c.facts opening past client request fetched answer a.0 k.rows_kept k.taken k.waiting a.1;
-        marks = marks-quiet c.facts opening past (Event.Claim client request fetched answer) k.marks r.goes_on (λ e. refl) (λ board. refl) refl;
+      rows_kept = r.kept;
+      steps = steps-claim c.facts opening past client request fetched answer a.0 k.steps a.1;
+      taken = taken-claim c.facts opening past client request fetched answer a.0 k.rows_kept k.taken r.goes_on a.1;
+      waiting = waiting-claim c.facts opening past client request fetched answer a.0 k.rows_kept k.taken k.waiting a.1;
+      marks = marks-quiet c.facts opening past (Event.Claim client request fetched answer) k.marks r.goes_on (λ e. refl) (λ board. refl) refl;
     }
 past-step c opening past (Event.Schedule client request answer) k b a =
     let r = rows-step c opening past (Event.Schedule client request answer) k.rows_kept b a in
     record {
-        rows_kept = r.kept;
-        steps = steps-quiet c.facts opening past (Event.Schedule client request answer) k.steps (goes_on-grows (rows c.facts opening past) _ r.goes_on) (λ e. refl) refl (λ e. refl) k.steps.live_is;
-        taken = taken-schedule c.facts opening past client request answer k.taken r.goes_on a;
-        waiting = waiting-schedule c.facts opening past client request answer k.rows_kept k.taken k.waiting a;
-        marks = marks-quiet c.facts opening past (Event.Schedule client request answer) k.marks r.goes_on (λ e. refl) (λ board. refl) refl;
+      rows_kept = r.kept;
+      steps = steps-quiet c.facts opening past (Event.Schedule client request answer) k.steps (goes_on-grows (rows c.facts opening past) _ r.goes_on) (λ e. refl) refl (λ e. refl) k.steps.live_is;
+      taken = taken-schedule c.facts opening past client request answer k.taken r.goes_on a;
+      waiting = waiting-schedule c.facts opening past client request answer k.rows_kept k.taken k.waiting a;
+      marks = marks-quiet c.facts opening past (Event.Schedule client request answer) k.marks r.goes_on (λ e. refl) (λ board. refl) refl;
     }
 past-step c opening past (Event.Resume client entry fetched answer stored) k b a =
     past-resume c.facts opening past client entry fetched answer stored a.0 k (rows-step c opening past (Event.Resume client entry fetched answer stored) k.rows_kept b a) a.1
 past-step c opening past (Event.Start client entry op) k b a =
     let r = rows-step c opening past (Event.Start client entry op) k.rows_kept b a in
     record {
-        rows_kept = r.kept;
-        steps = steps-start c.facts opening past client entry op a.0 k.steps a.1;
-        taken = taken-start c.facts opening past client entry op a.0 k.taken a.1;
-        waiting = waiting-same c.facts opening past (Event.Start client entry op) k.waiting k.rows_kept.valid.entries refl (λ e _. refl) (λ e _. refl);
-        marks = marks-start c.facts opening past client entry op k.marks;
+      rows_kept = r.kept;
+      steps = steps-start c.facts opening past client entry op a.0 k.steps a.1;
+      taken = taken-start c.facts opening past client entry op a.0 k.taken a.1;
+      waiting = waiting-same c.facts opening past (Event.Start client entry op) k.waiting k.rows_kept.valid.entries refl (λ e _. refl) (λ e _. refl);
+      marks = marks-start c.facts opening past client entry op k.marks;
     }
 past-step c opening past (Event.End client entry op outcome told seen) k b a =
     let r = rows-step c opening past (Event.End client entry op outcome told seen) k.rows_kept b a in
     let st = open-started past entry (record { client = client; entry = entry; op = op }) k.steps.open_are a.open_is in
     record {
-        rows_kept = r.kept;
-        steps = steps-end c opening past client entry op outcome told seen k.steps a;
-        taken = taken-end c.facts opening past client entry op outcome told seen k.taken (started-some past entry op st.0 st.1);
-        waiting = waiting-same c.facts opening past (Event.End client entry op outcome told seen) k.waiting k.rows_kept.valid.entries refl (λ e _. refl) (λ e _. refl);
-        marks = marks-end c opening past client entry op outcome told seen k.steps k.taken k.marks a;
+      rows_kept = r.kept;
+      steps = steps-end c opening past client entry op outcome told seen k.steps a;
+      taken = taken-end c.facts opening past client entry op outcome told seen k.taken (started-some past entry op st.0 st.1);
+      waiting = waiting-same c.facts opening past (Event.End client entry op outcome told seen) k.waiting k.rows_kept.valid.entries refl (λ e _. refl) (λ e _. refl);
+      marks = marks-end c opening past client entry op outcome told seen k.steps k.taken k.marks a;
     }
 past-step c opening past (Event.Finish client entry state stored) k b a =
     past-advanced c.facts opening past (Event.Finish client entry state stored) (fate_stored stored) entry state (reason_of (rows c.facts opening past) entry) (time_of past) k (rows-step c opening past (Event.Finish client entry state stored) k.rows_kept b a) refl
@@ -195,11 +195,11 @@ past-step c opening past Event.Cut k b a =
 pub past-kept : (c : Campaign) (opening : List Row) (past : List Event) → IsHistory opening → IsLegal c opening past → PastKept c.facts opening past
 past-kept c opening [] valid legal =
     record {
-        rows_kept = record { valid = record { entries = entries-from 1 opening valid.entries; tags = distinct-tags opening valid.tags }; doubt_next = tt; doubt_off = λ _. refl };
-        steps = steps-none c.facts opening;
-        taken = taken-none c.facts opening (entries-from 1 opening valid.entries);
-        waiting = waiting-none c.facts opening (entries-from 1 opening valid.entries);
-        marks = marks-none c.facts opening;
+      rows_kept = record { valid = record { entries = entries-from 1 opening valid.entries; tags = distinct-tags opening valid.tags }; doubt_next = tt; doubt_off = λ _. refl };
+      steps = steps-none c.facts opening;
+      taken = taken-none c.facts opening (entries-from 1 opening valid.entries);
+      waiting = waiting-none c.facts opening (entries-from 1 opening valid.entries);
+      marks = marks-none c.facts opening;
     }
 past-kept c opening (event ∷ past) valid legal =
     past-step c opening past event (past-kept c opening past valid legal.0) legal.1 legal.2
@@ -262,9 +262,10 @@ IsAmong marks mark = (entry : ℕ) → entry_named mark ≡ Some entry → 1 ≤
 
 pub each-among : (marks : List Mark) → AllByRecursion (IsAmong marks) marks
 each-among [] = tt
-each-among (m ∷ ms) =
-    (λ entry n. rw (like-self m entry n) (omega arith),
-     All-map (IsAmong ms) (IsAmong (m ∷ ms)) ms (each-among ms) (λ x h entry n. more x (h entry n)))
+each-among (m ∷ ms) = (
+  λ entry n. rw (like-self m entry n) (omega arith),
+  All-map (IsAmong ms) (IsAmong (m ∷ ms)) ms (each-among ms) (λ x h entry n. more x (h entry n)),
+)
   where
     more : (x : Mark) → 1 ≤ how_many (is_like x) ms → 1 ≤ how_many (is_like x) (m ∷ ms)
     more x h = by_test (is_like x m) _ (λ t. rw t (omega arith)) (λ t. rw t h)
@@ -296,8 +297,9 @@ mark-once facts opening past boards board journal mark entry k n one m =
     let r = row-found (row_of (rows facts opening past) entry) t.row t.row_is in
     let same : fixed r.0 ≡ t.row = r.2 in
     let at : AtTaking entry (TakenBy facts opening (fixed r.0)) past = subst (λ (x : Row). AtTaking entry (TakenBy facts opening x) past) (sym same) t.taking in
-    let d : digest_of (rows facts opening past) entry ≡ r.0.digest = ap (λ o. unwrap_or (option_map (λ x. x.digest) o) []) r.1 in
-    (r.0, record {
+    let d : digest_of (rows facts opening past) entry ≡ r.0.digest = ap (λ o. unwrap_or (option_map (λ x. x.digest) o) []) r.1 in (
+      r.0,
+      record {
         row_is = r.1;
         board_is = ap (λ o. unwrap_or (option_map (λ b. b == board) o) false) m.board_is ∙ eqb-self board;
         alone = one.alone;
@@ -308,7 +310,8 @@ mark-once facts opening past boards board journal mark entry k n one m =
         digest = subst (HasDigest mark) d m.digest;
         in_order = k.steps.order entry;
         after_start = k.marks.after board entry mark n;
-    })
+      },
+    )
 
 pub journal-once : (facts : Facts) (opening : List Row) (past : List Event) (boards : List BoardState) (board : ℕ) (b : BoardState) (tail : List Mark) → PastKept facts opening past → JournalsFit facts opening past boards → JournalFits facts opening past board b.journal tail → AllByRecursion (MarkOnce facts opening past boards board b.journal) b.journal
 journal-once facts opening past boards board b tail k all f =
@@ -317,18 +320,21 @@ journal-once facts opening past boards board b tail k all f =
   where
     o : OpenMarks facts opening past board tail
     o = open-marks facts opening past board tail k.steps k.taken f.tail_is
+
     few : (mark : Mark) (entry : ℕ) → entry_named mark ≡ Some entry → how_many (is_like mark) b.journal ≤ 1
     few mark entry n =
         let sum = how_many-append (is_like mark) (told facts opening past board) tail in
         let w = few-writes (strokes entry past) (k.steps.order entry) in
         rw f.told_and_tail (omega (arith, sum, w.one, o.few mark entry n, k.marks.few board entry mark n))
+
     alone : (mark : Mark) (entry : ℕ) → entry_named mark ≡ Some entry → IsAmong b.journal mark → MarkOf facts opening past board mark entry → StandsAlone boards board b.journal mark
     alone mark entry n i m =
         record {
-            alone = omega (arith, few mark entry n, i entry n);
-            nowhere_else = λ other c g d. let t = all other c g in
-                none-like facts opening past board other mark entry c.journal n m.board_is d (journal-kept facts opening past other c.journal t.0 k t.1);
+          alone = omega (arith, few mark entry n, i entry n);
+          nowhere_else = λ other c g d. let t = all other c g in
+              none-like facts opening past board other mark entry c.journal n m.board_is d (journal-kept facts opening past other c.journal t.0 k t.1);
         }
+
     at : (mark : Mark) (o : Option ℕ) → entry_named mark ≡ o → IfSome o (MarkOf facts opening past board mark) → IsAmong b.journal mark → IfSome o (λ entry. (row : Row) × WrittenOnce facts opening past boards board b.journal mark entry row)
     at mark None n h i = tt
     at mark (Some entry) n h i = mark-once facts opening past boards board b.journal mark entry k n (alone mark entry n i h) h
@@ -336,8 +342,8 @@ journal-once facts opening past boards board b tail k all f =
 pub past-once : (facts : Facts) (opening : List Row) (past : List Event) (boards : List BoardState) → PastKept facts opening past → JournalsFit facts opening past boards → OncePast facts opening past boards
 past-once facts opening past boards k f =
     record {
-        marks = λ board b e. let t = f board b e in journal-once facts opening past boards board b t.0 k f t.1;
-        tags = tags-differ (rows facts opening past) k.rows_kept.valid.tags;
+      marks = λ board b e. let t = f board b e in journal-once facts opening past boards board b t.0 k f t.1;
+      tags = tags-differ (rows facts opening past) k.rows_kept.valid.tags;
     }
 
 pub journals-fit : (facts : Facts) (first : List Seen) (opening : List Row) (past : List Event) (boards : List BoardState) → FitsPast facts first opening past boards → JournalsFit facts opening past boards

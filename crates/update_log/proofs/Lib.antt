@@ -10,3 +10,6 @@ pub mod TakenKept
 pub mod MarksKept
 pub mod LegalOnce
 pub mod CrashOnce
+pub mod Chosen
+pub mod Refusals
+pub mod Targets

@@ -157,6 +157,7 @@ mark-on facts opening past event board mark g w = at mark (entry_named mark)
     digests (Some r) (Some r') h = let s : fixed r' ≡ fixed r = cc in ap (λ (x : Row). x.digest) s
     digests None (Some r') h = cc
     digests (Some r) None h = cc
+
     at : (mark : Mark) (o : Option ℕ) → IfSome o (MarkOf facts opening past board mark) → IfSome o (MarkOf facts opening (event ∷ past) board mark)
     at mark None k = tt
     at mark (Some e) k =
@@ -164,23 +165,23 @@ mark-on facts opening past event board mark g w = at mark (entry_named mark)
         let d : digest_of (rows facts opening (event ∷ past)) e ≡ digest_of (rows facts opening past) e = digests (row_of (rows facts opening past) e) (row_of (rows facts opening (event ∷ past)) e) f in
         let grows = goes_on-grows (rows facts opening past) (rows facts opening (event ∷ past)) g in
         record {
-            known = omega (arith, grows, k.known);
-            board_is = board-fixed facts (rows facts opening past) (rows facts opening (event ∷ past)) e f ∙ k.board_is;
-            written = omega (arith, w e, k.written);
-            digest = subst (HasDigest mark) (sym d) k.digest;
+          known = omega (arith, grows, k.known);
+          board_is = board-fixed facts (rows facts opening past) (rows facts opening (event ∷ past)) e f ∙ k.board_is;
+          written = omega (arith, w e, k.written);
+          digest = subst (HasDigest mark) (sym d) k.digest;
         }
 
 -- what is kept at any event
 pub marks-step : (facts : Facts) (opening : List Row) (past : List Event) (event : Event) → MarksKept facts opening past → GoesOn (rows facts opening past) (rows facts opening (event ∷ past)) → ((e : ℕ) → writes (strokes e past) ≤ writes (strokes e (event ∷ past))) → ((board : ℕ) → AllByRecursion (MarkKept facts opening past board) (told_by facts (rows facts opening past) event board)) → ((board entry : ℕ) (mark : Mark) → entry_named mark ≡ Some entry → how_many (is_like mark) (told_by facts (rows facts opening past) event board) + open_writes entry (event ∷ past) + writes (strokes entry past) ≤ open_writes entry past + writes (strokes entry (event ∷ past))) → ((board entry : ℕ) (mark : Mark) → entry_named mark ≡ Some entry → OnTrue (list_any (is_like mark) (told_by facts (rows facts opening past) event board)) (IsTrue (list_any (starts_write entry) past))) → MarksKept facts opening (event ∷ past)
 marks-step facts opening past event k g w t c a =
     record {
-        told_are = λ board. All-append (MarkKept facts opening (event ∷ past) board) (told facts opening past board) _
-            (All-map _ _ (told facts opening past board) (k.told_are board) (λ m h. mark-on facts opening past event board m g w h))
-            (All-map _ _ (told_by facts (rows facts opening past) event board) (t board) (λ m h. mark-on facts opening past event board m g w h));
-        few = λ board entry mark n.
-            let ap = how_many-append (is_like mark) (told facts opening past board) (told_by facts (rows facts opening past) event board) in
-            omega (arith, ap, k.few board entry mark n, c board entry mark n);
-        after = λ board entry mark n. (a board entry mark n, k.after board entry mark n);
+      told_are = λ board. All-append (MarkKept facts opening (event ∷ past) board) (told facts opening past board) _
+          (All-map _ _ (told facts opening past board) (k.told_are board) (λ m h. mark-on facts opening past event board m g w h))
+          (All-map _ _ (told_by facts (rows facts opening past) event board) (t board) (λ m h. mark-on facts opening past event board m g w h));
+      few = λ board entry mark n.
+          let ap = how_many-append (is_like mark) (told facts opening past board) (told_by facts (rows facts opening past) event board) in
+          omega (arith, ap, k.few board entry mark n, c board entry mark n);
+      after = λ board entry mark n. (a board entry mark n, k.after board entry mark n);
     }
 
 -- an event that tells no mark, and starts and ends no step
@@ -206,8 +207,8 @@ marks-start facts opening past client entry op k =
         let p = how_many-push (is_write_of e) (open_steps past) (record { client = client; entry = entry; op = op }) in
         by_test (entry == e) _
         (λ t. by_test (is_write op) _
-            (λ w. let q : how_many (is_write_of e) (record { client = client; entry = entry; op = op } ∷ []) ≡ 1 = rw (t, w) refl in rw (t, w) (omega (arith, p, q)))
-            (λ w. let q : how_many (is_write_of e) (record { client = client; entry = entry; op = op } ∷ []) ≡ 0 = rw (t, w) refl in rw (t, w) (omega (arith, p, q))))
+        (λ w. let q : how_many (is_write_of e) (record { client = client; entry = entry; op = op } ∷ []) ≡ 1 = rw (t, w) refl in rw (t, w) (omega (arith, p, q)))
+        (λ w. let q : how_many (is_write_of e) (record { client = client; entry = entry; op = op } ∷ []) ≡ 0 = rw (t, w) refl in rw (t, w) (omega (arith, p, q))))
         (λ f. let q : how_many (is_write_of e) (record { client = client; entry = entry; op = op } ∷ []) ≡ 0 = rw f refl in rw f (omega (arith, p, q)))
 
 -- whether a board is that of an entry
@@ -233,11 +234,11 @@ filter-many p q (y ∷ ys) x k h c =
     let fewer : how_many q (filter (λ y. not (p y)) ys) ≤ how_many q ys = filter-fewer (λ y. not (p y)) q ys in
     by_test (p y) _
     (λ t. let h' : Some y ≡ Some x = rw t at h in let s : y ≡ x = cc in
-        by_test (q y) _
-        (λ u. let v : q x ≡ true = ap q (sym s) ∙ u in let d : 1 ≡ k = rw v at c in rw (t, u) (omega arith))
-        (λ u. let v : q x ≡ false = ap q (sym s) ∙ u in let d : 0 ≡ k = rw v at c in rw (t, u) (omega arith)))
+    by_test (q y) _
+    (λ u. let v : q x ≡ true = ap q (sym s) ∙ u in let d : 1 ≡ k = rw v at c in rw (t, u) (omega arith))
+    (λ u. let v : q x ≡ false = ap q (sym s) ∙ u in let d : 0 ≡ k = rw v at c in rw (t, u) (omega arith)))
     (λ t. let rest : how_many q (filter (λ y. not (p y)) ys) + k ≤ how_many q ys = filter-many p q ys x k (rw t at h) c in
-        by_test (q y) _ (λ u. rw (t, u) (omega arith)) (λ u. rw (t, u) rest))
+    by_test (q y) _ (λ u. rw (t, u) (omega arith)) (λ u. rw (t, u) rest))
 
 pub one-of : (b : Bool) → (if b then 1 else 0) ≡ one_where b
 one-of true = refl
@@ -252,8 +253,8 @@ writes-started [] entry h = absurd (omega arith)
 writes-started (Event.Start client e op ∷ past) entry h =
     by_test (e == entry) _
     (λ t. by_test (is_write op) _
-        (λ w. rw (t, w) refl)
-        (λ w. let h' : 1 ≤ writes (strokes entry past) = (let g : 1 ≤ 0 + writes (strokes entry past) = rw (t, w) at h in omega arith) in rw (t, w) (writes-started past entry h')))
+    (λ w. rw (t, w) refl)
+    (λ w. let h' : 1 ≤ writes (strokes entry past) = (let g : 1 ≤ 0 + writes (strokes entry past) = rw (t, w) at h in omega arith) in rw (t, w) (writes-started past entry h')))
     (λ f. let h' : 1 ≤ writes (strokes entry past) = rw f at h in rw f (writes-started past entry h'))
 writes-started (Event.End client e op outcome told seen ∷ past) entry h =
     by_test (e == entry) _
@@ -271,8 +272,8 @@ few-after told mark entry e op past h w =
     at one =
         by_test (entry == e) _
         (λ t. by_test (is_write op) _
-            (λ u. subst (λ (x : ℕ). IsTrue (list_any (starts_write x) past)) (eqb-true entry e t) (writes-started past entry (w u)))
-            (λ u. let h' : how_many (is_like mark) told ≤ 0 = rw (t, u) at h in absurd (omega arith)))
+        (λ u. subst (λ (x : ℕ). IsTrue (list_any (starts_write x) past)) (eqb-true entry e t) (writes-started past entry (w u)))
+        (λ u. let h' : how_many (is_like mark) told ≤ 0 = rw (t, u) at h in absurd (omega arith)))
         (λ t. let h' : how_many (is_like mark) told ≤ 0 = rw t at h in absurd (omega arith))
 
 pub marks-end : (c : Campaign) (opening : List Row) (past : List Event) (client entry : ℕ) (op : Op) (outcome : Result (Unit {0}) BoardFault) (told : List Mark) (seen : Seen) → StepsKept c.facts opening past → TakenKept c.facts opening past → MarksKept c.facts opening past → EndAllowed c.facts c.first opening past client entry op outcome told seen → MarksKept c.facts opening (Event.End client entry op outcome told seen ∷ past)
@@ -280,23 +281,26 @@ marks-end c opening past client entry op outcome told seen s t k a =
     marks-step c.facts opening past (Event.End client entry op outcome told seen) k (inl refl)
     (λ e. by_test (entry == e) _ (λ u. rw u (omega arith)) (λ f. rw f (omega arith)))
     (λ board. by_test (is_board_of c.facts (rows c.facts opening past) entry board) _
-        (λ u. rw u (prefix-kept c.facts opening past board op entry told a.told_is known (board-of-is c.facts (rows c.facts opening past) entry board u) write))
-        (λ f. rw f tt))
+    (λ u. rw u (prefix-kept c.facts opening past board op entry told a.told_is known (board-of-is c.facts (rows c.facts opening past) entry board u) write))
+    (λ f. rw f tt))
     (λ board e mark n. count board e mark n)
     (λ board e mark n. by_test (is_board_of c.facts (rows c.facts opening past) entry board) _
-        (λ u. rw u (few-after told mark entry e op past (prefix-few op entry (digest_of (rows c.facts opening past) entry) told mark e a.told_is n) write))
-        (λ f. rw f tt))
+    (λ u. rw u (few-after told mark entry e op past (prefix-few op entry (digest_of (rows c.facts opening past) entry) told mark e a.told_is n) write))
+    (λ f. rw f tt))
   where
     st : (rest : List Stroke) × (strokes entry past ≡ Stroke.Started op ∷ rest)
     st = open-started past entry (record { client = client; entry = entry; op = op }) s.open_are a.open_is
+
     write : is_write op ≡ true → 1 ≤ writes (strokes entry past)
     write w = writes-one (strokes entry past) op st.0 st.1 w
+
     known : entry ≤ length (rows c.facts opening past)
     known = at (t.begun entry)
       where
         at : (strokes entry past ≡ []) ⊎ Taken c.facts opening past entry → entry ≤ length (rows c.facts opening past)
         at (inl e) = absurd (not-fresh (strokes entry past) op st.0 st.1 e)
         at (inr w) = w.known
+
     count : (board e : ℕ) (mark : Mark) → entry_named mark ≡ Some e → how_many (is_like mark) (told_by c.facts (rows c.facts opening past) (Event.End client entry op outcome told seen) board) + open_writes e (Event.End client entry op outcome told seen ∷ past) + writes (strokes e past) ≤ open_writes e past + writes (strokes e (Event.End client entry op outcome told seen ∷ past))
     count board e mark n =
         let few : how_many (is_like mark) told ≤ one_where ((entry == e) && is_write op) = prefix-few op entry (digest_of (rows c.facts opening past) entry) told mark e a.told_is n in
@@ -322,26 +326,30 @@ open-marks_none facts opening past board = record { kept = tt; few = λ _ _ _. o
 pub open-marks_some : (facts : Facts) (opening : List Row) (past : List Event) (board : ℕ) (ms : List Mark) (x : OpenStep) → StepsKept facts opening past → TakenKept facts opening past → open_on facts opening past board ≡ Some x → IsPrefix ms (marks x.op x.entry (digest_of (rows facts opening past) x.entry)) → OpenMarks facts opening past board ms
 open-marks_some facts opening past board ms x s t e p =
     record {
-        kept = prefix-kept facts opening past board x.op x.entry ms p known (board-of-is facts (rows facts opening past) x.entry board (find-passes (λ y. is_board_of facts (rows facts opening past) y.entry board) (open_steps past) x e)) write;
-        few = λ mark entry n. few mark entry n;
-        after = λ mark entry n. few-after ms mark x.entry entry x.op past (prefix-few x.op x.entry (digest_of (rows facts opening past) x.entry) ms mark entry p n) write;
+      kept = prefix-kept facts opening past board x.op x.entry ms p known (board-of-is facts (rows facts opening past) x.entry board (find-passes (λ y. is_board_of facts (rows facts opening past) y.entry board) (open_steps past) x e)) write;
+      few = λ mark entry n. few mark entry n;
+      after = λ mark entry n. few-after ms mark x.entry entry x.op past (prefix-few x.op x.entry (digest_of (rows facts opening past) x.entry) ms mark entry p n) write;
     }
   where
     w : OpenKept past x
     w = All-find (OpenKept past) (λ y. is_board_of facts (rows facts opening past) y.entry board) (open_steps past) x s.open_are e
+
     write : is_write x.op ≡ true → 1 ≤ writes (strokes x.entry past)
     write u = writes-one (strokes x.entry past) x.op w.rest w.started u
+
     at : (strokes x.entry past ≡ []) ⊎ Taken facts opening past x.entry → x.entry ≤ length (rows facts opening past)
     at (inl n) = absurd (not-fresh (strokes x.entry past) x.op w.rest w.started n)
     at (inr k) = k.known
+
     known : x.entry ≤ length (rows facts opening past)
     known = at (t.begun x.entry)
+
     few : (mark : Mark) (entry : ℕ) → entry_named mark ≡ Some entry → how_many (is_like mark) ms ≤ open_writes entry past
     few mark entry n =
         let one : how_many (is_like mark) ms ≤ one_where ((x.entry == entry) && is_write x.op) = prefix-few x.op x.entry (digest_of (rows facts opening past) x.entry) ms mark entry p n in
         by_test ((x.entry == entry) && is_write x.op) _
         (λ u. let m : 1 ≤ open_writes entry past = find-many (λ y. is_board_of facts (rows facts opening past) y.entry board) (is_write_of entry) (open_steps past) x e u in
-            let o : how_many (is_like mark) ms ≤ 1 = rw u at one in omega arith)
+        let o : how_many (is_like mark) ms ≤ 1 = rw u at one in omega arith)
         (λ u. let o : how_many (is_like mark) ms ≤ 0 = rw u at one in omega arith)
 
 pub open-marks : (facts : Facts) (opening : List Row) (past : List Event) (board : ℕ) (ms : List Mark) → StepsKept facts opening past → TakenKept facts opening past → IsPrefix ms (open_marks facts opening past board) → OpenMarks facts opening past board ms

@@ -16,9 +16,10 @@ EntriesFrom n (row ∷ rows) = (row.entry ≡ n) × EntriesFrom (n + 1) rows
 
 pub entries-from : (n : ℕ) (rows : List Row) → EachIndex rows (λ k. slice_index (map (λ row. row.entry) rows) k ≡ k + n) → EntriesFrom n rows
 entries-from n [] h = tt
-entries-from n (r ∷ rows) h =
-    (let first : r.entry ≡ 0 + n = h 0 (omega arith) in omega arith,
-     entries-from (n + 1) rows (λ k l. let next : slice_index (map (λ row. row.entry) rows) k ≡ suc k + n = h (suc k) (omega arith) in omega arith))
+entries-from n (r ∷ rows) h = (
+  let first : r.entry ≡ 0 + n = h 0 (omega arith) in omega arith,
+  entries-from (n + 1) rows (λ k l. let next : slice_index (map (λ row. row.entry) rows) k ≡ suc k + n = h (suc k) (omega arith) in omega arith),
+)
 
 -- Two lists of bytes that pass the test are one.
 pub bytes-same : (a b : List ℕ) → bytes_eq a b ≡ true → a ≡ b
@@ -38,9 +39,10 @@ differs-from tag (r ∷ rows) h =
 pub distinct-tags : (rows : List Row) → AllPairs (λ a b. a.tag ≢ b.tag) rows → IsDistinct bytes_eq (map (λ r. r.tag) rows)
 unfolding IsDistinct
 distinct-tags [] h = tt
-distinct-tags (r ∷ rows) h =
-    (differs-from r.tag rows (λ j d l. h 0 (suc j) d (omega arith) (omega arith)),
-     distinct-tags rows (λ i j d l m. h (suc i) (suc j) d (omega arith) (omega arith)))
+distinct-tags (r ∷ rows) h = (
+  differs-from r.tag rows (λ j d l. h 0 (suc j) d (omega arith) (omega arith)),
+  distinct-tags rows (λ i j d l m. h (suc i) (suc j) d (omega arith) (omega arith)),
+)
 
 differs-at : (tag : List ℕ) (rows : List Row) (j : ℕ) (d : Row) → AllByRecursion (λ other. bytes_eq tag other ≡ false) (map (λ r. r.tag) rows) → j < length rows → bytes_eq tag (slice_index_or rows j d).tag ≡ false
 differs-at tag [] j d a l = absurd (omega arith)

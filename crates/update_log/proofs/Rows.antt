@@ -54,6 +54,7 @@ accepted-claim note t next (Decision.Accept device release blocks) entry h = at 
     open_true : is_fetched note t ≡ true → ((ClaimAnswer.Entry entry ≡ ClaimAnswer.Entry next) ⊎ (ClaimAnswer.Entry entry ≡ ClaimAnswer.Refused Refusal.KeeperFault)) → Accepted note t next (Decision.Accept device release blocks) entry
     open_true w (inl e) = (device, blocks, release, refl, cc, w)
     open_true w (inr e) = cc
+
     at : (b : Bool) → is_fetched note t ≡ b → MatchBool b ((ClaimAnswer.Entry entry ≡ ClaimAnswer.Entry next) ⊎ (ClaimAnswer.Entry entry ≡ ClaimAnswer.Refused Refusal.KeeperFault)) (ClaimAnswer.Entry entry ≡ ClaimAnswer.Refused (Refusal.Payload note)) → Accepted note t next (Decision.Accept device release blocks) entry
     at true w k = open_true w k
     at false w k = cc

@@ -99,13 +99,13 @@ pub record AreValid (rows : List Row) : Type 0 where
 pub changed-valid : (change : Change) (rows : List Row) → NextChange change rows → AreValid rows → AreValid (changed change rows)
 changed-valid (Change.Add row) rows h v =
     record {
-        entries = push-entries 1 rows row v.entries (omega (arith, h.0));
-        tags = rw (map-append (λ (r : Row). r.tag) rows (row ∷ [])) (IsDistinct-push nat_list_eq_equiv (map (λ r. r.tag) rows) row.tag v.tags h.1);
+      entries = push-entries 1 rows row v.entries (omega (arith, h.0));
+      tags = rw (map-append (λ (r : Row). r.tag) rows (row ∷ [])) (IsDistinct-push nat_list_eq_equiv (map (λ r. r.tag) rows) row.tag v.tags h.1);
     }
 changed-valid (Change.Advance entry state reason time) rows h v =
     record {
-        entries = map-entries (with_state entry state reason time) 1 rows (with_state-fixed entry state reason time) v.entries;
-        tags = rw (map-tags (with_state entry state reason time) rows (with_state-fixed entry state reason time)) v.tags;
+      entries = map-entries (with_state entry state reason time) 1 rows (with_state-fixed entry state reason time) v.entries;
+      tags = rw (map-tags (with_state entry state reason time) rows (with_state-fixed entry state reason time)) v.tags;
     }
 
 pub changed-fixed : (change : Change) (rows : List Row) (e : ℕ) → NextChange change rows → e ≤ length rows → fixed_row (changed change rows) e ≡ fixed_row rows e
@@ -193,12 +193,12 @@ pub rows-boot : (c : Campaign) (opening : List Row) (past : List Event) (number 
 rows-boot c opening past number time limit found boards k a =
     let g = found-goes_on found (doubt c.facts opening past) (rows c.facts opening past) k.doubt_next in
     record {
-        kept = record {
-            valid = goes_on-valid (rows c.facts opening past) _ g k.valid;
-            doubt_next = next found (doubt c.facts opening past) (rows c.facts opening past) k.doubt_next a;
-            doubt_off = none found (doubt c.facts opening past) a;
-        };
-        goes_on = g;
+      kept = record {
+        valid = goes_on-valid (rows c.facts opening past) _ g k.valid;
+        doubt_next = next found (doubt c.facts opening past) (rows c.facts opening past) k.doubt_next a;
+        doubt_off = none found (doubt c.facts opening past) a;
+      };
+      goes_on = g;
     }
   where
     next : (found : Found) (doubt : Option Change) (rows : List Row) → IfSome doubt (λ c. NextChange c rows) → FoundAllowed found doubt → IfSome (doubt_found found doubt) (λ c. NextChange c (rows_found found doubt rows))
@@ -206,6 +206,7 @@ rows-boot c opening past number time limit found boards k a =
     next Found.Lost doubt rows h a = tt
     next Found.Plain doubt rows h a = h
     next Found.Fault doubt rows h a = h
+
     none : (found : Found) (doubt : Option Change) → FoundAllowed found doubt → is_found_fault found ≡ false → doubt_found found doubt ≡ None
     none Found.Kept doubt a o = refl
     none Found.Lost doubt a o = refl
@@ -217,8 +218,8 @@ rows-boot c opening past number time limit found boards k a =
 pub rows-same : (facts : Facts) (opening : List Row) (past : List Event) (event : Event) → RowsKept facts opening past → rows facts opening (event ∷ past) ≡ rows facts opening past → doubt facts opening (event ∷ past) ≡ doubt facts opening past → (off (event ∷ past) ≡ false → off past ≡ false) → RowsStep facts opening past event
 rows-same facts opening past event k r d o =
     record {
-        kept = record { valid = rw r k.valid; doubt_next = rw (d, r) k.doubt_next; doubt_off = λ h. d ∙ k.doubt_off (o h) };
-        goes_on = inl r;
+      kept = record { valid = rw r k.valid; doubt_next = rw (d, r) k.doubt_next; doubt_off = λ h. d ∙ k.doubt_off (o h) };
+      goes_on = inl r;
     }
 
 -- what became of a change, and whether the boot is off then
@@ -231,18 +232,19 @@ pub rows-asked : (facts : Facts) (opening : List Row) (past : List Event) (event
 rows-asked facts opening past event fate change k none n r d o =
     let g : GoesOn (rows facts opening past) (rows_by fate change (rows facts opening past)) = rows_by-goes_on fate change (rows facts opening past) n in
     record {
-        kept = record {
-            valid = rw r (goes_on-valid (rows facts opening past) _ g k.valid);
-            doubt_next = rw (d, r, none) (next fate change (rows facts opening past) n);
-            doubt_off = λ h. rw (d, none) (clear fate change (o h));
-        };
-        goes_on = rw r g;
+      kept = record {
+        valid = rw r (goes_on-valid (rows facts opening past) _ g k.valid);
+        doubt_next = rw (d, r, none) (next fate change (rows facts opening past) n);
+        doubt_off = λ h. rw (d, none) (clear fate change (o h));
+      };
+      goes_on = rw r g;
     }
   where
     next : (fate : Fate) (change : Option Change) (rows : List Row) → IfSome change (λ c. NextChange c rows) → IfSome (doubt_by fate change None) (λ c. NextChange c (rows_by fate change rows))
     next Fate.Made change rows h = tt
     next Fate.Dropped change rows h = tt
     next Fate.Doubtful change rows h = h
+
     clear : (fate : Fate) (change : Option Change) → is_doubtful fate ≡ false → doubt_by fate change None ≡ None
     clear Fate.Made change h = refl
     clear Fate.Dropped change h = refl
@@ -302,12 +304,15 @@ closed-settled facts opening past entry closed stored h = store stored (at (trac
     at-view : (t : Trace) (row : Row) (o : Option DeviceView) → option_map (closing_of t row) o ≡ Some closed → is_pending closed ≡ false
     at-view t row None g = cc
     at-view t row (Some view) g = let e : closing_of t row view ≡ closed = cc in rw (← e) (closing-settled t row view)
+
     at-row : (t : Trace) (o : Option Row) → option_and_then (closing_at (views facts opening past) t) o ≡ Some closed → is_pending closed ≡ false
     at-row t None g = cc
     at-row t (Some row) g = at-view t row (view_of_row (views facts opening past) row) g
+
     at : (o : Option Trace) → option_and_then (λ t. option_and_then (closing_at (views facts opening past) t) (row_of (rows facts opening past) entry)) o ≡ Some closed → is_pending closed ≡ false
     at None g = cc
     at (Some t) g = at-row t (row_of (rows facts opening past) entry) g
+
     store : (stored : Stored) → is_pending closed ≡ false → is_pending (closing_stored closed stored) ≡ false
     store Stored.Yes g = g
     store Stored.Fault g = g

@@ -80,29 +80,29 @@ steps-none facts opening = record { fresh = λ _ _. refl; live_is = tt; open_are
 pub steps-boot : (facts : Facts) (opening : List Row) (past : List Event) (number time : ℕ) (limit : Option ℕ) (found : Found) (boards : List BoardSeen) → StepsKept facts opening past → StepsKept facts opening (Event.Boot number time limit found boards ∷ past)
 steps-boot facts opening past number time limit found boards k =
     record {
-        fresh = λ e h. k.fresh e (omega (arith, found-grows found (known facts opening past).doubt (known facts opening past).rows));
-        live_is = tt;
-        open_are = tt;
-        order = k.order;
+      fresh = λ e h. k.fresh e (omega (arith, found-grows found (known facts opening past).doubt (known facts opening past).rows));
+      live_is = tt;
+      open_are = tt;
+      order = k.order;
     }
 
 pub steps-ask : (facts : Facts) (opening : List Row) (past : List Event) (client : ℕ) (request : Request) (pending : Option ℕ) (answer : AskAnswer) → StepsKept facts opening past → StepsKept facts opening (Event.Ask client request pending answer ∷ past)
 steps-ask facts opening past client request pending answer k =
     record {
-        fresh = k.fresh;
-        live_is = All-map _ _ (live past) k.live_is (λ l w. record { known = w.known; open_is = w.open_is; traced_to = w.traced_to });
-        open_are = All-map _ _ (open_steps past) k.open_are (λ s w. record { rest = w.rest; started = w.started });
-        order = k.order;
+      fresh = k.fresh;
+      live_is = All-map _ _ (live past) k.live_is (λ l w. record { known = w.known; open_is = w.open_is; traced_to = w.traced_to });
+      open_are = All-map _ _ (open_steps past) k.open_are (λ s w. record { rest = w.rest; started = w.started });
+      order = k.order;
     }
 
 pub steps-finish : (facts : Facts) (opening : List Row) (past : List Event) (client entry : ℕ) (state : RowState) (stored : Stored) → StepsKept facts opening past → StepsKept facts opening (Event.Finish client entry state stored ∷ past)
 steps-finish facts opening past client entry state stored k =
     let grows = rows_by-grows (fate_stored stored) (asked facts (time_of past) (live past) (known facts opening past) (Event.Finish client entry state stored)) (known facts opening past).rows in
     record {
-        fresh = λ e h. k.fresh e (omega (arith, grows));
-        live_is = All-filter _ _ _ (live past) k.live_is (λ l w _. record { known = omega (arith, grows, w.known); open_is = w.open_is; traced_to = w.traced_to });
-        open_are = All-map _ _ (open_steps past) k.open_are (λ s w. record { rest = w.rest; started = w.started });
-        order = k.order;
+      fresh = λ e h. k.fresh e (omega (arith, grows));
+      live_is = All-filter _ _ _ (live past) k.live_is (λ l w _. record { known = omega (arith, grows, w.known); open_is = w.open_is; traced_to = w.traced_to });
+      open_are = All-map _ _ (open_steps past) k.open_are (λ s w. record { rest = w.rest; started = w.started });
+      order = k.order;
     }
 
 -- an open step's entry has a started stroke
@@ -116,9 +116,9 @@ open-started past entry s a e =
 pub live-other : (facts : Facts) (opening : List Row) (past : List Event) (event : Event) (l : LiveEntry) → LiveKept facts opening past l → length (rows facts opening past) ≤ length (rows facts opening (event ∷ past)) → strokes l.entry (event ∷ past) ≡ strokes l.entry past → open_step (event ∷ past) l.entry ≡ open_step past l.entry → trace facts opening l.entry (event ∷ past) ≡ trace facts opening l.entry past → LiveKept facts opening (event ∷ past) l
 live-other facts opening past event l w grows s o t =
     record {
-        known = omega (arith, grows, w.known);
-        open_is = rw (s, o) w.open_is;
-        traced_to = λ tr e. rw s (w.traced_to tr (rw t at e));
+      known = omega (arith, grows, w.known);
+      open_is = rw (s, o) w.open_is;
+      traced_to = λ tr e. rw s (w.traced_to tr (rw t at e));
     }
 
 -- a live entry after a start
@@ -126,23 +126,23 @@ pub live-start : (facts : Facts) (opening : List Row) (past : List Event) (clien
 live-start facts opening past client entry op l w =
     by_test (entry == l.entry) _
     (λ t. let e : entry ≡ l.entry = eqb-true entry l.entry t in
-        let s : strokes l.entry (Event.Start client entry op ∷ past) ≡ Stroke.Started op ∷ strokes l.entry past = rw t refl in
-        record {
-            known = w.known;
-            open_is = rw s (sym (find-push_some (λ x. x.entry == l.entry) (open_steps past) (record { client = client; entry = entry; op = op }) t));
-            traced_to = λ tr h. rw s (w.traced_to tr h);
-        })
+    let s : strokes l.entry (Event.Start client entry op ∷ past) ≡ Stroke.Started op ∷ strokes l.entry past = rw t refl in
+    record {
+      known = w.known;
+      open_is = rw s (sym (find-push_some (λ x. x.entry == l.entry) (open_steps past) (record { client = client; entry = entry; op = op }) t));
+      traced_to = λ tr h. rw s (w.traced_to tr h);
+    })
     (λ f. live-other facts opening past (Event.Start client entry op) l w (omega arith) (strokes-start_other client entry l.entry op past f)
-        (find-push_other (λ x. x.entry == l.entry) (open_steps past) (record { client = client; entry = entry; op = op }) f)
-        refl)
+    (find-push_other (λ x. x.entry == l.entry) (open_steps past) (record { client = client; entry = entry; op = op }) f)
+    refl)
 
 -- an open step of another entry stays as it was
 pub open-kept_by_start : (past : List Event) (client entry : ℕ) (op : Op) (s : OpenStep) → is_open (strokes entry past) ≡ false → OpenKept past s → OpenKept (Event.Start client entry op ∷ past) s
 open-kept_by_start past client entry op s closed w =
     by_test (entry == s.entry) _
     (λ t. let e : entry ≡ s.entry = eqb-true entry s.entry t in
-        let bad : is_open (strokes s.entry past) ≡ false = rw e at closed in
-        let bad' : true ≡ false = rw w.started at bad in cc)
+    let bad : is_open (strokes s.entry past) ≡ false = rw e at closed in
+    let bad' : true ≡ false = rw w.started at bad in cc)
     (λ f. record { rest = w.rest; started = strokes-start_other client entry s.entry op past f ∙ w.started })
 
 -- a next step is that of a trace
@@ -167,15 +167,15 @@ steps-start facts opening past client entry op l k a =
     let last : last_number t.steps ≡ last_ended (strokes entry past) = w.traced_to t n.1 in
     let order : InOrder (Stroke.Started op ∷ strokes entry past) = order-start (strokes entry past) t op (k.order entry) closed last n.2 in
     record {
-        fresh = λ e h. strokes-start_other client entry e op past (eqb-other entry e (λ s. let le : entry ≤ length (rows facts opening past) = known in omega arith)) ∙ k.fresh e h;
-        live_is = All-map (LiveKept facts opening past) _ (live past) k.live_is (λ l w. live-start facts opening past client entry op l w);
-        open_are =
-            All-push (OpenKept (Event.Start client entry op ∷ past)) (open_steps past) (record { client = client; entry = entry; op = op })
-            (All-map (OpenKept past) _ (open_steps past) k.open_are (λ s w. open-kept_by_start past client entry op s closed w))
-            (record { rest = strokes entry past; started = strokes-start_same client entry op past });
-        order = λ e. by_test (entry == e) _
-            (λ t. let s : entry ≡ e = eqb-true entry e t in rw t (subst (λ (x : ℕ). InOrder (Stroke.Started op ∷ strokes x past)) s order))
-            (λ f. rw f (k.order e));
+      fresh = λ e h. strokes-start_other client entry e op past (eqb-other entry e (λ s. let le : entry ≤ length (rows facts opening past) = known in omega arith)) ∙ k.fresh e h;
+      live_is = All-map (LiveKept facts opening past) _ (live past) k.live_is (λ l w. live-start facts opening past client entry op l w);
+      open_are =
+          All-push (OpenKept (Event.Start client entry op ∷ past)) (open_steps past) (record { client = client; entry = entry; op = op })
+          (All-map (OpenKept past) _ (open_steps past) k.open_are (λ s w. open-kept_by_start past client entry op s closed w))
+          (record { rest = strokes entry past; started = strokes-start_same client entry op past });
+      order = λ e. by_test (entry == e) _
+          (λ t. let s : entry ≡ e = eqb-true entry e t in rw t (subst (λ (x : ℕ). InOrder (Stroke.Started op ∷ strokes x past)) s order))
+          (λ f. rw f (k.order e));
     }
 
 pub get-last : {X : Type 0} (xs : List X) (x : X) → slice_get (xs ++ x ∷ []) (length xs) ≡ Some x
@@ -201,19 +201,19 @@ pub live-end : (facts : Facts) (opening : List Row) (past : List Event) (client 
 live-end facts opening past client entry op outcome told seen l w =
     by_test (entry == l.entry) _
     (λ t. let e : entry ≡ l.entry = eqb-true entry l.entry t in
-        let s : strokes l.entry (Event.End client entry op outcome told seen ∷ past) ≡ Stroke.Ended op ∷ strokes l.entry past = rw t refl in
-        let o : open_step (Event.End client entry op outcome told seen ∷ past) l.entry ≡ None = rw (← e) (find-filter_none (λ x. x.entry == entry) (open_steps past)) in
-        record {
-            known = w.known;
-            open_is = rw (s, o) refl;
-            traced_to = λ tr h. let h' : option_map (with_step (record { op = op; outcome = outcome; seen = seen })) (trace facts opening l.entry past) ≡ Some tr = rw t at h in rw s (traced-end (trace facts opening l.entry past) (record { op = op; outcome = outcome; seen = seen }) tr h');
-        })
+    let s : strokes l.entry (Event.End client entry op outcome told seen ∷ past) ≡ Stroke.Ended op ∷ strokes l.entry past = rw t refl in
+    let o : open_step (Event.End client entry op outcome told seen ∷ past) l.entry ≡ None = rw (← e) (find-filter_none (λ x. x.entry == entry) (open_steps past)) in
+    record {
+      known = w.known;
+      open_is = rw (s, o) refl;
+      traced_to = λ tr h. let h' : option_map (with_step (record { op = op; outcome = outcome; seen = seen })) (trace facts opening l.entry past) ≡ Some tr = rw t at h in rw s (traced-end (trace facts opening l.entry past) (record { op = op; outcome = outcome; seen = seen }) tr h');
+    })
     (λ f. live-other facts opening past (Event.End client entry op outcome told seen) l w (omega arith) (strokes-end_other client entry l.entry op outcome told seen past f)
-        (find-filter (λ x. x.entry == l.entry) (λ x. not (x.entry == entry)) (open_steps past)
-            (λ x h. let g : x.entry ≡ l.entry = eqb-true x.entry l.entry h in
-                let d : (l.entry == entry) ≡ false = eqb-other l.entry entry (λ s. let q : (entry == l.entry) ≡ true = rw s (eqb-self entry) in cc) in
-                rw (g, d) refl))
-        (rw f refl))
+    (find-filter (λ x. x.entry == l.entry) (λ x. not (x.entry == entry)) (open_steps past)
+    (λ x h. let g : x.entry ≡ l.entry = eqb-true x.entry l.entry h in
+    let d : (l.entry == entry) ≡ false = eqb-other l.entry entry (λ s. let q : (entry == l.entry) ≡ true = rw s (eqb-self entry) in cc) in
+    rw (g, d) refl))
+    (rw f refl))
 
 -- the order goes on by the end of the step that was started
 pub order-end : (s : List Stroke) (op : Op) (rest : List Stroke) → s ≡ Stroke.Started op ∷ rest → InOrder s → InOrder (Stroke.Ended op ∷ s)
@@ -231,13 +231,13 @@ steps-end c opening past client entry op outcome told seen k a =
     let st = open-started past entry (record { client = client; entry = entry; op = op }) k.open_are a.open_is in
     let ended : InOrder (Stroke.Ended op ∷ strokes entry past) = order-end (strokes entry past) op st.0 st.1 (k.order entry) in
     record {
-        fresh = λ e h. strokes-end_other client entry e op outcome told seen past (eqb-other entry e (λ s. not-fresh (strokes entry past) op st.0 st.1 (k.fresh entry (rw s h)))) ∙ k.fresh e h;
-        live_is = All-map (LiveKept c.facts opening past) _ (live past) k.live_is (λ l w. live-end c.facts opening past client entry op outcome told seen l w);
-        open_are = All-filter (OpenKept past) _ (λ s. not (s.entry == entry)) (open_steps past) k.open_are
-            (λ s w h. record { rest = w.rest; started = strokes-end_other client entry s.entry op outcome told seen past (not-same entry s.entry h) ∙ w.started });
-        order = λ e. by_test (entry == e) _
-            (λ t. let s : entry ≡ e = eqb-true entry e t in rw t (subst (λ (x : ℕ). InOrder (Stroke.Ended op ∷ strokes x past)) s ended))
-            (λ f. rw f (k.order e));
+      fresh = λ e h. strokes-end_other client entry e op outcome told seen past (eqb-other entry e (λ s. not-fresh (strokes entry past) op st.0 st.1 (k.fresh entry (rw s h)))) ∙ k.fresh e h;
+      live_is = All-map (LiveKept c.facts opening past) _ (live past) k.live_is (λ l w. live-end c.facts opening past client entry op outcome told seen l w);
+      open_are = All-filter (OpenKept past) _ (λ s. not (s.entry == entry)) (open_steps past) k.open_are
+          (λ s w h. record { rest = w.rest; started = strokes-end_other client entry s.entry op outcome told seen past (not-same entry s.entry h) ∙ w.started });
+      order = λ e. by_test (entry == e) _
+          (λ t. let s : entry ≡ e = eqb-true entry e t in rw t (subst (λ (x : ℕ). InOrder (Stroke.Ended op ∷ strokes x past)) s ended))
+          (λ f. rw f (k.order e));
     }
 
 -- no step of a fresh entry is open
@@ -260,20 +260,20 @@ steps-claimed facts opening past client request fetched entry k next grown =
     let s : strokes entry past ≡ [] = k.fresh entry new in
     let o : open_step past entry ≡ None = fresh-closed facts opening past entry k new in
     record {
-        fresh = λ e h. k.fresh e (omega arith);
-        live_is =
-            All-push _ (live past) (record { client = client; entry = entry; blocks = blocks_fetched fetched })
-            (All-map (LiveKept facts opening past) _ (live past) k.live_is
-                (λ l w. let f : (entry == l.entry) ≡ false = eqb-other entry l.entry (λ q. let le = w.known in omega arith) in
-                    live-other facts opening past (Event.Claim client request fetched (ClaimAnswer.Entry entry)) l w (omega arith) refl refl (rw f refl)))
-            (record {
-                known = omega arith;
-                open_is = rw (s, o) refl;
-                traced_to = λ t h. let h' : option_map first_trace (target facts (views facts opening past) request) ≡ Some t = rw (eqb-self entry) at h in
-                    rw s (first-traced (target facts (views facts opening past) request) t h');
-            });
-        open_are = All-map (OpenKept past) _ (open_steps past) k.open_are (λ s w. record { rest = w.rest; started = w.started });
-        order = k.order;
+      fresh = λ e h. k.fresh e (omega arith);
+      live_is =
+          All-push _ (live past) (record { client = client; entry = entry; blocks = blocks_fetched fetched })
+          (All-map (LiveKept facts opening past) _ (live past) k.live_is
+          (λ l w. let f : (entry == l.entry) ≡ false = eqb-other entry l.entry (λ q. let le = w.known in omega arith) in
+          live-other facts opening past (Event.Claim client request fetched (ClaimAnswer.Entry entry)) l w (omega arith) refl refl (rw f refl)))
+          (record {
+            known = omega arith;
+            open_is = rw (s, o) refl;
+            traced_to = λ t h. let h' : option_map first_trace (target facts (views facts opening past) request) ≡ Some t = rw (eqb-self entry) at h in
+                rw s (first-traced (target facts (views facts opening past) request) t h');
+          });
+      open_are = All-map (OpenKept past) _ (open_steps past) k.open_are (λ s w. record { rest = w.rest; started = w.started });
+      order = k.order;
     }
 
 -- a claim that was not accepted changes nothing of the steps
@@ -281,11 +281,11 @@ pub steps-not_claimed : (facts : Facts) (opening : List Row) (past : List Event)
 steps-not_claimed facts opening past client request fetched answer k r l t =
     let len : length (rows facts opening (Event.Claim client request fetched answer ∷ past)) ≡ length (rows facts opening past) = ap length r in
     record {
-        fresh = λ e h. k.fresh e (omega arith);
-        live_is = rw l (All-map (LiveKept facts opening past) _ (live past) k.live_is
-            (λ x w. live-other facts opening past (Event.Claim client request fetched answer) x w (omega arith) refl refl (t x.entry)));
-        open_are = All-map (OpenKept past) _ (open_steps past) k.open_are (λ s w. record { rest = w.rest; started = w.started });
-        order = k.order;
+      fresh = λ e h. k.fresh e (omega arith);
+      live_is = rw l (All-map (LiveKept facts opening past) _ (live past) k.live_is
+          (λ x w. live-other facts opening past (Event.Claim client request fetched answer) x w (omega arith) refl refl (t x.entry)));
+      open_are = All-map (OpenKept past) _ (open_steps past) k.open_are (λ s w. record { rest = w.rest; started = w.started });
+      order = k.order;
     }
 
 pub steps-claim : (facts : Facts) (opening : List Row) (past : List Event) (client : ℕ) (request : Request) (fetched : FetchNote) (answer : ClaimAnswer) (held : Held) → StepsKept facts opening past → ClaimAllowed facts opening past client request fetched answer held → StepsKept facts opening (Event.Claim client request fetched answer ∷ past)
@@ -305,11 +305,11 @@ steps-claim facts opening past client request fetched (ClaimAnswer.Refused refus
 pub steps-quiet : (facts : Facts) (opening : List Row) (past : List Event) (event : Event) → StepsKept facts opening past → length (rows facts opening past) ≤ length (rows facts opening (event ∷ past)) → ((e : ℕ) → strokes e (event ∷ past) ≡ strokes e past) → open_steps (event ∷ past) ≡ open_steps past → ((e : ℕ) → trace facts opening e (event ∷ past) ≡ trace facts opening e past) → AllByRecursion (LiveKept facts opening past) (live (event ∷ past)) → StepsKept facts opening (event ∷ past)
 steps-quiet facts opening past event k grows s o t l =
     record {
-        fresh = λ e h. s e ∙ k.fresh e (omega arith);
-        live_is = All-map (LiveKept facts opening past) _ (live (event ∷ past)) l
-            (λ x w. live-other facts opening past event x w grows (s x.entry) (ap (find (λ y. y.entry == x.entry)) o) (t x.entry));
-        open_are = rw o (All-map (OpenKept past) _ (open_steps past) k.open_are (λ x w. record { rest = w.rest; started = s x.entry ∙ w.started }));
-        order = λ e. subst InOrder (sym (s e)) (k.order e);
+      fresh = λ e h. s e ∙ k.fresh e (omega arith);
+      live_is = All-map (LiveKept facts opening past) _ (live (event ∷ past)) l
+          (λ x w. live-other facts opening past event x w grows (s x.entry) (ap (find (λ y. y.entry == x.entry)) o) (t x.entry));
+      open_are = rw o (All-map (OpenKept past) _ (open_steps past) k.open_are (λ x w. record { rest = w.rest; started = s x.entry ∙ w.started }));
+      order = λ e. subst InOrder (sym (s e)) (k.order e);
     }
 
 -- no step is open of an entry without one
@@ -330,17 +330,17 @@ pub steps-resumed : (facts : Facts) (opening : List Row) (past : List Event) (cl
 steps-resumed facts opening past client entry fetched stored k grows known s others =
     let o : open_step past entry ≡ None = unstarted-closed facts opening past entry k s in
     record {
-        fresh = λ e h. k.fresh e (omega arith);
-        live_is =
-            All-push _ (live past) (record { client = client; entry = entry; blocks = blocks_fetched_if fetched })
-            (All-both (LiveKept facts opening past) (λ l. (entry == l.entry) ≡ false) _ (live past) k.live_is others
-                (λ l w f. live-other facts opening past (Event.Resume client entry fetched ResumeAnswer.Begun stored) l w grows refl refl (rw f refl)))
-            (record {
-                known = omega (arith, grows, known);
-                open_is = rw (s, o) refl;
-                traced_to = λ t h. let h' : option_and_then (λ r. option_map first_trace (target facts (views facts opening past) r)) (request_held past client) ≡ Some t = rw (eqb-self entry) at h in
-                    rw s (resumed-traced facts (views facts opening past) (request_held past client) t h');
-            });
-        open_are = All-map (OpenKept past) _ (open_steps past) k.open_are (λ s w. record { rest = w.rest; started = w.started });
-        order = k.order;
+      fresh = λ e h. k.fresh e (omega arith);
+      live_is =
+          All-push _ (live past) (record { client = client; entry = entry; blocks = blocks_fetched_if fetched })
+          (All-both (LiveKept facts opening past) (λ l. (entry == l.entry) ≡ false) _ (live past) k.live_is others
+          (λ l w f. live-other facts opening past (Event.Resume client entry fetched ResumeAnswer.Begun stored) l w grows refl refl (rw f refl)))
+          (record {
+            known = omega (arith, grows, known);
+            open_is = rw (s, o) refl;
+            traced_to = λ t h. let h' : option_and_then (λ r. option_map first_trace (target facts (views facts opening past) r)) (request_held past client) ≡ Some t = rw (eqb-self entry) at h in
+                rw s (resumed-traced facts (views facts opening past) (request_held past client) t h');
+          });
+      open_are = All-map (OpenKept past) _ (open_steps past) k.open_are (λ s w. record { rest = w.rest; started = w.started });
+      order = k.order;
     }

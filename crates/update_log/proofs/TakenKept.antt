@@ -72,12 +72,12 @@ pub taken-on : (facts : Facts) (opening : List Row) (past : List Event) (event :
 taken-on facts opening past event entry g t a k =
     let grows = goes_on-grows (rows facts opening past) (rows facts opening (event ∷ past)) g in
     record {
-        known = omega (arith, grows, k.known);
-        once = rw t k.once;
-        accepted_once = rw a k.accepted_once;
-        row = k.row;
-        row_is = goes_on-fixed (rows facts opening past) (rows facts opening (event ∷ past)) entry g k.known ∙ k.row_is;
-        taking = rw t k.taking;
+      known = omega (arith, grows, k.known);
+      once = rw t k.once;
+      accepted_once = rw a k.accepted_once;
+      row = k.row;
+      row_is = goes_on-fixed (rows facts opening past) (rows facts opening (event ∷ past)) entry g k.known ∙ k.row_is;
+      taking = rw t k.taking;
     }
 
 -- what is kept at an event that takes no entry, accepts none but a new one, and starts and ends no step
@@ -85,15 +85,16 @@ pub taken-quiet : (facts : Facts) (opening : List Row) (past : List Event) (even
 taken-quiet facts opening past event k g t a b l s =
     let grows = goes_on-grows (rows facts opening past) (rows facts opening (event ∷ past)) g in
     record {
-        untaken = λ e h. rw (t e) (k.untaken e (omega arith));
-        unaccepted = λ e h. rw (b e h) (k.unaccepted e (omega arith));
-        live_taken = All-map _ _ (live (event ∷ past)) (lives l) (λ x w. taken-on facts opening past event x.entry g (t x.entry) (a x.entry w.known) w);
-        begun = λ e. begins e (s e);
+      untaken = λ e h. rw (t e) (k.untaken e (omega arith));
+      unaccepted = λ e h. rw (b e h) (k.unaccepted e (omega arith));
+      live_taken = All-map _ _ (live (event ∷ past)) (lives l) (λ x w. taken-on facts opening past event x.entry g (t x.entry) (a x.entry w.known) w);
+      begun = λ e. begins e (s e);
     }
   where
     lives : (live (event ∷ past) ≡ live past) ⊎ AllByRecursion (λ l. Taken facts opening past l.entry) (live (event ∷ past)) → AllByRecursion (λ l. Taken facts opening past l.entry) (live (event ∷ past))
     lives (inl e) = rw e k.live_taken
     lives (inr h) = h
+
     begins : (e : ℕ) → (strokes e (event ∷ past) ≡ []) ⊎ Taken facts opening past e → (strokes e (event ∷ past) ≡ []) ⊎ Taken facts opening (event ∷ past) e
     begins e (inl n) = inl n
     begins e (inr w) = inr (taken-on facts opening past event e g (t e) (a e w.known) w)
@@ -138,12 +139,12 @@ taken-new facts opening past client request fetched entry t r k next e met whole
     let fresh : length (rows facts opening past) < entry = omega arith in
     let none : row_of (rows facts opening past) entry ≡ None = row_of-past 1 (rows facts opening past) entry r.valid.entries (omega arith) in
     record {
-        known = omega (arith, ap length new, length_push (rows facts opening past) row);
-        once = rw (eqb-self entry, k.untaken entry fresh) refl;
-        accepted_once = rw (eqb-self entry, k.unaccepted entry fresh) refl;
-        row = fixed row;
-        row_is = rw new (ap (option_map fixed) (find-push_new (λ x. x.entry == entry) (rows facts opening past) row none (eq-eqb (length (rows facts opening past) + 1) entry (sym next))));
-        taking = rw (eqb-self entry) (request, t, fetched, record { request_is = refl; target_is = e; digest = refl; matches = target-matches facts (views facts opening past) request t e; met = met; payload = refl; whole = whole });
+      known = omega (arith, ap length new, length_push (rows facts opening past) row);
+      once = rw (eqb-self entry, k.untaken entry fresh) refl;
+      accepted_once = rw (eqb-self entry, k.unaccepted entry fresh) refl;
+      row = fixed row;
+      row_is = rw new (ap (option_map fixed) (find-push_new (λ x. x.entry == entry) (rows facts opening past) row none (eq-eqb (length (rows facts opening past) + 1) entry (sym next))));
+      taking = rw (eqb-self entry) (request, t, fetched, record { request_is = refl; target_is = e; digest = refl; matches = target-matches facts (views facts opening past) request t e; met = met; payload = refl; whole = whole });
     }
 
 pub taken-claimed : (facts : Facts) (opening : List Row) (past : List Event) (client : ℕ) (request : Request) (fetched : FetchNote) (entry : ℕ) → TakenKept facts opening past → entry ≡ length (rows facts opening past) + 1 → GoesOn (rows facts opening past) (rows facts opening (Event.Claim client request fetched (ClaimAnswer.Entry entry) ∷ past)) → Taken facts opening (Event.Claim client request fetched (ClaimAnswer.Entry entry) ∷ past) entry → TakenKept facts opening (Event.Claim client request fetched (ClaimAnswer.Entry entry) ∷ past)
@@ -153,13 +154,13 @@ taken-claimed facts opening past client request fetched entry k next g w =
     let other : (e : ℕ) → e ≤ length (rows facts opening past) → (entry == e) ≡ false = λ e h. eqb-other entry e (λ s. omega arith) in
     let after : (e : ℕ) → length (rows facts opening (event ∷ past)) < e → (entry == e) ≡ false = λ e h. eqb-other entry e (λ s. let le = w.known in omega arith) in
     record {
-        untaken = λ e h. rw (after e h) (k.untaken e (omega arith));
-        unaccepted = λ e h. rw (after e h) (k.unaccepted e (omega arith));
-        live_taken =
-            All-push _ (live past) (record { client = client; entry = entry; blocks = blocks_fetched fetched })
-            (All-map _ _ (live past) k.live_taken (λ x u. taken-on facts opening past event x.entry g (other x.entry u.known) (other x.entry u.known) u))
-            w;
-        begun = λ e. begins e (k.begun e);
+      untaken = λ e h. rw (after e h) (k.untaken e (omega arith));
+      unaccepted = λ e h. rw (after e h) (k.unaccepted e (omega arith));
+      live_taken =
+          All-push _ (live past) (record { client = client; entry = entry; blocks = blocks_fetched fetched })
+          (All-map _ _ (live past) k.live_taken (λ x u. taken-on facts opening past event x.entry g (other x.entry u.known) (other x.entry u.known) u))
+          w;
+      begun = λ e. begins e (k.begun e);
     }
   where
     begins : (e : ℕ) → (strokes e past ≡ []) ⊎ Taken facts opening past e → (strokes e past ≡ []) ⊎ Taken facts opening (Event.Claim client request fetched (ClaimAnswer.Entry entry) ∷ past) e
@@ -186,8 +187,8 @@ pub taken-start : (facts : Facts) (opening : List Row) (past : List Event) (clie
 taken-start facts opening past client entry op l k a =
     taken-quiet facts opening past (Event.Start client entry op) k (inl refl) (λ e. refl) (λ e h. refl) (λ e h. refl) (inl refl)
     (λ e. by_test (entry == e) _
-        (λ t. let s : entry ≡ e = eqb-true entry e t in inr (subst (Taken facts opening past) s w))
-        (λ f. rw f (k.begun e)))
+    (λ t. let s : entry ≡ e = eqb-true entry e t in inr (subst (Taken facts opening past) s w))
+    (λ f. rw f (k.begun e)))
   where
     w : Taken facts opening past entry
     w = subst (Taken facts opening past) (eqb-true l.entry entry (find-passes (λ x. x.entry == entry) (live past) l a.live)) (All-find (λ x. Taken facts opening past x.entry) (λ x. x.entry == entry) (live past) l k.live_taken a.live)
@@ -196,8 +197,8 @@ pub taken-end : (facts : Facts) (opening : List Row) (past : List Event) (client
 taken-end facts opening past client entry op outcome told seen k n =
     taken-quiet facts opening past (Event.End client entry op outcome told seen) k (inl refl) (λ e. refl) (λ e h. refl) (λ e h. refl) (inl refl)
     (λ e. by_test (entry == e) _
-        (λ t. let s : entry ≡ e = eqb-true entry e t in inr (subst (Taken facts opening past) s (w (k.begun entry))))
-        (λ f. rw f (k.begun e)))
+    (λ t. let s : entry ≡ e = eqb-true entry e t in inr (subst (Taken facts opening past) s (w (k.begun entry))))
+    (λ f. rw f (k.begun e)))
   where
     w : (strokes entry past ≡ []) ⊎ Taken facts opening past entry → Taken facts opening past entry
     w (inl e) = absurd (n e)
@@ -257,11 +258,11 @@ came-advance entry state reason time rows e row (Some old) f n h p =
     let new : with_state entry state reason time old ≡ row = cc in
     by_test (old.entry == entry) _
     (λ t. let made : with_state entry state reason time old ≡ record old { state = state; reason = reason; time_changed = time } = rw t refl in
-        let same : state ≡ row.state = ap (λ (r : Row). r.state) (sym made ∙ new) in
-        let bad : is_pending row.state ≡ false = subst (λ (x : RowState). is_pending x ≡ false) same n in cc)
+    let same : state ≡ row.state = ap (λ (r : Row). r.state) (sym made ∙ new) in
+    let bad : is_pending row.state ≡ false = subst (λ (x : RowState). is_pending x ≡ false) same n in cc)
     (λ t. let made : with_state entry state reason time old ≡ old = rw t refl in
-        let same : old ≡ row = sym made ∙ new in
-        inl (f ∙ ap Some same, eqb-other entry e (λ s. let bad : (old.entry == entry) ≡ true = eq-eqb old.entry entry (at ∙ sym s) in cc)))
+    let same : old ≡ row = sym made ∙ new in
+    inl (f ∙ ap Some same, eqb-other entry e (λ s. let bad : (old.entry == entry) ≡ true = eq-eqb old.entry entry (at ∙ sym s) in cc)))
 
 pub came-add : (new : Row) (rows : List Row) (e : ℕ) (row : Row) (o : Option Row) → row_of rows e ≡ o → row_of (rows ++ new ∷ []) e ≡ Some row → CameAbout (Change.Add new) rows e row
 came-add new rows e row (Some old) f h =
@@ -278,10 +279,10 @@ came-add new rows e row (Some old) f h =
 came-add new rows e row None f h =
     by_test (new.entry == e) _
     (λ t. let k : row_of (rows ++ new ∷ []) e ≡ Some new = find-push_new (λ r. r.entry == e) rows new f t in
-        let same : new ≡ row = (let q : Some new ≡ Some row = sym k ∙ h in cc) in
-        inr (ap (λ r. Change.Add r) same, ap (λ (r : Row). r.entry) (sym same) ∙ eqb-true new.entry e t))
+    let same : new ≡ row = (let q : Some new ≡ Some row = sym k ∙ h in cc) in
+    inr (ap (λ r. Change.Add r) same, ap (λ (r : Row). r.entry) (sym same) ∙ eqb-true new.entry e t))
     (λ t. let k : row_of (rows ++ new ∷ []) e ≡ None = find-push_other (λ r. r.entry == e) rows new t ∙ f in
-        let bad : Some row ≡ None = sym h ∙ k in cc)
+    let bad : Some row ≡ None = sym h ∙ k in cc)
 
 pub came-about : (change : Change) (rows : List Row) (e : ℕ) (row : Row) → NextChange change rows → row_of (changed change rows) e ≡ Some row → is_pending row.state ≡ true → CameAbout change rows e row
 came-about (Change.Add new) rows e row n h p = came-add new rows e row (row_of rows e) refl h
@@ -293,23 +294,24 @@ came-about (Change.Advance entry state reason time) rows e row n h p =
 pub waiting-same : (facts : Facts) (opening : List Row) (past : List Event) (event : Event) → WaitingKept facts opening past → EntriesFrom 1 (rows facts opening past) → rows facts opening (event ∷ past) ≡ rows facts opening past → ((e : ℕ) → e ≤ length (rows facts opening past) → takes e event ≡ false) → ((e : ℕ) → e ≤ length (rows facts opening past) → accepts e (doubt facts opening past) event ≡ false) → WaitingKept facts opening (event ∷ past)
 waiting-same facts opening past event k v r t a =
     record {
-        untaken = λ e row f p. let f' : row_of (rows facts opening past) e ≡ Some row = rw (← r) f in
-            rw (t e (row_of-known (rows facts opening past) e row v f')) (k.untaken e row f' p);
-        accepted_once = λ e row f p. let f' : row_of (rows facts opening past) e ≡ Some row = rw (← r) f in
-            rw (a e (row_of-known (rows facts opening past) e row v f')) (k.accepted_once e row f' p);
+      untaken = λ e row f p. let f' : row_of (rows facts opening past) e ≡ Some row = rw (← r) f in
+          rw (t e (row_of-known (rows facts opening past) e row v f')) (k.untaken e row f' p);
+      accepted_once = λ e row f p. let f' : row_of (rows facts opening past) e ≡ Some row = rw (← r) f in
+          rw (a e (row_of-known (rows facts opening past) e row v f')) (k.accepted_once e row f' p);
     }
 
 -- an event that makes a change
 pub waiting-changed : (facts : Facts) (opening : List Row) (past : List Event) (event : Event) (change : Change) → WaitingKept facts opening past → TakenKept facts opening past → EntriesFrom 1 (rows facts opening past) → rows facts opening (event ∷ past) ≡ changed change (rows facts opening past) → NextChange change (rows facts opening past) → ((e : ℕ) → e ≤ length (rows facts opening past) → advances change e ≡ false → takes e event ≡ false) → ((e : ℕ) → e ≤ length (rows facts opening past) → accepts e (doubt facts opening past) event ≡ false) → ((row : Row) → change ≡ Change.Add row → is_pending row.state ≡ true → (takes row.entry event ≡ false) × (accepts row.entry (doubt facts opening past) event ≡ true)) → WaitingKept facts opening (event ∷ past)
 waiting-changed facts opening past event change k t v r n tk ac new =
     record {
-        untaken = λ e row f p. (at e row p (came-about change (rows facts opening past) e row n (rw (← r) f) p)).0;
-        accepted_once = λ e row f p. (at e row p (came-about change (rows facts opening past) e row n (rw (← r) f) p)).1;
+      untaken = λ e row f p. (at e row p (came-about change (rows facts opening past) e row n (rw (← r) f) p)).0;
+      accepted_once = λ e row f p. (at e row p (came-about change (rows facts opening past) e row n (rw (← r) f) p)).1;
     }
   where
     next : (c : Change) (row : Row) → c ≡ Change.Add row → NextChange c (rows facts opening past) → row.entry ≡ length (rows facts opening past) + 1
     next (Change.Add r) row e n = let s : r ≡ row = cc in ap (λ (x : Row). x.entry) (sym s) ∙ n.0
     next (Change.Advance entry state reason time) row e n = cc
+
     at : (e : ℕ) (row : Row) → is_pending row.state ≡ true → CameAbout change (rows facts opening past) e row → (how_many (takes e) (event ∷ past) ≡ 0) × (accepted facts opening e (event ∷ past) ≡ 1)
     at e row p (inl c) =
         let known : e ≤ length (rows facts opening past) = row_of-known (rows facts opening past) e row v c.0 in
@@ -335,6 +337,7 @@ waiting-boot facts opening past number time limit found boards r t k = at found 
   where
     old : (found : Found) (e : ℕ) → e ≤ length (rows facts opening past) → accepts e (doubt facts opening past) (Event.Boot number time limit found boards) ≡ false
     old found e h = boot-accepts number time limit found boards (doubt facts opening past) (rows facts opening past) e r.doubt_next (inl h)
+
     at : (found : Found) (o : Option Change) → doubt facts opening past ≡ o → WaitingKept facts opening (Event.Boot number time limit found boards ∷ past)
     at Found.Kept (Some change) d =
         waiting-changed facts opening past (Event.Boot number time limit Found.Kept boards) change k t r.valid.entries (rw d refl)
@@ -432,6 +435,7 @@ taken-by_resume facts opening past client entry fetched stored row a = at fetche
   where
     zero_client : client ≡ 0
     zero_client = a.client_is
+
     at : (fetched : Option FetchNote) → ResumeFetched facts opening past entry fetched ResumeAnswer.Begun → TakenBy facts opening (fixed row) past (Event.Resume client entry fetched ResumeAnswer.Begun stored)
     at None f = absurd f.2
     at (Some note) f =
@@ -446,8 +450,11 @@ taken-by_resume facts opening past client entry fetched stored row a = at fetche
         let met : first_unmet_for facts row.client (views facts opening past) t ≡ None = (let m = target-met k t has.none in rw r at m) in
         let both = and-true _ (unwrap_or (option_map (λ x. bytes_eq x.digest t.chosen.release.digest) (row_of (rows facts opening past) entry)) true) has.that in
         let that : bytes_eq row.digest t.chosen.release.digest ≡ true = rw r at both.1 in
-        let hold_is : request_held past client ≡ Some held.request = rw zero_client (ap (option_map (λ h. h.request)) f.1) in
-        (held.request, t, note, record {
+        let hold_is : request_held past client ≡ Some held.request = rw zero_client (ap (option_map (λ h. h.request)) f.1) in (
+          held.request,
+          t,
+          note,
+          record {
             request_is = hold_is;
             target_is = e;
             digest = sym (bytes-same row.digest t.chosen.release.digest that);
@@ -455,46 +462,56 @@ taken-by_resume facts opening past client entry fetched stored row a = at fetche
             met = met;
             payload = refl;
             whole = whole-of note (target facts (views facts opening past) held.request) t e d.4;
-        })
+          },
+        )
 
 -- the entry that a resume takes
 pub taken-resumed : (facts : Facts) (opening : List Row) (past : List Event) (client entry : ℕ) (fetched : Option FetchNote) (stored : Stored) (row : Row) → RowsKept facts opening past → TakenKept facts opening past → WaitingKept facts opening past → GoesOn (rows facts opening past) (rows facts opening (Event.Resume client entry fetched ResumeAnswer.Begun stored ∷ past)) → ResumeAllowed facts opening past client entry fetched ResumeAnswer.Begun stored row → TakenKept facts opening (Event.Resume client entry fetched ResumeAnswer.Begun stored ∷ past)
 taken-resumed facts opening past client entry fetched stored row r k q g a =
     record {
-        untaken = λ e h. rw (other-past e h) (k.untaken e (omega (arith, grows)));
-        unaccepted = λ e h. k.unaccepted e (omega (arith, grows));
-        live_taken =
-            All-push _ (live past) (record { client = client; entry = entry; blocks = blocks_fetched_if fetched })
-            (All-map _ _ (live past) k.live_taken (λ x u. taken-on facts opening past event x.entry g (others x.entry u) refl u))
-            here;
-        begun = λ e. begins e (k.begun e);
+      untaken = λ e h. rw (other-past e h) (k.untaken e (omega (arith, grows)));
+      unaccepted = λ e h. k.unaccepted e (omega (arith, grows));
+      live_taken =
+          All-push _ (live past) (record { client = client; entry = entry; blocks = blocks_fetched_if fetched })
+          (All-map _ _ (live past) k.live_taken (λ x u. taken-on facts opening past event x.entry g (others x.entry u) refl u))
+          here;
+      begun = λ e. begins e (k.begun e);
     }
   where
     event : Event
     event = Event.Resume client entry fetched ResumeAnswer.Begun stored
+
     grows : length (rows facts opening past) ≤ length (rows facts opening (Event.Resume client entry fetched ResumeAnswer.Begun stored ∷ past))
     grows = goes_on-grows (rows facts opening past) _ g
+
     pending : is_pending row.state ≡ true
     pending = let p : row.state ≡ RowState.Pending = a.pending in rw p refl
+
     found : row_of (rows facts opening past) entry ≡ Some row
     found = a.row_is
+
     known : entry ≤ length (rows facts opening past)
     known = row_of-known (rows facts opening past) entry row r.valid.entries found
+
     none : how_many (takes entry) past ≡ 0
     none = q.untaken entry row found pending
+
     others : (e : ℕ) → Taken facts opening past e → (entry == e) ≡ false
     others e u = eqb-other entry e (λ s. let one : how_many (takes e) past ≡ 1 = u.once in let zero_is : how_many (takes e) past ≡ 0 = subst (λ (x : ℕ). how_many (takes x) past ≡ 0) s none in let bad : 1 ≡ 0 = sym one ∙ zero_is in cc)
+
     other-past : (e : ℕ) → length (rows facts opening (Event.Resume client entry fetched ResumeAnswer.Begun stored ∷ past)) < e → (entry == e) ≡ false
     other-past e h = eqb-other entry e (λ s. omega (arith, grows, known))
+
     here : Taken facts opening (Event.Resume client entry fetched ResumeAnswer.Begun stored ∷ past) entry
     here = record {
-        known = omega (arith, grows, known);
-        once = rw (eqb-self entry, none) refl;
-        accepted_once = q.accepted_once entry row found pending;
-        row = fixed row;
-        row_is = goes_on-fixed (rows facts opening past) (rows facts opening (Event.Resume client entry fetched ResumeAnswer.Begun stored ∷ past)) entry g known ∙ ap (option_map fixed) found;
-        taking = rw (eqb-self entry) (taken-by_resume facts opening past client entry fetched stored row a);
+      known = omega (arith, grows, known);
+      once = rw (eqb-self entry, none) refl;
+      accepted_once = q.accepted_once entry row found pending;
+      row = fixed row;
+      row_is = goes_on-fixed (rows facts opening past) (rows facts opening (Event.Resume client entry fetched ResumeAnswer.Begun stored ∷ past)) entry g known ∙ ap (option_map fixed) found;
+      taking = rw (eqb-self entry) (taken-by_resume facts opening past client entry fetched stored row a);
     }
+
     begins : (e : ℕ) → (strokes e past ≡ []) ⊎ Taken facts opening past e → (strokes e past ≡ []) ⊎ Taken facts opening (Event.Resume client entry fetched ResumeAnswer.Begun stored ∷ past) e
     begins e (inl n) = inl n
     begins e (inr u) = inr (taken-on facts opening past (Event.Resume client entry fetched ResumeAnswer.Begun stored) e g (others e u) refl u)
@@ -535,7 +552,7 @@ waiting-none facts opening v = record { untaken = λ _ _ _ _. refl; accepted_onc
     one-pending n (r ∷ rows) e row v f p =
         by_test (r.entry == e) _
         (λ t. let same : r ≡ row = (let h : Some r ≡ Some row = rw t at f in cc) in
-            let p' : is_pending r.state ≡ true = ap (λ (x : Row). is_pending x.state) same ∙ p in
-            let none : how_many (is_pending_row e) rows ≡ 0 = none-below (n + 1) rows e v.1 (let at : r.entry ≡ e = eqb-true r.entry e t in let q : r.entry ≡ n = v.0 in omega arith) in
-            rw (t, p', none) refl)
+        let p' : is_pending r.state ≡ true = ap (λ (x : Row). is_pending x.state) same ∙ p in
+        let none : how_many (is_pending_row e) rows ≡ 0 = none-below (n + 1) rows e v.1 (let at : r.entry ≡ e = eqb-true r.entry e t in let q : r.entry ≡ n = v.0 in omega arith) in
+        rw (t, p', none) refl)
         (λ t. let rest : row_of rows e ≡ Some row = rw t at f in rw t (one-pending (n + 1) rows e row v.1 rest p))

@@ -11,3 +11,6 @@ pub mod Legal
 pub mod Once
 pub mod Crashes
 pub mod Laws
+pub mod CoreCase
+pub mod Core
+pub mod CoreFolds
