@@ -1,12 +1,11 @@
 -- What an accepted request had.
-use Rattle.std.proofs.Common.{◌≡◌, ℕ, zero, suc, Bool, true, false, not, ◌&&◌, List, [], ◌∷◌, refl, ap, sym, ◌∙◌, length}
-use Rattle.std.specs.Prelude.{Option, Some, None, ◌==◌, if◌then◌else◌, option_map, option_and_then, slice_get, find, filter}
+use Rattle.std.proofs.Common.{◌≡◌, ℕ, Bool, true, false, List, [], ◌∷◌, refl, ap, sym, ◌∙◌}
+use Rattle.std.specs.Prelude.{Option, Some, None, if◌then◌else◌, option_map, option_and_then, slice_get, find, filter}
 use Rattle.std.specs.List.{AllByRecursion}
 use Rattle.device_list.specs.Lists.{place}
 use Rattle.fw_facts.specs.Views.{guids_of}
 use Rattle.fw_facts.specs.declared.release.Component.{Component}
 use Rattle.fw_facts.specs.declared.view.DeviceView.{DeviceView}
-use Rattle.history_keeper.specs.Histories.{is_unsettled}
 use Rattle.history_keeper.specs.declared.row.Row.{Row}
 use Rattle.release_catalogue.specs.Lookup.{Chosen, all_releases, chosen, provides}
 use Rattle.release_catalogue.specs.declared.reference.ReleaseRef.{ReleaseRef}

@@ -1,5 +1,5 @@
 -- What a crash leaves is legal.
-use Rattle.std.proofs.Common.{◌≡◌, ◌≢◌, ℕ, zero, suc, Bool, true, false, List, [], ◌∷◌, ◌++◌, refl, ap, sym, ◌∙◌, ◌⊎◌, inl, inr, length, subst}
+use Rattle.std.proofs.Common.{◌≡◌, ℕ, zero, suc, Bool, true, false, List, [], ◌∷◌, ◌++◌, refl, ap, sym, ◌∙◌, ◌⊎◌, inl, inr, length, subst}
 use Rattle.std.specs.Prelude.{Option, Some, None, MatchBool}
 use Rattle.std.proofs.Common.{append-nil, arith}
 use Rattle.std.specs.Prelude.{slice_get, unwrap_or, option_map}
@@ -12,15 +12,13 @@ use Rattle.update_log.proofs.LegalOnce.{JournalsFit, past-kept, past-once}
 use Rattle.update_log.proofs.Pasts.{past-push}
 use Rattle.update_log.proofs.StepsKept.{get-last}
 use Rattle.update_log.specs.Crashes.{CrashOf, IsNextBoot, LeftOf, NextCampaign, faulted, next_boot}
-use Rattle.update_log.specs.Holding.{live}
 use Rattle.update_log.specs.Known.{Target, seen}
 use Rattle.update_log.specs.Laws.{IsSafeCrash}
 use Rattle.update_log.specs.Legal.{Allowed, BoardListed, BootTakes, ClaimAnswered, IsLegal, Legal, ResumeAnswered, ResumeFetched, ResumeStored, ScheduleAnswered, UnchangedExactly, is_fetched}
 use Rattle.update_log.specs.Once.{BoardState, FitsPast, OncePast}
 use Rattle.update_log.specs.Pasts.{boots, is_boot, is_counted, past_of}
 use Rattle.update_log.specs.Shows.{Campaign, told, untold_of}
-use Rattle.update_log.specs.Steps.{closing, fits}
-use Rattle.update_log.specs.Verdicts.{free}
+use Rattle.update_log.specs.Steps.{fits}
 use Rattle.update_log.specs.declared.answer.ClaimAnswer.{ClaimAnswer}
 use Rattle.update_log.specs.declared.answer.ResumeAnswer.{ResumeAnswer}
 use Rattle.update_log.specs.declared.decision.Decision.{Decision}

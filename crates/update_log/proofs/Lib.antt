@@ -1,7 +1,9 @@
 pub mod Openings
 pub mod Pasts
+pub mod Places
 pub mod Lists
 pub mod StrokeFacts
+pub mod Devices
 pub mod Rows
 pub mod StepsKept
 pub mod RowsKept
@@ -13,3 +15,4 @@ pub mod CrashOnce
 pub mod Chosen
 pub mod Refusals
 pub mod Targets
+pub mod WorkedLogs

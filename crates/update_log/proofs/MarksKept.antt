@@ -1,12 +1,8 @@
 -- What each past keeps of the marks that it tells.
-use Rattle.std.proofs.Common.{◌≡◌, ◌≢◌, ℕ, zero, suc, Bool, true, false, cond, not, ◌&&◌, ◌||◌, List, [], ◌∷◌, ◌++◌, map, refl, ap, sym, ◌∙◌, ◌<◌, ◌≤◌, ◌+◌, ◌-◌, arith, ◌⊎◌, inl, inr, length, subst}
-use Rattle.std.proofs.lemmas.List.{length_push, map-append}
-use Rattle.std.proofs.lemmas.Map.Keys.{IsDistinct-push}
-use Rattle.std.proofs.lemmas.Cmp.{nat_list_eq_equiv}
+use Rattle.std.proofs.Common.{◌≡◌, ℕ, Bool, true, false, not, ◌&&◌, List, [], ◌∷◌, ◌++◌, refl, ap, sym, ◌∙◌, ◌≤◌, ◌+◌, arith, ◌⊎◌, inl, inr, length, subst}
 use Rattle.std.proofs.lemmas.Bool.{eqb-true, eq-eqb}
-use Rattle.std.specs.Prelude.{Option, Some, None, Result, IfSome, ◌==◌, if◌then◌else◌, option_map, option_and_then, is_some, find, filter, MatchBool, nat_eq}
-use Rattle.std.specs.List.{AllByRecursion, list_any, IsDistinct}
-use Rattle.std.proofs.Common.{append-nil}
+use Rattle.std.specs.Prelude.{Option, Some, None, Result, IfSome, ◌==◌, if◌then◌else◌, option_map, find, filter}
+use Rattle.std.specs.List.{AllByRecursion, list_any}
 use Rattle.std.specs.Prelude.{slice_get, IsTrue, unwrap_or}
 use Rattle.std.specs.Bool.{OnTrue}
 use Rattle.emulated_boards.specs.declared.fault.BoardFault.{BoardFault}
@@ -19,11 +15,10 @@ use Rattle.update_log.proofs.StepsKept.{OpenKept, StepsKept, not-fresh, open-sta
 use Rattle.update_log.proofs.StrokeFacts.{writes}
 use Rattle.update_log.proofs.TakenKept.{Taken, TakenKept, goes_on-grows}
 use Rattle.update_log.specs.Holding.{open_steps}
-use Rattle.update_log.specs.Known.{board_of, is_board_of, known, row_of, rows, seen}
+use Rattle.update_log.specs.Known.{board_of, is_board_of, row_of, rows, seen}
 use Rattle.update_log.specs.Legal.{BoardListed, BootAllowed, EndAllowed, open_marks, open_on}
 use Rattle.update_log.specs.Once.{AfterStart, HasDigest, Stroke, entry_named, how_many, is_like, is_write, starts_write, strokes}
 use Rattle.update_log.specs.Shows.{Campaign, IsPrefix, digest_of, marks, told, told_by, untold_of}
-use Rattle.update_log.specs.Verdicts.{kept}
 use Rattle.update_log.specs.declared.event.BoardSeen.{BoardSeen}
 use Rattle.update_log.specs.declared.event.Event.{Event}
 use Rattle.update_log.specs.declared.event.Found.{Found}

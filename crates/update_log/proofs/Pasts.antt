@@ -1,5 +1,5 @@
 -- A log and its past.
-use Rattle.std.proofs.Common.{◌≡◌, List, [], ◌∷◌, ◌++◌, reverse, refl}
+use Rattle.std.proofs.Common.{◌≡◌, List, [], ◌∷◌, ◌++◌}
 use Rattle.std.proofs.lemmas.List.{reverse-append}
 use Rattle.update_log.specs.Pasts.{past_of}
 use Rattle.update_log.specs.declared.event.Event.{Event}

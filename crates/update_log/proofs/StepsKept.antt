@@ -1,9 +1,9 @@
 -- What each past keeps of the steps of its entries.
-use Rattle.std.proofs.Common.{◌≡◌, ◌≢◌, ℕ, zero, suc, Bool, true, false, cond, not, ◌&&◌, List, [], ◌∷◌, ◌++◌, map, refl, ap, sym, ◌∙◌, ◌<◌, ◌≤◌, ◌+◌, ◌-◌, arith, ◌⊎◌, inl, inr, length, subst}
-use Rattle.std.specs.Prelude.{Option, Some, None, Result, ◌==◌, if◌then◌else◌, option_map, option_and_then, is_some, find, filter, slice_get}
+use Rattle.std.proofs.Common.{◌≡◌, ℕ, true, false, not, List, [], ◌∷◌, ◌++◌, refl, ap, sym, ◌∙◌, ◌<◌, ◌≤◌, ◌+◌, ◌-◌, arith, length, subst}
+use Rattle.std.specs.Prelude.{Option, Some, None, Result, ◌==◌, option_map, option_and_then, is_some, find, slice_get}
 use Rattle.std.proofs.lemmas.List.{length_push}
 use Rattle.std.specs.List.{AllByRecursion}
-use Rattle.std.proofs.lemmas.Bool.{eqb-true, eq-eqb}
+use Rattle.std.proofs.lemmas.Bool.{eqb-true}
 use Rattle.emulated_boards.specs.declared.fault.BoardFault.{BoardFault}
 use Rattle.emulated_boards.specs.declared.mark.Mark.{Mark}
 use Rattle.fw_facts.specs.declared.seen.Seen.{Seen}
@@ -14,13 +14,13 @@ use Rattle.update_log.proofs.Accepts.{accepts-target}
 use Rattle.update_log.proofs.Lists.{All-both, All-filter, All-find, All-map, All-push, by_test, eqb-other, eqb-self, find-filter, find-filter_none, find-passes, find-push_other, find-push_some}
 use Rattle.update_log.proofs.Rows.{accepted-claim, found-grows, rows_by-grows, rows_by-refused}
 use Rattle.update_log.proofs.StrokeFacts.{is_open, last_ended, order-start}
-use Rattle.update_log.specs.Holding.{blocks_fetched, blocks_fetched_if, held, live, live_entry, open_step, open_steps}
+use Rattle.update_log.specs.Holding.{blocks_fetched, blocks_fetched_if, held, holds, live, live_entry, step_open, open_steps, request_held}
 use Rattle.update_log.specs.Known.{Target, asked, fate_stored, known, rows, seen, target, views}
 use Rattle.update_log.specs.Legal.{ClaimAllowed, EndAllowed, StartAllowed, next_entry}
 use Rattle.update_log.specs.Once.{InOrder, Stroke, strokes}
 use Rattle.update_log.specs.Pasts.{is_keeper_fault, time_of}
 use Rattle.update_log.specs.Shows.{Campaign, told}
-use Rattle.update_log.specs.Steps.{first_trace, last_number, next_step, op_number, request_held, trace, with_step}
+use Rattle.update_log.specs.Steps.{first_trace, last_number, next_step, op_number, trace, with_step}
 use Rattle.update_log.specs.Verdicts.{case_of, verdict}
 use Rattle.update_log.specs.declared.answer.AskAnswer.{AskAnswer}
 use Rattle.update_log.specs.declared.answer.ClaimAnswer.{ClaimAnswer}
@@ -43,7 +43,7 @@ use Rattle.update_log.specs.declared.trace.TraceStep.{TraceStep}
 -- what is kept of a live entry
 pub record EntryKept (facts : Facts) (opening : List Row) (past : List Event) (entry : ℕ) : Type 0 where
   pub known : entry ≤ length (rows facts opening past)
-  pub open_is : is_open (strokes entry past) ≡ is_some (open_step past entry)
+  pub open_is : is_open (strokes entry past) ≡ is_some (step_open past entry)
   pub traced_to : (t : Trace) → trace facts opening entry past ≡ Some t → last_number t.steps ≡ last_ended (strokes entry past)
 
 abbrev pub LiveKept : Facts → List Row → List Event → LiveEntry → Type 0
@@ -106,14 +106,14 @@ steps-finish facts opening past client entry state stored k =
     }
 
 -- an open step's entry has a started stroke
-pub open-started : (past : List Event) (entry : ℕ) (s : OpenStep) → AllByRecursion (OpenKept past) (open_steps past) → open_step past entry ≡ Some s → (rest : List Stroke) × (strokes entry past ≡ Stroke.Started s.op ∷ rest)
+pub open-started : (past : List Event) (entry : ℕ) (s : OpenStep) → AllByRecursion (OpenKept past) (open_steps past) → step_open past entry ≡ Some s → (rest : List Stroke) × (strokes entry past ≡ Stroke.Started s.op ∷ rest)
 open-started past entry s a e =
     let w : OpenKept past s = All-find (OpenKept past) (λ x. x.entry == entry) (open_steps past) s a e in
     let same : s.entry ≡ entry = eqb-true s.entry entry (find-passes (λ x. x.entry == entry) (open_steps past) s e) in
     (w.rest, ap (λ e. strokes e past) (sym same) ∙ w.started)
 
 -- a live entry is as it was where the event is of another
-pub live-other : (facts : Facts) (opening : List Row) (past : List Event) (event : Event) (l : LiveEntry) → LiveKept facts opening past l → length (rows facts opening past) ≤ length (rows facts opening (event ∷ past)) → strokes l.entry (event ∷ past) ≡ strokes l.entry past → open_step (event ∷ past) l.entry ≡ open_step past l.entry → trace facts opening l.entry (event ∷ past) ≡ trace facts opening l.entry past → LiveKept facts opening (event ∷ past) l
+pub live-other : (facts : Facts) (opening : List Row) (past : List Event) (event : Event) (l : LiveEntry) → LiveKept facts opening past l → length (rows facts opening past) ≤ length (rows facts opening (event ∷ past)) → strokes l.entry (event ∷ past) ≡ strokes l.entry past → step_open (event ∷ past) l.entry ≡ step_open past l.entry → trace facts opening l.entry (event ∷ past) ≡ trace facts opening l.entry past → LiveKept facts opening (event ∷ past) l
 live-other facts opening past event l w grows s o t =
     record {
       known = omega (arith, grows, w.known);
@@ -202,7 +202,7 @@ live-end facts opening past client entry op outcome told seen l w =
     by_test (entry == l.entry) _
     (λ t. let e : entry ≡ l.entry = eqb-true entry l.entry t in
     let s : strokes l.entry (Event.End client entry op outcome told seen ∷ past) ≡ Stroke.Ended op ∷ strokes l.entry past = rw t refl in
-    let o : open_step (Event.End client entry op outcome told seen ∷ past) l.entry ≡ None = rw (← e) (find-filter_none (λ x. x.entry == entry) (open_steps past)) in
+    let o : step_open (Event.End client entry op outcome told seen ∷ past) l.entry ≡ None = rw (← e) (find-filter_none (λ x. x.entry == entry) (open_steps past)) in
     record {
       known = w.known;
       open_is = rw (s, o) refl;
@@ -241,10 +241,10 @@ steps-end c opening past client entry op outcome told seen k a =
     }
 
 -- no step of a fresh entry is open
-pub fresh-closed : (facts : Facts) (opening : List Row) (past : List Event) (entry : ℕ) → StepsKept facts opening past → length (rows facts opening past) < entry → open_step past entry ≡ None
-fresh-closed facts opening past entry k h = at (open_step past entry) refl
+pub fresh-closed : (facts : Facts) (opening : List Row) (past : List Event) (entry : ℕ) → StepsKept facts opening past → length (rows facts opening past) < entry → step_open past entry ≡ None
+fresh-closed facts opening past entry k h = at (step_open past entry) refl
   where
-    at : (o : Option OpenStep) → open_step past entry ≡ o → o ≡ None
+    at : (o : Option OpenStep) → step_open past entry ≡ o → o ≡ None
     at None e = refl
     at (Some s) e =
         let st = open-started past entry s k.open_are e in
@@ -258,7 +258,7 @@ pub steps-claimed : (facts : Facts) (opening : List Row) (past : List Event) (cl
 steps-claimed facts opening past client request fetched entry k next grown =
     let new : length (rows facts opening past) < entry = omega arith in
     let s : strokes entry past ≡ [] = k.fresh entry new in
-    let o : open_step past entry ≡ None = fresh-closed facts opening past entry k new in
+    let o : step_open past entry ≡ None = fresh-closed facts opening past entry k new in
     record {
       fresh = λ e h. k.fresh e (omega arith);
       live_is =
@@ -313,10 +313,10 @@ steps-quiet facts opening past event k grows s o t l =
     }
 
 -- no step is open of an entry without one
-pub unstarted-closed : (facts : Facts) (opening : List Row) (past : List Event) (entry : ℕ) → StepsKept facts opening past → strokes entry past ≡ [] → open_step past entry ≡ None
-unstarted-closed facts opening past entry k h = at (open_step past entry) refl
+pub unstarted-closed : (facts : Facts) (opening : List Row) (past : List Event) (entry : ℕ) → StepsKept facts opening past → strokes entry past ≡ [] → step_open past entry ≡ None
+unstarted-closed facts opening past entry k h = at (step_open past entry) refl
   where
-    at : (o : Option OpenStep) → open_step past entry ≡ o → o ≡ None
+    at : (o : Option OpenStep) → step_open past entry ≡ o → o ≡ None
     at None e = refl
     at (Some s) e =
         let st = open-started past entry s k.open_are e in
@@ -328,7 +328,7 @@ resumed-traced facts views (Some request) t h = first-traced (target facts views
 
 pub steps-resumed : (facts : Facts) (opening : List Row) (past : List Event) (client entry : ℕ) (fetched : Option FetchNote) (stored : Stored) → StepsKept facts opening past → length (rows facts opening past) ≤ length (rows facts opening (Event.Resume client entry fetched ResumeAnswer.Begun stored ∷ past)) → entry ≤ length (rows facts opening past) → strokes entry past ≡ [] → AllByRecursion (λ l. (entry == l.entry) ≡ false) (live past) → StepsKept facts opening (Event.Resume client entry fetched ResumeAnswer.Begun stored ∷ past)
 steps-resumed facts opening past client entry fetched stored k grows known s others =
-    let o : open_step past entry ≡ None = unstarted-closed facts opening past entry k s in
+    let o : step_open past entry ≡ None = unstarted-closed facts opening past entry k s in
     record {
       fresh = λ e h. k.fresh e (omega arith);
       live_is =
@@ -338,8 +338,8 @@ steps-resumed facts opening past client entry fetched stored k grows known s oth
           (record {
             known = omega (arith, grows, known);
             open_is = rw (s, o) refl;
-            traced_to = λ t h. let h' : option_and_then (λ r. option_map first_trace (target facts (views facts opening past) r)) (request_held past client) ≡ Some t = rw (eqb-self entry) at h in
-                rw s (resumed-traced facts (views facts opening past) (request_held past client) t h');
+            traced_to = λ t h. let h' : option_and_then (λ r. option_map first_trace (target facts (views facts opening past) r)) (request_held (holds past) client) ≡ Some t = rw (eqb-self entry) at h in
+                rw s (resumed-traced facts (views facts opening past) (request_held (holds past) client) t h');
           });
       open_are = All-map (OpenKept past) _ (open_steps past) k.open_are (λ s w. record { rest = w.rest; started = w.started });
       order = k.order;

@@ -1,6 +1,6 @@
 -- The order of an entry's steps.
-use Rattle.std.proofs.Common.{◌≡◌, ◌≢◌, ℕ, zero, suc, Bool, true, false, cond, not, ◌&&◌, List, [], ◌∷◌, ◌++◌, refl, ap, sym, ◌∙◌, ◌<◌, ◌≤◌, ◌+◌, ◌-◌, arith, ◌⊎◌, inl, inr, eqb, length, subst, if◌then◌else◌}
-use Rattle.std.specs.Prelude.{Option, Some, None, ◌==◌, is_some, find, filter, nat_lt, unwrap_or, option_map, slice_get}
+use Rattle.std.proofs.Common.{◌≡◌, ℕ, Bool, true, false, ◌&&◌, List, [], ◌∷◌, refl, ◌<◌, ◌≤◌, ◌+◌, arith, if◌then◌else◌}
+use Rattle.std.specs.Prelude.{Some, nat_lt}
 use Rattle.std.proofs.lemmas.Bool.{ltb-true}
 use Rattle.update_log.proofs.Lists.{find-passes}
 use Rattle.update_log.specs.Once.{InOrder, Stroke, is_write}

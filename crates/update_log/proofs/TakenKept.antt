@@ -1,11 +1,9 @@
 -- What each past keeps of the events that took its entries.
-use Rattle.std.proofs.Common.{◌≡◌, ◌≢◌, ℕ, zero, suc, Bool, true, false, cond, not, ◌&&◌, ◌||◌, List, [], ◌∷◌, ◌++◌, map, refl, ap, sym, ◌∙◌, ◌<◌, ◌≤◌, ◌+◌, ◌-◌, arith, ◌⊎◌, inl, inr, length, subst}
-use Rattle.std.proofs.lemmas.List.{length_push, map-append}
-use Rattle.std.proofs.lemmas.Map.Keys.{IsDistinct-push}
-use Rattle.std.proofs.lemmas.Cmp.{nat_list_eq_equiv}
+use Rattle.std.proofs.Common.{◌≡◌, ◌≢◌, ℕ, Bool, true, false, List, [], ◌∷◌, ◌++◌, map, refl, ap, sym, ◌∙◌, ◌<◌, ◌≤◌, ◌+◌, arith, ◌⊎◌, inl, inr, length, subst}
+use Rattle.std.proofs.lemmas.List.{length_push}
 use Rattle.std.proofs.lemmas.Bool.{eqb-true, eq-eqb}
-use Rattle.std.specs.Prelude.{Option, Some, None, Result, IfSome, ◌==◌, if◌then◌else◌, option_map, option_and_then, is_some, find, filter, MatchBool, nat_eq}
-use Rattle.std.specs.List.{AllByRecursion, list_any, IsDistinct}
+use Rattle.std.specs.Prelude.{Option, Some, None, Result, IfSome, ◌==◌, option_map, find, MatchBool}
+use Rattle.std.specs.List.{AllByRecursion}
 use Rattle.std.specs.Prelude.{nat_le, unwrap_or}
 use Rattle.std.proofs.lemmas.Bool.{leb-true, leb-false}
 use Rattle.std.specs.Str.{bytes_eq}
@@ -23,14 +21,13 @@ use Rattle.update_log.proofs.Openings.{EntriesFrom, bytes-same}
 use Rattle.update_log.proofs.Rows.{accepted-claim, changed-grows, rows_by-refused}
 use Rattle.update_log.proofs.RowsKept.{GoesOn, NextChange, RowsKept, claim-not_kept, fixed, fixed_row, goes_on-fixed, no-tag, not_kept, row_of-past, schedule-not_kept, with_state-fixed}
 use Rattle.update_log.proofs.StrokeFacts.{and-true}
-use Rattle.update_log.specs.Holding.{blocks_fetched, blocks_fetched_if, held, live}
-use Rattle.update_log.specs.Known.{Fate, Target, doubt, fate, fate_stored, known, new_row, reason_of, refusal_number, row_of, row_with_tag, rows, rows_by, rows_found, seen, target, views}
+use Rattle.update_log.specs.Holding.{blocks_fetched, blocks_fetched_if, held, holds, live, request_held}
+use Rattle.update_log.specs.Known.{Fate, Target, doubt, fate_stored, new_row, reason_of, refusal_number, row_of, row_with_tag, rows, rows_by, rows_found, seen, target, views}
 use Rattle.update_log.specs.Legal.{ClaimAllowed, ResumeAllowed, ResumeAnswered, ResumeFetched, ScheduleAllowed, ScheduleAnswered, StartAllowed, is_fetched, is_whole, next_entry}
 use Rattle.update_log.specs.Once.{AtTaking, TakenBy, accepted, accepts, how_many, is_pending, is_pending_row, strokes, takes}
 use Rattle.update_log.specs.Pasts.{is_keeper_fault, time_of}
 use Rattle.update_log.specs.Shows.{told}
-use Rattle.update_log.specs.Steps.{request_held}
-use Rattle.update_log.specs.Verdicts.{Case, case_of, first_unmet_for, has, verdict}
+use Rattle.update_log.specs.Verdicts.{Case, case_of, first_unmet_for, verdict}
 use Rattle.update_log.specs.declared.answer.ClaimAnswer.{ClaimAnswer}
 use Rattle.update_log.specs.declared.answer.ResumeAnswer.{ResumeAnswer}
 use Rattle.update_log.specs.declared.decision.Decision.{Decision}
@@ -450,7 +447,7 @@ taken-by_resume facts opening past client entry fetched stored row a = at fetche
         let met : first_unmet_for facts row.client (views facts opening past) t ≡ None = (let m = target-met k t has.none in rw r at m) in
         let both = and-true _ (unwrap_or (option_map (λ x. bytes_eq x.digest t.chosen.release.digest) (row_of (rows facts opening past) entry)) true) has.that in
         let that : bytes_eq row.digest t.chosen.release.digest ≡ true = rw r at both.1 in
-        let hold_is : request_held past client ≡ Some held.request = rw zero_client (ap (option_map (λ h. h.request)) f.1) in (
+        let hold_is : request_held (holds past) client ≡ Some held.request = rw zero_client (ap (option_map (λ h. h.request)) f.1) in (
           held.request,
           t,
           note,

@@ -3,7 +3,7 @@
 -- Each sheet is a board's, in the document's order. Of the boards with one device ID, one is the
 -- device; a board whose plugin is missing or disabled is none. The devices stand in board order, and
 -- a device's place in their list isn't its board's number.
-use Rattle.std.specs.Prelude.{ℕ, Bool, true, false, ◌&&◌, ◌||◌, not, ◌==◌, nat_lt, ◌+◌, List, [], ◌∷◌, Option, Some, None, filter, find, position, slice_get, is_some, option_map, unwrap_or}
+use Rattle.std.specs.Prelude.{true, ◌≡◌, ◌≢◌, AllPairs, Contains, ℕ, Bool, false, ◌&&◌, ◌||◌, not, ◌==◌, nat_lt, ◌+◌, List, [], ◌∷◌, Option, Some, filter, find, position, slice_get, is_some, option_map}
 use Rattle.std.specs.List.{list_any}
 use Rattle.std.specs.Str.{bytes_eq}
 use Rattle.fw_facts.specs.declared.sheet.Sheet.{Sheet}
@@ -69,3 +69,8 @@ board_at facts place = option_map (λ b. b.number) (slice_get (devices facts) pl
 -- The number of the board that is the device of that ID.
 abbrev pub board_with : Facts → List ℕ → Option ℕ
 board_with facts device = option_map (λ b. b.number) (find (λ b. bytes_eq b.sheet.device device) (devices facts))
+
+-- The priority rule is one: no two devices have one ID, and each ID of a served board is a device's.
+pub record OneDevice (facts : Facts) : Type 0 where
+  pub differ : AllPairs (λ a b. a.sheet.device ≢ b.sheet.device) (devices facts)
+  pub found : (board : Board) → Contains (all_boards facts) board → is_served facts board ≡ true → is_some (board_with facts board.sheet.device) ≡ true

@@ -1,5 +1,5 @@
 -- What clients have out in the boot that runs: live entries, holds and open steps.
-use Rattle.std.specs.Prelude.{ℕ, Bool, true, false, not, ◌==◌, ◌+◌, ◌/◌, List, [], ◌∷◌, ◌++◌, Option, Some, None, filter, find, sum_by}
+use Rattle.std.specs.Prelude.{ℕ, Bool, not, ◌==◌, ◌+◌, ◌/◌, List, [], ◌∷◌, ◌++◌, Option, Some, None, filter, find, sum_by, option_map}
 use Rattle.std.specs.List.{list_any}
 use Rattle.update_log.specs.declared.event.Event.{Event}
 use Rattle.update_log.specs.declared.event.Back.{Back}
@@ -7,6 +7,7 @@ use Rattle.update_log.specs.declared.answer.AskAnswer.{AskAnswer}
 use Rattle.update_log.specs.declared.answer.ClaimAnswer.{ClaimAnswer}
 use Rattle.update_log.specs.declared.answer.ResumeAnswer.{ResumeAnswer}
 use Rattle.update_log.specs.declared.refusal.FetchNote.{FetchNote}
+use Rattle.update_log.specs.declared.request.Request.{Request}
 use Rattle.update_log.specs.declared.live.LiveEntry.{LiveEntry}
 use Rattle.update_log.specs.declared.live.Held.{Held}
 use Rattle.update_log.specs.declared.live.OpenStep.{OpenStep}
@@ -72,9 +73,15 @@ abbrev pub holds : List Event → List Held
 holds [] = []
 holds (event ∷ past) = holds_after event (holds past)
 
--- The hold of a client.
+-- The hold of a client, and the request that it is for.
+abbrev pub hold_of : List Held → ℕ → Option Held
+hold_of holds client = find (λ h. h.client == client) holds
+
+abbrev pub request_held : List Held → ℕ → Option Request
+request_held holds client = option_map (λ h. h.request) (hold_of holds client)
+
 abbrev pub hold : List Event → ℕ → Option Held
-hold past client = find (λ h. h.client == client) (holds past)
+hold past client = hold_of (holds past) client
 
 -- The blocks of these holds and live entries.
 abbrev pub blocks_out : List Held → List LiveEntry → ℕ
@@ -101,5 +108,5 @@ open_steps [] = []
 open_steps (event ∷ past) = open_after event (open_steps past)
 
 -- The open step of an entry.
-abbrev pub open_step : List Event → ℕ → Option OpenStep
-open_step past entry = find (λ s. s.entry == entry) (open_steps past)
+abbrev pub step_open : List Event → ℕ → Option OpenStep
+step_open past entry = find (λ s. s.entry == entry) (open_steps past)

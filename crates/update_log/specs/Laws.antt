@@ -7,6 +7,8 @@ use Rattle.update_log.specs.declared.event.Found.{Found}
 use Rattle.update_log.specs.declared.event.BoardSeen.{BoardSeen}
 use Rattle.update_log.specs.declared.facts.BootPlan.{BootPlan}
 use Rattle.update_log.specs.Pasts.{past_of}
+use Rattle.update_log.specs.Boards.{OneDevice}
+use Rattle.update_log.specs.declared.facts.Facts.{Facts}
 use Rattle.update_log.specs.Shows.{Campaign}
 use Rattle.update_log.specs.Legal.{Legal}
 use Rattle.update_log.specs.Once.{BoardState, Fits, Once}
@@ -37,3 +39,7 @@ abbrev pub AtMostOnceAfterCrashes : Type 0
 AtMostOnceAfterCrashes =
     (c : Campaign) (opening : List Row) (log : List Event) (crashed : List Event)
     → IsHistory opening → Legal c opening log → CrashOf log crashed → IsSafeCrash c opening crashed
+
+-- The priority rule leaves one device for each ID, whatever the facts.
+abbrev pub OneDeviceAnID : Type 0
+OneDeviceAnID = (facts : Facts) → OneDevice facts

@@ -1,5 +1,5 @@
 -- Which events may come after a past, and so which logs are legal.
-use Rattle.std.specs.Prelude.{◌≡◌, ◌≢◌, ◌⊎◌, ℕ, Bool, true, false, ◌&&◌, ◌||◌, not, ◌==◌, ◌<◌, ◌+◌, ◌/◌, ◌%◌, IsTrue, MatchBool, List, [], ◌∷◌, length, Option, Some, None, Result, Ok, Err, IfSome, if◌then◌else◌, find, slice_get, unwrap_or, option_map, option_and_then}
+use Rattle.std.specs.Prelude.{◌≡◌, ◌≢◌, ◌⊎◌, ℕ, Bool, true, false, ◌&&◌, not, ◌==◌, ◌<◌, ◌+◌, ◌/◌, ◌%◌, IsTrue, MatchBool, List, [], ◌∷◌, length, Option, Some, None, Result, Ok, IfSome, if◌then◌else◌, find, slice_get, unwrap_or, option_map, option_and_then}
 use Rattle.std.specs.List.{list_any}
 use Rattle.std.specs.Str.{bytes_eq}
 use Rattle.fw_facts.specs.declared.seen.Seen.{Seen}
@@ -36,7 +36,7 @@ use Rattle.update_log.specs.declared.live.Held.{Held}
 use Rattle.update_log.specs.declared.live.OpenStep.{OpenStep}
 use Rattle.release_catalogue.specs.Lookup.{Chosen}
 use Rattle.update_log.specs.Pasts.{past_of, is_boot, is_counted, boots, counted, limit_of, off, last_of, finished}
-use Rattle.update_log.specs.Holding.{live, live_entry, is_live, hold, open_steps, open_step}
+use Rattle.update_log.specs.Holding.{live, live_entry, is_live, hold, open_steps, step_open}
 use Rattle.update_log.specs.Known.{Target, target, row_of, is_board_of, board_found, known, rows, seen, doubt, views}
 use Rattle.update_log.specs.Verdicts.{verdict}
 use Rattle.update_log.specs.Steps.{next_op, judge, closing, view_of_row}
@@ -233,7 +233,7 @@ pub record ResumeAllowed (facts : Facts) (opening : List Row) (past : List Event
 pub record StartAllowed (facts : Facts) (opening : List Row) (past : List Event) (client entry : ℕ) (op : Op) (l : LiveEntry) : Type 0 where
   pub live : live_entry past entry ≡ Some l
   pub client_is : l.client ≡ client
-  pub closed : open_step past entry ≡ None
+  pub closed : step_open past entry ≡ None
   pub next : next_op facts opening past entry ≡ Some op
 
 -- A write that went well tells all its marks.
@@ -244,7 +244,7 @@ ToldWhole _ _ told all = Unit {0}
 -- A client ends the step that it has open. It tells marks that begin the step's, and what it shows of
 -- the board is allowed.
 pub record EndAllowed (facts : Facts) (first : List Seen) (opening : List Row) (past : List Event) (client entry : ℕ) (op : Op) (outcome : Result (Unit {0}) BoardFault) (told : List Mark) (shown : Seen) : Type 0 where
-  pub open_is : open_step past entry ≡ Some (record { client = client; entry = entry; op = op })
+  pub open_is : step_open past entry ≡ Some (record { client = client; entry = entry; op = op })
   pub told_is : IsPrefix told (marks op entry (digest_of (rows facts opening past) entry))
   pub whole : ToldWhole op outcome told (marks op entry (digest_of (rows facts opening past) entry))
   pub shows : (board : ℕ) → IsTrue (is_board_of facts (rows facts opening past) entry board) → EndShows facts first opening past board told outcome shown
@@ -270,7 +270,7 @@ UnchangedExactly RowState.NeedsReboot stored = stored ≢ Stored.Unchanged
 pub record FinishAllowed (facts : Facts) (opening : List Row) (past : List Event) (client entry : ℕ) (state : RowState) (stored : Stored) (l : LiveEntry) (closed : RowState) : Type 0 where
   pub live : live_entry past entry ≡ Some l
   pub client_is : l.client ≡ client
-  pub open_none : open_step past entry ≡ None
+  pub open_none : step_open past entry ≡ None
   pub done : next_op facts opening past entry ≡ None
   pub closing : closing facts opening past entry ≡ Some closed
   pub state_is : state ≡ closing_stored closed stored

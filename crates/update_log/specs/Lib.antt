@@ -14,3 +14,4 @@ pub mod Laws
 pub mod CoreCase
 pub mod Core
 pub mod CoreFolds
+pub mod Examples

@@ -1,5 +1,5 @@
 -- Which boards fit a log, and that each write of theirs belongs to one accepted request.
-use Rattle.std.specs.Prelude.{◌≡◌, ◌≢◌, ℕ, suc, Bool, true, false, ◌&&◌, ◌==◌, ◌≤◌, ◌<◌, IsTrue, MatchBool, AllPairs, List, [], ◌∷◌, ◌++◌, length, Option, Some, None, IfSome, if◌then◌else◌, slice_get, option_map}
+use Rattle.std.specs.Prelude.{◌≡◌, ◌≢◌, ℕ, suc, Bool, true, false, ◌&&◌, ◌==◌, ◌<◌, IsTrue, MatchBool, AllPairs, List, [], ◌∷◌, ◌++◌, length, Option, Some, None, IfSome, if◌then◌else◌, slice_get}
 use Rattle.std.specs.List.{list_any, AllByRecursion}
 use Rattle.std.specs.Bool.{OnTrue}
 use Rattle.fw_facts.specs.declared.seen.Seen.{Seen}
@@ -18,9 +18,10 @@ use Rattle.update_log.specs.declared.refusal.FetchNote.{FetchNote}
 use Rattle.update_log.specs.declared.request.Request.{Request}
 use Rattle.update_log.specs.declared.facts.Facts.{Facts}
 use Rattle.update_log.specs.Pasts.{past_of, boots}
+use Rattle.update_log.specs.Holding.{holds, request_held}
 use Rattle.update_log.specs.Known.{Target, target, row_of, is_board_of, rows, seen, doubt, views}
 use Rattle.update_log.specs.Verdicts.{first_unmet_for}
-use Rattle.update_log.specs.Steps.{op_number, request_held}
+use Rattle.update_log.specs.Steps.{op_number}
 use Rattle.update_log.specs.Shows.{Campaign, IsPrefix, told, told_by, is_began, HasRaw, first_of_board}
 use Rattle.update_log.specs.Legal.{open_on, open_marks, is_whole}
 
@@ -111,7 +112,7 @@ takes entry _ = false
 -- The request of such an event, and the payload that was fetched for it.
 abbrev pub request_taken : List Event → Event → Option Request
 request_taken before (Event.Claim client request fetched answer) = Some request
-request_taken before (Event.Resume client entry fetched answer stored) = request_held before client
+request_taken before (Event.Resume client entry fetched answer stored) = request_held (holds before) client
 request_taken before _ = None
 
 abbrev pub payload_taken : Event → Option FetchNote

@@ -1,5 +1,5 @@
 -- What an event may tell and show of a board.
-use Rattle.std.specs.Prelude.{◌≡◌, ◌⊎◌, ℕ, Bool, true, false, ◌||◌, ◌==◌, IsTrue, MatchBool, List, [], ◌∷◌, ◌++◌, Contains, Option, Some, None, Result, Ok, Err, OnOk, if◌then◌else◌, slice_get, unwrap_or, option_map}
+use Rattle.std.specs.Prelude.{◌≡◌, ◌⊎◌, ℕ, Bool, true, false, ◌||◌, ◌==◌, IsTrue, MatchBool, List, [], ◌∷◌, ◌++◌, Contains, Option, Some, None, Result, OnOk, if◌then◌else◌, slice_get, unwrap_or, option_map}
 use Rattle.std.specs.List.{list_any}
 use Rattle.fw_facts.specs.declared.seen.Seen.{Seen}
 use Rattle.fw_facts.specs.declared.seen.Mode.{Mode}

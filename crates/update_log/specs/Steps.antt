@@ -1,5 +1,5 @@
 -- The steps of a live entry, in which state it ends, and how a row is judged.
-use Rattle.std.specs.Prelude.{ℕ, Bool, true, false, ◌&&◌, ◌||◌, not, ◌==◌, nat_lt, ◌-◌, List, [], ◌∷◌, ◌++◌, Option, Some, None, Result, Ok, Err, if◌then◌else◌, find, length, slice_get, is_ok, unwrap_or, option_map, option_and_then}
+use Rattle.std.specs.Prelude.{ℕ, Bool, true, false, ◌&&◌, ◌||◌, not, ◌==◌, nat_lt, ◌-◌, List, [], ◌∷◌, ◌++◌, Option, Some, None, if◌then◌else◌, find, length, slice_get, is_ok, unwrap_or, option_map, option_and_then}
 use Rattle.std.specs.List.{list_any, list_all}
 use Rattle.std.specs.Str.{bytes_eq}
 use Rattle.version_formats.specs.VersionOrder.{same_version}
@@ -20,7 +20,8 @@ use Rattle.update_log.specs.declared.request.Request.{Request}
 use Rattle.update_log.specs.declared.facts.Facts.{Facts}
 use Rattle.update_log.specs.declared.trace.Trace.{Trace}
 use Rattle.update_log.specs.declared.trace.TraceStep.{TraceStep}
-use Rattle.update_log.specs.Holding.{hold}
+use Rattle.update_log.specs.declared.live.Held.{Held}
+use Rattle.update_log.specs.Holding.{holds, request_held}
 use Rattle.update_log.specs.Known.{Target, target, row_of, rows, views}
 
 -- The steps, in the order in which they are taken, and the number of each.
@@ -114,29 +115,25 @@ first_trace t =
 abbrev pub with_step : TraceStep → Trace → Trace
 with_step step t = record t { steps = t.steps ++ step ∷ [] }
 
--- The request of a client's hold.
-abbrev pub request_held : List Event → ℕ → Option Request
-request_held past client = option_map (λ h. h.request) (hold past client)
+-- The trace of an entry as it is taken with a request, where the devices stand like this.
+abbrev pub traced : Facts → List DeviceView → Option Request → Option Trace
+traced facts views request = option_and_then (λ r. option_map first_trace (target facts views r)) request
 
--- The trace of an entry whose request was this, as its target stood.
-abbrev pub traced : Facts → List Row → List Event → Option Request → Option Trace
-traced facts opening past request =
-    option_and_then (λ r. option_map first_trace (target facts (views facts opening past) r)) request
-
--- What an event makes of the trace of an entry.
-abbrev pub trace_after : Facts → List Row → List Event → ℕ → Event → Option Trace → Option Trace
-trace_after facts opening past entry (Event.Claim client request fetched (ClaimAnswer.Entry taken)) before =
-    if taken == entry then traced facts opening past (Some request) else before
-trace_after facts opening past entry (Event.Resume client taken fetched ResumeAnswer.Begun stored) before =
-    if taken == entry then traced facts opening past (request_held past client) else before
-trace_after facts opening past entry (Event.End client ended op outcome told seen) before =
+-- What an event makes of the trace of an entry, where the devices and the holds stand like this before it.
+abbrev pub trace_after : Facts → List DeviceView → List Held → ℕ → Event → Option Trace → Option Trace
+trace_after facts views holds entry (Event.Claim client request fetched (ClaimAnswer.Entry taken)) before =
+    if taken == entry then traced facts views (Some request) else before
+trace_after facts views holds entry (Event.Resume client taken fetched ResumeAnswer.Begun stored) before =
+    if taken == entry then traced facts views (request_held holds client) else before
+trace_after facts views holds entry (Event.End client ended op outcome told seen) before =
     if ended == entry then option_map (with_step (record { op = op; outcome = outcome; seen = seen })) before else before
-trace_after facts opening past entry _ before = before
+trace_after facts views holds entry _ before = before
 
 -- The trace of an entry: what was found as it was taken, and the steps that ended since.
 abbrev pub trace : Facts → List Row → ℕ → List Event → Option Trace
 trace facts opening entry [] = None
-trace facts opening entry (event ∷ past) = trace_after facts opening past entry event (trace facts opening entry past)
+trace facts opening entry (event ∷ past) =
+    trace_after facts (views facts opening past) (holds past) entry event (trace facts opening entry past)
 
 -- The next step of an entry. It has none once cleanup has ended.
 abbrev pub next_op : Facts → List Row → List Event → ℕ → Option Op

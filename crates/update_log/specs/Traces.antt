@@ -1,9 +1,8 @@
 -- Up to six steps in an array, as a list.
-use Rattle.std.specs.Prelude.{◌≡◌, ℕ, suc, zero, ◌+◌, ◌-◌, ◌≤◌, ◌<◌, min, List, [], ◌∷◌, ◌++◌, length, take, set, replicate, Result, Ok, Err}
-use Rattle.std.proofs.Common.{◌∙◌, sym, ap, arith, refl, length-append}
+use Rattle.std.specs.Prelude.{◌≡◌, ℕ, ◌+◌, ◌-◌, ◌≤◌, min, List, ◌++◌, length, take, replicate, Ok}
+use Rattle.std.proofs.Common.{◌∙◌, sym, ap, arith, length-append}
 use Rattle.std.proofs.lemmas.List.{length-take, length-replicate}
 use Rattle.fw_facts.specs.declared.seen.Seen.{Seen}
-use Rattle.emulated_boards.specs.declared.fault.BoardFault.{BoardFault}
 use Rattle.update_log.specs.declared.event.Op.{Op}
 use Rattle.update_log.specs.declared.trace.TraceStep.{TraceStep}
 use Rattle.update_log.specs.declared.trace.TraceSteps.TheInside.{Inside}
@@ -25,7 +24,7 @@ pub record AreSteps (s : Inside) : Type 0 where
 abbrev pub steps_kept : List TraceStep → Inside
 steps_kept steps = record { kept = six_places steps; len = length steps }
 
-count_kept : (s : Inside) → AreSteps s → length (take s.len s.kept) ≡ s.len
+pub count_kept : (s : Inside) → AreSteps s → length (take s.len s.kept) ≡ s.len
 count_kept s h =
     let whole : length s.kept ≡ length (take s.len s.kept) + (6 - length (take s.len s.kept)) =
     ap length h.is ∙ length-append (take s.len s.kept) (replicate (6 - length (take s.len s.kept)) no_step)

@@ -20,13 +20,13 @@ use crate::refusing::{
 use crate::request::Request;
 use crate::row_lookup::{in_the_way, row_of, row_with_tag};
 use crate::target::{Target, target_at};
-use crate::unmet::first_unmet;
+
 use device_list::Devices;
 use fw_base::{Digest, Name};
 use fw_facts::DeviceView;
 use history_keeper::Row;
 use release_catalogue::ReleaseRef;
-use requirements::Unmet;
+use requirements::{Unmet, first_unmet};
 
 /// All that a decision reads.
 #[derive(Drop)]

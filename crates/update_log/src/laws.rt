@@ -1,5 +1,5 @@
 //! Laws of the definitions alone.
-ghost use Rattle.update_log.specs.Laws.{AtMostOnce, AtMostOnceAfterCrashes};
+ghost use Rattle.update_log.specs.Laws.{AtMostOnce, AtMostOnceAfterCrashes, OneDeviceAnID};
 
 /// Each write that a board lived through belongs to one accepted request.
 pub fn legal_once()
@@ -10,4 +10,9 @@ pub fn legal_once()
 /// the boards have still been written once.
 pub fn crash_once()
     ensures { AtMostOnceAfterCrashes }
+{}
+
+/// Of the served boards with one device ID exactly one is a device.
+pub fn one_device()
+    ensures { OneDeviceAnID }
 {}

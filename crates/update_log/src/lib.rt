@@ -1,30 +1,35 @@
 //! The log: everything that happened in a campaign, as one list of events.
 //!
 //! An event is one atomic step of one client, or of the daemon itself. What the daemon decides, it
-//! decides on the events before; what it reports is what stands here.
+//! decides on the events before; what it reports is what stands here. `specs/` says, of that list
+//! alone, which logs are legal and when boards were written once for each accepted request, in this
+//! order: Pasts, Holding, Boards, Known, Verdicts, Steps, Shows, Legal, Once, Crashes. The laws are in
+//! `laws`, and logs that a reader can follow in `examples`.
 #![tactic(auto)]
 
 pub mod answer;
-pub mod clock;
-pub mod decide;
+mod clock;
+mod decide;
 pub mod decision;
 pub mod event;
+pub mod examples;
 pub mod facts;
-pub mod finding;
-pub mod holding;
-pub mod judging;
+mod finding;
+mod holding;
+mod judging;
 pub mod laws;
 pub mod live;
-pub mod next_step;
+mod next_step;
 pub mod refusal;
 mod refusing;
 pub mod request;
-pub mod row_lookup;
+mod row_lookup;
 pub mod state;
-pub mod target;
+mod target;
+#[cfg(test)]
+mod tests;
 pub mod told;
 pub mod trace;
-mod unmet;
 
 pub use answer::{AskAnswer, ClaimAnswer, PlugAnswer, ResumeAnswer};
 pub use decision::{Decision, Stage};
