@@ -1,5 +1,5 @@
 -- Branches that are read from the end of their marks.
-use Rattle.std.proofs.Common.{◌≡◌, List, [], ◌∷◌, ◌++◌, refl, sym, ap, ◌∙◌}
+use Rattle.std.proofs.Common.{◌≡◌, List, [], ◌∷◌, ◌++◌, refl, ap, ◌∙◌}
 use Rattle.fw_patterns.specs.Reading.{branches, repeat_of, repeat_or_once, with_mark}
 use Rattle.fw_patterns.specs.declared.marks.Placed.{Placed}
 use Rattle.fw_patterns.specs.declared.syntax.Branch.{Branch}

@@ -5,4 +5,5 @@ pub mod BranchLemmas
 pub mod PatternLemmas
 pub mod PlaceLemmas
 pub mod MatchLemmas
+pub mod DecidingLemmas
 pub mod GlobLemmas

@@ -1,5 +1,5 @@
 -- Marks that were read, in front of those that are left, and their order.
-use Rattle.std.proofs.Common.{◌≡◌, ℕ, ◌+◌, ◌-◌, ◌<◌, ◌≤◌, Bool, List, [], ◌∷◌, length, take, drop, get_or, Option, Some, None, Result, Ok, Err, refl, sym, ap, ◌∙◌}
+use Rattle.std.proofs.Common.{◌≡◌, ℕ, ◌+◌, ◌-◌, ◌<◌, ◌≤◌, Bool, List, length, take, drop, get_or, Option, Some, Ok, Err, refl}
 use Rattle.std.proofs.lemmas.List.{drop_more, drop_all, take_rest}
 use Rattle.fw_patterns.specs.Reading.{ahead, first_fault, last_fault, mark_step, marks, step, stop}
 use Rattle.fw_patterns.specs.declared.fault.PatternFault.{PatternFault}

@@ -1,9 +1,9 @@
 -- The places decide the pattern relation.
-use Rattle.std.proofs.Common.{◌≡◌, ℕ, suc, ◌+◌, ◌<◌, ◌≤◌, Bool, true, false, ◌&&◌, ◌||◌, not, List, [], ◌∷◌, ◌++◌, length, refl, sym, ap, subst, arith, ◌∙◌, ⊎_elim, append_assoc}
+use Rattle.std.proofs.Common.{◌≡◌, ℕ, suc, Bool, true, false, ◌&&◌, ◌||◌, not, List, [], ◌∷◌, ◌++◌, length, refl, sym, ap, arith, ◌∙◌, ⊎_elim, append_assoc}
 use Rattle.std.proofs.lemmas.Bool.{and_parts, and_from, or_cases, or_left, or_right, true≢false}
 use Rattle.std.proofs.lemmas.List.Folds.{Any-from_list_any, list_any-from_Any}
-use Rattle.std.specs.List.{list_all, list_any}
-use Rattle.std.specs.Prelude.{◌↔◌, Any, IsTrue}
+use Rattle.std.specs.List.{list_all}
+use Rattle.std.specs.Prelude.{◌↔◌, IsTrue}
 use Rattle.fw_patterns.specs.Places.{at_byte, branch_at, end_at, may_be_none, piece_at, pieces_at, some_branch}
 use Rattle.fw_patterns.specs.Relation.{Follow, InBranch, InPattern, Stands, Times, stands_for}
 use Rattle.fw_patterns.specs.declared.syntax.Atom.{Atom}

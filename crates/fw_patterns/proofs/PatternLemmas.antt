@@ -1,10 +1,10 @@
 -- Patterns that are read: their branches are short.
-use Rattle.std.proofs.Common.{◌≡◌, ℕ, ◌+◌, ◌<◌, ◌≤◌, Bool, true, false, List, [], ◌∷◌, length, map, Option, Some, None, Result, Ok, Err, refl, sym, ap, subst, arith}
+use Rattle.std.proofs.Common.{◌≡◌, ℕ, ◌+◌, ◌<◌, ◌≤◌, Bool, false, List, [], ◌∷◌, length, Option, Some, None, Ok, Err, refl, subst, arith}
 use Rattle.std.proofs.lemmas.Bool.{lt-ltb, le-ltb}
 use Rattle.std.proofs.lemmas.List.Elements.{All-from_recursion}
-use Rattle.std.specs.Prelude.{position, All}
+use Rattle.std.specs.Prelude.{position}
 use Rattle.std.specs.List.{AllByRecursion}
-use Rattle.fw_patterns.specs.Reading.{Stream, ahead, stop, branch, branches, first_fault, glob_pattern, glob_read, is_no_glob_byte, mark_step, mark_then, marks, most_bytes, onto_first, pattern_of, regex_marks, regex_read, repeat_of, sign_step, sign_then, signs, tied_to_end, tied_to_start, with_mark, with_piece}
+use Rattle.fw_patterns.specs.Reading.{Stream, branches, first_fault, glob_pattern, glob_read, is_no_glob_byte, mark_step, mark_then, marks, most_bytes, onto_first, regex_marks, regex_read, repeat_of, sign_step, sign_then, signs, tied_to_end, tied_to_start, with_mark, with_piece}
 use Rattle.fw_patterns.specs.Relation.{AllShort}
 use Rattle.fw_patterns.specs.declared.fault.PatternFault.{PatternFault}
 use Rattle.fw_patterns.specs.declared.fault.PatternFault.TheVariants.{OutOfProfile, TooLong}

@@ -1,8 +1,8 @@
 -- Places in a pattern, read against a text from its end.
-use Rattle.std.proofs.Common.{◌≡◌, ℕ, ◌+◌, ◌-◌, ◌<◌, ◌≤◌, Bool, true, false, ◌&&◌, ◌||◌, not, List, [], ◌∷◌, ◌++◌, length, drop, get_or, set, refl, sym, ap, subst, arith, ⊎_elim, ◌∙◌}
+use Rattle.std.proofs.Common.{◌≡◌, ℕ, ◌+◌, ◌-◌, ◌<◌, ◌≤◌, Bool, false, ◌&&◌, ◌||◌, not, List, [], ◌∷◌, length, drop, get_or, set, refl, sym, ap, arith, ⊎_elim, ◌∙◌}
 use Rattle.std.proofs.lemmas.Bool.{cases_lt}
 use Rattle.std.proofs.lemmas.List.{drop_more, drop_all, get_or-set_same, get_or-set_other}
-use Rattle.fw_patterns.specs.Places.{Tell, at_byte, branch_at, may_be_none, piece_at, pieces_at, some_branch}
+use Rattle.fw_patterns.specs.Places.{Tell, at_byte, branch_at, may_be_none, pieces_at, some_branch}
 use Rattle.fw_patterns.specs.Relation.{stands_for}
 use Rattle.fw_patterns.specs.declared.syntax.Branch.{Branch}
 use Rattle.fw_patterns.specs.declared.syntax.Piece.{Piece}

@@ -1,7 +1,7 @@
 -- Signs that were read, in front of those that are left.
 use Rattle.std.proofs.Common.{◌≡◌, ℕ, ◌+◌, ◌<◌, ◌≤◌, List, [], ◌∷◌, ◌++◌, length, drop, get_or, Option, Some, None, refl, sym, ap, ◌∙◌, append_assoc, append-nil}
 use Rattle.std.proofs.lemmas.List.{drop_more, drop_all}
-use Rattle.fw_patterns.specs.Reading.{Stream, stop, ahead, sign_step, sign_then, pending_fault, signs}
+use Rattle.fw_patterns.specs.Reading.{Stream, stop, ahead, sign_step, pending_fault, signs}
 use Rattle.fw_patterns.specs.declared.fault.PatternFault.{PatternFault}
 use Rattle.fw_patterns.specs.declared.signs.Sign.{Sign}
 use Rattle.fw_patterns.specs.declared.signs.SignStep.TheVariants.{Backslash, Whole, Bad}

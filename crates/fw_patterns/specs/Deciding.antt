@@ -1,6 +1,6 @@
 -- The pattern relation, decided: a text is in a pattern where some of its cuts are. It tries every
 -- cut, and is here so that definitions can ask; `matches` gives the same answer in one pass.
-use Rattle.std.specs.Prelude.{ℕ, Bool, true, false, not, ◌&&◌, ◌||◌, ◌==◌, nat_lt, nat_le, List, [], ◌∷◌, length, map}
+use Rattle.std.specs.Prelude.{ℕ, Bool, true, not, ◌&&◌, ◌||◌, ◌==◌, nat_lt, nat_le, List, [], ◌∷◌, length, map}
 use Rattle.std.specs.List.{list_all, list_any}
 use Rattle.fw_patterns.specs.declared.syntax.Repeat.{Repeat}
 use Rattle.fw_patterns.specs.declared.syntax.Repeat.TheVariants.{Once, AnyTimes, SomeTimes, AtMostOnce}
@@ -34,7 +34,7 @@ abbrev pub in_branch : Branch → List ℕ → Bool
 in_branch branch text =
     list_any
     (λ start. (not branch.from_start || (length start.0 == 0))
-        && list_any (λ end. (not branch.to_end || (length end.1 == 0)) && follow branch.pieces end.0) (cuts start.1))
+    && list_any (λ end. (not branch.to_end || (length end.1 == 0)) && follow branch.pieces end.0) (cuts start.1))
     (cuts text)
 
 -- the pattern stands for the text

@@ -1,6 +1,7 @@
 //! Patterns: how they are read.
 ghost use Rattle.std.specs.Prelude.{◌≡◌, ◌⊎◌, ◌≤◌, ◌↔◌, IsTrue, IfOk, MatchResult, List, ℕ, Ok, Err, length, map, position};
 ghost use Rattle.fw_patterns.specs.Reading.{Gives, glob_pattern, glob_piece, glob_read, is_no_glob_byte, regex_marks, regex_read};
+ghost use Rattle.fw_patterns.specs.Deciding.{in_pattern};
 ghost use Rattle.fw_patterns.specs.Relation.{InGlob, InPattern};
 ghost use Rattle.fw_patterns.specs.declared.fault.PatternFault.TheVariants.{NoMemory as OutOfMemory};
 
@@ -80,7 +81,8 @@ impl Pattern {
     ///
     /// The time is at most the pattern's length times the text's, for every pattern and every text.
     pub fn matches(&self, text: &[u8]) -> bool
-        ensures { IsTrue result ↔ InPattern self.now text.now }
+        ensures stands { IsTrue result ↔ InPattern self.now text.now }
+        ensures decided { result ≡ in_pattern self.now text.now }
     {
         for branch in self.branches.items() {
             if branch_matches(branch, text) {

@@ -1,5 +1,5 @@
 -- When a requirement holds, and the first of a list that doesn't.
-use Rattle.std.specs.Prelude.{ℕ, zero, suc, Bool, true, false, not, ◌&&◌, List, [], ◌∷◌, Option, Some, None, is_some, is_none, if◌then◌else◌, option_map, option_and_then, find, position, slice_get}
+use Rattle.std.specs.Prelude.{◌≡◌, ◌<◌, ℕ, zero, suc, Bool, not, List, Option, Some, None, is_some, if◌then◌else◌, option_map, option_and_then, find, position, slice_get}
 use Rattle.std.specs.List.{list_any}
 use Rattle.std.specs.Str.{bytes_eq}
 use Rattle.std.specs.Ordering.{is_eq, is_ne, is_lt, is_le, is_gt, is_ge}
@@ -68,8 +68,8 @@ unless holds cause = if holds then None else Some cause
 
 -- A version that has to be there, and has to pass.
 abbrev pub of_version : Test → UnmetCause → Option (List ℕ) → Option UnmetCause
-of_version test missing None = Some missing
-of_version test missing (Some version) = unless (passes test version) VersionCompare
+of_version test otherwise None = Some otherwise
+of_version test otherwise (Some version) = unless (passes test version) VersionCompare
 
 -- A version that has to pass, where there is a test.
 abbrev pub of_test : Option Test → Option (List ℕ) → Option UnmetCause
@@ -86,8 +86,8 @@ of_device test view = in_use view.claim
 
 -- A device that has to be there.
 abbrev pub of_found : Option Test → UnmetCause → Option DeviceView → Option UnmetCause
-of_found test missing None = Some missing
-of_found test missing (Some view) = of_device test view
+of_found test otherwise None = Some otherwise
+of_found test otherwise (Some view) = of_device test view
 
 -- That ancestor, where it shows the GUID.
 abbrev pub with_guid : List ℕ → Option DeviceView → Option DeviceView
@@ -109,10 +109,13 @@ cause machine features views view (Client feature) =
 
 -- ---- the first that doesn't hold
 
+-- Why the requirement at the place doesn't hold: none where it holds, or where there is no such place.
+abbrev pub cause_at : (Requirement → Option UnmetCause) → List Requirement → ℕ → Option UnmetCause
+cause_at why list at = option_and_then why (slice_get list at)
+
 -- The requirement at the place, and why it doesn't hold.
 abbrev pub unmet_at : (Requirement → Option UnmetCause) → List Requirement → ℕ → Option Unmet
-unmet_at why list at =
-    option_map (λ cause. record { index = at; cause = cause }) (option_and_then why (slice_get list at))
+unmet_at why list at = option_map (λ cause. record { index = at; cause = cause }) (cause_at why list at)
 
 -- The first requirement of the list that doesn't hold of a device.
 abbrev pub first_unmet_of : MachineFacts → List (List ℕ) → List DeviceView → DeviceView → List Requirement → Option Unmet
@@ -125,3 +128,14 @@ first_unmet_of machine features views view list =
 unfoldable pub first_unmet : MachineFacts → List (List ℕ) → List DeviceView → ℕ → List Requirement → Option Unmet
 first_unmet machine features views device list =
     option_and_then (λ view. first_unmet_of machine features views view list) (slice_get views device)
+
+-- ---- the same, said by places
+
+-- All requirements of the list hold.
+abbrev pub AllHold : (Requirement → Option UnmetCause) → List Requirement → Type 0
+AllHold why list = (at : ℕ) → cause_at why list at ≡ None
+
+-- The requirement that is named doesn't hold, for the cause that is named, and each one before it holds.
+pub record IsFirstUnmet (why : Requirement → Option UnmetCause) (list : List Requirement) (unmet : Unmet) : Type 0 where
+  pub named : cause_at why list unmet.index ≡ Some unmet.cause
+  pub before : (at : ℕ) → at < unmet.index → cause_at why list at ≡ None

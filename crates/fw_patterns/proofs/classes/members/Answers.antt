@@ -1,4 +1,4 @@
-use Rattle.std.proofs.Common.{◌∙◌, sym, ap, inl, inr, ⊎_elim}
+use Rattle.std.proofs.Common.{◌∙◌, sym, ap, inl, inr}
 use Rattle.std.proofs.lemmas.Result.{err_from_is_err_and}
 use Rattle.fw_patterns.specs.Reading.{in_front}
 use Rattle.fw_patterns.proofs.ClassLemmas.{in_front-push, members-wait, members-add, members-no, members-end}

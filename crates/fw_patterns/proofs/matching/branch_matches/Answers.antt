@@ -1,7 +1,6 @@
-use Rattle.std.proofs.Common.{◌≡◌, ◌-◌, ◌∷◌, drop, get_or, length, refl, sym, arith, ◌∙◌, false}
+use Rattle.std.proofs.Common.{length, refl, sym, arith, ◌∙◌}
 use Rattle.std.proofs.lemmas.List.{drop_all}
 use Rattle.fw_patterns.proofs.PlaceLemmas.{Tell-back, branch_at-back, branch_at-end}
-use Rattle.fw_patterns.specs.Places.{Tell, branch_at}
 use Rattle.fw_patterns.proofs.matching.branch_matches.Goals as goal
 
 pub loop-left-init : goal.loop-left-init

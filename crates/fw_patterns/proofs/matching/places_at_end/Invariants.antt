@@ -1,4 +1,4 @@
-use Rattle.std.proofs.Common.{◌≡◌, ◌≤◌, Bool, List, [], length}
+use Rattle.std.proofs.Common.{◌≡◌, ◌≤◌, Bool, [], length}
 use Rattle.fw_patterns.proofs.PlaceLemmas.{TellFrom}
 use Rattle.fw_patterns.proofs.matching.places_at_end.Given as goal
 

@@ -1,6 +1,6 @@
-use Rattle.std.proofs.Common.{◌≡◌, ◌+◌, ◌-◌, get_or, set, length, length-set, refl, sym, ap, arith, ◌∙◌, false}
+use Rattle.std.proofs.Common.{◌≡◌, ◌+◌, ◌-◌, length-set, refl, arith, ◌∙◌, false}
 use Rattle.std.proofs.lemmas.List.{get_or-set_other}
-use Rattle.fw_patterns.proofs.PlaceLemmas.{TellFrom, TellFrom-back}
+use Rattle.fw_patterns.proofs.PlaceLemmas.{TellFrom-back}
 use Rattle.fw_patterns.proofs.matching.step_back.Goals as goal
 
 pub loop-at-preserved : goal.loop-at-preserved

@@ -1,4 +1,4 @@
-use Rattle.std.proofs.Common.{◌≡◌, ◌≤◌, ◌<◌, ℕ, List, ◌∷◌, length, drop, get_or, false}
+use Rattle.std.proofs.Common.{◌≡◌, ◌≤◌, ◌<◌, ℕ, List, ◌∷◌, length, get_or, false}
 use Rattle.fw_patterns.specs.Places.{Tell}
 use Rattle.fw_patterns.proofs.PlaceLemmas.{TellFrom}
 use Rattle.fw_patterns.proofs.matching.step_back.Given as goal

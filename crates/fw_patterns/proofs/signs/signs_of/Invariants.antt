@@ -1,4 +1,4 @@
-use Rattle.std.proofs.Common.{◌≡◌, ℕ, drop, None}
+use Rattle.std.proofs.Common.{◌≡◌, drop, None}
 use Rattle.fw_patterns.specs.Reading.{signs}
 use Rattle.fw_patterns.proofs.SignLemmas.{behind}
 use Rattle.fw_patterns.proofs.signs.signs_of.Given as goal

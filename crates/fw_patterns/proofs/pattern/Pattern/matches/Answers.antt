@@ -1,7 +1,7 @@
-use Rattle.std.proofs.Common.{◌≡◌, ◌<◌, ◌≤◌, length, get_or, true, false, refl, sym, ap, ◌∙◌}
+use Rattle.std.proofs.Common.{true, false, sym, ◌∙◌}
+use Rattle.fw_patterns.proofs.DecidingLemmas.{some_branch-tried}
 use Rattle.fw_patterns.proofs.MatchLemmas.{some_branch-decides}
 use Rattle.fw_patterns.proofs.PlaceLemmas.{some_branch-more, some_branch-end}
-use Rattle.fw_patterns.specs.Places.{some_branch}
 use Rattle.fw_patterns.proofs.pattern.Pattern.matches.Goals as goal
 
 pub returns-then-branch_matches : goal.returns-then-branch_matches
@@ -9,8 +9,11 @@ returns-then-branch_matches c =
     let whole = c.items-branch-items.ensures ∙ c.self.view_is in
     let more = some_branch-more c.args.self.now c.args.text.now c.loop-branch.branch-index c.branch-item.result
     (rw whole at c.loop-branch-test.true) (rw whole at c.branch-item.is) in
-    some_branch-decides true c.args.self.now c.args.text.now
-    (sym (rw (sym c.branch_matches.ensures ∙ c.if-branch_matches.true) at more) ∙ c.loop-branch.invariant)
+    let is = sym (rw (sym c.branch_matches.ensures ∙ c.if-branch_matches.true) at more) ∙ c.loop-branch.invariant in
+    record {
+      stands = some_branch-decides true c.args.self.now c.args.text.now is;
+      decided = some_branch-tried true c.args.self.now c.args.text.now is;
+    }
 
 pub loop-branch-preserved : goal.loop-branch-preserved
 loop-branch-preserved c =
@@ -22,5 +25,8 @@ loop-branch-preserved c =
 pub returns : goal.returns
 returns c =
     let whole = c.items-branch-items.ensures ∙ c.self.view_is in
-    some_branch-decides false c.args.self.now c.args.text.now
-    (sym (some_branch-end c.args.self.now c.args.text.now c.loop-branch.branch-index (rw whole at c.loop-branch-test.false)) ∙ c.loop-branch.invariant)
+    let is = sym (some_branch-end c.args.self.now c.args.text.now c.loop-branch.branch-index (rw whole at c.loop-branch-test.false)) ∙ c.loop-branch.invariant in
+    record {
+      stands = some_branch-decides false c.args.self.now c.args.text.now is;
+      decided = some_branch-tried false c.args.self.now c.args.text.now is;
+    }
