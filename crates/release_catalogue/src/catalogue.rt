@@ -1,14 +1,31 @@
 //! The catalogue.
-ghost use Rattle.std.specs.Prelude.{◌≡◌};
+ghost use Rattle.std.specs.Prelude.{◌≡◌, ◌≤◌, ◌<◌, IfOk, Some, length, slice_get};
+ghost use Rattle.serde_json.specs.View.{view};
+ghost use Rattle.release_catalogue.specs.Reading.{Gives};
+ghost use Rattle.release_catalogue.specs.Faults.{Tells};
+ghost use Rattle.release_catalogue.specs.Components.{components_at, releases_in};
+ghost use Rattle.release_catalogue.specs.Places.{chosen_place, matching_places};
 
-use fw_base::Listed;
+use crate::component::components;
+use crate::fault::CatalogueFault;
+use crate::guid_index::{GuidIndex, index_of};
+use crate::lookup::{find_in, releases_in_for};
+use crate::reference::ReleaseRef;
+use crate::spot::ReadStop;
+use fw_base::{Listed, NoMemory};
 use fw_facts::Component;
+use guid_ids::Guid;
+use serde_json::Value;
+use std::alloc::Global;
 use std::marker::Model;
+use version_formats::Version;
 
-/// A list of components, in the order of the document.
+/// A list of components, in the order of the document: at most 4,096, with at most 20,000 releases in
+/// all.
 #[derive(Drop)]
 pub struct Catalogue {
     components: Listed<Component>,
+    index: GuidIndex,
 }
 
 impl Model for Catalogue {
@@ -17,14 +34,72 @@ impl Model for Catalogue {
 
     ghost Value = { List Component };
 
+    ghost use Rattle.release_catalogue.specs.Places.{IsKept};
+
     ghost view = { λ catalogue. catalogue.components };
+
+    ghost invariant = { λ catalogue. IsKept catalogue.components catalogue.index.entries };
 }
 
 impl Catalogue {
+    /// The catalogue that a JSON value states: the list of its components. The fault is the first in
+    /// the order of the document's tables, at its place.
+    pub fn from_value(alloc: Global, value: &Value) -> Result<Catalogue, CatalogueFault>
+        ensures { Tells (λ catalogue. catalogue) result (components_at (view value.now)) }
+    {
+        match Catalogue::read(alloc, value) {
+            Ok(catalogue) => Ok(catalogue),
+            Err(stop) => Err(CatalogueFault::from_stop(stop)),
+        }
+    }
+
+    /// The same, with the fault's place in words of the document.
+    pub fn read(alloc: Global, value: &Value) -> Result<Catalogue, ReadStop>
+        ensures { Gives (λ catalogue. catalogue) result (components_at (view value.now)) }
+    {
+        let components = components(alloc, value)?;
+        Ok(Catalogue::of(alloc, components)?)
+    }
+
+    fn of(alloc: Global, components: Vec<Component>) -> Result<Catalogue, NoMemory>
+        requires few { length components.items ≤ 4096 }
+        requires few_releases { releases_in components.items ≤ 20000 }
+        ensures { IfOk result (λ catalogue. catalogue ≡ components.items) }
+    {
+        let index = index_of(alloc, components.as_slice())?;
+        Ok(Catalogue {
+            components: Listed::of(components),
+            index,
+        })
+    }
+
     /// The components, in order.
     pub fn components(&self) -> &[Component]
         ensures { result.now ≡ self.now }
     {
         self.components.items()
+    }
+
+    /// The component at a place, which must be there.
+    pub fn component(&self, at: u32) -> &Component
+        requires { at < length self.now }
+        ensures { slice_get self.now at ≡ Some result.now }
+    {
+        &self.components.items()[at as usize]
+    }
+
+    /// The first release in catalogue order whose component provides one of the GUIDs and whose version
+    /// is equal.
+    pub fn find(&self, guids: &[Guid], version: &Version) -> Option<ReleaseRef>
+        ensures { result ≡ chosen_place self.now guids.now version.now }
+    {
+        find_in(self.components.items(), &self.index, guids, version)
+    }
+
+    /// All releases whose component provides one of the GUIDs, in catalogue order.
+    pub fn releases_for(&self, alloc: Global, guids: &[Guid]) -> Result<Vec<ReleaseRef>, NoMemory>
+        ensures { IfOk result (λ places. places.items ≡ matching_places self.now guids.now) }
+    {
+        releases_in_for(alloc, self.components.items(), &self.index, guids)
     }
 }
