@@ -12,7 +12,10 @@ pub mod TakenKept
 pub mod MarksKept
 pub mod LegalOnce
 pub mod CrashOnce
-pub mod Chosen
+pub mod Placed
 pub mod Refusals
 pub mod Targets
 pub mod WorkedLogs
+pub mod CoreStands
+pub mod CoreOpenings
+pub mod CoreViews

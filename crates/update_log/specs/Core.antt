@@ -1,12 +1,14 @@
 -- What stands for a log.
-use Rattle.std.specs.Prelude.{◌≡◌, ℕ, Bool, ◌==◌, ◌-◌, ◌≤◌, min, List, map, length, Option, Some, vec_len, vec_capacity, unwrap_or, option_map}
+use Rattle.std.specs.Prelude.{◌≡◌, ℕ, ◌==◌, ◌-◌, ◌≤◌, min, List, map, length, Option, Some, vec_len, vec_capacity}
 use Rattle.std.specs.List.{list_any}
 use Rattle.fw_facts.specs.declared.view.DeviceView.{DeviceView}
 use Rattle.history_keeper.specs.declared.change.Change.{Change}
 use Rattle.history_keeper.specs.declared.row.Row.{Row}
 use Rattle.update_log.specs.declared.event.Event.{Event}
 use Rattle.update_log.specs.declared.facts.Facts.{Facts}
+use Rattle.update_log.specs.declared.live.LiveEntry.{LiveEntry}
 use Rattle.update_log.specs.declared.trace.Trace.{Trace}
+use Rattle.update_log.specs.declared.trace.Traced.{Traced}
 use Rattle.update_log.specs.declared.state.CoreState.TheInside.{Inside}
 use Rattle.update_log.specs.Boards.{devices}
 use Rattle.update_log.specs.Holding.{holds, live, open_steps}
@@ -21,17 +23,24 @@ pub record Core : Type 0 where
   pub rows : List Row
   pub views : List DeviceView
   pub boards : List ℕ
-  pub traces : List Trace
+  pub traces : List Traced
   pub doubt : Option Change
   pub room : ℕ
   pub row_room : ℕ
+
+-- An entry with its trace, as it is kept, and as the log says it of a live entry.
+abbrev pub trace_kept : Traced → ℕ × Option Trace
+trace_kept t = (t.entry, Some t.trace)
+
+abbrev pub trace_of_live : Facts → List Row → List Event → LiveEntry → ℕ × Option Trace
+trace_of_live facts opening past l = (l.entry, trace facts opening l.entry past)
 
 -- That is what the log says, over these facts and the rows before it.
 pub record Stands (facts : Facts) (opening : List Row) (core : Core) : Type 0 where
   pub rows : core.rows ≡ rows facts opening (past_of core.log)
   pub views : core.views ≡ views facts opening (past_of core.log)
   pub boards : core.boards ≡ map (λ b. b.number) (devices facts)
-  pub traces : map (λ t. Some t) core.traces ≡ map (λ l. trace facts opening l.entry (past_of core.log)) (live (past_of core.log))
+  pub traces : map trace_kept core.traces ≡ map (trace_of_live facts opening (past_of core.log)) (live (past_of core.log))
   pub doubt : core.doubt ≡ doubt facts opening (past_of core.log)
 
 -- The room that the shortest of the lists has which an event may make longer.
@@ -71,4 +80,4 @@ pub record IsCore (s : Inside) : Type 0 where
   pub few_counted : s.clock.counted ≤ length s.log.items
   pub devices : length s.devices ≤ 256
   pub boards : length s.boards.items ≡ length s.devices
-  pub traces : length s.traces.items ≡ length s.live.items
+  pub entries : map (λ t. t.entry) s.traces.items ≡ map (λ l. l.entry) s.live.items

@@ -1,5 +1,5 @@
 -- What the code hands to a decision, as a case.
-use Rattle.std.specs.Prelude.{◌≡◌, ℕ, ◌<◌, ◌^◌, IsTrue, List, [], ◌∷◌, length, All, Option, Some, slice_get}
+use Rattle.std.specs.Prelude.{◌≡◌, ℕ, ◌<◌, ◌^◌, IsTrue, List, [], ◌∷◌, length, Option, Some, slice_get}
 use Rattle.device_list.specs.declared.selector.Selector.{Selector}
 use Rattle.device_list.specs.Lists.{place}
 use Rattle.fw_facts.specs.Views.{is_home}
@@ -18,16 +18,10 @@ use Rattle.update_log.specs.Known.{Target}
 use Rattle.update_log.specs.declared.refusal.Refusal.{Refusal}
 use Rattle.update_log.specs.Verdicts.{Case, busy, unsettled, not_updatable, locked, hindered, installed, older, unmet, vetoed, out_of_size, no_room, rows_full}
 
--- A component has fewer releases and requirements than 2^32.
-pub record IsShort (component : Component) : Type 0 where
-  pub releases : length component.releases < 2 ^ 32
-  pub requirements : length component.requirements < 2 ^ 32
-
--- There are fewer components, releases of each and requirements of each than 2^32, so that a number of
--- 32 bits names each place.
-pub record HasFew (catalogue : List Component) : Type 0 where
-  pub components : length catalogue < 2 ^ 32
-  pub each : All IsShort catalogue
+-- Each component has fewer requirements than 2^32, so that a number of 32 bits names the first one that
+-- doesn't hold.
+abbrev pub HasFew : List Component → Type 0
+HasFew catalogue = (at : ℕ) (component : Component) → slice_get catalogue at ≡ Some component → length component.requirements < 2 ^ 32
 
 -- The case of these parts.
 abbrev pub case_with : Facts → List DeviceView → List Row → List LiveEntry → List Held → ℕ → Request → Stage → Case

@@ -15,3 +15,4 @@ pub mod CoreCase
 pub mod Core
 pub mod CoreFolds
 pub mod Examples
+pub mod CoreViews

@@ -1,5 +1,5 @@
 //! The decision on a request, over all that it reads.
-ghost use Rattle.std.specs.Prelude.{◌≡◌, ◌<◌, ◌-◌, ◌^◌, ◌&&◌, ◌==◌, not, Some, None, if◌then◌else◌, IsTrue, IfSome, length, find, option_map, option_copied, option_and_then, unwrap_or, is_some, true, false, sum_by};
+ghost use Rattle.std.specs.Prelude.{◌≡◌, ◌<◌, ◌-◌, ◌^◌, ◌&&◌, ◌==◌, not, Some, None, if◌then◌else◌, slice_get, IsTrue, IfSome, length, find, option_map, option_copied, option_and_then, unwrap_or, is_some, true, false, sum_by};
 ghost use Rattle.std.specs.Str.{bytes_eq};
 ghost use Rattle.fw_facts.specs.Views.{is_home};
 ghost use Rattle.history_keeper.specs.Histories.{is_unsettled};
@@ -20,7 +20,6 @@ use crate::refusing::{
 use crate::request::Request;
 use crate::row_lookup::{in_the_way, row_of, row_with_tag};
 use crate::target::{Target, target_at};
-
 use device_list::Devices;
 use fw_base::{Digest, Name};
 use fw_facts::DeviceView;
@@ -242,7 +241,9 @@ fn of_versions(case: &Case, target: &Target) -> Option<Refusal>
 
 // What refuses it by rules.
 fn of_rules(case: &Case, target: &Target) -> Option<Refusal>
+    requires home { IsTrue (is_home target.now.view.now.seen) }
     requires place { target.now.place < length case.now.devices.now }
+    requires there { slice_get case.now.devices.now target.now.place ≡ Some target.now.view.now }
     requires few { length target.now.component.now.requirements < 2 ^ 32 }
     ensures { result ≡ first_refusal (rule_refusals (case_with case.now.facts.now case.now.devices.now case.now.rows.now case.now.live.now case.now.holds.now case.now.client case.now.request.now case.now.stage) (target_with target.now.place target.now.view.now target.now.at target.now.component.now target.now.release.now)) }
 {
@@ -253,7 +254,9 @@ fn of_rules(case: &Case, target: &Target) -> Option<Refusal>
 }
 
 fn unmet_of(case: &Case, target: &Target) -> Option<Unmet>
+    requires home { IsTrue (is_home target.now.view.now.seen) }
     requires place { target.now.place < length case.now.devices.now }
+    requires there { slice_get case.now.devices.now target.now.place ≡ Some target.now.view.now }
     requires few { length target.now.component.now.requirements < 2 ^ 32 }
     ensures { let c = case_with case.now.facts.now case.now.devices.now case.now.rows.now case.now.live.now case.now.holds.now case.now.client case.now.request.now case.now.stage in result ≡ first_unmet_for c.facts (client_for c) c.views (target_with target.now.place target.now.view.now target.now.at target.now.component.now target.now.release.now) }
 {
@@ -286,6 +289,7 @@ fn of_room(case: &Case, target: &Target) -> Option<Refusal>
 // The first refusal of a request for a target.
 fn refusal(case: &Case, target: &Target) -> Option<Refusal>
     requires place { target.now.place < length case.now.devices.now }
+    requires there { slice_get case.now.devices.now target.now.place ≡ Some target.now.view.now }
     requires home { IsTrue (is_home target.now.view.now.seen) }
     requires few { length target.now.component.now.requirements < 2 ^ 32 }
     ensures { result ≡ first_refusal (refusals (case_with case.now.facts.now case.now.devices.now case.now.rows.now case.now.live.now case.now.holds.now case.now.client case.now.request.now case.now.stage) (target_with target.now.place target.now.view.now target.now.at target.now.component.now target.now.release.now)) }
@@ -306,6 +310,7 @@ fn refusal(case: &Case, target: &Target) -> Option<Refusal>
 fn on_target(case: &Case, target: &Target) -> Decision
     requires devices { length case.now.devices.now < 2 ^ 32 }
     requires place { target.now.place < length case.now.devices.now }
+    requires there { slice_get case.now.devices.now target.now.place ≡ Some target.now.view.now }
     requires home { IsTrue (is_home target.now.view.now.seen) }
     requires few { length target.now.component.now.requirements < 2 ^ 32 }
     ensures { result ≡ on_target (case_with case.now.facts.now case.now.devices.now case.now.rows.now case.now.live.now case.now.holds.now case.now.client case.now.request.now case.now.stage) (target_with target.now.place target.now.view.now target.now.at target.now.component.now target.now.release.now) }
@@ -336,6 +341,7 @@ fn on_found(case: &Case, at: usize) -> Decision
 fn on_release(case: &Case, target: &Target) -> Decision
     requires devices { length case.now.devices.now < 2 ^ 32 }
     requires place { target.now.place < length case.now.devices.now }
+    requires there { slice_get case.now.devices.now target.now.place ≡ Some target.now.view.now }
     requires home { IsTrue (is_home target.now.view.now.seen) }
     requires few { length target.now.component.now.requirements < 2 ^ 32 }
     ensures { result ≡ on_found (case_with case.now.facts.now case.now.devices.now case.now.rows.now case.now.live.now case.now.holds.now case.now.client case.now.request.now case.now.stage) (Some (target_with target.now.place target.now.view.now target.now.at target.now.component.now target.now.release.now)) }

@@ -48,12 +48,12 @@ fn leave_client(holds: &mut Vec<Held>, client: u32)
     holds.retain(|h| h.client != client);
 }
 
-fn leave_steps(open: &mut Vec<OpenStep>, entry: u32)
-    ensures items { open.new.items ≡ without_steps entry open.old.items }
-    ensures capacity { vec_capacity open.new ≡ vec_capacity open.old }
-    ensures shorter { vec_len open.new ≤ vec_len open.old }
+fn leave_steps(steps: &mut Vec<OpenStep>, entry: u32)
+    ensures items { steps.new.items ≡ without_steps entry steps.old.items }
+    ensures capacity { vec_capacity steps.new ≡ vec_capacity steps.old }
+    ensures shorter { vec_len steps.new ≤ vec_len steps.old }
 {
-    open.retain(|s| s.entry != entry);
+    steps.retain(|s| s.entry != entry);
 }
 
 /// The live entries after an event.
@@ -147,20 +147,20 @@ pub fn holds_after(holds: &mut Vec<Held>, event: &Event)
 }
 
 /// The open steps after an event.
-pub fn open_after(open: &mut Vec<OpenStep>, event: &Event)
-    requires { vec_len open.old < vec_capacity open.old }
-    ensures items { open.new.items ≡ open_after event.now open.old.items }
-    ensures capacity { vec_capacity open.new ≡ vec_capacity open.old }
-    ensures room { vec_len open.new ≤ vec_len open.old + 1 }
+pub fn open_after(steps: &mut Vec<OpenStep>, event: &Event)
+    requires { vec_len steps.old < vec_capacity steps.old }
+    ensures items { steps.new.items ≡ open_after event.now steps.old.items }
+    ensures capacity { vec_capacity steps.new ≡ vec_capacity steps.old }
+    ensures room { vec_len steps.new ≤ vec_len steps.old + 1 }
 {
     match event {
-        Event::Boot { .. } => open.clear(),
-        Event::Start { client, entry, op } => open.push_reserved(OpenStep {
+        Event::Boot { .. } => steps.clear(),
+        Event::Start { client, entry, op } => steps.push_reserved(OpenStep {
             client: *client,
             entry: *entry,
             op: *op,
         }),
-        Event::End { entry, .. } => leave_steps(open, *entry),
+        Event::End { entry, .. } => leave_steps(steps, *entry),
         Event::Query { .. }
         | Event::Ask { .. }
         | Event::Claim { .. }

@@ -9,7 +9,9 @@
 
 pub mod answer;
 mod clock;
+mod copying;
 mod decide;
+mod deciding;
 pub mod decision;
 pub mod event;
 pub mod examples;
@@ -23,7 +25,9 @@ mod next_step;
 pub mod refusal;
 mod refusing;
 pub mod request;
+mod row_changes;
 mod row_lookup;
+mod showing;
 pub mod state;
 mod target;
 #[cfg(test)]
@@ -32,6 +36,7 @@ pub mod told;
 pub mod trace;
 
 pub use answer::{AskAnswer, ClaimAnswer, PlugAnswer, ResumeAnswer};
+pub use deciding::verdict;
 pub use decision::{Decision, Stage};
 pub use event::{Back, BoardSeen, Event, Found, Log, Op, Query, Stored};
 pub use facts::{BootPlan, Facts, PluginVetoes};
@@ -42,4 +47,4 @@ pub use refusal::{FetchNote, Refusal};
 pub use request::{InstallFlags, Request};
 pub use state::CoreState;
 pub use told::Told;
-pub use trace::{Trace, TraceStep, TraceSteps};
+pub use trace::{Trace, TraceStep, TraceSteps, Traced};

@@ -1,26 +1,29 @@
 //! The state that stands for a log.
-ghost use Rattle.std.specs.Prelude.{◌≡◌, ◌≤◌, ◌-◌, ◌==◌, List, [], OnOk, IfOk, IsSome, Some, length};
-ghost use Rattle.fw_facts.specs.declared.sheet.Sheet.{Sheet};
+ghost use Rattle.std.specs.Prelude.{◌≡◌, ◌≤◌, ◌-◌, List, OnOk, IsSome, Some};
 ghost use Rattle.history_keeper.specs.declared.row.Row.{Row};
-ghost use Rattle.history_keeper.specs.Histories.{IsHistory};
 ghost use Rattle.update_log.specs.declared.facts.Facts.{Facts};
-ghost use Rattle.update_log.specs.Holding.{held, hold, holds, live, live_entry, open_step};
+ghost use Rattle.update_log.specs.Holding.{held, hold, holds, live, live_entry, step_open};
 ghost use Rattle.update_log.specs.Pasts.{boots, counted, finished, limit_of, off, past_of, time_of};
 ghost use Rattle.update_log.specs.Steps.{trace};
+ghost use Rattle.history_keeper.specs.Histories.{IsHistory};
 ghost use Rattle.update_log.specs.Core.{Stands};
+ghost use Rattle.update_log.specs.CoreFolds.{AllFaults};
+ghost use Rattle.update_log.specs.CoreCase.{HasFew, case_with};
+ghost use Rattle.update_log.specs.Verdicts.{decided};
 
 use crate::clock::Clock;
-use crate::decide::free_blocks;
+use crate::decide::{Case, decided, free_blocks};
+use crate::decision::{Decision, Stage};
 use crate::event::{Event, Log};
 use crate::facts::Facts;
-use crate::finding::{has_entry, hold_of, live_with, step_of};
+use crate::finding::{has_entry, hold_of, live_with, step_of, trace_of};
 use crate::live::{Held, LiveEntry, OpenStep};
-use crate::trace::Trace;
+use crate::request::Request;
+use crate::trace::{Trace, Traced};
 use device_list::Devices;
 use fw_base::{Listed, NoMemory};
 use fw_facts::DeviceView;
 use history_keeper::{Change, Row};
-use std::alloc::Global;
 use std::marker::Model;
 
 /// What the code keeps of the rows and the log, so that no decision reads the log. Contracts see the
@@ -31,7 +34,7 @@ pub struct CoreState {
     log: Vec<Event>,
     clock: Clock,
     live: Vec<LiveEntry>,
-    traces: Vec<Trace>,
+    traces: Vec<Traced>,
     holds: Vec<Held>,
     open: Vec<OpenStep>,
     finished: Vec<u32>,
@@ -52,6 +55,23 @@ impl Model for CoreState {
 }
 
 impl CoreState {
+    /// Gives the rows before the log, of which nothing is known yet: each event so far is a boot that
+    /// couldn't read the history.
+    pub fn set_rows(&mut self, rows: Vec<Row>)
+        requires history { IsHistory rows.items }
+        requires faults { AllFaults (past_of self.old.log) }
+        ensures same { self.new ≡ record self.old { rows = rows.items; row_room = self.new.row_room } }
+        ensures stands { (facts : Facts) (before : List Row) → Stands facts before self.old → Stands facts rows.items self.new }
+    {
+        self.put_rows(rows);
+    }
+
+    fn put_rows(&mut self, rows: Vec<Row>)
+        ensures { self.new ≡ record self.old { rows = rows.items; row_room = self.new.row_room } }
+    {
+        self.rows = rows;
+    }
+
     /// Makes the spare room at least so many events and one row.
     pub fn reserve(&mut self, events: usize) -> Result<(), NoMemory>
         ensures room { OnOk result (events ≤ self.new.room) }
@@ -163,7 +183,7 @@ impl CoreState {
 
     /// The open step of an entry.
     pub fn open_step(&self, entry: u32) -> Option<OpenStep>
-        ensures { result ≡ open_step (past_of self.now.log) entry }
+        ensures { result ≡ step_open (past_of self.now.log) entry }
     {
         step_of(&self.open, entry).copied()
     }
@@ -187,5 +207,36 @@ impl CoreState {
         ensures { result ≡ facts.now.pool - held (past_of self.now.log) }
     {
         free_blocks(facts.pool, &self.holds, &self.live)
+    }
+
+    /// How far a live entry has come.
+    pub fn trace(&self, entry: u32) -> Trace
+        requires { IsSome (live_entry (past_of self.now.log) entry) }
+        ensures { (facts : Facts) (opening : List Row) → Stands facts opening self.now → trace facts opening entry (past_of self.now.log) ≡ Some result }
+    {
+        trace_of(&self.traces, entry)
+    }
+
+    // What is decided of a request, over what is kept here.
+    pub(crate) fn decided(
+        &self,
+        facts: &Facts,
+        client: u32,
+        request: &Request,
+        stage: Stage,
+    ) -> Decision
+        requires { HasFew facts.now.catalogue }
+        ensures { result ≡ decided (case_with facts.now self.now.views self.now.rows (live (past_of self.now.log)) (holds (past_of self.now.log)) client request.now stage) }
+    {
+        decided(&Case {
+            facts,
+            devices: &self.devices,
+            rows: &self.rows,
+            live: &self.live,
+            holds: &self.holds,
+            client,
+            request,
+            stage,
+        })
     }
 }

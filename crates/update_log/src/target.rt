@@ -1,14 +1,12 @@
 //! The device of a request, and the release chosen for it.
-ghost use Rattle.std.specs.Prelude.{◌≡◌, ◌<◌, ◌^◌, ◌&&◌, Some, IfSome, length, slice_get, option_map, is_some, position};
+ghost use Rattle.std.specs.Prelude.{◌≡◌, ◌<◌, Some, IfSome, length, slice_get, option_map};
 ghost use Rattle.std.specs.List.{list_any};
 ghost use Rattle.std.specs.Str.{bytes_eq};
-ghost use Rattle.version_formats.specs.VersionOrder.{same_version};
 ghost use Rattle.release_catalogue.specs.Lookup.{provides};
 ghost use Rattle.update_log.specs.Known.{target_at};
-ghost use Rattle.update_log.specs.CoreCase.{HasFew, target_with};
+ghost use Rattle.update_log.specs.CoreCase.{target_with};
 
 use crate::facts::Facts;
-use crate::judging::same_version;
 use fw_facts::{Component, DeviceView, Release};
 use guid_ids::Guid;
 use release_catalogue::ReleaseRef;
@@ -33,48 +31,25 @@ pub fn target_at<'a>(
     place: usize,
 ) -> Option<Target<'a>>
     requires place { place < length views.now }
-    requires few { HasFew facts.now.catalogue }
     ensures exact { option_map (λ t. target_with t.place t.view.now t.at t.component.now t.release.now) result ≡ target_at facts.now views.now version.now place }
     ensures place { IfSome result (λ t. (t.place ≡ place) × (slice_get views.now place ≡ Some t.view.now)) }
-    ensures short { IfSome result (λ t. length t.component.now.requirements < 2 ^ 32) }
+    ensures component { IfSome result (λ t. slice_get facts.now.catalogue t.at.component ≡ Some t.component.now) }
 {
     let view = &views[place];
-    let components = facts.catalogue.components();
-    match component_with(components, view.guids(), version) {
+    match facts.catalogue.find(view.guids(), version) {
         None => None,
-        Some(which) => {
-            let component = &components[which];
-            let releases = component.releases.items();
-            match release_with(releases, version) {
-                None => None,
-                Some(number) => Some(Target {
-                    place,
-                    view,
-                    at: ReleaseRef {
-                        component: which as u32,
-                        release: number as u32,
-                    },
-                    component,
-                    release: &releases[number],
-                }),
-            }
+        Some(at) => {
+            let component = facts.catalogue.component(at.component);
+            let release = &component.releases.items()[at.release as usize];
+            Some(Target {
+                place,
+                view,
+                at,
+                component,
+                release,
+            })
         }
     }
-}
-
-// The first component that provides one of the GUIDs and has a release of the version.
-fn component_with(components: &[Component], guids: &[Guid], version: &Version) -> Option<usize>
-    ensures { result ≡ position (λ c. provides guids.now c && is_some (position (λ r. same_version r.version version.now) c.releases)) components.now }
-{
-    components
-        .iter()
-        .position(|component| has_for(component, guids, version))
-}
-
-fn has_for(component: &Component, guids: &[Guid], version: &Version) -> bool
-    ensures { result ≡ (provides guids.now component.now && is_some (position (λ r. same_version r.version version.now) component.now.releases)) }
-{
-    provides(guids, component) && release_with(component.releases.items(), version).is_some()
 }
 
 /// Whether the component provides one of the GUIDs.
@@ -92,12 +67,4 @@ fn has_guid(guids: &[Guid], own: &Guid) -> bool
     ensures { result ≡ list_any (λ guid. bytes_eq own.now guid) guids.now }
 {
     guids.iter().any(|guid| own == guid)
-}
-
-fn release_with(releases: &[Release], version: &Version) -> Option<usize>
-    ensures { result ≡ position (λ r. same_version r.version version.now) releases.now }
-{
-    releases
-        .iter()
-        .position(|release| same_version(&release.version, version))
 }
