@@ -5,6 +5,7 @@ use Rattle.fw_facts.specs.declared.seen.Seen.{Seen}
 use Rattle.fw_facts.specs.declared.view.DeviceView.{DeviceView}
 use Rattle.history_keeper.specs.declared.change.Change.{Change}
 use Rattle.history_keeper.specs.declared.row.Row.{Row}
+use Rattle.history_keeper.specs.Histories.{IsHistory}
 use Rattle.update_log.specs.declared.event.BoardSeen.{BoardSeen}
 use Rattle.update_log.specs.declared.event.Event.{Event}
 use Rattle.update_log.specs.declared.event.Found.{Found}
@@ -97,10 +98,11 @@ faults-traces facts before opening past h =
 
 -- So a state of such a log stands over other rows, once it has them.
 pub opened-again : (facts : Facts) (before opening : List Row) (core new : Core) (n : ℕ)
-    → new ≡ record core { rows = opening; row_room = n } → AllFaults (past_of core.log) → Stands facts before core → Stands facts opening new
-opened-again facts before opening core new n e h s =
+    → new ≡ record core { rows = opening; row_room = n } → IsHistory opening → AllFaults (past_of core.log) → Stands facts before core → Stands facts opening new
+opened-again facts before opening core new n e valid h s =
     let P : Core → Type 0 = λ k. Stands facts opening k in
     subst P (sym e) (record {
+      history = valid;
       rows = sym (faults-rows facts opening (past_of core.log) h);
       views = s.views ∙ faults-views facts before opening (past_of core.log) h;
       boards = s.boards;

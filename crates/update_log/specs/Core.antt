@@ -4,6 +4,7 @@ use Rattle.std.specs.List.{list_any}
 use Rattle.fw_facts.specs.declared.view.DeviceView.{DeviceView}
 use Rattle.history_keeper.specs.declared.change.Change.{Change}
 use Rattle.history_keeper.specs.declared.row.Row.{Row}
+use Rattle.history_keeper.specs.Histories.{IsHistory}
 use Rattle.update_log.specs.declared.event.Event.{Event}
 use Rattle.update_log.specs.declared.facts.Facts.{Facts}
 use Rattle.update_log.specs.declared.live.LiveEntry.{LiveEntry}
@@ -35,8 +36,9 @@ trace_kept t = (t.entry, Some t.trace)
 abbrev pub trace_of_live : Facts → List Row → List Event → LiveEntry → ℕ × Option Trace
 trace_of_live facts opening past l = (l.entry, trace facts opening l.entry past)
 
--- That is what the log says, over these facts and the rows before it.
+-- That is what the log says, over these facts and the rows before it, which are a valid history.
 pub record Stands (facts : Facts) (opening : List Row) (core : Core) : Type 0 where
+  pub history : IsHistory opening
   pub rows : core.rows ≡ rows facts opening (past_of core.log)
   pub views : core.views ≡ views facts opening (past_of core.log)
   pub boards : core.boards ≡ map (λ b. b.number) (devices facts)

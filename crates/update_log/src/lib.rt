@@ -29,6 +29,7 @@ mod row_changes;
 mod row_lookup;
 mod showing;
 pub mod state;
+mod taking;
 mod target;
 #[cfg(test)]
 mod tests;
