@@ -12,5 +12,11 @@ pub mod TakenKept
 pub mod MarksKept
 pub mod LegalOnce
 pub mod CrashOnce
+pub mod Placed
+pub mod Refusals
+pub mod Targets
 pub mod WorkedLogs
 pub mod Worked
+pub mod CoreStands
+pub mod CoreOpenings
+pub mod CoreViews

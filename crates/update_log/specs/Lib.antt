@@ -11,5 +11,9 @@ pub mod Legal
 pub mod Once
 pub mod Crashes
 pub mod Laws
+pub mod CoreCase
+pub mod Core
+pub mod CoreFolds
 pub mod Examples
 pub mod WorkedAnswers
+pub mod CoreViews

@@ -8,27 +8,44 @@
 #![tactic(auto)]
 
 pub mod answer;
+mod clock;
+mod copying;
+mod decide;
+mod deciding;
 pub mod decision;
 pub mod event;
 pub mod examples;
 pub mod facts;
+mod finding;
+mod holding;
+mod judging;
 pub mod laws;
 pub mod live;
-pub mod next_step;
+mod next_step;
 pub mod refusal;
+mod refusing;
 pub mod request;
+mod row_changes;
+mod row_lookup;
+mod showing;
+pub mod state;
+mod taking;
+mod target;
 #[cfg(test)]
 mod tests;
 pub mod told;
 pub mod trace;
 
 pub use answer::{AskAnswer, ClaimAnswer, PlugAnswer, ResumeAnswer};
+pub use deciding::verdict;
 pub use decision::{Decision, Stage};
 pub use event::{Back, BoardSeen, Event, Found, Log, Op, Query, Stored};
 pub use facts::{BootPlan, Facts, PluginVetoes};
+pub use judging::{closing, judge};
 pub use live::{Held, LiveEntry, OpenStep};
 pub use next_step::next_op;
 pub use refusal::{FetchNote, Refusal};
 pub use request::{InstallFlags, Request};
+pub use state::CoreState;
 pub use told::Told;
-pub use trace::{Trace, TraceStep, TraceSteps};
+pub use trace::{Trace, TraceStep, TraceSteps, Traced};

@@ -59,6 +59,13 @@ pub struct Trace {
     pub steps: TraceSteps,
 }
 
+/// How far a live entry has come.
+#[derive(Clone, Copy, Debug)]
+pub struct Traced {
+    pub entry: u32,
+    pub trace: Trace,
+}
+
 impl TraceSteps {
     /// No step.
     pub fn none() -> TraceSteps

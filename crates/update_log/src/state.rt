@@ -1,0 +1,242 @@
+//! The state that stands for a log.
+ghost use Rattle.std.specs.Prelude.{◌≡◌, ◌≤◌, ◌-◌, List, OnOk, IsSome, Some};
+ghost use Rattle.history_keeper.specs.declared.row.Row.{Row};
+ghost use Rattle.update_log.specs.declared.facts.Facts.{Facts};
+ghost use Rattle.update_log.specs.Holding.{held, hold, holds, live, live_entry, step_open};
+ghost use Rattle.update_log.specs.Pasts.{boots, counted, finished, limit_of, off, past_of, time_of};
+ghost use Rattle.update_log.specs.Steps.{trace};
+ghost use Rattle.history_keeper.specs.Histories.{IsHistory};
+ghost use Rattle.update_log.specs.Core.{Stands};
+ghost use Rattle.update_log.specs.CoreFolds.{AllFaults};
+ghost use Rattle.update_log.specs.CoreCase.{HasFew, case_with};
+ghost use Rattle.update_log.specs.Verdicts.{decided};
+
+use crate::clock::Clock;
+use crate::decide::{Case, decided, free_blocks};
+use crate::decision::{Decision, Stage};
+use crate::event::{Event, Log};
+use crate::facts::Facts;
+use crate::finding::{has_entry, hold_of, live_with, step_of, trace_of};
+use crate::live::{Held, LiveEntry, OpenStep};
+use crate::request::Request;
+use crate::trace::{Trace, Traced};
+use device_list::Devices;
+use fw_base::{Listed, NoMemory};
+use fw_facts::DeviceView;
+use history_keeper::{Change, Row};
+use std::marker::Model;
+
+/// What the code keeps of the rows and the log, so that no decision reads the log. Contracts see the
+/// log with its rows, the view of each device, the trace of each live entry and the change in doubt,
+/// and for how many events and rows more there is room.
+#[derive(Drop)]
+pub struct CoreState {
+    log: Vec<Event>,
+    clock: Clock,
+    live: Vec<LiveEntry>,
+    traces: Vec<Traced>,
+    holds: Vec<Held>,
+    open: Vec<OpenStep>,
+    finished: Vec<u32>,
+    devices: Devices,
+    boards: Vec<u32>,
+    rows: Vec<Row>,
+    doubt: Option<Change>,
+}
+
+impl Model for CoreState {
+    ghost use Rattle.update_log.specs.Core.{Core, core_of, IsCore};
+
+    ghost Value = { Core };
+
+    ghost view = { core_of };
+
+    ghost invariant = { IsCore };
+}
+
+impl CoreState {
+    /// Gives the rows before the log, of which nothing is known yet: each event so far is a boot that
+    /// couldn't read the history.
+    pub fn set_rows(&mut self, rows: Vec<Row>)
+        requires history { IsHistory rows.items }
+        requires faults { AllFaults (past_of self.old.log) }
+        ensures same { self.new ≡ record self.old { rows = rows.items; row_room = self.new.row_room } }
+        ensures stands { (facts : Facts) (before : List Row) → Stands facts before self.old → Stands facts rows.items self.new }
+    {
+        self.put_rows(rows);
+    }
+
+    fn put_rows(&mut self, rows: Vec<Row>)
+        ensures { self.new ≡ record self.old { rows = rows.items; row_room = self.new.row_room } }
+    {
+        self.rows = rows;
+    }
+
+    /// Makes the spare room at least so many events and one row.
+    pub fn reserve(&mut self, events: usize) -> Result<(), NoMemory>
+        ensures room { OnOk result (events ≤ self.new.room) }
+        ensures row { OnOk result (1 ≤ self.new.row_room) }
+        ensures no_less { (self.old.room ≤ self.new.room) × (self.old.row_room ≤ self.new.row_room) }
+        ensures same { self.new ≡ record self.old { room = self.new.room; row_room = self.new.row_room } }
+    {
+        self.log.reserve(events)?;
+        self.live.reserve(events)?;
+        self.traces.reserve(events)?;
+        self.holds.reserve(events)?;
+        self.open.reserve(events)?;
+        self.finished.reserve(events)?;
+        self.rows.reserve(1)?;
+        Ok(())
+    }
+
+    /// The log.
+    pub fn log(&self) -> &[Event]
+        ensures { result.now ≡ self.now.log }
+    {
+        &self.log
+    }
+
+    /// The rows.
+    pub fn rows(&self) -> &[Row]
+        ensures { result.now ≡ self.now.rows }
+    {
+        &self.rows
+    }
+
+    /// The devices as they stand.
+    pub fn views(&self) -> &[DeviceView]
+        ensures { result.now ≡ self.now.views }
+    {
+        self.devices.views()
+    }
+
+    /// The log alone.
+    pub fn into_log(self) -> Log
+        ensures { result ≡ self.log }
+    {
+        let CoreState { log, .. } = self;
+        Listed::of(log)
+    }
+
+    /// Whether the boot that runs is off.
+    pub fn off(&self) -> bool
+        ensures { result ≡ off (past_of self.now.log) }
+    {
+        self.clock.off
+    }
+
+    /// How many boots there were.
+    pub fn boots(&self) -> usize
+        ensures { result ≡ boots (past_of self.now.log) }
+    {
+        self.clock.boots
+    }
+
+    /// The time of the boot that runs, in seconds.
+    pub fn time(&self) -> u64
+        ensures { result ≡ time_of (past_of self.now.log) }
+    {
+        self.clock.time
+    }
+
+    /// After how many counted events the power of the boot that runs is cut.
+    pub fn limit(&self) -> Option<u32>
+        ensures { result ≡ limit_of (past_of self.now.log) }
+    {
+        self.clock.limit
+    }
+
+    /// How many events of the boot that runs are counted.
+    pub fn counted(&self) -> usize
+        ensures { result ≡ counted (past_of self.now.log) }
+    {
+        self.clock.counted
+    }
+
+    /// The live entries, in the order in which they were taken.
+    pub fn live(&self) -> &[LiveEntry]
+        ensures { result.now ≡ live (past_of self.now.log) }
+    {
+        &self.live
+    }
+
+    /// The holds.
+    pub fn holds(&self) -> &[Held]
+        ensures { result.now ≡ holds (past_of self.now.log) }
+    {
+        &self.holds
+    }
+
+    /// The live entry of that number.
+    pub fn live_entry(&self, entry: u32) -> Option<LiveEntry>
+        ensures { result ≡ live_entry (past_of self.now.log) entry }
+    {
+        live_with(&self.live, entry).copied()
+    }
+
+    /// The hold of a client.
+    pub fn hold(&self, client: u32) -> Option<Held>
+        ensures { result ≡ hold (past_of self.now.log) client }
+    {
+        hold_of(&self.holds, client).copied()
+    }
+
+    /// The open step of an entry.
+    pub fn open_step(&self, entry: u32) -> Option<OpenStep>
+        ensures { result ≡ step_open (past_of self.now.log) entry }
+    {
+        step_of(&self.open, entry).copied()
+    }
+
+    /// Whether the entry was finished in the boot that runs.
+    pub fn is_finished(&self, entry: u32) -> bool
+        ensures { result ≡ finished entry (past_of self.now.log) }
+    {
+        has_entry(&self.finished, entry)
+    }
+
+    /// The change of which nobody knows whether it was stored.
+    pub fn doubt(&self) -> Option<Change>
+        ensures { result ≡ self.now.doubt }
+    {
+        self.doubt
+    }
+
+    /// The blocks of the pool that no hold and no live entry has.
+    pub fn free(&self, facts: &Facts) -> u32
+        ensures { result ≡ facts.now.pool - held (past_of self.now.log) }
+    {
+        free_blocks(facts.pool, &self.holds, &self.live)
+    }
+
+    /// How far a live entry has come.
+    pub fn trace(&self, entry: u32) -> Trace
+        requires { IsSome (live_entry (past_of self.now.log) entry) }
+        ensures { (facts : Facts) (opening : List Row) → Stands facts opening self.now → trace facts opening entry (past_of self.now.log) ≡ Some result }
+    {
+        trace_of(&self.traces, entry)
+    }
+
+    // What is decided of a request, over what is kept here.
+    pub(crate) fn decided(
+        &self,
+        facts: &Facts,
+        client: u32,
+        request: &Request,
+        stage: Stage,
+    ) -> Decision
+        requires { HasFew facts.now.catalogue }
+        ensures { result ≡ decided (case_with facts.now self.now.views self.now.rows (live (past_of self.now.log)) (holds (past_of self.now.log)) client request.now stage) }
+    {
+        decided(&Case {
+            facts,
+            devices: &self.devices,
+            rows: &self.rows,
+            live: &self.live,
+            holds: &self.holds,
+            client,
+            request,
+            stage,
+        })
+    }
+}
