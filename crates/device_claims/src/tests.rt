@@ -15,6 +15,7 @@ use sha2::{Digest as _, Sha256};
 use std::alloc::Global;
 use std::process::Abort;
 use std::test::Fail;
+use update_log::{Trace, TraceSteps};
 
 #[derive(Drop)]
 struct Bench {
