@@ -11,6 +11,8 @@ pub mod Accepts
 pub mod TakenKept
 pub mod MarksKept
 pub mod LegalOnce
+pub mod WaitsOnce
+pub mod HistoryKept
 pub mod CrashOnce
 pub mod Placed
 pub mod Refusals
