@@ -19,3 +19,5 @@ pub mod WorkedLogs
 pub mod CoreStands
 pub mod CoreOpenings
 pub mod CoreViews
+pub mod BoardsInTurn
+pub mod Starts
