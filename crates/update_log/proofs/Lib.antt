@@ -20,3 +20,5 @@ pub mod Worked
 pub mod CoreStands
 pub mod CoreOpenings
 pub mod CoreViews
+pub mod BoardsInTurn
+pub mod Starts

@@ -8,6 +8,7 @@
 #![tactic(auto)]
 
 pub mod answer;
+mod arranging;
 mod clock;
 mod copying;
 mod decide;

@@ -1,5 +1,5 @@
 //! The state that stands for a log.
-ghost use Rattle.std.specs.Prelude.{◌≡◌, ◌≤◌, ◌-◌, List, OnOk, IsSome, Some};
+ghost use Rattle.std.specs.Prelude.{◌≡◌, ◌≤◌, ◌-◌, List, [], length, IfOk, OnOk, IsSome, Some, None};
 ghost use Rattle.history_keeper.specs.declared.row.Row.{Row};
 ghost use Rattle.update_log.specs.declared.facts.Facts.{Facts};
 ghost use Rattle.update_log.specs.Holding.{held, hold, holds, live, live_entry, step_open};
@@ -11,6 +11,7 @@ ghost use Rattle.update_log.specs.CoreFolds.{AllFaults};
 ghost use Rattle.update_log.specs.CoreCase.{HasFew, case_with};
 ghost use Rattle.update_log.specs.Verdicts.{decided};
 
+use crate::arranging::arrange;
 use crate::clock::Clock;
 use crate::decide::{Case, decided, free_blocks};
 use crate::decision::{Decision, Stage};
@@ -24,6 +25,7 @@ use device_list::Devices;
 use fw_base::{Listed, NoMemory};
 use fw_facts::DeviceView;
 use history_keeper::{Change, Row};
+use std::alloc::Global;
 use std::marker::Model;
 
 /// What the code keeps of the rows and the log, so that no decision reads the log. Contracts see the
@@ -55,6 +57,42 @@ impl Model for CoreState {
 }
 
 impl CoreState {
+    /// The state before the first event: nothing is logged, no row is known, and no device of these
+    /// facts is there. There are at most 256 sheets, and only memory may be wanting.
+    pub fn new(alloc: Global, facts: &Facts) -> Result<CoreState, NoMemory>
+        requires { length facts.now.sheets ≤ 256 }
+        ensures empty { IfOk result (λ state. state.log ≡ []) }
+        ensures stands { IfOk result (λ state. Stands facts.now [] state) }
+    {
+        let (devices, boards) = arrange(alloc, facts)?;
+        Ok(CoreState::of_devices(alloc, devices, boards))
+    }
+
+    fn of_devices(alloc: Global, devices: Devices, boards: Vec<u32>) -> CoreState
+        requires few { length devices ≤ 256 }
+        requires matched { length boards.items ≡ length devices }
+        ensures log { result.log ≡ [] }
+        ensures rows { result.rows ≡ [] }
+        ensures traces { result.traces ≡ [] }
+        ensures doubt { result.doubt ≡ None }
+        ensures views { result.views ≡ devices }
+        ensures boards { result.boards ≡ boards.items }
+    {
+        CoreState {
+            log: Vec::new(alloc),
+            clock: Clock::new(),
+            live: Vec::new(alloc),
+            traces: Vec::new(alloc),
+            holds: Vec::new(alloc),
+            open: Vec::new(alloc),
+            finished: Vec::new(alloc),
+            devices,
+            boards,
+            rows: Vec::new(alloc),
+            doubt: None,
+        }
+    }
+
     /// Gives the rows before the log, of which nothing is known yet: each event so far is a boot that
     /// couldn't read the history.
     pub fn set_rows(&mut self, rows: Vec<Row>)
