@@ -19,3 +19,4 @@ pub mod WorkedLogs
 pub mod CoreStands
 pub mod CoreOpenings
 pub mod CoreViews
+pub mod CoreTargets

@@ -16,3 +16,4 @@ pub mod Core
 pub mod CoreFolds
 pub mod Examples
 pub mod CoreViews
+pub mod CoreSteps

@@ -8,6 +8,8 @@
 #![tactic(auto)]
 
 pub mod answer;
+mod asking;
+mod changing;
 mod clock;
 mod copying;
 mod decide;
@@ -33,8 +35,10 @@ mod taking;
 mod target;
 #[cfg(test)]
 mod tests;
+mod telling;
 pub mod told;
 pub mod trace;
+mod tracing;
 
 pub use answer::{AskAnswer, ClaimAnswer, PlugAnswer, ResumeAnswer};
 pub use deciding::verdict;
