@@ -1,5 +1,5 @@
 //! What one event tells of boards.
-ghost use Rattle.std.specs.Prelude.{◌≡◌, ◌≤◌, length};
+ghost use Rattle.std.specs.Prelude.{◌≡◌, ◌≤◌, None, length};
 ghost use Rattle.update_log.specs.CoreSteps.{board_of_entry, board_on, tells_on};
 ghost use Rattle.update_log.specs.CoreViews.{told_on};
 ghost use Rattle.update_log.specs.Known.{for_board};
@@ -41,8 +41,14 @@ pub fn tell(devices: &mut Devices, boards: &[u32], rows: &[Row], event: &Event)
         | Event::Unplug { .. }
         | Event::Plug { .. }
         | Event::GiveBack { .. }
-        | Event::Cut => {}
+        | Event::Cut => stay(devices, boards),
     }
+}
+
+// Nothing is told of any board.
+fn stay(devices: &mut Devices, boards: &[u32])
+    ensures { devices.new ≡ told_on (λ number. None) boards.now devices.old }
+{
 }
 
 fn show_entry(devices: &mut Devices, boards: &[u32], rows: &[Row], entry: u32, seen: Seen)
