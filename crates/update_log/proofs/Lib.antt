@@ -20,7 +20,3 @@ pub mod CoreStands
 pub mod CoreOpenings
 pub mod CoreViews
 pub mod CoreTargets
-pub mod StepsFew
-pub mod CoreKnown
-pub mod CoreTells
-pub mod CoreTraces
