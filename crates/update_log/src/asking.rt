@@ -44,9 +44,24 @@ pub fn change_on(asking: &Asking, event: &Event) -> Option<Change>
             request,
             answer,
         } => addition_if(asking, *client, request, *answer, RowState::Pending),
-        Event::Resume { entry, answer, .. } => Some(resumption_on(asking.rows, asking.time, *entry, *answer)),
-        Event::Finish { entry, state, .. } => Some(advance_on(asking.rows, asking.time, *entry, *state)),
-        Event::Judge { entry, state, .. } => Some(advance_on(asking.rows, asking.time, *entry, *state)),
+        Event::Resume { entry, answer, .. } => Some(resumption_on(
+            asking.rows,
+            asking.time,
+            *entry,
+            *answer,
+        )),
+        Event::Finish { entry, state, .. } => Some(advance_on(
+            asking.rows,
+            asking.time,
+            *entry,
+            *state,
+        )),
+        Event::Judge { entry, state, .. } => Some(advance_on(
+            asking.rows,
+            asking.time,
+            *entry,
+            *state,
+        )),
         Event::Boot { .. }
         | Event::Query { .. }
         | Event::Ask { .. }
@@ -86,12 +101,7 @@ fn is_taken(answer: ClaimAnswer) -> bool
     }
 }
 
-fn addition_on(
-    asking: &Asking,
-    client: u32,
-    request: &Request,
-    state: RowState,
-) -> Option<Change>
+fn addition_on(asking: &Asking, client: u32, request: &Request, state: RowState) -> Option<Change>
     requires few { length asking.now.rows.now + 1 < 2 ^ 32 }
     ensures { result ≡ addition_on asking.now.facts.now asking.now.time asking.now.devices.now asking.now.rows.now client request.now state }
 {

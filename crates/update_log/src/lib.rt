@@ -33,9 +33,9 @@ mod showing;
 pub mod state;
 mod taking;
 mod target;
+mod telling;
 #[cfg(test)]
 mod tests;
-mod telling;
 pub mod told;
 pub mod trace;
 mod tracing;

@@ -48,8 +48,7 @@ pub fn tell(devices: &mut Devices, boards: &[u32], rows: &[Row], event: &Event)
 // Nothing is told of any board.
 fn stay(devices: &mut Devices, boards: &[u32])
     ensures { devices.new ≡ told_on (λ number. None) boards.now devices.old }
-{
-}
+{}
 
 fn show_entry(devices: &mut Devices, boards: &[u32], rows: &[Row], entry: u32, seen: Seen)
     requires { length boards.now ≤ length devices.old }
