@@ -20,3 +20,11 @@ pub mod CoreStands
 pub mod CoreOpenings
 pub mod CoreViews
 pub mod CoreTargets
+pub mod StepsFew
+pub mod CoreKnown
+pub mod CoreTells
+pub mod CoreTraces
+pub mod CoreLegal
+pub mod CoreTaken
+pub mod CoreAfter
+pub mod CoreKept

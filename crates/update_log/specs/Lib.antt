@@ -17,3 +17,4 @@ pub mod CoreFolds
 pub mod Examples
 pub mod CoreViews
 pub mod CoreSteps
+pub mod CoreAfter
