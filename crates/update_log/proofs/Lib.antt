@@ -22,3 +22,12 @@ pub mod CoreOpenings
 pub mod CoreViews
 pub mod BoardsInTurn
 pub mod Starts
+pub mod CoreTargets
+pub mod StepsFew
+pub mod CoreKnown
+pub mod CoreTells
+pub mod CoreTraces
+pub mod CoreLegal
+pub mod CoreTaken
+pub mod CoreAfter
+pub mod CoreKept

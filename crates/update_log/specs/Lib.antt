@@ -18,3 +18,5 @@ pub mod Examples
 pub mod WorkedAnswers
 pub mod CoreViews
 pub mod CoreBoards
+pub mod CoreSteps
+pub mod CoreAfter

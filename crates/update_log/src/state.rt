@@ -1,5 +1,5 @@
 //! The state that stands for a log.
-ghost use Rattle.std.specs.Prelude.{◌≡◌, ◌≤◌, ◌-◌, List, [], length, IfOk, OnOk, IsSome, Some, None};
+ghost use Rattle.std.specs.Prelude.{◌≡◌, ◌≤◌, ◌-◌, ◌+◌, List, [], length, IfOk, OnOk, IsSome, Some, None};
 ghost use Rattle.history_keeper.specs.declared.row.Row.{Row};
 ghost use Rattle.update_log.specs.declared.facts.Facts.{Facts};
 ghost use Rattle.update_log.specs.Holding.{held, hold, holds, live, live_entry, step_open};
@@ -7,20 +7,27 @@ ghost use Rattle.update_log.specs.Pasts.{boots, counted, finished, limit_of, off
 ghost use Rattle.update_log.specs.Steps.{trace};
 ghost use Rattle.history_keeper.specs.Histories.{IsHistory};
 ghost use Rattle.update_log.specs.Core.{Stands};
+ghost use Rattle.update_log.specs.CoreAfter.{IsAfter, Takes};
 ghost use Rattle.update_log.specs.CoreFolds.{AllFaults};
 ghost use Rattle.update_log.specs.CoreCase.{HasFew, case_with};
 ghost use Rattle.update_log.specs.Verdicts.{decided};
 
 use crate::arranging::arrange;
+use crate::asking::{Asking, change_on};
+use crate::changing::{change_if, doubt_at, made_at};
 use crate::clock::Clock;
 use crate::decide::{Case, decided, free_blocks};
 use crate::decision::{Decision, Stage};
 use crate::event::{Event, Log};
 use crate::facts::Facts;
 use crate::finding::{has_entry, hold_of, live_with, step_of, trace_of};
+use crate::holding::{finished_after, holds_after, live_after, open_after};
 use crate::live::{Held, LiveEntry, OpenStep};
 use crate::request::Request;
+use crate::showing::claim_devices;
+use crate::telling::tell;
 use crate::trace::{Trace, Traced};
+use crate::tracing::traces_after;
 use device_list::Devices;
 use fw_base::{Listed, NoMemory};
 use fw_facts::DeviceView;
@@ -253,6 +260,35 @@ impl CoreState {
         ensures { (facts : Facts) (opening : List Row) → Stands facts opening self.now → trace facts opening entry (past_of self.now.log) ≡ Some result }
     {
         trace_of(&self.traces, entry)
+    }
+
+    // Takes one more event: all that is kept becomes what it is after the event.
+    pub(crate) fn take(&mut self, facts: &Facts, event: Event)
+        requires { Takes facts.now self.old event }
+        ensures after { IsAfter facts.now event self.old self.new }
+        ensures room { self.old.room ≤ self.new.room + 1 }
+        ensures row_room { self.new.row_room + length self.new.rows ≡ self.old.row_room + length self.old.rows }
+    {
+        let change = change_on(
+            &Asking {
+                facts,
+                devices: &self.devices,
+                rows: &self.rows,
+                time: self.clock.time,
+            },
+            &event,
+        );
+        traces_after(&mut self.traces, facts, &self.devices, &self.holds, &event);
+        tell(&mut self.devices, &self.boards, &self.rows, &event);
+        change_if(&mut self.rows, made_at(&event, &change, &self.doubt));
+        self.doubt = doubt_at(&event, &change, &self.doubt);
+        live_after(&mut self.live, &event);
+        holds_after(&mut self.holds, &event);
+        open_after(&mut self.open, &event);
+        finished_after(&mut self.finished, &event);
+        self.clock = self.clock.after(&event);
+        claim_devices(&mut self.devices, &self.rows, &self.live);
+        self.log.push_reserved(event);
     }
 
     // What is decided of a request, over what is kept here.
