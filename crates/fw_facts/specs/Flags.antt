@@ -1,5 +1,5 @@
 -- Sets of flags: for each of the ten flags, in their order, whether it is in the set.
-use Rattle.std.specs.Prelude.{ℕ, Bool, true, false, not, ◌==◌, ◌||◌, List, [], ◌∷◌, set, get_or}
+use Rattle.std.specs.Prelude.{ℕ, Bool, true, false, not, ◌==◌, ◌||◌, List, [], ◌∷◌, set, get_or, codes}
 use Rattle.std.specs.List.{list_all}
 use Rattle.fw_facts.specs.declared.flags.DeviceFlag.{DeviceFlag}
 use Rattle.fw_facts.specs.declared.flags.DeviceFlag.TheVariants.{Internal, Updatable, RequireAc, Locked, NeedsBootloader, IsBootloader, NeedsReboot, WaitForReplug, InstallParentFirst, Emulated}
@@ -22,6 +22,19 @@ abbrev pub all_flags : List DeviceFlag
 all_flags =
     Internal ∷ Updatable ∷ RequireAc ∷ Locked ∷ NeedsBootloader ∷ IsBootloader ∷ NeedsReboot ∷ WaitForReplug
     ∷ InstallParentFirst ∷ Emulated ∷ []
+
+-- The word of a flag.
+abbrev pub flag_word : DeviceFlag → List ℕ
+flag_word Internal = codes "internal"
+flag_word Updatable = codes "updatable"
+flag_word RequireAc = codes "require-ac"
+flag_word Locked = codes "locked"
+flag_word NeedsBootloader = codes "needs-bootloader"
+flag_word IsBootloader = codes "is-bootloader"
+flag_word NeedsReboot = codes "needs-reboot"
+flag_word WaitForReplug = codes "wait-for-replug"
+flag_word InstallParentFirst = codes "install-parent-first"
+flag_word Emulated = codes "emulated"
 
 -- The two flags are one.
 abbrev pub is_flag : DeviceFlag → DeviceFlag → Bool

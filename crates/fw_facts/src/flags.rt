@@ -1,6 +1,6 @@
 //! The flags of a device.
 ghost use Rattle.std.specs.Prelude.{◌≡◌, ◌||◌, ◌&&◌, not, false, true};
-ghost use Rattle.fw_facts.specs.Flags.{has_flag, no_flags, set_flag, has_all, is_flag};
+ghost use Rattle.fw_facts.specs.Flags.{flag_word, has_flag, no_flags, set_flag, has_all, is_flag};
 
 use std::marker::Model;
 
@@ -46,6 +46,24 @@ impl DeviceFlag {
         DeviceFlag::InstallParentFirst,
         DeviceFlag::Emulated,
     ];
+
+    /// The flag's word: fwupd's own.
+    pub fn word(self) -> &'static [u8]
+        ensures { result.now ≡ flag_word self }
+    {
+        match self {
+            DeviceFlag::Internal => b"internal",
+            DeviceFlag::Updatable => b"updatable",
+            DeviceFlag::RequireAc => b"require-ac",
+            DeviceFlag::Locked => b"locked",
+            DeviceFlag::NeedsBootloader => b"needs-bootloader",
+            DeviceFlag::IsBootloader => b"is-bootloader",
+            DeviceFlag::NeedsReboot => b"needs-reboot",
+            DeviceFlag::WaitForReplug => b"wait-for-replug",
+            DeviceFlag::InstallParentFirst => b"install-parent-first",
+            DeviceFlag::Emulated => b"emulated",
+        }
+    }
 }
 
 /// A set of flags. Contracts see whether each is in it, in the order of `DeviceFlag::ALL`.

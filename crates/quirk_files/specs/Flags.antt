@@ -1,25 +1,12 @@
 -- Lists of flags, of which those behind `~` are taken away.
-use Rattle.std.specs.Prelude.{ℕ, ◌==◌, nat_le, Bool, true, false, ◌&&◌, if◌then◌else◌, List, [], ◌∷◌, length, drop, slice_index, Option, codes, find}
+use Rattle.std.specs.Prelude.{ℕ, ◌==◌, nat_le, Bool, true, false, ◌&&◌, if◌then◌else◌, List, [], ◌∷◌, length, drop, slice_index, Option, find}
 use Rattle.std.specs.Option.{option_map}
 use Rattle.std.specs.Str.{bytes_eq}
 use Rattle.fw_facts.specs.declared.flags.DeviceFlag.{DeviceFlag}
-use Rattle.fw_facts.specs.declared.flags.DeviceFlag.TheVariants.{Internal, Updatable, RequireAc, Locked, NeedsBootloader, IsBootloader, NeedsReboot, WaitForReplug, InstallParentFirst, Emulated}
-use Rattle.fw_facts.specs.Flags.{set_flag}
+use Rattle.fw_facts.specs.declared.flags.DeviceFlag.TheVariants.{Internal, Updatable, RequireAc, Locked, NeedsBootloader, NeedsReboot, WaitForReplug, InstallParentFirst, Emulated}
+use Rattle.fw_facts.specs.Flags.{flag_word, set_flag}
 use Rattle.quirk_files.specs.declared.changes.FlagChange.{FlagChange}
 use Rattle.quirk_files.specs.declared.changes.FlagChange.TheVariants.{Add, Remove}
-
--- The word of a flag.
-abbrev pub flag_word : DeviceFlag → List ℕ
-flag_word Internal = codes "internal"
-flag_word Updatable = codes "updatable"
-flag_word RequireAc = codes "require-ac"
-flag_word Locked = codes "locked"
-flag_word NeedsBootloader = codes "needs-bootloader"
-flag_word IsBootloader = codes "is-bootloader"
-flag_word NeedsReboot = codes "needs-reboot"
-flag_word WaitForReplug = codes "wait-for-replug"
-flag_word InstallParentFirst = codes "install-parent-first"
-flag_word Emulated = codes "emulated"
 
 -- The flags that a quirk may change: all but `is-bootloader`, which no sheet states.
 abbrev pub quirk_flags : List DeviceFlag

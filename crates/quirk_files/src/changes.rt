@@ -1,7 +1,8 @@
 //! Flags that a quirk adds or takes away.
 ghost use Rattle.std.specs.Prelude.{◌≡◌, find};
 ghost use Rattle.std.specs.Str.{bytes_eq};
-ghost use Rattle.quirk_files.specs.Flags.{flag_word, flag_of, begins_with_tilde, change_of, flags_with, changed};
+ghost use Rattle.fw_facts.specs.Flags.{flag_word};
+ghost use Rattle.quirk_files.specs.Flags.{flag_of, begins_with_tilde, change_of, flags_with, changed};
 
 use fw_facts::{DeviceFlag, DeviceFlags};
 
@@ -82,22 +83,5 @@ fn flag_of(word: &[u8]) -> Option<DeviceFlag>
 fn flag_among(flags: &[DeviceFlag], word: &[u8]) -> Option<DeviceFlag>
     ensures { result ≡ find (λ flag. bytes_eq (flag_word flag) word.now) flags.now }
 {
-    flags.iter().copied().find(|flag| flag_word(*flag) == word)
-}
-
-fn flag_word(flag: DeviceFlag) -> &'static [u8]
-    ensures { result.now ≡ flag_word flag }
-{
-    match flag {
-        DeviceFlag::Internal => b"internal",
-        DeviceFlag::Updatable => b"updatable",
-        DeviceFlag::RequireAc => b"require-ac",
-        DeviceFlag::Locked => b"locked",
-        DeviceFlag::NeedsBootloader => b"needs-bootloader",
-        DeviceFlag::IsBootloader => b"is-bootloader",
-        DeviceFlag::NeedsReboot => b"needs-reboot",
-        DeviceFlag::WaitForReplug => b"wait-for-replug",
-        DeviceFlag::InstallParentFirst => b"install-parent-first",
-        DeviceFlag::Emulated => b"emulated",
-    }
+    flags.iter().copied().find(|flag| flag.word() == word)
 }

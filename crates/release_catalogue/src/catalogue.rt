@@ -61,7 +61,8 @@ impl Catalogue {
         Ok(Catalogue::of(alloc, components)?)
     }
 
-    fn of(alloc: Global, components: Vec<Component>) -> Result<Catalogue, NoMemory>
+    /// The catalogue of a list of components: at most 4,096, with at most 20,000 releases in all.
+    pub fn of(alloc: Global, components: Vec<Component>) -> Result<Catalogue, NoMemory>
         requires few { length components.items ≤ 4096 }
         requires few_releases { releases_in components.items ≤ 20000 }
         ensures { IfOk result (λ catalogue. catalogue ≡ components.items) }

@@ -1,0 +1,6 @@
+//! What the clients of a boot do, one item after the other.
+#![tactic(auto)]
+
+pub mod item;
+
+pub use item::Item;
