@@ -31,3 +31,4 @@ pub mod CoreLegal
 pub mod CoreTaken
 pub mod CoreAfter
 pub mod CoreKept
+pub mod CoreTake
