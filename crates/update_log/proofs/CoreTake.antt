@@ -82,8 +82,8 @@ takes-inside facts s core event k is takes =
     record {
       rooms = r;
       rows = in-room _ (vec_len s.rows) (vec_capacity s.rows) (length s.rows.items)
-             (rw k.time t.row_room)
-             s.rows.ok.0 s.rows.ok.1;
+          (rw k.time t.row_room)
+          s.rows.ok.0 s.rows.ok.1;
       few = t.few;
       places = t.places;
       entries = rw (k.holds, k.live) t.entries;

@@ -15,10 +15,11 @@ pub fn made_at(event: &Event, change: &Option<Change>, doubt: &Option<Change>) -
 {
     match event {
         Event::Boot { found, .. } => kept_by(*found, *doubt),
-        Event::Claim { answer, .. } | Event::Schedule { answer, .. } => made_answered(*answer, *change),
-        Event::Resume { stored, .. }
-        | Event::Finish { stored, .. }
-        | Event::Judge { stored, .. } => made_stored(*stored, *change),
+        Event::Claim { answer, .. } | Event::Schedule { answer, .. } => made_answered(
+            *answer, *change,
+        ),
+        Event::Resume { stored, .. } | Event::Finish { stored, .. } | Event::Judge { stored, .. } =>
+            made_stored(*stored, *change),
         Event::Query { .. }
         | Event::Ask { .. }
         | Event::Start { .. }
@@ -63,10 +64,11 @@ pub fn doubt_at(event: &Event, change: &Option<Change>, doubt: &Option<Change>) 
 {
     match event {
         Event::Boot { found, .. } => doubt_found(*found, *doubt),
-        Event::Claim { answer, .. } | Event::Schedule { answer, .. } => doubt_answered(*answer, *change, *doubt),
-        Event::Resume { stored, .. }
-        | Event::Finish { stored, .. }
-        | Event::Judge { stored, .. } => doubt_stored(*stored, *change, *doubt),
+        Event::Claim { answer, .. } | Event::Schedule { answer, .. } => doubt_answered(
+            *answer, *change, *doubt,
+        ),
+        Event::Resume { stored, .. } | Event::Finish { stored, .. } | Event::Judge { stored, .. } =>
+            doubt_stored(*stored, *change, *doubt),
         Event::Query { .. }
         | Event::Ask { .. }
         | Event::Start { .. }
@@ -95,7 +97,11 @@ fn doubt_answered(
     ensures { result ≡ doubt_by (fate_answered answer) change doubt }
 {
     match answer {
-        ClaimAnswer::Refused(refusal) => if is_keeper_fault(refusal) { change } else { doubt },
+        ClaimAnswer::Refused(refusal) => if is_keeper_fault(refusal) {
+            change
+        } else {
+            doubt
+        },
         ClaimAnswer::Entry(_) | ClaimAnswer::Kept { .. } => doubt,
     }
 }

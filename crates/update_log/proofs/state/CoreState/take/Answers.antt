@@ -33,7 +33,7 @@ change_if-requires c =
     subst (λ (o : Option Change). length (changed_if o c.self.inside.rows.items) ≤ vec_capacity c.self.inside.rows)
     (sym (c.made_at.ensures
     ∙ ap (λ (o : Option Change). made_at c.args.event o c.self.inside.doubt)
-      (c.change_on-change.ensures ∙ ap (λ (rs : List Row). change_on c.args.facts.now c.self.inside.clock.time c.self.inside.devices rs c.args.event) c.deref.ensures.value)))
+    (c.change_on-change.ensures ∙ ap (λ (rs : List Row). change_on c.args.facts.now c.self.inside.clock.time c.self.inside.devices rs c.args.event) c.deref.ensures.value)))
     t.rows
 
 pub live_after-requires : goal.live_after-requires
@@ -100,16 +100,16 @@ next c =
       limit = c.after-self-inside.ensures.limit;
       counted = c.after-self-inside.ensures.counted;
       rows = c.change_if.ensures.rows
-             ∙ ap (λ (o : Option Change). changed_if o c.self.inside.rows.items)
-               (c.made_at.ensures ∙ ap (λ (o : Option Change). made_at c.args.event o c.self.inside.doubt) asked);
+          ∙ ap (λ (o : Option Change). changed_if o c.self.inside.rows.items)
+          (c.made_at.ensures ∙ ap (λ (o : Option Change). made_at c.args.event o c.self.inside.doubt) asked);
       doubt = c.doubt_at-self-inside.ensures ∙ ap (λ (o : Option Change). doubt_at c.args.event o c.self.inside.doubt) asked;
       devices = c.claim_devices.ensures
-                ∙ ap (λ (rs : List Row). map (claimed rs c.deref-6.result.now) c.tell.new.devices) c.deref-5.ensures.value
-                ∙ ap (λ (ls : List LiveEntry). map (claimed c.change_if.new.rows.items ls) c.tell.new.devices) c.deref-6.ensures.value
-                ∙ ap (λ (vs : List DeviceView). map (claimed c.change_if.new.rows.items c.live_after.new.live.items) vs)
-                  (c.tell.ensures
-                  ∙ ap (λ (bs : List ℕ). told_on (tells_on bs c.self.inside.devices c.deref-4.result.now c.args.event) bs c.self.inside.devices) c.deref-3.ensures.value
-                  ∙ ap (λ (rs : List Row). told_on (tells_on c.self.inside.boards.items c.self.inside.devices rs c.args.event) c.self.inside.boards.items c.self.inside.devices) c.deref-4.ensures.value);
+          ∙ ap (λ (rs : List Row). map (claimed rs c.deref-6.result.now) c.tell.new.devices) c.deref-5.ensures.value
+          ∙ ap (λ (ls : List LiveEntry). map (claimed c.change_if.new.rows.items ls) c.tell.new.devices) c.deref-6.ensures.value
+          ∙ ap (λ (vs : List DeviceView). map (claimed c.change_if.new.rows.items c.live_after.new.live.items) vs)
+          (c.tell.ensures
+          ∙ ap (λ (bs : List ℕ). told_on (tells_on bs c.self.inside.devices c.deref-4.result.now c.args.event) bs c.self.inside.devices) c.deref-3.ensures.value
+          ∙ ap (λ (rs : List Row). told_on (tells_on c.self.inside.boards.items c.self.inside.devices rs c.args.event) c.self.inside.boards.items c.self.inside.devices) c.deref-4.ensures.value);
       boards = refl;
     }
 
