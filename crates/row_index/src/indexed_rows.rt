@@ -13,6 +13,9 @@ use history_keeper::{Row, RowState};
 use std::alloc::Global;
 use std::marker::Model;
 
+#[cfg(test)]
+mod tests;
+
 /// Rows in the order of their entries. Contracts see the list of the rows, and for how many more there
 /// is room.
 #[derive(Drop)]

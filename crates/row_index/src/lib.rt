@@ -10,7 +10,5 @@ mod index;
 pub mod indexed_rows;
 mod stated;
 mod tag_key;
-#[cfg(test)]
-mod tests;
 
 pub use indexed_rows::IndexedRows;

@@ -34,7 +34,7 @@ room-one len cap len' cap' e h = omega arith
 
 -- The change that the event asks for, over what is kept.
 abbrev pub asked_of : Facts → Inside → Event → Option Change
-asked_of facts s event = change_on facts s.clock.time s.devices s.rows.items event
+asked_of facts s event = change_on facts s.clock.time s.devices s.rows.rows event
 
 -- Each list has room for one more.
 pub record Rooms (s : Inside) : Type 0 where
@@ -64,16 +64,13 @@ rooms s h =
 -- What the parts require, over the fields.
 pub record TakesInside (facts : Facts) (s : Inside) (event : Event) : Type 0 where
   pub rooms : Rooms s
-  pub rows : length (changed_if (made_at event (asked_of facts s event) s.doubt) s.rows.items) ≤ vec_capacity s.rows
-  pub few : asks_row event ≡ true → length s.rows.items + 1 < 2 ^ 32
+  pub rows : length (changed_if (made_at event (asked_of facts s event) s.doubt) s.rows.rows) ≤ length s.rows.rows + s.rows.room
+  pub few : asks_row event ≡ true → length s.rows.rows + 1 < 2 ^ 32
   pub places : All (HasPlace event) s.traces.items
   pub entries : map (λ t. t.entry) (traces_on facts s.devices s.holds.items event s.traces.items) ≡ map (λ l. l.entry) (live_after event s.live.items)
   pub boards : length s.boards.items ≤ length s.devices
   pub boots : s.clock.boots + 1 < 2 ^ 64
   pub counted : s.clock.counted + 1 < 2 ^ 64
-
-in-room : (n len cap l : ℕ) → n ≤ l + (cap - len) → len ≡ l → len ≤ cap → n ≤ cap
-in-room n len cap l h e k = omega arith
 
 pub takes-inside : (facts : Facts) (s : Inside) (core : Core) (event : Event) → IsCore s → core_of s ≡ core → Takes facts core event → TakesInside facts s event
 takes-inside facts s core event k is takes =
@@ -81,9 +78,7 @@ takes-inside facts s core event k is takes =
     let r : Rooms s = rooms s t.room in
     record {
       rooms = r;
-      rows = in-room _ (vec_len s.rows) (vec_capacity s.rows) (length s.rows.items)
-          (rw k.time t.row_room)
-          s.rows.ok.0 s.rows.ok.1;
+      rows = rw k.time t.row_room;
       few = t.few;
       places = t.places;
       entries = rw (k.holds, k.live) t.entries;
@@ -105,9 +100,9 @@ pub record NextInside (facts : Facts) (event : Event) (s : Inside) (n : Inside) 
   pub time : n.clock.time ≡ time_after event s.clock.time
   pub limit : n.clock.limit ≡ limit_after event s.clock.limit
   pub counted : n.clock.counted ≡ counted_after event s.clock.counted
-  pub rows : n.rows.items ≡ changed_if (made_at event (asked_of facts s event) s.doubt) s.rows.items
+  pub rows : n.rows.rows ≡ changed_if (made_at event (asked_of facts s event) s.doubt) s.rows.rows
   pub doubt : n.doubt ≡ doubt_at event (asked_of facts s event) s.doubt
-  pub devices : n.devices ≡ map (claimed n.rows.items n.live.items) (told_on (tells_on s.boards.items s.devices s.rows.items event) s.boards.items s.devices)
+  pub devices : n.devices ≡ map (claimed n.rows.rows n.live.items) (told_on (tells_on s.boards.items s.devices s.rows.rows event) s.boards.items s.devices)
   pub boards : n.boards.items ≡ s.boards.items
 
 -- No list has less room than before by more than one, and the rows' room is what they left.
@@ -135,14 +130,9 @@ room-left s n core is r =
     (least-left _ _ _ _ (room-one _ _ _ _ r.opened r.opened_len) (room-one _ _ _ _ r.finished r.finished_len))))) in
     subst (λ (c : Core). c.room ≤ spare n + 1) is h
 
-row-room : (cap len l cap' len' l' : ℕ) → cap' ≡ cap → len ≡ l → len ≤ cap → len' ≡ l' → len' ≤ cap' → (cap' - len') + l' ≡ (cap - len) + l
-row-room cap len l cap' len' l' e f g h k = omega arith
-
-pub row-room-left : (s n : Inside) (core : Core) → core_of s ≡ core → vec_capacity n.rows ≡ vec_capacity s.rows
-    → (vec_capacity n.rows - vec_len n.rows) + length n.rows.items ≡ core.row_room + length core.rows
-row-room-left s n core is e =
-    subst (λ (c : Core). (vec_capacity n.rows - vec_len n.rows) + length n.rows.items ≡ c.row_room + length c.rows) is
-    (row-room (vec_capacity s.rows) (vec_len s.rows) (length s.rows.items) (vec_capacity n.rows) (vec_len n.rows) (length n.rows.items) e s.rows.ok.0 s.rows.ok.1 n.rows.ok.0 n.rows.ok.1)
+pub row-room-left : (s n : Inside) (core : Core) → core_of s ≡ core → n.rows.room + length n.rows.rows ≡ s.rows.room + length s.rows.rows
+    → n.rows.room + length n.rows.rows ≡ core.row_room + length core.rows
+row-room-left s n core is e = subst (λ (c : Core). n.rows.room + length n.rows.rows ≡ c.row_room + length c.rows) is e
 
 pub next-parts : (facts : Facts) (event : Event) (s n : Inside) → TakesInside facts s event → NextInside facts event s n → NextParts event s n
 next-parts facts event s n t a =
@@ -157,7 +147,7 @@ next-parts facts event s n t a =
       time = a.time;
       limit = a.limit;
       counted = a.counted;
-      devices = ap length a.devices ∙ length-map (told_on (tells_on s.boards.items s.devices s.rows.items event) s.boards.items s.devices) (claimed n.rows.items n.live.items) ∙ length-told (tells_on s.boards.items s.devices s.rows.items event) s.boards.items s.devices;
+      devices = ap length a.devices ∙ length-map (told_on (tells_on s.boards.items s.devices s.rows.rows event) s.boards.items s.devices) (claimed n.rows.rows n.live.items) ∙ length-told (tells_on s.boards.items s.devices s.rows.rows event) s.boards.items s.devices;
       boards = a.boards;
       entries = ap (λ ts. map (λ t. t.entry) ts) a.traces ∙ t.entries ∙ sym (ap (λ ls. map (λ l. l.entry) ls) a.live);
     }
@@ -168,7 +158,7 @@ after-inside facts event s n core k is a =
     (record {
       log = a.log;
       rows = rw (← k.time) a.rows;
-      views = a.devices ∙ ap (λ (ls : List LiveEntry). map (claimed n.rows.items ls) (told_on (tells_on s.boards.items s.devices s.rows.items event) s.boards.items s.devices)) (a.live ∙ ap (λ (ls : List LiveEntry). live_after event ls) k.live);
+      views = a.devices ∙ ap (λ (ls : List LiveEntry). map (claimed n.rows.rows ls) (told_on (tells_on s.boards.items s.devices s.rows.rows event) s.boards.items s.devices)) (a.live ∙ ap (λ (ls : List LiveEntry). live_after event ls) k.live);
       boards = a.boards;
       traces = a.traces ∙ ap (λ (hs : List Held). traces_on facts s.devices hs event s.traces.items) k.holds;
       doubt = rw (← k.time) a.doubt;

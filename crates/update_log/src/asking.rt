@@ -12,25 +12,25 @@ use crate::event::Event;
 use crate::facts::Facts;
 use crate::refusal::Refusal;
 use crate::request::Request;
-use crate::row_lookup::row_of;
 use crate::taking::{new_row, refusal_number};
 use crate::target::{Target, target_at};
 use device_list::Devices;
 use history_keeper::{Change, Row, RowState};
+use row_index::IndexedRows;
 
 /// What a change is made of: the facts, the devices and the rows as they stand, and the time.
 #[derive(Drop)]
 pub struct Asking<'a> {
     pub facts: &'a Facts,
     pub devices: &'a Devices,
-    pub rows: &'a [Row],
+    pub rows: &'a IndexedRows,
     pub time: u64,
 }
 
 /// The change that an event asks for, where a row that it asks for isn't refused.
 pub fn change_on(asking: &Asking, event: &Event) -> Option<Change>
-    requires few { asks_row event.now ≡ true → length asking.now.rows.now + 1 < 2 ^ 32 }
-    ensures { result ≡ change_on asking.now.facts.now asking.now.time asking.now.devices.now asking.now.rows.now event.now }
+    requires few { asks_row event.now ≡ true → length asking.now.rows.now.rows + 1 < 2 ^ 32 }
+    ensures { result ≡ change_on asking.now.facts.now asking.now.time asking.now.devices.now asking.now.rows.now.rows event.now }
 {
     match event {
         Event::Claim {
@@ -81,8 +81,8 @@ fn addition_if(
     answer: ClaimAnswer,
     state: RowState,
 ) -> Option<Change>
-    requires few { is_taken answer ≡ true → length asking.now.rows.now + 1 < 2 ^ 32 }
-    ensures { result ≡ (if is_taken answer then addition_on asking.now.facts.now asking.now.time asking.now.devices.now asking.now.rows.now client request.now state else None) }
+    requires few { is_taken answer ≡ true → length asking.now.rows.now.rows + 1 < 2 ^ 32 }
+    ensures { result ≡ (if is_taken answer then addition_on asking.now.facts.now asking.now.time asking.now.devices.now asking.now.rows.now.rows client request.now state else None) }
 {
     if is_taken(answer) {
         addition_on(asking, client, request, state)
@@ -102,10 +102,10 @@ fn is_taken(answer: ClaimAnswer) -> bool
 }
 
 fn addition_on(asking: &Asking, client: u32, request: &Request, state: RowState) -> Option<Change>
-    requires few { length asking.now.rows.now + 1 < 2 ^ 32 }
-    ensures { result ≡ addition_on asking.now.facts.now asking.now.time asking.now.devices.now asking.now.rows.now client request.now state }
+    requires few { length asking.now.rows.now.rows + 1 < 2 ^ 32 }
+    ensures { result ≡ addition_on asking.now.facts.now asking.now.time asking.now.devices.now asking.now.rows.now.rows client request.now state }
 {
-    let entry = asking.rows.len() as u32 + 1;
+    let entry = asking.rows.rows().len() as u32 + 1;
     match target_of(asking.facts, asking.devices, request) {
         Some(target) => row_added(new_row(entry, asking.time, client, request, state, &target)),
         None => None,
@@ -134,8 +134,8 @@ pub fn target_of<'a>(
     target_at(facts, devices.views(), &request.version, place)
 }
 
-fn advance_on(rows: &[Row], time: u64, entry: u32, state: RowState) -> Change
-    ensures { result ≡ advance_on time rows.now entry state }
+fn advance_on(rows: &IndexedRows, time: u64, entry: u32, state: RowState) -> Change
+    ensures { result ≡ advance_on time rows.now.rows entry state }
 {
     Change::Advance {
         entry,
@@ -145,17 +145,17 @@ fn advance_on(rows: &[Row], time: u64, entry: u32, state: RowState) -> Change
     }
 }
 
-fn reason_of(rows: &[Row], entry: u32) -> u8
-    ensures { result ≡ reason_of rows.now entry }
+fn reason_of(rows: &IndexedRows, entry: u32) -> u8
+    ensures { result ≡ reason_of rows.now.rows entry }
 {
-    match row_of(rows, entry) {
+    match rows.row_of(entry) {
         Some(row) => row.reason,
         None => 0,
     }
 }
 
-fn resumption_on(rows: &[Row], time: u64, entry: u32, answer: ResumeAnswer) -> Change
-    ensures { result ≡ resumption_on time rows.now entry answer }
+fn resumption_on(rows: &IndexedRows, time: u64, entry: u32, answer: ResumeAnswer) -> Change
+    ensures { result ≡ resumption_on time rows.now.rows entry answer }
 {
     match answer {
         ResumeAnswer::Begun => advance_on(rows, time, entry, RowState::Begun),

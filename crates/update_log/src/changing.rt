@@ -1,5 +1,5 @@
 //! The change that is made at one event, and the one that is in doubt after it.
-ghost use Rattle.std.specs.Prelude.{◌≡◌, ◌≤◌, length, vec_capacity};
+ghost use Rattle.std.specs.Prelude.{◌≡◌, ◌≤◌, ◌+◌, length};
 ghost use Rattle.update_log.specs.CoreSteps.{changed_if, doubt_at, kept_by, made_at, made_by};
 ghost use Rattle.update_log.specs.Known.{doubt_by, doubt_found, fate_answered, fate_stored};
 
@@ -7,7 +7,8 @@ use crate::answer::ClaimAnswer;
 use crate::clock::is_keeper_fault;
 use crate::event::{Event, Found, Stored};
 use crate::row_changes::change_rows;
-use history_keeper::{Change, Row};
+use history_keeper::Change;
+use row_index::IndexedRows;
 
 /// The change that is made at an event, which asks for a change, where another one is in doubt.
 pub fn made_at(event: &Event, change: &Option<Change>, doubt: &Option<Change>) -> Option<Change>
@@ -116,10 +117,10 @@ fn doubt_stored(stored: Stored, change: Option<Change>, doubt: Option<Change>) -
 }
 
 /// Makes the change, where there is one, for which there is room.
-pub fn change_if(rows: &mut Vec<Row>, change: Option<Change>)
-    requires { length (changed_if change rows.old.items) ≤ vec_capacity rows.old }
-    ensures rows { rows.new.items ≡ changed_if change rows.old.items }
-    ensures capacity { vec_capacity rows.new ≡ vec_capacity rows.old }
+pub fn change_if(rows: &mut IndexedRows, change: Option<Change>)
+    requires { length (changed_if change rows.old.rows) ≤ length rows.old.rows + rows.old.room }
+    ensures rows { rows.new.rows ≡ changed_if change rows.old.rows }
+    ensures room { rows.new.room + length rows.new.rows ≡ rows.old.room + length rows.old.rows }
 {
     match change {
         Some(change) => change_rows(rows, &change),

@@ -6,11 +6,10 @@ ghost use Rattle.update_log.specs.Known.{for_board, is_on, row_of};
 
 use crate::event::BoardSeen;
 use crate::live::LiveEntry;
-use crate::row_lookup::row_of;
 use device_list::Devices;
 use fw_facts::Seen;
 use guid_ids::DeviceId;
-use history_keeper::Row;
+use row_index::IndexedRows;
 
 /// A port shows something else from now on: that of the board of this number, if there is one.
 pub fn show_board(devices: &mut Devices, boards: &[u32], board: Option<u32>, seen: Seen)
@@ -55,8 +54,8 @@ fn seen_of(seen: &[BoardSeen], number: u32) -> Option<Seen>
 }
 
 /// Each device has its live entry, over these rows.
-pub fn claim_devices(devices: &mut Devices, rows: &[Row], live: &[LiveEntry])
-    ensures { devices.new ≡ map (claimed rows.now live.now) devices.old }
+pub fn claim_devices(devices: &mut Devices, rows: &IndexedRows, live: &[LiveEntry])
+    ensures { devices.new ≡ map (claimed rows.now.rows live.now) devices.old }
 {
     for at in 0..devices.views().len() {
         let claim = claim_of(rows, live, &devices.views()[at].sheet.device);
@@ -64,8 +63,8 @@ pub fn claim_devices(devices: &mut Devices, rows: &[Row], live: &[LiveEntry])
     }
 }
 
-fn claim_of(rows: &[Row], live: &[LiveEntry], device: &DeviceId) -> Option<u32>
-    ensures { result ≡ option_map (λ l. l.entry) (find (is_on rows.now device.now) live.now) }
+fn claim_of(rows: &IndexedRows, live: &[LiveEntry], device: &DeviceId) -> Option<u32>
+    ensures { result ≡ option_map (λ l. l.entry) (find (is_on rows.now.rows device.now) live.now) }
 {
     match live_on(rows, live, device) {
         Some(found) => Some(found.entry),
@@ -73,16 +72,20 @@ fn claim_of(rows: &[Row], live: &[LiveEntry], device: &DeviceId) -> Option<u32>
     }
 }
 
-fn live_on<'a>(rows: &[Row], live: &'a [LiveEntry], device: &DeviceId) -> Option<&'a LiveEntry>
-    ensures { option_copied result ≡ find (is_on rows.now device.now) live.now }
+fn live_on<'a>(
+    rows: &IndexedRows,
+    live: &'a [LiveEntry],
+    device: &DeviceId,
+) -> Option<&'a LiveEntry>
+    ensures { option_copied result ≡ find (is_on rows.now.rows device.now) live.now }
 {
     live.iter().find(|l| is_on(rows, device, l))
 }
 
-fn is_on(rows: &[Row], device: &DeviceId, entry: &LiveEntry) -> bool
-    ensures { result ≡ is_on rows.now device.now entry.now }
+fn is_on(rows: &IndexedRows, device: &DeviceId, entry: &LiveEntry) -> bool
+    ensures { result ≡ is_on rows.now.rows device.now entry.now }
 {
-    match row_of(rows, entry.entry) {
+    match rows.row_of(entry.entry) {
         Some(row) => row.device == *device,
         None => false,
     }

@@ -32,6 +32,7 @@ use device_list::Devices;
 use fw_base::{Listed, NoMemory};
 use fw_facts::DeviceView;
 use history_keeper::{Change, Row};
+use row_index::IndexedRows;
 use std::alloc::Global;
 use std::marker::Model;
 
@@ -49,7 +50,7 @@ pub struct CoreState {
     finished: Vec<u32>,
     devices: Devices,
     boards: Vec<u32>,
-    rows: Vec<Row>,
+    rows: IndexedRows,
     doubt: Option<Change>,
 }
 
@@ -95,7 +96,7 @@ impl CoreState {
             finished: Vec::new(alloc),
             devices,
             boards,
-            rows: Vec::new(alloc),
+            rows: IndexedRows::new(alloc),
             doubt: None,
         }
     }
@@ -114,7 +115,7 @@ impl CoreState {
     fn put_rows(&mut self, rows: Vec<Row>)
         ensures { self.new ≡ record self.old { rows = rows.items; row_room = self.new.row_room } }
     {
-        self.rows = rows;
+        self.rows.put(rows);
     }
 
     /// Makes the spare room at least so many events and one row.
@@ -145,7 +146,7 @@ impl CoreState {
     pub fn rows(&self) -> &[Row]
         ensures { result.now ≡ self.now.rows }
     {
-        &self.rows
+        self.rows.rows()
     }
 
     /// The devices as they stand.

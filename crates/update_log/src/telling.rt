@@ -6,16 +6,15 @@ ghost use Rattle.update_log.specs.Known.{for_board};
 
 use crate::answer::PlugAnswer;
 use crate::event::Event;
-use crate::row_lookup::row_of;
 use crate::showing::{show_all, show_board};
 use device_list::{Devices, Selector};
 use fw_facts::Seen;
-use history_keeper::Row;
+use row_index::IndexedRows;
 
 /// Each port shows what the event tells of it.
-pub fn tell(devices: &mut Devices, boards: &[u32], rows: &[Row], event: &Event)
+pub fn tell(devices: &mut Devices, boards: &[u32], rows: &IndexedRows, event: &Event)
     requires { length boards.now ≤ length devices.old }
-    ensures { devices.new ≡ told_on (tells_on boards.now devices.old rows.now event.now) boards.now devices.old }
+    ensures { devices.new ≡ told_on (tells_on boards.now devices.old rows.now.rows event.now) boards.now devices.old }
 {
     match event {
         Event::Boot { boards: seen, .. } => show_all(devices, boards, seen.items()),
@@ -50,9 +49,9 @@ fn stay(devices: &mut Devices, boards: &[u32])
     ensures { devices.new ≡ told_on (λ number. None) boards.now devices.old }
 {}
 
-fn show_entry(devices: &mut Devices, boards: &[u32], rows: &[Row], entry: u32, seen: Seen)
+fn show_entry(devices: &mut Devices, boards: &[u32], rows: &IndexedRows, entry: u32, seen: Seen)
     requires { length boards.now ≤ length devices.old }
-    ensures { devices.new ≡ told_on (λ number. for_board (board_of_entry boards.now devices.old rows.now entry) number seen) boards.now devices.old }
+    ensures { devices.new ≡ told_on (λ number. for_board (board_of_entry boards.now devices.old rows.now.rows entry) number seen) boards.now devices.old }
 {
     let board = board_of_entry(devices, boards, rows, entry);
     show_board(devices, boards, board, seen);
@@ -66,10 +65,10 @@ fn show_device(devices: &mut Devices, boards: &[u32], device: &Selector, seen: S
     show_board(devices, boards, board, seen);
 }
 
-fn board_of_entry(devices: &Devices, boards: &[u32], rows: &[Row], entry: u32) -> Option<u32>
-    ensures { result ≡ board_of_entry boards.now devices.now rows.now entry }
+fn board_of_entry(devices: &Devices, boards: &[u32], rows: &IndexedRows, entry: u32) -> Option<u32>
+    ensures { result ≡ board_of_entry boards.now devices.now rows.now.rows entry }
 {
-    match row_of(rows, entry) {
+    match rows.row_of(entry) {
         Some(row) => board_on(devices, boards, &Selector::Id(row.device)),
         None => None,
     }

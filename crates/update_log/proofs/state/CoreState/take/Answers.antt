@@ -1,5 +1,5 @@
-use Rattle.std.proofs.Common.{◌≡◌, ◌≤◌, ℕ, List, refl, ap, sym, ◌∙◌, subst, map, length, arith}
-use Rattle.std.specs.Prelude.{Option, vec_capacity}
+use Rattle.std.proofs.Common.{◌≡◌, ◌≤◌, ◌+◌, ℕ, List, refl, ap, sym, ◌∙◌, subst, map, length, arith}
+use Rattle.std.specs.Prelude.{Option}
 use Rattle.fw_facts.specs.declared.view.DeviceView.{DeviceView}
 use Rattle.history_keeper.specs.declared.change.Change.{Change}
 use Rattle.history_keeper.specs.declared.row.Row.{Row}
@@ -15,7 +15,7 @@ use Rattle.update_log.proofs.state.CoreState.take.Goals as goal
 pub change_on-change-requires : goal.change_on-change-requires
 change_on-change-requires c =
     let t = takes-inside c.args.facts.now c.self.inside c.args.self.now c.args.event c.self.invariant c.self.view_is c.requires in
-    record { few = rw c.deref.ensures.value t.few }
+    record { few = t.few }
 
 pub traces_after-requires : goal.traces_after-requires
 traces_after-requires c =
@@ -25,15 +25,13 @@ traces_after-requires c =
 pub tell-requires : goal.tell-requires
 tell-requires c =
     let t = takes-inside c.args.facts.now c.self.inside c.args.self.now c.args.event c.self.invariant c.self.view_is c.requires in
-    rw c.deref-3.ensures.value t.boards
+    rw c.deref-2.ensures.value t.boards
 
 pub change_if-requires : goal.change_if-requires
 change_if-requires c =
     let t = takes-inside c.args.facts.now c.self.inside c.args.self.now c.args.event c.self.invariant c.self.view_is c.requires in
-    subst (λ (o : Option Change). length (changed_if o c.self.inside.rows.items) ≤ vec_capacity c.self.inside.rows)
-    (sym (c.made_at.ensures
-    ∙ ap (λ (o : Option Change). made_at c.args.event o c.self.inside.doubt)
-    (c.change_on-change.ensures ∙ ap (λ (rs : List Row). change_on c.args.facts.now c.self.inside.clock.time c.self.inside.devices rs c.args.event) c.deref.ensures.value)))
+    subst (λ (o : Option Change). length (changed_if o c.self.inside.rows.rows) ≤ length c.self.inside.rows.rows + c.self.inside.rows.room)
+    (sym (c.made_at.ensures ∙ ap (λ (o : Option Change). made_at c.args.event o c.self.inside.doubt) c.change_on-change.ensures))
     t.rows
 
 pub live_after-requires : goal.live_after-requires
@@ -85,12 +83,11 @@ now_of c =
 
 next : (c : goal.After-push_reserved) → NextInside c.args.facts.now c.args.event c.self.inside (now_of c)
 next c =
-    let asked : c.change_on-change.result ≡ asked_of c.args.facts.now c.self.inside c.args.event =
-    c.change_on-change.ensures ∙ ap (λ (rs : List Row). change_on c.args.facts.now c.self.inside.clock.time c.self.inside.devices rs c.args.event) c.deref.ensures.value in
+    let asked : c.change_on-change.result ≡ asked_of c.args.facts.now c.self.inside c.args.event = c.change_on-change.ensures in
     record {
       log = c.push_reserved.ensures.items;
       live = c.live_after.ensures.items;
-      traces = c.traces_after.ensures.items ∙ ap (λ (hs : List Held). traces_on c.args.facts.now c.self.inside.devices hs c.args.event c.self.inside.traces.items) c.deref-2.ensures.value;
+      traces = c.traces_after.ensures.items ∙ ap (λ (hs : List Held). traces_on c.args.facts.now c.self.inside.devices hs c.args.event c.self.inside.traces.items) c.deref.ensures.value;
       holds = c.holds_after.ensures.items;
       opened = c.open_after.ensures.items;
       finished = c.finished_after.ensures.items;
@@ -100,16 +97,14 @@ next c =
       limit = c.after-self-inside.ensures.limit;
       counted = c.after-self-inside.ensures.counted;
       rows = c.change_if.ensures.rows
-          ∙ ap (λ (o : Option Change). changed_if o c.self.inside.rows.items)
+          ∙ ap (λ (o : Option Change). changed_if o c.self.inside.rows.rows)
           (c.made_at.ensures ∙ ap (λ (o : Option Change). made_at c.args.event o c.self.inside.doubt) asked);
       doubt = c.doubt_at-self-inside.ensures ∙ ap (λ (o : Option Change). doubt_at c.args.event o c.self.inside.doubt) asked;
       devices = c.claim_devices.ensures
-          ∙ ap (λ (rs : List Row). map (claimed rs c.deref-6.result.now) c.tell.new.devices) c.deref-5.ensures.value
-          ∙ ap (λ (ls : List LiveEntry). map (claimed c.change_if.new.rows.items ls) c.tell.new.devices) c.deref-6.ensures.value
-          ∙ ap (λ (vs : List DeviceView). map (claimed c.change_if.new.rows.items c.live_after.new.live.items) vs)
+          ∙ ap (λ (ls : List LiveEntry). map (claimed c.change_if.new.rows.rows ls) c.tell.new.devices) c.deref-3.ensures.value
+          ∙ ap (λ (vs : List DeviceView). map (claimed c.change_if.new.rows.rows c.live_after.new.live.items) vs)
           (c.tell.ensures
-          ∙ ap (λ (bs : List ℕ). told_on (tells_on bs c.self.inside.devices c.deref-4.result.now c.args.event) bs c.self.inside.devices) c.deref-3.ensures.value
-          ∙ ap (λ (rs : List Row). told_on (tells_on c.self.inside.boards.items c.self.inside.devices rs c.args.event) c.self.inside.boards.items c.self.inside.devices) c.deref-4.ensures.value);
+          ∙ ap (λ (bs : List ℕ). told_on (tells_on bs c.self.inside.devices c.self.inside.rows.rows c.args.event) bs c.self.inside.devices) c.deref-2.ensures.value);
       boards = refl;
     }
 
@@ -141,5 +136,5 @@ returns c =
     record {
       after = after-inside c.args.facts.now c.args.event c.self.inside (now_of c) c.args.self.now c.self.invariant c.self.view_is (next c);
       room = room-left c.self.inside (now_of c) c.args.self.now c.self.view_is (rooms-on c);
-      row_room = row-room-left c.self.inside (now_of c) c.args.self.now c.self.view_is c.change_if.ensures.capacity;
+      row_room = row-room-left c.self.inside (now_of c) c.args.self.now c.self.view_is c.change_if.ensures.room;
     }

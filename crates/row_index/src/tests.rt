@@ -1,1 +1,0 @@
-//! What no clause says: that calls succeed, and that the index is kept.
