@@ -82,9 +82,9 @@ claimed-turn rows live left left' xs now new d k e n =
     record {
       within = omega arith;
       so_far =
-        n ∙ ap (λ (vs : List DeviceView). map (given rows l) vs) (k.so_far ∙ ap (λ (i : ℕ). map (claimed rows (drop i live)) xs) e)
-        ∙ given-all rows l (drop (suc left') live) xs
-        ∙ ap (λ (ls : List LiveEntry). map (claimed rows ls) xs) (sym (drop-cons live left' d lt));
+          n ∙ ap (λ (vs : List DeviceView). map (given rows l) vs) (k.so_far ∙ ap (λ (i : ℕ). map (claimed rows (drop i live)) xs) e)
+          ∙ given-all rows l (drop (suc left') live) xs
+          ∙ ap (λ (ls : List LiveEntry). map (claimed rows ls) xs) (sym (drop-cons live left' d lt));
     }
 
 pub claimed-none : (rows : List Row) (live : List LiveEntry) (left : ℕ) (xs now : List DeviceView) → left ≡ length live → now ≡ map unclaimed xs → Claimed rows live left xs now

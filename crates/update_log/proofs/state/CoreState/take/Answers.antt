@@ -69,9 +69,9 @@ claims_after-requires c =
     (c.deref-5.ensures.value
     ∙ c.change_if.ensures.rows
     ∙ ap (λ (o : Option Change). changed_if o c.self.inside.rows.items)
-      (c.made_at.ensures
-      ∙ ap (λ (o : Option Change). made_at c.args.event o c.self.inside.doubt)
-        (c.change_on-change.ensures ∙ ap (λ (rs : List Row). change_on c.args.facts.now c.self.inside.clock.time c.self.inside.devices rs c.args.event) c.deref.ensures.value)))
+    (c.made_at.ensures
+    ∙ ap (λ (o : Option Change). made_at c.args.event o c.self.inside.doubt)
+    (c.change_on-change.ensures ∙ ap (λ (rs : List Row). change_on c.args.facts.now c.self.inside.clock.time c.self.inside.devices rs c.args.event) c.deref.ensures.value)))
     (c.deref-6.ensures.value ∙ c.live_after.ensures.items)
     (c.tell.ensures
     ∙ ap (λ (bs : List ℕ). told_on (tells_on bs c.self.inside.devices c.deref-4.result.now c.args.event) bs c.self.inside.devices) c.deref-3.ensures.value
