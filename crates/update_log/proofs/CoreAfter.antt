@@ -1,10 +1,11 @@
 -- A state that takes a legal event stands again.
-use Rattle.std.proofs.Common.{◌≡◌, ℕ, true, List, [], ◌∷◌, ◌++◌, map, refl, ap, sym, ◌∙◌, subst, ◌<◌, ◌≤◌, ◌+◌, ◌^◌, arith, length}
+use Rattle.std.proofs.Common.{◌≡◌, ℕ, true, false, List, [], ◌∷◌, ◌++◌, map, refl, ap, sym, ◌∙◌, subst, ◌<◌, ◌≤◌, ◌+◌, ◌^◌, arith, length}
 use Rattle.std.specs.Prelude.{Option, Some, All, unwrap_or}
 use Rattle.fw_facts.specs.declared.view.DeviceView.{DeviceView}
 use Rattle.history_keeper.specs.Histories.{IsHistory}
 use Rattle.history_keeper.specs.declared.change.Change.{Change}
 use Rattle.history_keeper.specs.declared.row.Row.{Row}
+use Rattle.update_log.proofs.CoreClaims.{claims-stay}
 use Rattle.update_log.proofs.CoreKnown.{doubt-made, rows-made}
 use Rattle.update_log.proofs.CoreLegal.{asks-few}
 use Rattle.update_log.proofs.CoreTaken.{TiedTo, places, tied-after}
@@ -14,8 +15,8 @@ use Rattle.update_log.proofs.CoreViews.{views-after}
 use Rattle.update_log.proofs.Pasts.{past-push}
 use Rattle.update_log.specs.Boards.{devices}
 use Rattle.update_log.specs.Core.{Core, Stands, trace_kept, trace_of_live}
-use Rattle.update_log.specs.CoreAfter.{IsAfter, IsNext, Takes, change_of}
-use Rattle.update_log.specs.CoreSteps.{HasPlace, asks_row, change_on, changed_if, doubt_at, made_at, tells_on, traces_on}
+use Rattle.update_log.specs.CoreAfter.{IsAfter, IsNext, Takes, change_of, rows_on, views_told}
+use Rattle.update_log.specs.CoreSteps.{HasPlace, asks_row, change_on, changed_if, changes_live, doubt_at, made_at, tells_on, traces_on}
 use Rattle.update_log.specs.CoreViews.{claimed, told_on}
 use Rattle.update_log.specs.Holding.{holds, live, live_after}
 use Rattle.update_log.specs.Known.{Known, doubt, known, rows, views, views_in}
@@ -52,6 +53,15 @@ traced-after : (c : Campaign) (opening : List Row) (core : Core) (event : Event)
 traced-after c opening core event s l =
     rw s.views (tied-after c opening (past_of core.log) event core.traces s.history l s.traces)
 
+-- Where the event changes no live entry, the claims stay.
+claims-after : (c : Campaign) (opening : List Row) (core : Core) (event : Event) → Stands c.facts opening core → IsLegal c opening (event ∷ past_of core.log)
+    → changes_live event ≡ false → map (claimed (rows_on c.facts core event) (live_after event (live (past_of core.log)))) (views_told core event) ≡ views_told core event
+claims-after c opening core event s l h =
+    rw (rows-after c.facts opening core event s)
+    (rw (s.boards, s.views)
+    (claims-stay c opening (past_of core.log) event (tells_on (map (λ b. b.number) (devices c.facts)) (views c.facts opening (past_of core.log)) core.rows event)
+    (known c.facts opening (past_of core.log)) (devices c.facts) s.history l refl h))
+
 -- A legal event can be taken.
 pub takes-legal : (c : Campaign) (opening : List Row) (core : Core) (event : Event) → Stands c.facts opening core → IsLegal c opening (event ∷ past_of core.log)
     → 0 < core.room → length (rows c.facts opening (event ∷ past_of core.log)) ≤ length core.rows + core.row_room → Takes c.facts core event
@@ -61,6 +71,7 @@ takes-legal c opening core event s l room row =
       row_room = rw (rows-after c.facts opening core event s) row;
       few = λ h. let few = asks-few c opening (past_of core.log) event l.2 h in let e = ap length s.rows in omega (arith, few, e);
       places = places c opening (past_of core.log) event core.traces s.history l s.traces;
+      claims = claims-after c opening core event s l;
       entries = entries-tied (λ e. trace c.facts opening e (event ∷ past_of core.log)) _ (live (event ∷ past_of core.log)) (traced-after c opening core event s l);
     }
 

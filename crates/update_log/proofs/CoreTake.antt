@@ -1,7 +1,7 @@
 -- What is kept, after each part of it took an event.
 use Rattle.std.proofs.Common.{◌≡◌, ℕ, Bool, List, [], ◌∷◌, ◌++◌, map, refl, ap, sym, ◌∙◌, subst, ◌<◌, ◌≤◌, ◌+◌, ◌-◌, ◌^◌, arith, length, min}
 use Rattle.std.proofs.lemmas.List.{length-map}
-use Rattle.std.specs.Prelude.{Option, true, ◌==◌, All, vec_len, vec_capacity}
+use Rattle.std.specs.Prelude.{Option, true, false, ◌==◌, All, vec_len, vec_capacity}
 use Rattle.std.specs.List.{list_any}
 use Rattle.fw_facts.specs.declared.view.DeviceView.{DeviceView}
 use Rattle.history_keeper.specs.declared.change.Change.{Change}
@@ -10,7 +10,7 @@ use Rattle.update_log.proofs.CoreKept.{NextParts}
 use Rattle.update_log.proofs.CoreViews.{length-told}
 use Rattle.update_log.specs.Core.{Core, IsCore, core_of, spare}
 use Rattle.update_log.specs.CoreAfter.{IsAfter, Takes, change_of}
-use Rattle.update_log.specs.CoreSteps.{HasPlace, asks_row, change_on, changed_if, doubt_at, made_at, tells_on, traces_on}
+use Rattle.update_log.specs.CoreSteps.{HasPlace, asks_row, change_on, changed_if, changes_live, doubt_at, made_at, tells_on, traces_on}
 use Rattle.update_log.specs.CoreViews.{claimed, told_on}
 use Rattle.update_log.specs.Holding.{holds, holds_after, live, live_after, open_after}
 use Rattle.update_log.specs.Pasts.{boots_after, counted_after, finished_after, limit_after, off_after, past_of, time_after, time_of}
@@ -35,6 +35,13 @@ room-one len cap len' cap' e h = omega arith
 -- The change that the event asks for, over what is kept.
 abbrev pub asked_of : Facts → Inside → Event → Option Change
 asked_of facts s event = change_on facts s.clock.time s.devices s.rows.rows event
+
+-- The rows and the views after it, the views with the claims from before.
+abbrev pub rows_of : Facts → Inside → Event → List Row
+rows_of facts s event = changed_if (made_at event (asked_of facts s event) s.doubt) s.rows.rows
+
+abbrev pub told_of : Inside → Event → List DeviceView
+told_of s event = told_on (tells_on s.boards.items s.devices s.rows.rows event) s.boards.items s.devices
 
 -- Each list has room for one more.
 pub record Rooms (s : Inside) : Type 0 where
@@ -68,6 +75,7 @@ pub record TakesInside (facts : Facts) (s : Inside) (event : Event) : Type 0 whe
   pub few : asks_row event ≡ true → length s.rows.rows + 1 < 2 ^ 32
   pub places : All (HasPlace event) s.traces.items
   pub entries : map (λ t. t.entry) (traces_on facts s.devices s.holds.items event s.traces.items) ≡ map (λ l. l.entry) (live_after event s.live.items)
+  pub claims : changes_live event ≡ false → map (claimed (rows_of facts s event) (live_after event s.live.items)) (told_of s event) ≡ told_of s event
   pub boards : length s.boards.items ≤ length s.devices
   pub boots : s.clock.boots + 1 < 2 ^ 64
   pub counted : s.clock.counted + 1 < 2 ^ 64
@@ -82,6 +90,7 @@ takes-inside facts s core event k is takes =
       few = t.few;
       places = t.places;
       entries = rw (k.holds, k.live) t.entries;
+      claims = λ h. rw (k.time, k.live) (t.claims h);
       boards = (let e = k.boards in omega (arith, e));
       boots = (let e = k.few_boots in let room = r.log in let ok = s.log.ok in let small = s.log.small in omega (arith, e, room, ok, small));
       counted = (let e = k.few_counted in let room = r.log in let ok = s.log.ok in let small = s.log.small in omega (arith, e, room, ok, small));
@@ -163,3 +172,8 @@ after-inside facts event s n core k is a =
       traces = a.traces ∙ ap (λ (hs : List Held). traces_on facts s.devices hs event s.traces.items) k.holds;
       doubt = rw (← k.time) a.doubt;
     })
+
+-- What is claimed, over what is equal.
+pub claims-as : (rows rows' : List Row) (entries entries' : List LiveEntry) (views views' : List DeviceView)
+    → rows ≡ rows' → entries ≡ entries' → views ≡ views' → map (claimed rows' entries') views' ≡ views' → map (claimed rows entries) views ≡ views
+claims-as rows rows' entries entries' views views' e f g h = rw (e, f, g) h

@@ -31,6 +31,8 @@ pub mod CoreTells
 pub mod CoreTraces
 pub mod CoreLegal
 pub mod CoreTaken
+pub mod ClaimLoops
+pub mod CoreClaims
 pub mod CoreAfter
 pub mod CoreKept
 pub mod CoreTake

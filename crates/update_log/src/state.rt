@@ -24,7 +24,7 @@ use crate::finding::{has_entry, hold_of, live_with, step_of, trace_of};
 use crate::holding::{finished_after, holds_after, live_after, open_after};
 use crate::live::{Held, LiveEntry, OpenStep};
 use crate::request::Request;
-use crate::showing::claim_devices;
+use crate::showing::claims_after;
 use crate::telling::tell;
 use crate::trace::{Trace, Traced};
 use crate::tracing::traces_after;
@@ -288,7 +288,7 @@ impl CoreState {
         open_after(&mut self.open, &event);
         finished_after(&mut self.finished, &event);
         self.clock = self.clock.after(&event);
-        claim_devices(&mut self.devices, &self.rows, &self.live);
+        claims_after(&mut self.devices, &self.rows, &self.live, &event);
         self.log.push_reserved(event);
     }
 

@@ -4,7 +4,7 @@ use Rattle.fw_facts.specs.declared.view.DeviceView.{DeviceView}
 use Rattle.history_keeper.specs.declared.change.Change.{Change}
 use Rattle.history_keeper.specs.declared.row.Row.{Row}
 use Rattle.update_log.proofs.CoreKept.{kept-on}
-use Rattle.update_log.proofs.CoreTake.{NextInside, RoomsInside, after-inside, asked_of, next-parts, room-left, row-room-left, takes-inside}
+use Rattle.update_log.proofs.CoreTake.{NextInside, RoomsInside, after-inside, asked_of, claims-as, next-parts, room-left, row-room-left, takes-inside}
 use Rattle.update_log.specs.CoreSteps.{change_on, changed_if, doubt_at, made_at, tells_on, traces_on}
 use Rattle.update_log.specs.CoreViews.{claimed, told_on}
 use Rattle.update_log.specs.declared.live.Held.{Held}
@@ -59,6 +59,19 @@ after-self-inside-requires c =
     let t = takes-inside c.args.facts.now c.self.inside c.args.self.now c.args.event c.self.invariant c.self.view_is c.requires in
     record { boots = t.boots; counted = t.counted }
 
+pub claims_after-requires : goal.claims_after-requires
+claims_after-requires c =
+    let t = takes-inside c.args.facts.now c.self.inside c.args.self.now c.args.event c.self.invariant c.self.view_is c.requires in
+    λ h.
+    claims-as _ _ _ _ _ _
+    (c.change_if.ensures.rows
+    ∙ ap (λ (o : Option Change). changed_if o c.self.inside.rows.rows)
+    (c.made_at.ensures ∙ ap (λ (o : Option Change). made_at c.args.event o c.self.inside.doubt) c.change_on-change.ensures))
+    (c.deref-3.ensures.value ∙ c.live_after.ensures.items)
+    (c.tell.ensures
+    ∙ ap (λ (bs : List ℕ). told_on (tells_on bs c.self.inside.devices c.self.inside.rows.rows c.args.event) bs c.self.inside.devices) c.deref-2.ensures.value)
+    (t.claims h)
+
 pub push_reserved-requires : goal.push_reserved-requires
 push_reserved-requires c =
     let t = takes-inside c.args.facts.now c.self.inside c.args.self.now c.args.event c.self.invariant c.self.view_is c.requires in
@@ -75,7 +88,7 @@ now_of c =
       holds = c.holds_after.new.holds;
       «open» = c.open_after.new.steps;
       finished = c.finished_after.new.finished;
-      devices = c.claim_devices.new.devices;
+      devices = c.claims_after.new.devices;
       boards = c.self.inside.boards;
       rows = c.change_if.new.rows;
       doubt = c.doubt_at-self-inside.result;
@@ -100,7 +113,7 @@ next c =
           ∙ ap (λ (o : Option Change). changed_if o c.self.inside.rows.rows)
           (c.made_at.ensures ∙ ap (λ (o : Option Change). made_at c.args.event o c.self.inside.doubt) asked);
       doubt = c.doubt_at-self-inside.ensures ∙ ap (λ (o : Option Change). doubt_at c.args.event o c.self.inside.doubt) asked;
-      devices = c.claim_devices.ensures
+      devices = c.claims_after.ensures
           ∙ ap (λ (ls : List LiveEntry). map (claimed c.change_if.new.rows.rows ls) c.tell.new.devices) c.deref-3.ensures.value
           ∙ ap (λ (vs : List DeviceView). map (claimed c.change_if.new.rows.rows c.live_after.new.live.items) vs)
           (c.tell.ensures
