@@ -11,6 +11,8 @@ pub mod Accepts
 pub mod TakenKept
 pub mod MarksKept
 pub mod LegalOnce
+pub mod WaitsOnce
+pub mod HistoryKept
 pub mod CrashOnce
 pub mod Placed
 pub mod Refusals
@@ -20,3 +22,17 @@ pub mod Worked
 pub mod CoreStands
 pub mod CoreOpenings
 pub mod CoreViews
+pub mod BoardsInTurn
+pub mod Starts
+pub mod CoreTargets
+pub mod StepsFew
+pub mod CoreKnown
+pub mod CoreTells
+pub mod CoreTraces
+pub mod CoreLegal
+pub mod CoreTaken
+pub mod ClaimLoops
+pub mod CoreClaims
+pub mod CoreAfter
+pub mod CoreKept
+pub mod CoreTake
