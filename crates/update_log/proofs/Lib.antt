@@ -20,3 +20,4 @@ pub mod Worked
 pub mod CoreStands
 pub mod CoreOpenings
 pub mod CoreViews
+pub mod FewRequirements
