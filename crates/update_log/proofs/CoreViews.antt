@@ -89,3 +89,9 @@ claim-step rows entries xs now new i view claim n lt e h c =
     let is : new ≡ set now i (record view { claim = claim }) = rw g at c in
     is ∙ ap (λ (o : Option ℕ). set now i (record view { claim = o })) h
     ∙ map_over_more (claimed rows entries) xs now i view lt n e
+
+-- Where nothing is told, the views stay.
+pub told_none : (boards : List ℕ) (views : List DeviceView) → views ≡ told_on (λ board. None) boards views
+told_none [] views = refl
+told_none (b ∷ boards) [] = refl
+told_none (b ∷ boards) (v ∷ views) = ap (λ (vs : List DeviceView). v ∷ vs) (told_none boards views)

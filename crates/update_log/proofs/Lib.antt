@@ -21,3 +21,16 @@ pub mod CoreStands
 pub mod CoreOpenings
 pub mod CoreViews
 pub mod FewRequirements
+pub mod BoardsInTurn
+pub mod Starts
+pub mod CoreTargets
+pub mod StepsFew
+pub mod CoreKnown
+pub mod CoreTells
+pub mod CoreTraces
+pub mod CoreLegal
+pub mod CoreTaken
+pub mod CoreClaims
+pub mod CoreAfter
+pub mod CoreKept
+pub mod CoreTake

@@ -1,10 +1,12 @@
 //! What one event makes of the views.
 ghost use Rattle.std.specs.Prelude.{◌≡◌, ◌≤◌, length, map, find, option_map, slice_get, option_copied, unwrap_or, false};
 ghost use Rattle.std.specs.Str.{bytes_eq};
+ghost use Rattle.update_log.specs.CoreSteps.{changes_live};
 ghost use Rattle.update_log.specs.CoreViews.{claimed, told_on};
 ghost use Rattle.update_log.specs.Known.{for_board, is_on, row_of};
 
-use crate::event::BoardSeen;
+use crate::answer::{ClaimAnswer, ResumeAnswer};
+use crate::event::{Back, BoardSeen, Event};
 use crate::live::LiveEntry;
 use crate::row_lookup::row_of;
 use device_list::Devices;
@@ -54,8 +56,51 @@ fn seen_of(seen: &[BoardSeen], number: u32) -> Option<Seen>
     }
 }
 
+/// Each device has its live entry after an event, over the rows after it. Where the event changes no live
+/// entry, each has it already.
+pub fn claims_after(devices: &mut Devices, rows: &[Row], live: &[LiveEntry], event: &Event)
+    requires { changes_live event.now ≡ false → map (claimed rows.now live.now) devices.old ≡ devices.old }
+    ensures { devices.new ≡ map (claimed rows.now live.now) devices.old }
+{
+    if changes_live(event) {
+        claim_devices(devices, rows, live);
+    }
+}
+
+fn changes_live(event: &Event) -> bool
+    ensures { result ≡ changes_live event.now }
+{
+    match event {
+        Event::Boot { .. } | Event::Finish { .. } => true,
+        Event::Claim {
+            answer: ClaimAnswer::Entry(_),
+            ..
+        } => true,
+        Event::Resume {
+            answer: ResumeAnswer::Begun,
+            ..
+        } => true,
+        Event::GiveBack {
+            what: Back::Entry(_),
+            ..
+        } => true,
+        Event::Claim { .. }
+        | Event::Resume { .. }
+        | Event::GiveBack { .. }
+        | Event::Query { .. }
+        | Event::Ask { .. }
+        | Event::Schedule { .. }
+        | Event::Start { .. }
+        | Event::End { .. }
+        | Event::Judge { .. }
+        | Event::Unplug { .. }
+        | Event::Plug { .. }
+        | Event::Cut => false,
+    }
+}
+
 /// Each device has its live entry, over these rows.
-pub fn claim_devices(devices: &mut Devices, rows: &[Row], live: &[LiveEntry])
+fn claim_devices(devices: &mut Devices, rows: &[Row], live: &[LiveEntry])
     ensures { devices.new ≡ map (claimed rows.now live.now) devices.old }
 {
     for at in 0..devices.views().len() {
