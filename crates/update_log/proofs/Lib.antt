@@ -30,6 +30,7 @@ pub mod CoreTells
 pub mod CoreTraces
 pub mod CoreLegal
 pub mod CoreTaken
+pub mod ClaimLoops
 pub mod CoreClaims
 pub mod CoreAfter
 pub mod CoreKept
