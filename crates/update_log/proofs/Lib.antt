@@ -22,6 +22,7 @@ pub mod Worked
 pub mod CoreStands
 pub mod CoreOpenings
 pub mod CoreViews
+pub mod FewRequirements
 pub mod BoardsInTurn
 pub mod Starts
 pub mod CoreTargets

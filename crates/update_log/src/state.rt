@@ -9,7 +9,7 @@ ghost use Rattle.history_keeper.specs.Histories.{IsHistory};
 ghost use Rattle.update_log.specs.Core.{Stands};
 ghost use Rattle.update_log.specs.CoreAfter.{IsAfter, Takes};
 ghost use Rattle.update_log.specs.CoreFolds.{AllFaults};
-ghost use Rattle.update_log.specs.CoreCase.{HasFew, case_with};
+ghost use Rattle.update_log.specs.CoreCase.{case_with};
 ghost use Rattle.update_log.specs.Verdicts.{decided};
 
 use crate::arranging::arrange;
@@ -300,9 +300,9 @@ impl CoreState {
         request: &Request,
         stage: Stage,
     ) -> Decision
-        requires { HasFew facts.now.catalogue }
         ensures { result ≡ decided (case_with facts.now self.now.views self.now.rows (live (past_of self.now.log)) (holds (past_of self.now.log)) client request.now stage) }
     {
+        facts.catalogue.within_limits();
         decided(&Case {
             facts,
             devices: &self.devices,
