@@ -1,5 +1,5 @@
 //! The state that stands for a log.
-ghost use Rattle.std.specs.Prelude.{◌≡◌, ◌≤◌, ◌-◌, ◌+◌, List, [], length, IfOk, OnOk, IsSome, Some, None};
+ghost use Rattle.std.specs.Prelude.{◌≡◌, ◌≤◌, ◌<◌, ◌-◌, ◌+◌, ◌^◌, ◌&&◌, List, [], true, find, length, option_copied, IfOk, OnOk, IsSome, Some, None};
 ghost use Rattle.history_keeper.specs.declared.row.Row.{Row};
 ghost use Rattle.update_log.specs.declared.facts.Facts.{Facts};
 ghost use Rattle.update_log.specs.Holding.{held, hold, holds, live, live_entry, step_open};
@@ -9,6 +9,11 @@ ghost use Rattle.history_keeper.specs.Histories.{IsHistory};
 ghost use Rattle.update_log.specs.Core.{Stands};
 ghost use Rattle.update_log.specs.CoreAfter.{IsAfter, Takes};
 ghost use Rattle.update_log.specs.CoreFolds.{AllFaults};
+ghost use Rattle.update_log.specs.CoreSteps.{asks_row, change_on};
+ghost use Rattle.device_list.specs.Lists.{place};
+ghost use Rattle.history_keeper.specs.Histories.{is_unsettled};
+ghost use Rattle.std.specs.Str.{bytes_eq};
+ghost use Rattle.update_log.specs.Known.{row_of};
 ghost use Rattle.update_log.specs.CoreCase.{case_with};
 ghost use Rattle.update_log.specs.Verdicts.{decided};
 
@@ -28,9 +33,10 @@ use crate::showing::claims_after;
 use crate::telling::tell;
 use crate::trace::{Trace, Traced};
 use crate::tracing::traces_after;
-use device_list::Devices;
+use device_list::{Devices, Selector};
 use fw_base::{Listed, NoMemory};
 use fw_facts::DeviceView;
+use guid_ids::DeviceId;
 use history_keeper::{Change, Row};
 use row_index::IndexedRows;
 use std::alloc::Global;
@@ -290,6 +296,50 @@ impl CoreState {
         self.clock = self.clock.after(&event);
         claims_after(&mut self.devices, &self.rows, &self.live, &event);
         self.log.push_reserved(event);
+    }
+
+    /// The number of the board of each device.
+    pub fn boards(&self) -> &[u32]
+        ensures { result.now ≡ self.now.boards }
+    {
+        &self.boards
+    }
+
+    /// The place of the device that a selector finds.
+    pub fn resolve(&self, selector: &Selector) -> Option<usize>
+        ensures { result ≡ place selector.now self.now.views }
+    {
+        self.devices.resolve(selector)
+    }
+
+    /// The row of an entry.
+    pub fn row(&self, entry: u32) -> Option<&Row>
+        ensures { option_copied result ≡ row_of self.now.rows entry }
+    {
+        self.rows.row_of(entry)
+    }
+
+    /// The row of the device that is pending, begun or needs a boot.
+    pub fn unsettled_row(&self, device: &DeviceId) -> Option<&Row>
+        ensures { option_copied result ≡ find (λ r. bytes_eq r.device device.now && is_unsettled r.state) self.now.rows }
+    {
+        self.rows.unsettled_of(device)
+    }
+
+    /// The change of the rows that an event asks for.
+    pub fn asked(&self, facts: &Facts, event: &Event) -> Option<Change>
+        requires { asks_row event.now ≡ true → length self.now.rows + 1 < 2 ^ 32 }
+        ensures { result ≡ change_on facts.now (time_of (past_of self.now.log)) self.now.views self.now.rows event.now }
+    {
+        change_on(
+            &Asking {
+                facts,
+                devices: &self.devices,
+                rows: &self.rows,
+                time: self.clock.time,
+            },
+            event,
+        )
     }
 
     // What is decided of a request, over what is kept here.
