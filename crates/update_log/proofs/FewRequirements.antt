@@ -8,5 +8,5 @@ use Rattle.update_log.specs.CoreCase.{HasFew}
 pub few-each : (catalogue : List Component) → All (λ c. length c.requirements ≤ 64) catalogue → HasFew catalogue
 few-each catalogue all at component e =
     let few : length component.requirements ≤ 64 =
-        subst (λ (x : Component). length x.requirements ≤ 64) (get_or_from_slice_get catalogue at component component e) (all at component (slice_get_within catalogue at component e)) in
+    subst (λ (x : Component). length x.requirements ≤ 64) (get_or_from_slice_get catalogue at component component e) (all at component (slice_get_within catalogue at component e)) in
     omega (arith, few)
