@@ -1,0 +1,4 @@
+pub mod Effects
+pub mod Making
+pub mod ReadBack
+pub mod TellingLemmas

@@ -1,0 +1,85 @@
+-- What a keeper tells after each statement.
+use Rattle.std.proofs.Common.{◌≡◌, ◌⊎◌, inl, inr, pos, Bool, true, false, List, [], ◌∷◌, map, Option, Some, None, Result, Ok, Err, IsTrue, IfSome, IfOk, OnErr, option_map, unwrap_or, refl, sym, ap, subst, ◌∙◌}
+use Rattle.std.specs.Option.{ForSome}
+use Rattle.sqlite.specs.declared.types.Value.TheVariants.{Int}
+use Rattle.sqlite.specs.State.{State, HasCleanDisk}
+use Rattle.history_keeper.specs.declared.row.Row.{Row}
+use Rattle.history_keeper.specs.declared.row.RowState.{RowState}
+use Rattle.history_keeper.specs.declared.row.RowState.TheVariants.{Pending, Success, Failed, NeedsReboot, Begun}
+use Rattle.history_keeper.specs.declared.change.Change.{Change}
+use Rattle.history_keeper.specs.declared.plan.Doubt.{Doubt}
+use Rattle.history_keeper.specs.declared.refusal.KeeperRefusal.{KeeperRefusal}
+use Rattle.history_keeper.specs.Changes.{Suits, IsTimely, changed}
+use Rattle.history_keeper.specs.Keepers.{Reopened, with_doubt}
+use Rattle.history_keeper.specs.Memories.{kept}
+use Rattle.history_sqlite.specs.Columns.{state_in, state_number}
+use Rattle.history_sqlite.specs.Tables.{stored, HoldsRows, Loads, Keeps, Makes}
+use Rattle.history_sqlite.specs.Keeping.{IsTimelyDoubt}
+use Rattle.history_sqlite.specs.Telling.{row_in, rows_in, told, Knows, SuitsDoubt, Settles}
+
+state_again : (s : RowState) → unwrap_or (state_in (Int (pos (state_number s)))) Begun ≡ s
+state_again Pending = refl
+state_again Success = refl
+state_again Failed = refl
+state_again NeedsReboot = refl
+state_again Begun = refl
+
+row_again : (row : Row) → row_in (stored row) ≡ row
+row_again row = ap (λ (s : RowState). record row { state = s }) (state_again row.state)
+
+rows_again : (rows : List Row) → map row_in (map stored rows) ≡ rows
+rows_again [] = refl
+rows_again (row ∷ rows) = rw (row_again row, rows_again rows)
+
+-- the table that holds these rows is read as them
+pub told_rows : (s : State) (rows : List Row) → HoldsRows s rows → rows_in s ≡ rows
+told_rows s rows h = ap (map row_in) h.table ∙ rows_again rows
+
+pub knows : (s : State) (rows : List Row) → HoldsRows s rows → HoldsRows s (rows_in s)
+knows s rows h = subst (HoldsRows s) (sym (told_rows s rows h)) h
+
+module _ (lasts : Bool) (old new : State) (lasting : IsTrue lasts → HasCleanDisk new × IsTrue new.is_open) where
+  pub after_load : (tells : Bool) (doubt : Option Doubt) (loaded : List Row) → Knows tells lasts old doubt → (HasCleanDisk new → Loads old new loaded)
+      → IfSome (told tells old) (λ all. loaded ≡ all) × (told tells new ≡ told tells old) × Knows tells lasts new doubt
+  after_load true doubt loaded k loads =
+      let r = loads (lasting k.0).0 (rows_in old) k.1 in
+      let same = told_rows new (rows_in old) r.1 in (r.0, ap Some same, (k.0, knows new (rows_in old) r.1, subst (SuitsDoubt doubt) (sym same) k.2))
+  after_load false doubt loaded k loads = (tt, refl, tt)
+
+  pub after_refusal : (tells : Bool) (doubt : Option Doubt) → Knows tells lasts old doubt → (HasCleanDisk new → IsTrue new.is_open → Keeps old new) → (told tells new ≡ told tells old) × Knows tells lasts new doubt
+  after_refusal true doubt k keeps =
+      let r = keeps (lasting k.0).0 (lasting k.0).1 (rows_in old) k.1 in
+      let same = told_rows new (rows_in old) r in (ap Some same, (k.0, knows new (rows_in old) r, subst (SuitsDoubt doubt) (sym same) k.2))
+  after_refusal false doubt k keeps = (refl, tt)
+
+  pub after_change : (tells : Bool) (change : Change) (doubt : Option Doubt) → Knows tells lasts old doubt → ForSome (told tells old) (λ all. Suits change all) → (HasCleanDisk new → Makes old new change)
+      → (told tells new ≡ option_map (changed change) (told tells old)) × Knows tells lasts new None
+  after_change true change doubt k suits makes =
+      let r = makes (lasting k.0).0 (rows_in old) k.1 (suits (rows_in old) refl) in
+      let same = told_rows new (changed change (rows_in old)) r in (ap Some same, (k.0, knows new (changed change (rows_in old)) r, tt))
+  after_change false change doubt k suits makes = (refl, tt)
+
+  pub after_read : {V : Type 0} (items : V → List Row) (tells : Bool) (doubt : Option Doubt) (r : Result V KeeperRefusal) → Knows tells lasts old doubt
+      → (HasCleanDisk new → IfOk r (λ loaded. Loads old new (items loaded))) → (HasCleanDisk new → IsTrue new.is_open → OnErr r (Keeps old new))
+      → IfOk r (λ loaded. IfSome (told tells old) (λ all. items loaded ≡ all)) × (told tells new ≡ told tells old) × Knows tells lasts new doubt
+  after_read items tells doubt (Ok loaded) k loads keeps = after_load tells doubt (items loaded) k loads
+  after_read items tells doubt (Err refusal) k loads keeps = let r = after_refusal tells doubt k keeps in (tt, r.0, r.1)
+
+-- a change that is in doubt from now on suits the rows that are told
+pub doubted : (tells lasts : Bool) (s : State) (before : Option Doubt) (doubt : Doubt) → Knows tells lasts s before → ForSome (told tells s) (λ all. Suits doubt.change all) → Knows tells lasts s (Some doubt)
+doubted true lasts s before doubt k suits = (k.0, k.1, suits (rows_in s) refl)
+doubted false lasts s before doubt k suits = tt
+
+-- and so does one that was in doubt
+pub doubt_suits : (tells lasts : Bool) (s : State) (before : Option Doubt) (doubt : Doubt) → before ≡ Some doubt → Knows tells lasts s before → ForSome (told tells s) (λ all. Suits doubt.change all)
+doubt_suits true lasts s before doubt is k all told_is =
+    let same : rows_in s ≡ all = cc in subst (Suits doubt.change) same (subst (λ d. SuitsDoubt d (rows_in s)) is k.2)
+doubt_suits false lasts s before doubt is k all told_is = absurd (cc)
+
+pub doubt_timely : (before : Option Doubt) (doubt : Doubt) → before ≡ Some doubt → IsTimelyDoubt before → IsTimely doubt.change
+doubt_timely before doubt is timely = subst IsTimelyDoubt is timely
+
+-- without a doubt there is nothing that has to suit
+pub undoubted : (tells lasts : Bool) (s : State) (before : Option Doubt) → Knows tells lasts s before → Knows tells lasts s None
+undoubted true lasts s before k = (k.0, k.1, tt)
+undoubted false lasts s before k = tt

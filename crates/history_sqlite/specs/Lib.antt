@@ -1,0 +1,5 @@
+pub mod Columns
+pub mod Keeping
+pub mod Refusals
+pub mod Tables
+pub mod Telling

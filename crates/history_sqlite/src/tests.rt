@@ -1,0 +1,215 @@
+//! What no clause says: that calls succeed, and that the tables are the ones that were meant.
+ghost use Rattle.std.specs.Prelude.{◌≡◌, IfOk, None};
+ghost use Rattle.history_sqlite.specs.Keeping.{doubtful};
+
+use crate::SqlKeeper;
+use fw_base::Name;
+use guid_ids::device_id;
+use history_keeper::{Change, Keeper, KeeperPlan, KeeperRefusal, MemoryKeeper, Row, RowState};
+use sqlite::{Connection, MemStore, params};
+use std::alloc::Global;
+use std::fs;
+use std::rt::HostRuntime;
+use std::test::Fail;
+use version_formats::Version;
+
+fn row(entry: u32, tag: &[u8], device: &[u8], state: RowState) -> Result<Row, Fail> {
+    Ok(Row {
+        entry,
+        tag: Name::read(tag)?,
+        client: 3,
+        device: device_id(device, None),
+        component: Name::read(b"org.example.board")?,
+        version_old: Version::read(b"1.0.0")?,
+        version_new: Version::read(b"1.1.0")?,
+        digest: [7; 32],
+        flags: 5,
+        state,
+        reason: 0,
+        time_added: 1000,
+        time_changed: 1001,
+    })
+}
+
+// Each field by itself, as numbers and bytes.
+fn is_same(a: &Row, b: &Row) -> bool {
+    a.entry == b.entry
+        && a.tag == b.tag
+        && a.client == b.client
+        && a.device == b.device
+        && a.component == b.component
+        && a.version_old == b.version_old
+        && a.version_new == b.version_new
+        && a.digest == b.digest
+        && a.flags == b.flags
+        && a.state == b.state
+        && a.reason == b.reason
+        && a.time_added == b.time_added
+        && a.time_changed == b.time_changed
+}
+
+fn keeper(alloc: Global, call: u32, keep: bool) -> Result<SqlKeeper<MemStore>, Fail>
+    ensures { IfOk result (λ keeper. doubtful keeper ≡ None) }
+{
+    let mut plan = Vec::new(alloc);
+    plan.push(KeeperPlan { call, keep })?;
+    Ok(SqlKeeper::planned(alloc, plan)?)
+}
+
+#[test]
+fn rows_come_back(rt: HostRuntime) -> Result<(), Fail> {
+    let alloc = rt.alloc();
+    let mut keeper = SqlKeeper::memory(alloc)?;
+    let first = row(1, b"t1", b"usb1", RowState::Begun)?;
+    let second = row(2, b"t2", b"usb2", RowState::Pending)?;
+    keeper.commit(&Change::Add(first))?;
+    keeper.commit(&Change::Add(second))?;
+    keeper.commit(&Change::Advance {
+        entry: 2,
+        state: RowState::Failed,
+        reason: 10,
+        time: 2000,
+    })?;
+    let rows = keeper.load(alloc)?;
+    assert_eq!(rt; rows.len(), 2);
+    assert!(rt; is_same(&rows[0], &first));
+    let changed = Row {
+        state: RowState::Failed,
+        reason: 10,
+        time_changed: 2000,
+        ..second
+    };
+    assert!(rt; is_same(&rows[1], &changed));
+    assert_eq!(rt; keeper.calls(), 4);
+    Ok(())
+}
+
+#[test]
+fn a_tag_comes_once(rt: HostRuntime) -> Result<(), Fail> {
+    let alloc = rt.alloc();
+    let mut keeper = SqlKeeper::memory(alloc)?;
+    keeper.commit(&Change::Add(row(1, b"t1", b"usb1", RowState::Begun)?))?;
+    let again = keeper.commit(&Change::Add(row(2, b"t1", b"usb2", RowState::Begun)?));
+    assert!(rt; again == Err(KeeperRefusal::Fault));
+    keeper.reopen()?;
+    let rows = keeper.load(alloc)?;
+    assert_eq!(rt; rows.len(), 1);
+    Ok(())
+}
+
+#[test]
+fn a_planned_commit_is_kept_or_lost(rt: HostRuntime) -> Result<(), Fail> {
+    let alloc = rt.alloc();
+    for (keep, count) in [(false, 0), (true, 1)] {
+        let mut keeper = keeper(alloc, 2, keep)?;
+        let none = keeper.load(alloc)?;
+        assert_eq!(rt; none.len(), 0);
+        let stored = keeper.commit(&Change::Add(row(1, b"t1", b"usb1", RowState::Begun)?));
+        assert!(rt; stored == Err(KeeperRefusal::Fault));
+        keeper.reopen()?;
+        let rows = keeper.load(alloc)?;
+        assert_eq!(rt; rows.len(), count);
+        assert_eq!(rt; keeper.calls(), 4);
+    }
+    Ok(())
+}
+
+#[test]
+fn planned_loads_and_reopenings_fail(rt: HostRuntime) -> Result<(), Fail> {
+    let alloc = rt.alloc();
+    let mut first = keeper(alloc, 1, false)?;
+    assert!(rt; first.load(alloc).err() == Some(KeeperRefusal::Fault));
+    let mut second = keeper(alloc, 1, true)?;
+    assert!(rt; second.reopen() == Err(KeeperRefusal::Fault));
+    second.reopen()?;
+    Ok(())
+}
+
+const SCHEMA: &str = "CREATE TABLE schema (number INTEGER NOT NULL) STRICT;";
+
+const HISTORY: &str = "CREATE TABLE history (
+  entry INTEGER PRIMARY KEY,
+  tag TEXT NOT NULL UNIQUE,
+  client INTEGER NOT NULL,
+  device BLOB NOT NULL,
+  component TEXT NOT NULL,
+  version_old TEXT NOT NULL,
+  version_new TEXT NOT NULL,
+  digest BLOB NOT NULL,
+  flags INTEGER NOT NULL,
+  state INTEGER NOT NULL,
+  reason INTEGER NOT NULL,
+  time_added INTEGER NOT NULL,
+  time_changed INTEGER NOT NULL
+) STRICT;";
+
+// How many rows a keeper over this database finds.
+fn found(alloc: Global, tables: &str, rows: &str) -> Result<usize, KeeperRefusal> {
+    let mut connection = match Connection::open_in_memory(alloc) {
+        Ok(connection) => connection,
+        Err(_) => return Err(KeeperRefusal::NoMemory),
+    };
+    if connection.execute_batch(tables).is_err() || connection.execute_batch(rows).is_err() {
+        return Err(KeeperRefusal::NoMemory);
+    }
+    let mut keeper = SqlKeeper::adopt(alloc, connection)?;
+    let rows = keeper.load(alloc)?;
+    Ok(rows.len())
+}
+
+#[test]
+fn other_tables_and_rows_are_a_fault(rt: HostRuntime) -> Result<(), Fail> {
+    let alloc = rt.alloc();
+    let tables = format!(in alloc; "{SCHEMA}{HISTORY}")?;
+    let one = "INSERT INTO schema VALUES (1);";
+    assert!(rt; found(alloc, "", "") == Ok(0));
+    assert!(rt; found(alloc, tables.as_str(), one) == Ok(0));
+    assert!(rt; found(alloc, SCHEMA, one) == Err(KeeperRefusal::Fault));
+    assert!(rt; found(alloc, HISTORY, "") == Err(KeeperRefusal::Fault));
+    let cases = [
+        ("INSERT INTO schema VALUES (1), (1);", "", None),
+        ("INSERT INTO schema VALUES (2);", "", None),
+        ("", "", None),
+        (one, "(1, 't', 1, x'0000000000000000000000000000000000000000', 'c', '1', '2', x'0000000000000000000000000000000000000000000000000000000000000000', 0, 100, 0, 5, 5)", Some(1)),
+        (one, "(1, 't', 1, x'00000000000000000000000000000000000000', 'c', '1', '2', x'0000000000000000000000000000000000000000000000000000000000000000', 0, 100, 0, 5, 5)", None),
+        (one, "(1, 't', 1, x'0000000000000000000000000000000000000000', 'c', '1', '2', x'00000000000000000000000000000000000000000000000000000000000000', 0, 100, 0, 5, 5)", None),
+        (one, "(1, 't', 1, x'0000000000000000000000000000000000000000', 'c', '1', '2', x'0000000000000000000000000000000000000000000000000000000000000000', 0, 5, 0, 5, 5)", None),
+        (one, "(1, 't', -1, x'0000000000000000000000000000000000000000', 'c', '1', '2', x'0000000000000000000000000000000000000000000000000000000000000000', 0, 4, 0, 5, 5)", None),
+        (one, "(4294967296, 't', 1, x'0000000000000000000000000000000000000000', 'c', '1', '2', x'0000000000000000000000000000000000000000000000000000000000000000', 0, 3, 0, 5, 5)", None),
+        (one, "(1, 't u', 1, x'0000000000000000000000000000000000000000', 'c', '1', '2', x'0000000000000000000000000000000000000000000000000000000000000000', 0, 2, 0, 5, 5)", None),
+        (one, "(1, 't', 1, x'0000000000000000000000000000000000000000', 'c', '', '2', x'0000000000000000000000000000000000000000000000000000000000000000', 0, 1, 0, 5, 5)", None),
+        (one, "(1, 't', 1, x'0000000000000000000000000000000000000000', 'c', '1', '2', x'0000000000000000000000000000000000000000000000000000000000000000', 256, 1, 0, 5, 5)", None),
+    ];
+    for (number, values, want) in cases {
+        let rows = if values.is_empty() {
+            format!(in alloc; "{number}")?
+        } else {
+            format!(in alloc; "{number} INSERT INTO history VALUES {values};")?
+        };
+        assert!(rt; found(alloc, tables.as_str(), rows.as_str()).ok() == want, "{rows}");
+    }
+    Ok(())
+}
+
+const FOLDER: &str = "history_sqlite_test";
+
+#[test]
+fn a_file_keeps_its_rows(rt: HostRuntime) -> Result<(), Fail> {
+    let alloc = rt.alloc();
+    let _ = fs::remove_dir_all(&rt, FOLDER);
+    fs::create_dir(&rt, FOLDER)?;
+    for turn in 0..3u32 {
+        let mut keeper = SqlKeeper::file(&rt, "history_sqlite_test/history.db")?;
+        let rows = keeper.load(alloc)?;
+        assert_eq!(rt; rows.len(), turn as usize);
+        let tag = [b'a' + turn as u8];
+        keeper.commit(&Change::Add(row(turn + 1, &tag, &tag, RowState::Success)?))?;
+    }
+    fs::write(&rt, "history_sqlite_test/no.db", b"no database at all, but a text of some length")?;
+    assert!(rt; SqlKeeper::file(&rt, "history_sqlite_test/no.db").err() == Some(KeeperRefusal::Fault));
+    let left = fs::read(&rt, "history_sqlite_test/no.db")?;
+    assert_eq!(rt; left.as_slice(), b"no database at all, but a text of some length".as_slice());
+    assert!(rt; SqlKeeper::file(&rt, "history_sqlite_test/none/no.db").err() == Some(KeeperRefusal::Fault));
+    fs::remove_dir_all(&rt, FOLDER)?;
+    Ok(())
+}
