@@ -47,6 +47,7 @@ use Rattle.sqlite.proofs.Callers.{IsPlain, command_of, statement_of, runs_as, re
 use Rattle.history_keeper.specs.declared.row.Row.{Row}
 use Rattle.history_keeper.specs.declared.row.RowState.{RowState}
 use Rattle.history_keeper.specs.Changes.{with_state}
+use Rattle.history_sqlite.specs.Causes.{insert_text, select_text, update_text}
 use Rattle.history_sqlite.specs.Columns.{columns_of, state_number, values_of}
 use Rattle.history_sqlite.specs.Tables.{create_schema_text, create_history_text, schema_table, history_table, history_schema, stored, AreNumbered, HoldsRows}
 
@@ -100,9 +101,6 @@ unfolding everything
 history_made = refl
 
 -- ---- the insert
-
-abbrev pub insert_text : List ℕ
-insert_text = codes "INSERT INTO history VALUES (?1, ?2, ?3, ?4, ?5, ?6, ?7, ?8, ?9, ?10, ?11, ?12, ?13)"
 
 abbrev terms : List Term
 terms =
@@ -185,9 +183,6 @@ adds old new rows row count h next limit ran =
     }
 
 -- ---- the select
-
-abbrev pub select_text : List ℕ
-select_text = codes "SELECT entry, tag, client, device, component, version_old, version_new, digest, flags, state, reason, time_added, time_changed FROM history ORDER BY entry"
 
 abbrev query : Query
 query = record {
@@ -282,9 +277,6 @@ gives_nothing old new rows e h limit is_open failed =
     stays old new rows h limit is_open (query_stays select_text [] old new e (subst (λ s. IsPlain (understood s select_text)) (sym h.schema) select_plain) failed)
 
 -- ---- the update
-
-abbrev pub update_text : List ℕ
-update_text = codes "UPDATE history SET state = ?2, reason = ?3, time_changed = ?4 WHERE entry = ?1"
 
 abbrev changing : Query
 changing = record {

@@ -1,5 +1,5 @@
 -- What a keeper tells after each statement.
-use Rattle.std.proofs.Common.{◌≡◌, ◌⊎◌, inl, inr, pos, Bool, true, false, List, [], ◌∷◌, map, Option, Some, None, Result, Ok, Err, IsTrue, IfSome, IfOk, OnErr, option_map, unwrap_or, refl, sym, ap, subst, ◌∙◌}
+use Rattle.std.proofs.Common.{◌≡◌, pos, Bool, true, false, List, [], ◌∷◌, map, Option, Some, None, IsTrue, IfSome, option_map, unwrap_or, refl, sym, ap, subst, ◌∙◌}
 use Rattle.std.specs.Option.{ForSome}
 use Rattle.sqlite.specs.declared.types.Value.TheVariants.{Int}
 use Rattle.sqlite.specs.State.{State, HasCleanDisk}
@@ -8,13 +8,10 @@ use Rattle.history_keeper.specs.declared.row.RowState.{RowState}
 use Rattle.history_keeper.specs.declared.row.RowState.TheVariants.{Pending, Success, Failed, NeedsReboot, Begun}
 use Rattle.history_keeper.specs.declared.change.Change.{Change}
 use Rattle.history_keeper.specs.declared.plan.Doubt.{Doubt}
-use Rattle.history_keeper.specs.declared.refusal.KeeperRefusal.{KeeperRefusal}
-use Rattle.history_keeper.specs.Changes.{Suits, IsTimely, changed}
-use Rattle.history_keeper.specs.Keepers.{Reopened, with_doubt}
+use Rattle.history_keeper.specs.Changes.{Suits, changed}
 use Rattle.history_keeper.specs.Memories.{kept}
 use Rattle.history_sqlite.specs.Columns.{state_in, state_number}
 use Rattle.history_sqlite.specs.Tables.{stored, HoldsRows, Loads, Keeps, Makes}
-use Rattle.history_sqlite.specs.Keeping.{IsTimelyDoubt}
 use Rattle.history_sqlite.specs.Telling.{row_in, rows_in, told, Knows, SuitsDoubt, Settles}
 
 state_again : (s : RowState) → unwrap_or (state_in (Int (pos (state_number s)))) Begun ≡ s
@@ -59,27 +56,12 @@ module _ (lasts : Bool) (old new : State) (lasting : IsTrue lasts → HasCleanDi
       let same = told_rows new (changed change (rows_in old)) r in (ap Some same, (k.0, knows new (changed change (rows_in old)) r, tt))
   after_change false change doubt k suits makes = (refl, tt)
 
-  pub after_read : {V : Type 0} (items : V → List Row) (tells : Bool) (doubt : Option Doubt) (r : Result V KeeperRefusal) → Knows tells lasts old doubt
-      → (HasCleanDisk new → IfOk r (λ loaded. Loads old new (items loaded))) → (HasCleanDisk new → IsTrue new.is_open → OnErr r (Keeps old new))
-      → IfOk r (λ loaded. IfSome (told tells old) (λ all. items loaded ≡ all)) × (told tells new ≡ told tells old) × Knows tells lasts new doubt
-  after_read items tells doubt (Ok loaded) k loads keeps = after_load tells doubt (items loaded) k loads
-  after_read items tells doubt (Err refusal) k loads keeps = let r = after_refusal tells doubt k keeps in (tt, r.0, r.1)
+kept_is : (change : Change) (keep : Bool) (rows : List Row) → keep ≡ true → kept (Some (record { change = change; keep = keep })) rows ≡ changed change rows
+kept_is change true rows h = refl
+kept_is change false rows h = absurd cc
 
--- a change that is in doubt from now on suits the rows that are told
-pub doubted : (tells lasts : Bool) (s : State) (before : Option Doubt) (doubt : Doubt) → Knows tells lasts s before → ForSome (told tells s) (λ all. Suits doubt.change all) → Knows tells lasts s (Some doubt)
-doubted true lasts s before doubt k suits = (k.0, k.1, suits (rows_in s) refl)
-doubted false lasts s before doubt k suits = tt
-
--- and so does one that was in doubt
-pub doubt_suits : (tells lasts : Bool) (s : State) (before : Option Doubt) (doubt : Doubt) → before ≡ Some doubt → Knows tells lasts s before → ForSome (told tells s) (λ all. Suits doubt.change all)
-doubt_suits true lasts s before doubt is k all told_is =
-    let same : rows_in s ≡ all = cc in subst (Suits doubt.change) same (subst (λ d. SuitsDoubt d (rows_in s)) is k.2)
-doubt_suits false lasts s before doubt is k all told_is = absurd (cc)
-
-pub doubt_timely : (before : Option Doubt) (doubt : Doubt) → before ≡ Some doubt → IsTimelyDoubt before → IsTimely doubt.change
-doubt_timely before doubt is timely = subst IsTimelyDoubt is timely
-
--- without a doubt there is nothing that has to suit
-pub undoubted : (tells lasts : Bool) (s : State) (before : Option Doubt) → Knows tells lasts s before → Knows tells lasts s None
-undoubted true lasts s before k = (k.0, k.1, tt)
-undoubted false lasts s before k = tt
+-- the rows were read, and then the change that is to be kept was made
+pub settled : (old mid new : State) (doubt : Option Doubt) (it : Doubt) (loaded : List Row) → doubt ≡ Some it → it.keep ≡ true → Loads old mid loaded → Makes mid new it.change → Settles old new doubt
+settled old mid new doubt it loaded is keep loads makes rows holds suits =
+    let made = makes rows (loads rows holds).1 (subst (λ d. SuitsDoubt d rows) is suits) in
+    subst (λ d. HoldsRows new (kept d rows)) (sym is) (subst (HoldsRows new) (sym (kept_is it.change it.keep rows keep)) made)

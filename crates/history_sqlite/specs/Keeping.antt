@@ -32,6 +32,10 @@ keeping_code {D} store =
 abbrev pub planned : {D : Type 0} → Keeping D → Option KeeperPlan
 planned keeping = find (λ plan. plan.call == one_more keeping.calls) keeping.plan
 
+-- The keeper after a call that was planned to fail.
+abbrev pub after_fault : {D : Type 0} → Keeping D → Keeping D
+after_fault keeping = record keeping { calls = one_more keeping.calls; faults = one_more keeping.faults }
+
 -- The doubtful change.
 abbrev pub doubtful : {D : Type 0} → Keeping D → Option Change
 doubtful keeping = option_map (λ doubt. doubt.change) keeping.doubt

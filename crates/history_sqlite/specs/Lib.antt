@@ -1,3 +1,4 @@
+pub mod Causes
 pub mod Columns
 pub mod Keeping
 pub mod Refusals

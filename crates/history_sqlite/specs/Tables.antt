@@ -126,3 +126,11 @@ Advances old new entry state reason time = (rows : List Row) → HoldsRows old r
 -- A statement that made this change, if it suits the rows.
 abbrev pub Makes : State → State → Change → Type 0
 Makes old new change = (rows : List Row) → HoldsRows old rows → Suits change rows → HoldsRows new (changed change rows)
+
+-- A question left the database as it was: with these rows, or with no table.
+abbrev pub LeavesTables : State → State → Type 0
+LeavesTables old new = Keeps old new × (IsBlank old → IsBlank new)
+
+-- An opening left the rows, and made the tables where there was none.
+abbrev pub Opens : State → State → Type 0
+Opens old new = Keeps old new × (IsBlank old → HoldsRows new [])

@@ -73,9 +73,9 @@ abbrev pub Knows : Bool → Bool → State → Option Doubt → Type 0
 Knows true lasts s doubt = IsTrue lasts × HoldsRows s (rows_in s) × SuitsDoubt doubt (rows_in s)
 Knows false lasts s doubt = Unit {0}
 
--- A keeper in memory before its first call: it tells that it has no rows.
-pub record IsUnused (plan : List KeeperPlan) (keeping : Keeping MemStore) : Type 0 where
-  pub rows : told_by over_memory keeping ≡ Some []
+-- A keeper before its first call, which tells these rows or none.
+pub record IsUnused {D : Type 0} (store : Ghosts D) (rows : Option (List Row)) (plan : List KeeperPlan) (keeping : Keeping D) : Type 0 where
+  pub rows_are : told_by store keeping ≡ rows
   pub no_doubt : keeping.doubt ≡ None
   pub plan_is : keeping.plan ≡ plan
   pub uncalled : keeping.calls ≡ 0

@@ -1,13 +1,17 @@
 //! A keeper over a table.
-ghost use Rattle.std.specs.Prelude.{◌≡◌, ◌≤◌, ◌==◌, option_map, None, [], IsTrue, IfSome, IfOk, OnOk, OnErr, find};
+ghost use Rattle.std.specs.Prelude.{◌≡◌, ◌≢◌, ◌≤◌, ◌==◌, ◌⊎◌, option_map, Some, None, [], IsTrue, IsSome, IfSome, IfOk, OnOk, OnErr, find};
 ghost use Rattle.std.specs.Option.{option_copied, ForSome};
+ghost use Rattle.sqlite.specs.Held.{state};
 ghost use Rattle.sqlite.specs.State.{HasCleanDisk};
+ghost use Rattle.sqlite.specs.Files.{over_files};
+ghost use Rattle.sqlite.specs.Steps.{over_memory};
 ghost use Rattle.history_keeper.specs.Changes.{IsTimely, Suits, changed};
 ghost use Rattle.history_keeper.specs.Keepers.{Committed, Reopened};
 ghost use Rattle.outer_traits.specs.Faults.{Rose};
 ghost use Rattle.outer_traits.specs.Plans.{one_more};
-ghost use Rattle.history_sqlite.specs.Keeping.{planned, doubtful};
-ghost use Rattle.history_sqlite.specs.Tables.{Keeps, Loads, Makes};
+ghost use Rattle.history_sqlite.specs.Causes.{FailsToLoad, FailsToMake, FailsToSettle};
+ghost use Rattle.history_sqlite.specs.Keeping.{planned, doubtful, after_fault};
+ghost use Rattle.history_sqlite.specs.Tables.{Keeps, Loads, Makes, Opens};
 ghost use Rattle.history_sqlite.specs.Telling.{database, told_by, Settles, IsUnused};
 
 use crate::lasting::Lasting;
@@ -49,7 +53,7 @@ impl<D: Lasting> Model for SqlKeeper<D> {
 impl SqlKeeper<MemStore> {
     /// A keeper without rows, over a database in memory. It tells its rows.
     pub fn memory(alloc: Global) -> Result<SqlKeeper<MemStore>, KeeperRefusal>
-        ensures { IfOk result (λ keeper. IsUnused [] keeper) }
+        ensures { IfOk result (λ keeper. IsUnused over_memory (Some []) [] keeper) }
     {
         SqlKeeper::planned(alloc, Vec::new(alloc))
     }
@@ -60,7 +64,7 @@ impl SqlKeeper<MemStore> {
         alloc: Global,
         plan: Vec<KeeperPlan>,
     ) -> Result<SqlKeeper<MemStore>, KeeperRefusal>
-        ensures { IfOk result (λ keeper. IsUnused plan.items keeper) }
+        ensures { IfOk result (λ keeper. IsUnused over_memory (Some []) plan.items keeper) }
     {
         let mut connection = match Connection::open_in_memory(alloc) {
             Ok(connection) => connection,
@@ -85,7 +89,9 @@ impl SqlKeeper<FileStore<File>> {
     /// A keeper over the file at the path, which is made where it isn't there. It is a fault where the
     /// file can't be opened, is no database, has another schema number, or has a row that stands
     /// for none. Such a file is left as it was.
-    pub fn file(rt: &HostRuntime, path: &str) -> Result<SqlKeeper<FileStore<File>>, KeeperRefusal> {
+    pub fn file(rt: &HostRuntime, path: &str) -> Result<SqlKeeper<FileStore<File>>, KeeperRefusal>
+        ensures { IfOk result (λ keeper. IsUnused over_files None [] keeper) }
+    {
         match Connection::open(rt, path) {
             Ok(connection) => SqlKeeper::adopt(rt.alloc(), connection),
             Err(error) => Err(refusal_of_error(error)),
@@ -94,8 +100,13 @@ impl SqlKeeper<FileStore<File>> {
 }
 
 impl<D: Lasting + Drop> SqlKeeper<D> {
-    /// A keeper over an open connection, whose database is empty or has the tables.
-    pub fn adopt(alloc: Global, connection: Connection<D>) -> Result<SqlKeeper<D>, KeeperRefusal> {
+    /// A keeper over an open connection, whose database is empty or has the tables. It tells no rows.
+    /// The rows are left, and a blank database has the tables and no rows, while the disk returns what
+    /// was written.
+    pub fn adopt(alloc: Global, connection: Connection<D>) -> Result<SqlKeeper<D>, KeeperRefusal>
+        ensures unused { IfOk result (λ keeper. IsUnused D.Store None [] keeper) }
+        ensures opens { IfOk result (λ keeper. HasCleanDisk (database D.Store keeper) → Opens (state D.Store connection) (database D.Store keeper)) }
+    {
         let mut connection = connection;
         connection.set_step_limit(None);
         open_tables(&mut connection)?;
@@ -134,7 +145,7 @@ impl<D: Lasting> SqlKeeper<D> {
     }
 
     fn count_fault(&mut self)
-        ensures counted { self.new ≡ record self.old { calls = one_more self.old.calls; faults = one_more self.old.faults } }
+        ensures counted { self.new ≡ after_fault self.old }
         ensures no_fall { self.old.faults ≤ self.new.faults }
     {
         self.calls = self.calls.saturating_add(1);
@@ -145,6 +156,7 @@ impl<D: Lasting> SqlKeeper<D> {
     fn count_refusal(&mut self, refusal: KeeperRefusal)
         ensures same { self.new ≡ record self.old { calls = self.new.calls; faults = self.new.faults } }
         ensures rose { refusal ≡ KeeperRefusal.Fault → Rose self.old.faults self.new.faults }
+        ensures numbered { refusal ≢ KeeperRefusal.NoMemory → self.new.calls ≡ one_more self.old.calls }
         ensures no_fall { self.old.faults ≤ self.new.faults }
     {
         match refusal {
@@ -162,6 +174,7 @@ impl<D: Lasting> SqlKeeper<D> {
         ensures unchanged { told_by D.Store self.new ≡ told_by D.Store self.old }
         ensures loads { HasCleanDisk (database D.Store self.new) → IfOk result (λ loaded. Loads (database D.Store self.old) (database D.Store self.new) loaded.items) }
         ensures refused { HasCleanDisk (database D.Store self.new) → IsTrue (database D.Store self.new).is_open → OnErr result (Keeps (database D.Store self.old) (database D.Store self.new)) }
+        ensures failed { HasCleanDisk (database D.Store self.new) → result ≡ Err KeeperRefusal.Fault → FailsToLoad (database D.Store self.old) (database D.Store self.new) }
         ensures clean { HasCleanDisk (database D.Store self.new) → HasCleanDisk (database D.Store self.old) }
     {
         load_rows(&mut self.connection, alloc)
@@ -177,6 +190,8 @@ impl<D: Lasting> SqlKeeper<D> {
         ensures same { OnErr result (self.new ≡ record self.old { connection = self.new.connection }) }
         ensures makes { HasCleanDisk (database D.Store self.new) → OnOk result (Makes (database D.Store self.old) (database D.Store self.new) change.now) }
         ensures refused { HasCleanDisk (database D.Store self.new) → IsTrue (database D.Store self.new).is_open → OnErr result (Keeps (database D.Store self.old) (database D.Store self.new)) }
+        ensures failed { HasCleanDisk (database D.Store self.new) → result ≡ Err KeeperRefusal.Fault → FailsToMake change.now (database D.Store self.old) (database D.Store self.new) }
+        ensures clean { HasCleanDisk (database D.Store self.new) → HasCleanDisk (database D.Store self.old) }
     {
         match make(&mut self.connection, change) {
             Ok(()) => {
@@ -193,6 +208,7 @@ impl<D: Lasting> SqlKeeper<D> {
         ensures same { self.new ≡ record self.old { connection = self.new.connection; doubt = self.new.doubt } }
         ensures settles { HasCleanDisk (database D.Store self.new) → OnOk result (Settles (database D.Store self.old) (database D.Store self.new) self.old.doubt) }
         ensures refused { HasCleanDisk (database D.Store self.new) → IsTrue (database D.Store self.new).is_open → OnErr result (Keeps (database D.Store self.old) (database D.Store self.new)) }
+        ensures failed { HasCleanDisk (database D.Store self.new) → result ≡ Err KeeperRefusal.Fault → FailsToSettle D.Store self.old.connection self.new.connection self.old.doubt }
     {
         let alloc = self.alloc;
         let _rows = self.read(alloc)?;
@@ -220,6 +236,11 @@ impl<D: Lasting> Keeper for SqlKeeper<D> {
         requires { doubtful self.old ≡ None }
         ensures loads { HasCleanDisk (database D.Store self.new) → IfOk result (λ loaded. Loads (database D.Store self.old) (database D.Store self.new) loaded.items) }
         ensures refused { HasCleanDisk (database D.Store self.new) → IsTrue (database D.Store self.new).is_open → OnErr result (Keeps (database D.Store self.old) (database D.Store self.new)) }
+        ensures failed { HasCleanDisk (database D.Store self.new) → result ≡ Err KeeperRefusal.Fault → IsSome (planned self.old) ⊎ FailsToLoad (database D.Store self.old) (database D.Store self.new) }
+        ensures planned { IsSome (planned self.old) → result ≡ Err KeeperRefusal.Fault }
+        ensures idle { IsSome (planned self.old) → self.new ≡ after_fault self.old }
+        ensures numbered { result ≢ Err KeeperRefusal.NoMemory → self.new.calls ≡ one_more self.old.calls }
+        ensures plan { self.new.plan ≡ self.old.plan }
 
         ensures answer { IfOk result (λ loaded. IfSome (told_by D.Store self.old) (λ all. loaded.items ≡ all)) }
         ensures unchanged { told_by D.Store self.new ≡ told_by D.Store self.old }
@@ -249,6 +270,11 @@ impl<D: Lasting> Keeper for SqlKeeper<D> {
         requires timely { IsTimely change.now }
         ensures makes { HasCleanDisk (database D.Store self.new) → OnOk result (Makes (database D.Store self.old) (database D.Store self.new) change.now) }
         ensures refused { HasCleanDisk (database D.Store self.new) → IsTrue (database D.Store self.new).is_open → OnErr result (Keeps (database D.Store self.old) (database D.Store self.new)) }
+        ensures failed { HasCleanDisk (database D.Store self.new) → result ≡ Err KeeperRefusal.Fault → IsSome (planned self.old) ⊎ FailsToMake change.now (database D.Store self.old) (database D.Store self.new) }
+        ensures planned { IsSome (planned self.old) → result ≡ Err KeeperRefusal.Fault }
+        ensures idle { IfSome (planned self.old) (λ plan. self.new ≡ record (after_fault self.old) { doubt = Some (record { change = change.now; keep = plan.keep }) }) }
+        ensures numbered { result ≢ Err KeeperRefusal.NoMemory → self.new.calls ≡ one_more self.old.calls }
+        ensures plan { self.new.plan ≡ self.old.plan }
 
         ensures committed { Committed change.now result (told_by D.Store self.old) (told_by D.Store self.new) (doubtful self.new) }
         ensures cause { result ≡ Err KeeperRefusal.Fault → Rose self.old.faults self.new.faults }
@@ -282,6 +308,11 @@ impl<D: Lasting> Keeper for SqlKeeper<D> {
     fn reopen(&mut self) -> Result<(), KeeperRefusal>
         ensures settles { HasCleanDisk (database D.Store self.new) → OnOk result (Settles (database D.Store self.old) (database D.Store self.new) self.old.doubt) }
         ensures refused { HasCleanDisk (database D.Store self.new) → IsTrue (database D.Store self.new).is_open → OnErr result (Keeps (database D.Store self.old) (database D.Store self.new)) }
+        ensures failed { HasCleanDisk (database D.Store self.new) → result ≡ Err KeeperRefusal.Fault → IsSome (planned self.old) ⊎ FailsToSettle D.Store self.old.connection self.new.connection self.old.doubt }
+        ensures planned { IsSome (planned self.old) → result ≡ Err KeeperRefusal.Fault }
+        ensures idle { IsSome (planned self.old) → self.new ≡ after_fault self.old }
+        ensures numbered { result ≢ Err KeeperRefusal.NoMemory → self.new.calls ≡ one_more self.old.calls }
+        ensures plan { self.new.plan ≡ self.old.plan }
 
         ensures reopened { Reopened result (told_by D.Store self.old) (doubtful self.old) (told_by D.Store self.new) (doubtful self.new) }
         ensures cause { result ≡ Err KeeperRefusal.Fault → Rose self.old.faults self.new.faults }

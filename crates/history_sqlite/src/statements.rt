@@ -1,8 +1,9 @@
 //! The three statements on the table. Each is one call, outside any transaction.
-ghost use Rattle.std.specs.Prelude.{◌≡◌, ◌≤◌, ◌^◌, ◌-◌, IsTrue, map, IfOk, OnOk, OnErr};
+ghost use Rattle.std.specs.Prelude.{◌≡◌, ◌≤◌, ◌^◌, ◌-◌, None, [], IsTrue, map, Any, IfOk, OnOk, OnErr};
 ghost use Rattle.sqlite.specs.Held.{state};
-ghost use Rattle.sqlite.specs.State.{HasCleanDisk};
+ghost use Rattle.sqlite.specs.State.{HasCleanDisk, Shown};
 ghost use Rattle.sqlite.specs.Values.{bound};
+ghost use Rattle.history_sqlite.specs.Causes.{insert_text, update_text, select_text, IsRefused, IsUnanswered, FailsToLoad, FailsToMake};
 ghost use Rattle.history_sqlite.specs.Columns.{columns_of, row_read, values_of};
 ghost use Rattle.history_sqlite.specs.Tables.{Adds, Advances, Makes, Keeps, Gives, Loads};
 ghost use Rattle.history_keeper.specs.Changes.{IsTimely};
@@ -20,6 +21,7 @@ pub fn make<D: Alter>(connection: &mut Connection<D>, change: &Change) -> Result
     requires { IsTimely change.now }
     ensures makes { HasCleanDisk (state D.Store connection.new) → OnOk result (Makes (state D.Store connection.old) (state D.Store connection.new) change.now) }
     ensures refused { HasCleanDisk (state D.Store connection.new) → IsTrue (state D.Store connection.new).is_open → OnErr result (Keeps (state D.Store connection.old) (state D.Store connection.new)) }
+    ensures cause { HasCleanDisk (state D.Store connection.new) → result ≡ Err KeeperRefusal.Fault → FailsToMake change.now (state D.Store connection.old) (state D.Store connection.new) }
     ensures clean { HasCleanDisk (state D.Store connection.new) → HasCleanDisk (state D.Store connection.old) }
 {
     match change {
@@ -41,6 +43,7 @@ pub fn insert<D: Alter>(connection: &mut Connection<D>, row: &Row) -> Result<(),
     requires changed { row.now.time_changed ≤ 2 ^ 63 - 1 }
     ensures adds { HasCleanDisk (state D.Store connection.new) → OnOk result (Adds (state D.Store connection.old) (state D.Store connection.new) row.now) }
     ensures refused { HasCleanDisk (state D.Store connection.new) → IsTrue (state D.Store connection.new).is_open → OnErr result (Keeps (state D.Store connection.old) (state D.Store connection.new)) }
+    ensures cause { HasCleanDisk (state D.Store connection.new) → result ≡ Err KeeperRefusal.Fault → IsRefused insert_text (columns_of row.now) (state D.Store connection.old) (state D.Store connection.new) }
     ensures clean { HasCleanDisk (state D.Store connection.new) → HasCleanDisk (state D.Store connection.old) }
 {
     let columns = columns_of_row(row);
@@ -88,6 +91,7 @@ pub fn update<D: Alter>(
     requires { time ≤ 2 ^ 63 - 1 }
     ensures advances { HasCleanDisk (state D.Store connection.new) → OnOk result (Advances (state D.Store connection.old) (state D.Store connection.new) entry reached reason time) }
     ensures refused { HasCleanDisk (state D.Store connection.new) → IsTrue (state D.Store connection.new).is_open → OnErr result (Keeps (state D.Store connection.old) (state D.Store connection.new)) }
+    ensures cause { HasCleanDisk (state D.Store connection.new) → result ≡ Err KeeperRefusal.Fault → IsRefused update_text (values_of entry reached reason time) (state D.Store connection.old) (state D.Store connection.new) }
     ensures clean { HasCleanDisk (state D.Store connection.new) → HasCleanDisk (state D.Store connection.old) }
 {
     let values = values_of_state(entry, reached, reason, time);
@@ -123,6 +127,8 @@ pub fn values_of_state(
 pub fn select<D: Alter>(connection: &mut Connection<D>) -> Result<Vec<sqlite::Row>, KeeperRefusal>
     ensures gives { HasCleanDisk (state D.Store connection.new) → IfOk result (λ shown. Gives (state D.Store connection.old) (state D.Store connection.new) shown.items) }
     ensures refused { HasCleanDisk (state D.Store connection.new) → IsTrue (state D.Store connection.new).is_open → OnErr result (Keeps (state D.Store connection.old) (state D.Store connection.new)) }
+    ensures cause { HasCleanDisk (state D.Store connection.new) → result ≡ Err KeeperRefusal.Fault → IsUnanswered (state D.Store connection.old) (state D.Store connection.new) }
+    ensures shown { HasCleanDisk (state D.Store connection.new) → IfOk result (λ shown. Shown select_text [] (state D.Store connection.old) (state D.Store connection.new) shown.items) }
     ensures clean { HasCleanDisk (state D.Store connection.new) → HasCleanDisk (state D.Store connection.old) }
 {
     match connection.query_all(
@@ -142,6 +148,7 @@ pub fn load_rows<D: Alter>(
 ) -> Result<Vec<Row>, KeeperRefusal>
     ensures loads { HasCleanDisk (state D.Store connection.new) → IfOk result (λ loaded. Loads (state D.Store connection.old) (state D.Store connection.new) loaded.items) }
     ensures refused { HasCleanDisk (state D.Store connection.new) → IsTrue (state D.Store connection.new).is_open → OnErr result (Keeps (state D.Store connection.old) (state D.Store connection.new)) }
+    ensures cause { HasCleanDisk (state D.Store connection.new) → result ≡ Err KeeperRefusal.Fault → FailsToLoad (state D.Store connection.old) (state D.Store connection.new) }
     ensures clean { HasCleanDisk (state D.Store connection.new) → HasCleanDisk (state D.Store connection.old) }
 {
     let table = select(connection)?;
@@ -150,7 +157,8 @@ pub fn load_rows<D: Alter>(
 
 // Reads each row.
 fn read_rows(alloc: Global, table: &[sqlite::Row]) -> Result<Vec<Row>, KeeperRefusal>
-    ensures { IfOk result (λ rows. map Some rows.items ≡ map row_read table.now) }
+    ensures read { IfOk result (λ rows. map Some rows.items ≡ map row_read table.now) }
+    ensures cause { result ≡ Err KeeperRefusal.Fault → Any (λ columns. row_read columns ≡ None) table.now }
 {
     let mut rows = Vec::new(alloc);
     for columns in table {

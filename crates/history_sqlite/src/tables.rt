@@ -2,7 +2,7 @@
 ghost use Rattle.std.specs.Prelude.{◌≡◌, false, [], OnOk};
 ghost use Rattle.sqlite.specs.Held.{state};
 ghost use Rattle.sqlite.specs.State.{HasCleanDisk};
-ghost use Rattle.history_sqlite.specs.Tables.{IsBlank, HoldsRows};
+ghost use Rattle.history_sqlite.specs.Tables.{LeavesTables, Opens};
 
 use crate::refusal::refusal_of_error;
 use history_keeper::KeeperRefusal;
@@ -12,8 +12,12 @@ use sqlite::{Alter, Connection, Error};
 pub const SCHEMA_NUMBER: i64 = 1;
 
 /// Makes both tables where neither is there. Else the schema's number has to be 1, and it is a fault
-/// where it isn't. The connection must be in no transaction.
-pub fn open_tables<D: Alter>(connection: &mut Connection<D>) -> Result<(), KeeperRefusal> {
+/// where it isn't. The connection must be in no transaction. Where it is told `Ok`, the rows are left,
+/// and a blank database has the tables and no rows, while the disk returns what was written.
+pub fn open_tables<D: Alter>(connection: &mut Connection<D>) -> Result<(), KeeperRefusal>
+    ensures opens { HasCleanDisk (state D.Store connection.new) → OnOk result (Opens (state D.Store connection.old) (state D.Store connection.new)) }
+    ensures clean { HasCleanDisk (state D.Store connection.new) → HasCleanDisk (state D.Store connection.old) }
+{
     if !connection.is_autocommit() {
         return Err(KeeperRefusal::Fault);
     }
@@ -29,7 +33,9 @@ pub fn open_tables<D: Alter>(connection: &mut Connection<D>) -> Result<(), Keepe
 
 // How many of the two tables are there.
 fn count_tables<D: Alter>(connection: &mut Connection<D>) -> Result<i64, Error>
-    ensures { connection.old.in_transaction ≡ false → connection.new.in_transaction ≡ false }
+    ensures mode { connection.old.in_transaction ≡ false → connection.new.in_transaction ≡ false }
+    ensures leaves { HasCleanDisk (state D.Store connection.new) → OnOk result (LeavesTables (state D.Store connection.old) (state D.Store connection.new)) }
+    ensures clean { HasCleanDisk (state D.Store connection.new) → HasCleanDisk (state D.Store connection.old) }
 {
     let row = connection.query_row(
         "SELECT count(*) FROM sqlite_schema WHERE type = 'table' AND name COLLATE NOCASE IN ('schema', 'history')",
@@ -38,11 +44,13 @@ fn count_tables<D: Alter>(connection: &mut Connection<D>) -> Result<i64, Error>
     row.get(0)
 }
 
-/// Makes both tables and writes the number, in one transaction. A blank database then has the tables,
-/// and no rows, while the disk returns what was written.
+/// Makes both tables and writes the number, in one transaction. Where it is told `Ok`, a blank
+/// database has the tables and no rows, while the disk returns what was written. It is refused where
+/// the tables are there.
 pub fn make_tables<D: Alter>(connection: &mut Connection<D>) -> Result<(), Error>
     requires { connection.old.in_transaction ≡ false }
-    ensures { HasCleanDisk (state D.Store connection.new) → IsBlank (state D.Store connection.old) → OnOk result (HoldsRows (state D.Store connection.new) []) }
+    ensures opens { HasCleanDisk (state D.Store connection.new) → OnOk result (Opens (state D.Store connection.old) (state D.Store connection.new)) }
+    ensures clean { HasCleanDisk (state D.Store connection.new) → HasCleanDisk (state D.Store connection.old) }
 {
     let mut transaction = connection.transaction();
     transaction.execute(
@@ -59,7 +67,10 @@ pub fn make_tables<D: Alter>(connection: &mut Connection<D>) -> Result<(), Error
 }
 
 // The table of the number has one row, and its number is 1.
-fn check_number<D: Alter>(connection: &mut Connection<D>) -> Result<(), KeeperRefusal> {
+fn check_number<D: Alter>(connection: &mut Connection<D>) -> Result<(), KeeperRefusal>
+    ensures opens { HasCleanDisk (state D.Store connection.new) → OnOk result (Opens (state D.Store connection.old) (state D.Store connection.new)) }
+    ensures clean { HasCleanDisk (state D.Store connection.new) → HasCleanDisk (state D.Store connection.old) }
+{
     match connection.query_all("SELECT number FROM schema", &[]) {
         Ok(rows) => match rows.as_slice() {
             [row] => match row.get::<i64>(0) {

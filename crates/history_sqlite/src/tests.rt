@@ -1,19 +1,25 @@
 //! What no clause says: that calls succeed, and that the tables are the ones that were meant.
-ghost use Rattle.std.specs.Prelude.{◌≡◌, IfOk, None};
+ghost use Rattle.std.specs.Prelude.{◌≡◌, IfOk, Some, None, []};
+ghost use Rattle.sqlite.specs.Steps.{over_memory};
 ghost use Rattle.history_sqlite.specs.Keeping.{doubtful};
+ghost use Rattle.history_sqlite.specs.Telling.{told_by};
 
 use crate::SqlKeeper;
 use fw_base::Name;
 use guid_ids::device_id;
-use history_keeper::{Change, Keeper, KeeperPlan, KeeperRefusal, MemoryKeeper, Row, RowState};
-use sqlite::{Connection, MemStore, params};
+use history_keeper::{Change, Keeper, KeeperPlan, KeeperRefusal, Row, RowState};
+use sqlite::{Connection, MemStore};
 use std::alloc::Global;
 use std::fs;
 use std::rt::HostRuntime;
 use std::test::Fail;
 use version_formats::Version;
 
-fn row(entry: u32, tag: &[u8], device: &[u8], state: RowState) -> Result<Row, Fail> {
+fn row(entry: u32, tag: &[u8], device: &[u8], state: RowState) -> Result<Row, Fail>
+    ensures entry { IfOk result (λ row. row.entry ≡ entry) }
+    ensures added { IfOk result (λ row. row.time_added ≡ 1000) }
+    ensures changed { IfOk result (λ row. row.time_changed ≡ 1001) }
+{
     Ok(Row {
         entry,
         tag: Name::read(tag)?,
@@ -48,8 +54,19 @@ fn is_same(a: &Row, b: &Row) -> bool {
         && a.time_changed == b.time_changed
 }
 
-fn keeper(alloc: Global, call: u32, keep: bool) -> Result<SqlKeeper<MemStore>, Fail>
-    ensures { IfOk result (λ keeper. doubtful keeper ≡ None) }
+// A keeper over memory that tells no rows.
+fn silent(alloc: Global) -> Result<SqlKeeper<MemStore>, Fail>
+    ensures rows { IfOk result (λ keeper. told_by over_memory keeper ≡ None) }
+    ensures no_doubt { IfOk result (λ keeper. doubtful keeper ≡ None) }
+{
+    let connection = Connection::open_in_memory(alloc)?;
+    Ok(SqlKeeper::adopt(alloc, connection)?)
+}
+
+// A keeper over memory that tells its rows, and fails at one call.
+fn failing(alloc: Global, call: u32, keep: bool) -> Result<SqlKeeper<MemStore>, Fail>
+    ensures rows { IfOk result (λ keeper. told_by over_memory keeper ≡ Some []) }
+    ensures no_doubt { IfOk result (λ keeper. doubtful keeper ≡ None) }
 {
     let mut plan = Vec::new(alloc);
     plan.push(KeeperPlan { call, keep })?;
@@ -59,7 +76,7 @@ fn keeper(alloc: Global, call: u32, keep: bool) -> Result<SqlKeeper<MemStore>, F
 #[test]
 fn rows_come_back(rt: HostRuntime) -> Result<(), Fail> {
     let alloc = rt.alloc();
-    let mut keeper = SqlKeeper::memory(alloc)?;
+    let mut keeper = silent(alloc)?;
     let first = row(1, b"t1", b"usb1", RowState::Begun)?;
     let second = row(2, b"t2", b"usb2", RowState::Pending)?;
     keeper.commit(&Change::Add(first))?;
@@ -70,6 +87,7 @@ fn rows_come_back(rt: HostRuntime) -> Result<(), Fail> {
         reason: 10,
         time: 2000,
     })?;
+    keeper.reopen()?;
     let rows = keeper.load(alloc)?;
     assert_eq!(rt; rows.len(), 2);
     assert!(rt; is_same(&rows[0], &first));
@@ -80,14 +98,27 @@ fn rows_come_back(rt: HostRuntime) -> Result<(), Fail> {
         ..second
     };
     assert!(rt; is_same(&rows[1], &changed));
-    assert_eq!(rt; keeper.calls(), 4);
+    assert_eq!(rt; keeper.calls(), 5);
+    Ok(())
+}
+
+#[test]
+fn a_told_row_comes_back(rt: HostRuntime) -> Result<(), Fail> {
+    let alloc = rt.alloc();
+    let mut keeper = SqlKeeper::memory(alloc)?;
+    let first = row(1, b"t1", b"usb1", RowState::NeedsReboot)?;
+    keeper.commit(&Change::Add(first))?;
+    keeper.reopen()?;
+    let rows = keeper.load(alloc)?;
+    assert_eq!(rt; rows.len(), 1);
+    assert!(rt; is_same(&rows[0], &first));
     Ok(())
 }
 
 #[test]
 fn a_tag_comes_once(rt: HostRuntime) -> Result<(), Fail> {
     let alloc = rt.alloc();
-    let mut keeper = SqlKeeper::memory(alloc)?;
+    let mut keeper = silent(alloc)?;
     keeper.commit(&Change::Add(row(1, b"t1", b"usb1", RowState::Begun)?))?;
     let again = keeper.commit(&Change::Add(row(2, b"t1", b"usb2", RowState::Begun)?));
     assert!(rt; again == Err(KeeperRefusal::Fault));
@@ -101,15 +132,13 @@ fn a_tag_comes_once(rt: HostRuntime) -> Result<(), Fail> {
 fn a_planned_commit_is_kept_or_lost(rt: HostRuntime) -> Result<(), Fail> {
     let alloc = rt.alloc();
     for (keep, count) in [(false, 0), (true, 1)] {
-        let mut keeper = keeper(alloc, 2, keep)?;
-        let none = keeper.load(alloc)?;
-        assert_eq!(rt; none.len(), 0);
+        let mut keeper = failing(alloc, 1, keep)?;
         let stored = keeper.commit(&Change::Add(row(1, b"t1", b"usb1", RowState::Begun)?));
         assert!(rt; stored == Err(KeeperRefusal::Fault));
         keeper.reopen()?;
         let rows = keeper.load(alloc)?;
         assert_eq!(rt; rows.len(), count);
-        assert_eq!(rt; keeper.calls(), 4);
+        assert_eq!(rt; keeper.calls(), 3);
     }
     Ok(())
 }
@@ -117,9 +146,9 @@ fn a_planned_commit_is_kept_or_lost(rt: HostRuntime) -> Result<(), Fail> {
 #[test]
 fn planned_loads_and_reopenings_fail(rt: HostRuntime) -> Result<(), Fail> {
     let alloc = rt.alloc();
-    let mut first = keeper(alloc, 1, false)?;
+    let mut first = failing(alloc, 1, false)?;
     assert!(rt; first.load(alloc).err() == Some(KeeperRefusal::Fault));
-    let mut second = keeper(alloc, 1, true)?;
+    let mut second = failing(alloc, 1, true)?;
     assert!(rt; second.reopen() == Err(KeeperRefusal::Fault));
     second.reopen()?;
     Ok(())
@@ -191,25 +220,60 @@ fn other_tables_and_rows_are_a_fault(rt: HostRuntime) -> Result<(), Fail> {
     Ok(())
 }
 
-const FOLDER: &str = "history_sqlite_test";
+// Opens the keeper of a file, loads, and adds one row more.
+fn one_more(rt: &HostRuntime, path: &str) -> Result<usize, Fail> {
+    let mut keeper = SqlKeeper::file(rt, path)?;
+    let rows = keeper.load(rt.alloc())?;
+    let entry = rows.len() as u32 % 26 + 1;
+    let tag = [b'a' + entry as u8];
+    keeper.commit(&Change::Add(row(entry, &tag, &tag, RowState::Success)?))?;
+    Ok(rows.len())
+}
 
 #[test]
 fn a_file_keeps_its_rows(rt: HostRuntime) -> Result<(), Fail> {
-    let alloc = rt.alloc();
-    let _ = fs::remove_dir_all(&rt, FOLDER);
-    fs::create_dir(&rt, FOLDER)?;
-    for turn in 0..3u32 {
-        let mut keeper = SqlKeeper::file(&rt, "history_sqlite_test/history.db")?;
-        let rows = keeper.load(alloc)?;
-        assert_eq!(rt; rows.len(), turn as usize);
-        let tag = [b'a' + turn as u8];
-        keeper.commit(&Change::Add(row(turn + 1, &tag, &tag, RowState::Success)?))?;
+    let _ = fs::remove_dir_all(&rt, "history_sqlite_kept");
+    fs::create_dir(&rt, "history_sqlite_kept")?;
+    for count in 0..3 {
+        let found = one_more(&rt, "history_sqlite_kept/history.db")?;
+        assert_eq!(rt; found, count);
     }
-    fs::write(&rt, "history_sqlite_test/no.db", b"no database at all, but a text of some length")?;
-    assert!(rt; SqlKeeper::file(&rt, "history_sqlite_test/no.db").err() == Some(KeeperRefusal::Fault));
-    let left = fs::read(&rt, "history_sqlite_test/no.db")?;
-    assert_eq!(rt; left.as_slice(), b"no database at all, but a text of some length".as_slice());
-    assert!(rt; SqlKeeper::file(&rt, "history_sqlite_test/none/no.db").err() == Some(KeeperRefusal::Fault));
-    fs::remove_dir_all(&rt, FOLDER)?;
+    fs::remove_dir_all(&rt, "history_sqlite_kept")?;
+    Ok(())
+}
+
+// Makes a file of a database.
+fn make_file(rt: &HostRuntime, path: &str, tables: &str, rows: &str) -> Result<(), Fail> {
+    let mut connection = Connection::open(rt, path)?;
+    connection.execute_batch(tables)?;
+    connection.execute_batch(rows)?;
+    Ok(())
+}
+
+// Whether a keeper of the file is a fault that leaves the file as it was.
+fn is_left(rt: &HostRuntime, path: &str) -> Result<bool, Fail> {
+    let before = fs::read(rt, path)?;
+    let refusal = SqlKeeper::file(rt, path).err();
+    let after = fs::read(rt, path)?;
+    Ok(refusal == Some(KeeperRefusal::Fault) && before.as_slice() == after.as_slice())
+}
+
+#[test]
+fn another_file_is_left_as_it_was(rt: HostRuntime) -> Result<(), Fail> {
+    let alloc = rt.alloc();
+    let _ = fs::remove_dir_all(&rt, "history_sqlite_left");
+    fs::create_dir(&rt, "history_sqlite_left")?;
+    let tables = format!(in alloc; "{SCHEMA}{HISTORY}")?;
+    let strange = "INSERT INTO schema VALUES (1); INSERT INTO history VALUES (1, 't', 1, x'00', 'c', '1', '2', x'00', 0, 100, 0, 5, 5);";
+    make_file(&rt, "history_sqlite_left/number.db", tables.as_str(), "INSERT INTO schema VALUES (2);")?;
+    assert!(rt; is_left(&rt, "history_sqlite_left/number.db")?);
+    make_file(&rt, "history_sqlite_left/row.db", tables.as_str(), strange)?;
+    assert!(rt; is_left(&rt, "history_sqlite_left/row.db")?);
+    make_file(&rt, "history_sqlite_left/table.db", SCHEMA, "INSERT INTO schema VALUES (1);")?;
+    assert!(rt; is_left(&rt, "history_sqlite_left/table.db")?);
+    fs::write(&rt, "history_sqlite_left/no.db", b"no database at all, but a text of some length")?;
+    assert!(rt; is_left(&rt, "history_sqlite_left/no.db")?);
+    assert!(rt; SqlKeeper::file(&rt, "history_sqlite_left/none/no.db").err() == Some(KeeperRefusal::Fault));
+    fs::remove_dir_all(&rt, "history_sqlite_left")?;
     Ok(())
 }
