@@ -379,21 +379,21 @@ module _ (entry : ℕ) (state : RowState) (reason time : ℕ) where
           late = omega (arith, is, numbered.0);
           put = rw (has, hits) (ap (put_row (stored (turned row))) rest.1 ∙ front (from + 1) (turned row) rows (omega (arith, numbered.0)) numbered.1 ∙ ap (λ l. stored (turned row) ∷ map stored l) (sym rest.2));
         })
-      )
+        )
     | inr misses ↦ elim (replaced (from + 1) rows numbered.1) [
-        | inl none ↦ inl (rw misses none.0, rw misses (ap (λ l. row ∷ l) none.1))
-        | inr hit ↦ (
-            let has = eq_entry row.entry entry ∙ misses in
-            let below = lower row.entry hit.row.entry (omega (arith, numbered.0, hit.is, hit.late)) in
-            inr (record {
-              row = hit.row;
-              found = rw misses hit.found;
-              is = hit.is;
-              late = omega (arith, hit.late);
-              put = rw (has, misses) (rw below (ap (λ l. stored row ∷ l) hit.put));
-            })
+      | inl none ↦ inl (rw misses none.0, rw misses (ap (λ l. row ∷ l) none.1))
+      | inr hit ↦ (
+          let has = eq_entry row.entry entry ∙ misses in
+          let below = lower row.entry hit.row.entry (omega (arith, numbered.0, hit.is, hit.late)) in
+          inr (record {
+            row = hit.row;
+            found = rw misses hit.found;
+            is = hit.is;
+            late = omega (arith, hit.late);
+            put = rw (has, misses) (rw below (ap (λ l. stored row ∷ l) hit.put));
+          })
           )
-      ]
+    ]
   ]
 
   renumbered : (from : ℕ) (rows : List Row) → AreNumbered from rows → AreNumbered from (map (with_state entry state reason time) rows)
@@ -419,7 +419,7 @@ module _ (entry : ℕ) (state : RowState) (reason time : ℕ) where
         let ordered = none_left a.ordered (subst (λ k. IsPermutation k a.ordered) kept a.same) in
         let nothing : found ≡ [] = a.shown ∙ ap (λ xs. page changing values (map (λ (p : Output). p.1) xs)) ordered in
         ap (after db) nothing ∙ holds ∙ ap (map stored) (sym none.1)
-      )
+        )
     | inr hit ↦ (
         let o : Output = ([], projected hit.row) in
         let kept : a.kept ≡ o ∷ [] = a.distinct ∙ ap (map (output changing)) (staged ∙ ap (map env) hit.found) in
@@ -427,7 +427,7 @@ module _ (entry : ℕ) (state : RowState) (reason time : ℕ) where
         let one : found ≡ projected hit.row ∷ [] = a.shown ∙ ap (λ xs. page changing values (map (λ (p : Output). p.1) xs)) ordered in
         ap (after db) one ∙ ap (λ (r : Values). put_all (without_rowid (pos hit.row.entry) (db 1)) (numbered_by hit.row r)) (cast_stored (turned hit.row))
         ∙ ap₂ (λ n all. put_row (stored (turned hit.row)) (without_rowid (pos n) all)) hit.is holds ∙ hit.put
-      )
+        )
   ]
     where
       staged : a.staged ≡ map env (filter is_it rows)

@@ -59,7 +59,7 @@ still_blank old new blank limit same = record {
 pub counted : (old new : State) (row : Values) → new.step_limit ≡ old.step_limit → QueriesRow count_text [] old new (Ok row) → LeavesTables old new
 counted old new row limit h = (
   λ rows holds.
-    let same = asked count_text [] old new row (plain_at history_schema count_text old holds.schema count_of_two) h in stays old new rows holds limit same.0.is_open (inl same),
+      let same = asked count_text [] old new row (plain_at history_schema count_text old holds.schema count_of_two) h in stays old new rows holds limit same.0.is_open (inl same),
   λ blank. still_blank old new blank limit (asked count_text [] old new row (plain_at no_schema count_text old blank.schema count_of_none) h),
 )
 
@@ -67,7 +67,7 @@ pub numbered : (old new : State) (shown : List Values) → new.step_limit ≡ ol
 unfolding Shown
 numbered old new shown limit h = (
   λ rows holds.
-    let same = show_changes_nothing number_text [] old new shown (plain_at history_schema number_text old holds.schema number_of_two) h in stays old new rows holds limit same.0.is_open (inl same),
+      let same = show_changes_nothing number_text [] old new shown (plain_at history_schema number_text old holds.schema number_of_two) h in stays old new rows holds limit same.0.is_open (inl same),
   λ blank. let e : is_ok (understood no_schema number_text) ≡ true = ap is_ok (ap (λ s. understood s number_text) (sym blank.schema) ∙ h.1.is) in absurd (let f = number_of_none in cc),
 )
 

@@ -53,10 +53,7 @@ pub fn make_tables<D: Alter>(connection: &mut Connection<D>) -> Result<(), Error
     ensures clean { HasCleanDisk (state D.Store connection.new) → HasCleanDisk (state D.Store connection.old) }
 {
     let mut transaction = connection.transaction();
-    transaction.execute(
-        "CREATE TABLE schema (number INTEGER NOT NULL) STRICT",
-        &[],
-    )?;
+    transaction.execute("CREATE TABLE schema (number INTEGER NOT NULL) STRICT", &[])?;
     transaction.execute(
         "CREATE TABLE history (entry INTEGER PRIMARY KEY, tag TEXT NOT NULL UNIQUE, client INTEGER NOT NULL, device BLOB NOT NULL, component TEXT NOT NULL, version_old TEXT NOT NULL, version_new TEXT NOT NULL, digest BLOB NOT NULL, flags INTEGER NOT NULL, state INTEGER NOT NULL, reason INTEGER NOT NULL, time_added INTEGER NOT NULL, time_changed INTEGER NOT NULL) STRICT",
         &[],

@@ -199,15 +199,51 @@ fn other_tables_and_rows_are_a_fault(rt: HostRuntime) -> Result<(), Fail> {
         ("INSERT INTO schema VALUES (1), (1);", "", None),
         ("INSERT INTO schema VALUES (2);", "", None),
         ("", "", None),
-        (one, "(1, 't', 1, x'0000000000000000000000000000000000000000', 'c', '1', '2', x'0000000000000000000000000000000000000000000000000000000000000000', 0, 100, 0, 5, 5)", Some(1)),
-        (one, "(1, 't', 1, x'00000000000000000000000000000000000000', 'c', '1', '2', x'0000000000000000000000000000000000000000000000000000000000000000', 0, 100, 0, 5, 5)", None),
-        (one, "(1, 't', 1, x'0000000000000000000000000000000000000000', 'c', '1', '2', x'00000000000000000000000000000000000000000000000000000000000000', 0, 100, 0, 5, 5)", None),
-        (one, "(1, 't', 1, x'0000000000000000000000000000000000000000', 'c', '1', '2', x'0000000000000000000000000000000000000000000000000000000000000000', 0, 5, 0, 5, 5)", None),
-        (one, "(1, 't', -1, x'0000000000000000000000000000000000000000', 'c', '1', '2', x'0000000000000000000000000000000000000000000000000000000000000000', 0, 4, 0, 5, 5)", None),
-        (one, "(4294967296, 't', 1, x'0000000000000000000000000000000000000000', 'c', '1', '2', x'0000000000000000000000000000000000000000000000000000000000000000', 0, 3, 0, 5, 5)", None),
-        (one, "(1, 't u', 1, x'0000000000000000000000000000000000000000', 'c', '1', '2', x'0000000000000000000000000000000000000000000000000000000000000000', 0, 2, 0, 5, 5)", None),
-        (one, "(1, 't', 1, x'0000000000000000000000000000000000000000', 'c', '', '2', x'0000000000000000000000000000000000000000000000000000000000000000', 0, 1, 0, 5, 5)", None),
-        (one, "(1, 't', 1, x'0000000000000000000000000000000000000000', 'c', '1', '2', x'0000000000000000000000000000000000000000000000000000000000000000', 256, 1, 0, 5, 5)", None),
+        (
+            one,
+            "(1, 't', 1, x'0000000000000000000000000000000000000000', 'c', '1', '2', x'0000000000000000000000000000000000000000000000000000000000000000', 0, 100, 0, 5, 5)",
+            Some(1),
+        ),
+        (
+            one,
+            "(1, 't', 1, x'00000000000000000000000000000000000000', 'c', '1', '2', x'0000000000000000000000000000000000000000000000000000000000000000', 0, 100, 0, 5, 5)",
+            None,
+        ),
+        (
+            one,
+            "(1, 't', 1, x'0000000000000000000000000000000000000000', 'c', '1', '2', x'00000000000000000000000000000000000000000000000000000000000000', 0, 100, 0, 5, 5)",
+            None,
+        ),
+        (
+            one,
+            "(1, 't', 1, x'0000000000000000000000000000000000000000', 'c', '1', '2', x'0000000000000000000000000000000000000000000000000000000000000000', 0, 5, 0, 5, 5)",
+            None,
+        ),
+        (
+            one,
+            "(1, 't', -1, x'0000000000000000000000000000000000000000', 'c', '1', '2', x'0000000000000000000000000000000000000000000000000000000000000000', 0, 4, 0, 5, 5)",
+            None,
+        ),
+        (
+            one,
+            "(4294967296, 't', 1, x'0000000000000000000000000000000000000000', 'c', '1', '2', x'0000000000000000000000000000000000000000000000000000000000000000', 0, 3, 0, 5, 5)",
+            None,
+        ),
+        (
+            one,
+            "(1, 't u', 1, x'0000000000000000000000000000000000000000', 'c', '1', '2', x'0000000000000000000000000000000000000000000000000000000000000000', 0, 2, 0, 5, 5)",
+            None,
+        ),
+        (
+            one,
+            "(1, 't', 1, x'0000000000000000000000000000000000000000', 'c', '', '2', x'0000000000000000000000000000000000000000000000000000000000000000', 0, 1, 0, 5, 5)",
+            None,
+        ),
+        (
+            one,
+            "(1, 't', 1, x'0000000000000000000000000000000000000000', 'c', '1', '2', x'0000000000000000000000000000000000000000000000000000000000000000', 256, 1, 0, 5, 5)",
+            None,
+        ),
     ];
     for (number, values, want) in cases {
         let rows = if values.is_empty() {
@@ -215,7 +251,10 @@ fn other_tables_and_rows_are_a_fault(rt: HostRuntime) -> Result<(), Fail> {
         } else {
             format!(in alloc; "{number} INSERT INTO history VALUES {values};")?
         };
-        assert!(rt; found(alloc, tables.as_str(), rows.as_str()).ok() == want, "{rows}");
+        assert!(rt;
+            found(alloc, tables.as_str(), rows.as_str()).ok() == want,
+            "{rows}"
+        );
     }
     Ok(())
 }
@@ -264,16 +303,33 @@ fn another_file_is_left_as_it_was(rt: HostRuntime) -> Result<(), Fail> {
     let _ = fs::remove_dir_all(&rt, "history_sqlite_left");
     fs::create_dir(&rt, "history_sqlite_left")?;
     let tables = format!(in alloc; "{SCHEMA}{HISTORY}")?;
-    let strange = "INSERT INTO schema VALUES (1); INSERT INTO history VALUES (1, 't', 1, x'00', 'c', '1', '2', x'00', 0, 100, 0, 5, 5);";
-    make_file(&rt, "history_sqlite_left/number.db", tables.as_str(), "INSERT INTO schema VALUES (2);")?;
+    let strange =
+        "INSERT INTO schema VALUES (1); INSERT INTO history VALUES (1, 't', 1, x'00', 'c', '1', '2', x'00', 0, 100, 0, 5, 5);";
+    make_file(
+        &rt,
+        "history_sqlite_left/number.db",
+        tables.as_str(),
+        "INSERT INTO schema VALUES (2);",
+    )?;
     assert!(rt; is_left(&rt, "history_sqlite_left/number.db")?);
     make_file(&rt, "history_sqlite_left/row.db", tables.as_str(), strange)?;
     assert!(rt; is_left(&rt, "history_sqlite_left/row.db")?);
-    make_file(&rt, "history_sqlite_left/table.db", SCHEMA, "INSERT INTO schema VALUES (1);")?;
+    make_file(
+        &rt,
+        "history_sqlite_left/table.db",
+        SCHEMA,
+        "INSERT INTO schema VALUES (1);",
+    )?;
     assert!(rt; is_left(&rt, "history_sqlite_left/table.db")?);
-    fs::write(&rt, "history_sqlite_left/no.db", b"no database at all, but a text of some length")?;
+    fs::write(
+        &rt,
+        "history_sqlite_left/no.db",
+        b"no database at all, but a text of some length",
+    )?;
     assert!(rt; is_left(&rt, "history_sqlite_left/no.db")?);
-    assert!(rt; SqlKeeper::file(&rt, "history_sqlite_left/none/no.db").err() == Some(KeeperRefusal::Fault));
+    assert!(rt;
+        SqlKeeper::file(&rt, "history_sqlite_left/none/no.db").err() == Some(KeeperRefusal::Fault)
+    );
     fs::remove_dir_all(&rt, "history_sqlite_left")?;
     Ok(())
 }

@@ -11,7 +11,7 @@ returns-in-Some-clause-settles g c clean =
     let doubt : old.doubt ≡ Some c.in-Some.doubt = sym (ap (λ (k : Keeping g.row.D.Denot). k.doubt) c.read.ensures.same) ∙ sym (ap (λ (k : Keeping g.row.D.Denot). k.doubt) c.self-2.view_is) ∙ c.in-Some.is in
     on_ok_weaker c.write.result
     (settled (database g.D.Store old) (database g.D.Store c.read.new.self) (database g.D.Store c.write.new.self) old.doubt c.in-Some.doubt c.in_ok-_rows._rows.items doubt c.if-doubt.true
-      (c.in_ok-_rows.ensures.loads (c.write.ensures.clean clean)))
+    (c.in_ok-_rows.ensures.loads (c.write.ensures.clean clean)))
     (c.write.ensures.makes clean)
 
 pub returns-in-Some-clause-refused : goal.returns-in-Some-clause-refused
