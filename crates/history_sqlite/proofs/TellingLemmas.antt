@@ -11,7 +11,7 @@ use Rattle.history_keeper.specs.declared.plan.Doubt.{Doubt}
 use Rattle.history_keeper.specs.Changes.{Suits, changed}
 use Rattle.history_keeper.specs.Memories.{kept}
 use Rattle.history_sqlite.specs.Columns.{state_in, state_number}
-use Rattle.history_sqlite.specs.Tables.{stored, HoldsRows, Loads, Keeps, Makes}
+use Rattle.history_sqlite.specs.Tables.{stored, HoldsRows, Loads, Makes}
 use Rattle.history_sqlite.specs.Telling.{row_in, rows_in, told, Knows, SuitsDoubt, Settles}
 
 state_again : (s : RowState) → unwrap_or (state_in (Int (pos (state_number s)))) Begun ≡ s
@@ -36,19 +36,6 @@ pub knows : (s : State) (rows : List Row) → HoldsRows s rows → HoldsRows s (
 knows s rows h = subst (HoldsRows s) (sym (told_rows s rows h)) h
 
 module _ (lasts : Bool) (old new : State) (lasting : IsTrue lasts → HasCleanDisk new × IsTrue new.is_open) where
-  pub after_load : (tells : Bool) (doubt : Option Doubt) (loaded : List Row) → Knows tells lasts old doubt → (HasCleanDisk new → Loads old new loaded)
-      → IfSome (told tells old) (λ all. loaded ≡ all) × (told tells new ≡ told tells old) × Knows tells lasts new doubt
-  after_load true doubt loaded k loads =
-      let r = loads (lasting k.0).0 (rows_in old) k.1 in
-      let same = told_rows new (rows_in old) r.1 in (r.0, ap Some same, (k.0, knows new (rows_in old) r.1, subst (SuitsDoubt doubt) (sym same) k.2))
-  after_load false doubt loaded k loads = (tt, refl, tt)
-
-  pub after_refusal : (tells : Bool) (doubt : Option Doubt) → Knows tells lasts old doubt → (HasCleanDisk new → IsTrue new.is_open → Keeps old new) → (told tells new ≡ told tells old) × Knows tells lasts new doubt
-  after_refusal true doubt k keeps =
-      let r = keeps (lasting k.0).0 (lasting k.0).1 (rows_in old) k.1 in
-      let same = told_rows new (rows_in old) r in (ap Some same, (k.0, knows new (rows_in old) r, subst (SuitsDoubt doubt) (sym same) k.2))
-  after_refusal false doubt k keeps = (refl, tt)
-
   pub after_change : (tells : Bool) (change : Change) (doubt : Option Doubt) → Knows tells lasts old doubt → ForSome (told tells old) (λ all. Suits change all) → (HasCleanDisk new → Makes old new change)
       → (told tells new ≡ option_map (changed change) (told tells old)) × Knows tells lasts new None
   after_change true change doubt k suits makes =
