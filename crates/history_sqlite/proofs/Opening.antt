@@ -1,5 +1,5 @@
 -- What is found where a database is opened.
-use Rattle.std.proofs.Common.{◌≡◌, ◌⊎◌, inl, inr, ℕ, List, [], codes, Bool, true, false, None, Result, Ok, Err, IsTrue, OnOk, refl, sym, ap, subst, ◌∙◌}
+use Rattle.std.proofs.Common.{◌≡◌, inl, inr, ℕ, List, [], codes, true, false, None, Result, Ok, Err, OnOk, refl, sym, ap, subst, ◌∙◌}
 use Rattle.std.specs.Result.{is_ok}
 use Rattle.sqlite.specs.Order.{Row as Values}
 use Rattle.sqlite.specs.Schema.{Schema}
@@ -10,8 +10,7 @@ use Rattle.sqlite.specs.Listing.{understood, listing_schema}
 use Rattle.sqlite.specs.State.{State, Executes, ExecutesIn, IsUnchanged, QueriesRow, Shown}
 use Rattle.sqlite.proofs.Callers.{IsPlain}
 use Rattle.sqlite_tied.specs.Compute.{everything}
-use Rattle.history_keeper.specs.declared.row.Row.{Row}
-use Rattle.history_sqlite.specs.Tables.{create_schema_text, no_schema, history_schema, HoldsRows, IsBlank, Keeps, LeavesTables, Opens}
+use Rattle.history_sqlite.specs.Tables.{create_schema_text, no_schema, history_schema, IsBlank, LeavesTables, Opens}
 use Rattle.history_sqlite.proofs.Effects.{stays, show_changes_nothing}
 
 abbrev count_text : List ℕ

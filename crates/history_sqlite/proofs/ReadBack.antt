@@ -1,11 +1,8 @@
 -- A row that is read from the columns of a row is that row.
-use Rattle.std.proofs.Common.{◌≡◌, ◌⊎◌, inl, inr, ℕ, ◌^◌, pos, Bool, true, false, nat_lt, ◌==◌, if◌then◌else◌, List, [], ◌∷◌, map, length, position, Option, Some, None, Result, Ok, Err, refl, sym, ap, ◌∙◌}
+use Rattle.std.proofs.Common.{◌≡◌, ◌⊎◌, inl, inr, ℕ, ◌^◌, pos, Bool, true, false, nat_lt, ◌==◌, if◌then◌else◌, List, [], ◌∷◌, map, length, position, Option, Some, None, Result, Ok, Err, refl, ap}
 use Rattle.std.specs.Result.{result_ok}
 use Rattle.fw_base.specs.Names.{name_read, name_unless, is_no_name_byte}
-use Rattle.fw_base.specs.declared.name.NameFault.{NameFault}
 use Rattle.version_formats.specs.Versions.{version_read, version_unless, is_no_version_byte}
-use Rattle.version_formats.specs.declared.version.VersionFault.{VersionFault}
-use Rattle.sqlite.specs.declared.types.Value.{Value}
 use Rattle.sqlite.specs.declared.types.Value.TheVariants.{Int, Text, Blob}
 use Rattle.history_keeper.specs.declared.row.Row.{Row}
 use Rattle.history_keeper.specs.declared.row.RowState.{RowState}

@@ -1,5 +1,5 @@
 -- What a keeper over a database is.
-use Rattle.std.specs.Prelude.{◌==◌, ℕ, Bool, List, [], Option, Some, None, find, option_map, refl}
+use Rattle.std.specs.Prelude.{◌==◌, ℕ, Bool, List, Option, Some, None, find, option_map, refl}
 use Rattle.std.specs.Coded.{Coded, code_by, coded×, coded_ℕ, coded_bool, coded_list, coded_option}
 use Rattle.outer_traits.specs.Plans.{one_more}
 use Rattle.history_keeper.specs.declared.change.Change.{Change}

@@ -1,6 +1,5 @@
 use Rattle.std.proofs.Common.{ap, ◌∙◌, map, inr}
 use Rattle.std.proofs.lemmas.Result.{IfOk-weaker}
-use Rattle.history_keeper.specs.declared.row.Row.{Row}
 use Rattle.history_sqlite.specs.Columns.{row_read}
 use Rattle.history_sqlite.proofs.ReadBack.{all_back}
 use Rattle.history_sqlite.proofs.statements.load_rows.Goals as goal
