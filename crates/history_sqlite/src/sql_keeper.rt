@@ -232,6 +232,9 @@ impl<D: Lasting> Keeper for SqlKeeper<D> {
 
     ghost faults = { λ s. s.faults };
 
+    // Each statement may want for memory.
+    ghost takes_none = { λ _. ⊥ };
+
     fn load(&mut self, alloc: Global) -> Result<Vec<Row>, KeeperRefusal>
         requires { doubtful self.old ≡ None }
         ensures loads { HasCleanDisk (database D.Store self.new) → IfOk result (λ loaded. Loads (database D.Store self.old) (database D.Store self.new) loaded.items) }
