@@ -1,8 +1,6 @@
 -- Pieces of text that a loop puts one behind the other.
 use Rattle.std.proofs.Common.{◌≡◌, ℕ, ◌+◌, ◌<◌, ◌≤◌, List, [], ◌∷◌, ◌++◌, length, take, get_or, reverse, sym, ap, ◌∙◌, append_assoc}
 use Rattle.std.specs.List.{flat_map}
-use Rattle.emulated_boards.specs.declared.mark.Mark.{Mark}
-use Rattle.report_text.specs.Lines.{mark_text, marks_text}
 use Rattle.std.proofs.lemmas.List.{take_all, take_more, append-nil, reverse-append}
 use Rattle.std.proofs.lemmas.Grind.{flat_map-append}
 
@@ -33,7 +31,3 @@ pub newest_first : {X : Type 0} (xs : List X) (i : ℕ) (x : X) → i < length x
 newest_first {X = X} xs i x lt is =
     ap (reverse {A = X}) (take_more xs i x lt) ∙ reverse-append (take i xs) (get_or xs i x ∷ [])
     ∙ ap (λ (y : X). y ∷ reverse (take i xs)) (sym is)
-
--- the words of two lists of marks, one behind the other
-pub parts_text : (xs ys : List Mark) → marks_text (xs ++ ys) ≡ marks_text xs ++ marks_text ys
-parts_text xs ys = flat_map-append mark_text xs ys
