@@ -1,9 +1,7 @@
 -- A state that takes a legal event stands again.
-use Rattle.std.proofs.Common.{◌≡◌, ℕ, true, false, List, [], ◌∷◌, ◌++◌, map, refl, ap, sym, ◌∙◌, subst, ◌<◌, ◌≤◌, ◌+◌, ◌^◌, arith, length}
-use Rattle.std.specs.Prelude.{Option, Some, All, unwrap_or}
-use Rattle.fw_facts.specs.declared.view.DeviceView.{DeviceView}
+use Rattle.std.proofs.Common.{◌≡◌, false, List, ◌∷◌, map, refl, ap, sym, ◌∙◌, subst, ◌<◌, ◌≤◌, ◌+◌, arith, length}
+use Rattle.std.specs.Prelude.{unwrap_or}
 use Rattle.history_keeper.specs.Histories.{IsHistory}
-use Rattle.history_keeper.specs.declared.change.Change.{Change}
 use Rattle.history_keeper.specs.declared.row.Row.{Row}
 use Rattle.update_log.proofs.CoreClaims.{claims-stay}
 use Rattle.update_log.proofs.CoreKnown.{doubt-made, rows-made}
@@ -14,19 +12,18 @@ use Rattle.update_log.proofs.CoreTraces.{entries-tied}
 use Rattle.update_log.proofs.CoreViews.{views-after}
 use Rattle.update_log.proofs.Pasts.{past-push}
 use Rattle.update_log.specs.Boards.{devices}
-use Rattle.update_log.specs.Core.{Core, Stands, trace_kept, trace_of_live}
+use Rattle.update_log.specs.Core.{Core, Stands}
 use Rattle.update_log.specs.CoreAfter.{IsAfter, IsNext, Takes, change_of, rows_on, views_told}
-use Rattle.update_log.specs.CoreSteps.{HasPlace, asks_row, change_on, changed_if, changes_live, doubt_at, made_at, tells_on, traces_on}
+use Rattle.update_log.specs.CoreSteps.{changed_if, changes_live, doubt_at, made_at, tells_on, traces_on}
 use Rattle.update_log.specs.CoreViews.{claimed, told_on}
 use Rattle.update_log.specs.Holding.{holds, live, live_after}
-use Rattle.update_log.specs.Known.{Known, doubt, known, rows, views, views_in}
+use Rattle.update_log.specs.Known.{doubt, known, rows, views}
 use Rattle.update_log.specs.Legal.{IsLegal}
 use Rattle.update_log.specs.Pasts.{past_of, time_of}
 use Rattle.update_log.specs.Shows.{Campaign}
 use Rattle.update_log.specs.Steps.{trace}
 use Rattle.update_log.specs.declared.event.Event.{Event}
 use Rattle.update_log.specs.declared.facts.Facts.{Facts}
-use Rattle.update_log.specs.declared.trace.Traced.{Traced}
 
 -- The rows after an event, over what is kept.
 pub rows-after : (facts : Facts) (opening : List Row) (core : Core) (event : Event) → Stands facts opening core

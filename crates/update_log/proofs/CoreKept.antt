@@ -1,13 +1,13 @@
 -- What is kept without facts is kept on.
-use Rattle.std.proofs.Common.{◌≡◌, ℕ, Bool, List, [], ◌∷◌, ◌++◌, map, refl, ap, sym, ◌∙◌, ◌≤◌, ◌+◌, arith, length, if◌then◌else◌}
+use Rattle.std.proofs.Common.{◌≡◌, ℕ, Bool, List, [], ◌∷◌, ◌++◌, map, ap, sym, ◌∙◌, ◌≤◌, ◌+◌, arith, length}
 use Rattle.std.specs.Prelude.{Option, ◌==◌}
 use Rattle.std.specs.List.{list_any}
 use Rattle.std.proofs.lemmas.List.{length_push}
 use Rattle.update_log.proofs.Lists.{by_test}
 use Rattle.update_log.proofs.Pasts.{past-push}
 use Rattle.update_log.specs.Core.{IsCore}
-use Rattle.update_log.specs.Holding.{holds, holds_after, live, live_after, open_after, open_steps}
-use Rattle.update_log.specs.Pasts.{boots, boots_after, counted, counted_after, finished, finished_after, is_boot, is_counted, limit_after, limit_of, off, off_after, past_of, time_after, time_of}
+use Rattle.update_log.specs.Holding.{holds, holds_after, live, live_after, open_after}
+use Rattle.update_log.specs.Pasts.{boots, boots_after, counted, counted_after, finished, finished_after, is_boot, is_counted, limit_after, off, off_after, past_of, time_after}
 use Rattle.update_log.specs.declared.event.Event.{Event}
 use Rattle.update_log.specs.declared.live.Held.{Held}
 use Rattle.update_log.specs.declared.live.LiveEntry.{LiveEntry}

@@ -1,5 +1,5 @@
 -- What is kept, after each part of it took an event.
-use Rattle.std.proofs.Common.{◌≡◌, ℕ, Bool, List, [], ◌∷◌, ◌++◌, map, refl, ap, sym, ◌∙◌, subst, ◌<◌, ◌≤◌, ◌+◌, ◌-◌, ◌^◌, arith, length, min}
+use Rattle.std.proofs.Common.{◌≡◌, ℕ, List, [], ◌∷◌, ◌++◌, map, ap, sym, ◌∙◌, subst, ◌<◌, ◌≤◌, ◌+◌, ◌-◌, ◌^◌, arith, length, min}
 use Rattle.std.proofs.lemmas.List.{length-map}
 use Rattle.std.specs.Prelude.{Option, true, false, ◌==◌, All, vec_len, vec_capacity}
 use Rattle.std.specs.List.{list_any}
@@ -9,11 +9,11 @@ use Rattle.history_keeper.specs.declared.row.Row.{Row}
 use Rattle.update_log.proofs.CoreKept.{NextParts}
 use Rattle.update_log.proofs.CoreViews.{length-told}
 use Rattle.update_log.specs.Core.{Core, IsCore, core_of, spare}
-use Rattle.update_log.specs.CoreAfter.{IsAfter, Takes, change_of}
+use Rattle.update_log.specs.CoreAfter.{IsAfter, Takes}
 use Rattle.update_log.specs.CoreSteps.{HasPlace, asks_row, change_on, changed_if, changes_live, doubt_at, made_at, tells_on, traces_on}
 use Rattle.update_log.specs.CoreViews.{claimed, told_on}
 use Rattle.update_log.specs.Holding.{holds, holds_after, live, live_after, open_after}
-use Rattle.update_log.specs.Pasts.{boots_after, counted_after, finished_after, limit_after, off_after, past_of, time_after, time_of}
+use Rattle.update_log.specs.Pasts.{boots_after, counted_after, finished_after, limit_after, off_after, time_after}
 use Rattle.update_log.specs.declared.event.Event.{Event}
 use Rattle.update_log.specs.declared.facts.Facts.{Facts}
 use Rattle.update_log.specs.declared.live.Held.{Held}

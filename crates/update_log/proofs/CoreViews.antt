@@ -1,12 +1,8 @@
 -- Views that change board by board.
-use Rattle.std.proofs.lemmas.List.Edits.{map_over_more}
-use Rattle.update_log.specs.Known.{is_on}
-use Rattle.update_log.proofs.Targets.{at-index}
-use Rattle.std.proofs.Common.{◌≡◌, ℕ, zero, suc, List, [], ◌∷◌, ◌++◌, map, take, drop, length, get_or, set, ◌<◌, ◌≤◌, ◌+◌, refl, ap, arith, add-one, sym, ◌∙◌}
-use Rattle.std.specs.Prelude.{Option, Some, None, IfSome, option_map, slice_get, unwrap_or, find}
+use Rattle.std.proofs.Common.{◌≡◌, ℕ, zero, suc, List, [], ◌∷◌, ◌++◌, map, take, drop, length, get_or, set, ◌<◌, ◌≤◌, ◌+◌, refl, ap, arith, sym, ◌∙◌}
+use Rattle.std.specs.Prelude.{Option, Some, None, IfSome, slice_get, unwrap_or}
 use Rattle.fw_facts.specs.declared.seen.Seen.{Seen}
 use Rattle.fw_facts.specs.declared.view.DeviceView.{DeviceView}
-use Rattle.history_keeper.specs.declared.row.Row.{Row}
 use Rattle.update_log.specs.CoreViews.{claimed, told_on}
 use Rattle.update_log.specs.Boards.{Board}
 use Rattle.update_log.specs.Known.{Known, view_of}

@@ -37,3 +37,4 @@ pub mod CoreClaims
 pub mod CoreAfter
 pub mod CoreKept
 pub mod CoreTake
+pub mod FirstSteps

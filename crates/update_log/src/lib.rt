@@ -32,6 +32,8 @@ mod row_changes;
 mod row_lookup;
 mod showing;
 pub mod state;
+#[cfg(test)]
+mod state_tests;
 mod stepping;
 mod taking;
 mod target;

@@ -1,4 +1,4 @@
-use Rattle.std.proofs.Common.{◌≡◌, ℕ, ap}
+use Rattle.std.proofs.Common.{ℕ, ap}
 use Rattle.std.specs.Prelude.{Option}
 use Rattle.fw_facts.specs.declared.view.DeviceView.{DeviceView}
 use Rattle.update_log.proofs.ClaimLoops.{each-at}

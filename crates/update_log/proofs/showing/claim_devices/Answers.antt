@@ -1,4 +1,4 @@
-use Rattle.std.proofs.Common.{◌≡◌, ◌-◌, suc, refl, arith}
+use Rattle.std.proofs.Common.{◌-◌, refl, arith}
 use Rattle.update_log.proofs.ClaimLoops.{claimed-all, claimed-none, claimed-turn}
 use Rattle.update_log.proofs.showing.claim_devices.Goals as goal
 

@@ -1,4 +1,3 @@
-use Rattle.std.proofs.Common.{ℕ}
 use Rattle.update_log.proofs.ClaimLoops.{Claimed}
 use Rattle.update_log.proofs.showing.claim_devices.Given as goal
 
