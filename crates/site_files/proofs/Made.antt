@@ -1,7 +1,8 @@
 -- The generated site: names of a letter and a number, lists of so many parts, and sound boards.
-use Rattle.std.proofs.Common.{◌≡◌, ℕ, zero, suc, ◌+◌, ◌<◌, ◌≤◌, ◌%◌, ◌==◌, Bool, true, false, List, [], ◌∷◌, ◌++◌, length, map, get_or, decimal, if◌then◌else◌, refl, sym, ap, subst, ◌∙◌, arith}
+use Rattle.std.proofs.Common.{◌≡◌, ℕ, zero, suc, ◌+◌, ◌<◌, ◌≤◌, ◌%◌, ◌==◌, Bool, true, false, List, [], ◌∷◌, ◌++◌, length, map, get_or, decimal, if◌then◌else◌, refl, sym, ap, subst, ◌∙◌, zero-add, arith}
 use Rattle.std.specs.Prelude.{All}
 use Rattle.std.specs.List.{flat_map, list_all, range_with_len}
+use Rattle.std.specs.Fmt.{digits}
 use Rattle.std.specs.Result.{IsOk, is_ok}
 use Rattle.std.proofs.lemmas.List.{flat_map_more}
 use Rattle.std.proofs.lemmas.List.Elements.{All-map}
@@ -37,17 +38,20 @@ named letter i = is_ok (name_read (letter ∷ decimal i))
 
 each_named : (letter : ℕ) → list_all (named letter) (range_with_len 0 257) ≡ true → (i : ℕ) → i ≤ 256 → IsOk (name_read (letter ∷ decimal i))
 each_named letter h i small =
-    let there : get_or (range_with_len 0 257) i 0 ≡ i = get_or-range_with_len 0 257 i 0 (omega arith) in
+    let there : get_or (range_with_len 0 257) i 0 ≡ i = get_or-range_with_len 0 257 i 0 (omega arith) ∙ zero-add i in
     let within : i < 257 = omega arith in
     subst (λ (j : ℕ). named letter j ≡ true) there (AllPass-from_list_all (named letter) (range_with_len 0 257) h i 0 within)
 
 pub b_names : (i : ℕ) → i ≤ 256 → IsOk (name_read (98 ∷ decimal i))
+unfolding digits
 b_names = each_named 98 refl
 
 pub p_names : (i : ℕ) → i ≤ 256 → IsOk (name_read (112 ∷ decimal i))
+unfolding digits
 p_names = each_named 112 refl
 
 pub t_names : (i : ℕ) → i ≤ 256 → IsOk (name_read (116 ∷ decimal i))
+unfolding digits
 t_names = each_named 116 refl
 
 -- ---- boards

@@ -26,19 +26,17 @@ pub fn absents_or_none(
 {
     match member(value, Word::Absent) {
         None => Ok(Listed::of(Vec::new(alloc))),
-        Some(found) => {
-            let read = absents(alloc, ports, found, spot.field(Word::Absent))?;
-            Ok(Listed::of(read))
-        }
+        Some(found) => absents(alloc, ports, found, spot.field(Word::Absent)),
     }
 }
 
-fn absents(alloc: Global, ports: &Ports, value: &Value, spot: Spot) -> Result<Vec<u32>, ReadStop>
+fn absents(alloc: Global, ports: &Ports, value: &Value, spot: Spot) -> Result<Listed<u32>, ReadStop>
     requires { length ports.now ≤ 256 }
-    ensures { Gives (λ v. v.items) result (absents_at ports.now spot (view value.now)) }
+    ensures { Gives (λ l. l) result (absents_at ports.now spot (view value.now)) }
 {
     let values = items(value, spot)?;
-    each_absent(alloc, ports, values, spot)
+    let read = each_absent(alloc, ports, values, spot)?;
+    Ok(Listed::of(read))
 }
 
 fn each_absent(

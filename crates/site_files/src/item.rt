@@ -1,9 +1,10 @@
 //! The items of scripts.
-ghost use Rattle.std.specs.Prelude.{◌≡◌, ◌+◌, ◌≤◌, ◌<◌, [], IfOk, find, length};
+ghost use Rattle.std.specs.Prelude.{◌≡◌, ◌+◌, ◌≤◌, ◌<◌, [], IfErr, IfOk, OnOk, find, length};
+ghost use Rattle.serde_json.specs.Data as json;
 ghost use Rattle.std.specs.Str.{bytes_eq};
 ghost use Rattle.serde_json.specs.View.{view, items_view};
 ghost use Rattle.release_catalogue.specs.declared.spot.Level.TheVariants.{Third};
-ghost use Rattle.release_catalogue.specs.Reading.{Gives, each, entry_spot, optional, the};
+ghost use Rattle.release_catalogue.specs.Reading.{Fails, Gives, each, entry_spot, optional, the};
 ghost use Rattle.site_files.specs.Boots.{done_at, each_install_flag, flag_word, flag_word_at, install_at, install_flags_at, item_at, no_install_flags, selector_at, verb_at, verb_word, with_flag};
 
 use client_scripts::Item;
@@ -114,13 +115,31 @@ pub fn each_item(
     ensures within { IfOk result (λ v. taken + length v.items ≤ 8192) }
 {
     let mut read = Vec::new(alloc);
-    let mut i = 0;
     for value in values {
-        let item = item(taken + i, value, spot.entry(Level::Third, i as u32))?;
-        i += 1;
-        read.push(item)?;
+        match push_item(&mut read, taken, value, spot) {
+            Ok(()) => {}
+            Err(stop) => return Err(stop),
+        }
     }
     Ok(read)
+}
+
+/// Puts the next item of a script behind the others.
+fn push_item(
+    read: &mut Vec<Item>,
+    taken: usize,
+    value: &Value,
+    spot: Spot,
+) -> Result<(), ReadStop>
+    requires { taken + length read.old.items ≤ 8192 }
+    ensures read { OnOk result ((ds : json.Items) → each (λ earlier. item_at (taken + length earlier)) (entry_spot spot Third) read.old.items (json.item (view value.now) ds) ≡ each (λ earlier. item_at (taken + length earlier)) (entry_spot spot Third) read.new.items ds) }
+    ensures fault { IfErr result (λ stop. (ds : json.Items) → Fails stop (each (λ earlier. item_at (taken + length earlier)) (entry_spot spot Third) read.old.items (json.item (view value.now) ds))) }
+    ensures within { OnOk result (taken + length read.new.items ≤ 8192) }
+{
+    let place = read.len();
+    let item = item(taken + place, value, spot.entry(Level::Third, place as u32))?;
+    read.push(item)?;
+    Ok(())
 }
 
 /// An item, where `taken` were taken before: `TooMany` at its `do` from the 8,193rd on.

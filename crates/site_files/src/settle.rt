@@ -1,6 +1,7 @@
 //! A site with its quirks applied and its plugins arranged.
 ghost use Rattle.std.specs.Prelude.{◌≡◌, ◌∷◌, ◌++◌, [], IfOk, OnOk, false, get_or, map, position};
 ghost use Rattle.std.specs.Str.{bytes_eq};
+ghost use Rattle.emulated_boards.specs.Plans.{IsPlan};
 ghost use Rattle.site_files.specs.Settling.{ArePlans, facts_of, first_seen, new_board, priorities_among, priorities_of, rank_of, settled_sheet, vetoes_of};
 
 use crate::site::{Site, SiteBoard};
@@ -190,18 +191,35 @@ fn settle_boards(
     let mut sheets = Vec::new(alloc);
     let mut made = Vec::new(alloc);
     for board in boards {
-        let SiteBoard {
-            sheet,
-            image,
-            faults,
-        } = board;
-        sheets.push(settle_sheet(alloc, sheet, quirks, ranks)?)?;
-        made.push(Board::new(alloc, image.items(), faults.into_items()))?;
+        let (sheet, new) = settle_board(alloc, board, quirks, ranks)?;
+        sheets.push(sheet)?;
+        made.push(new)?;
     }
     Ok(Settled {
         sheets: Listed::of(sheets),
         boards: Listed::of(made),
     })
+}
+
+/// Settles the board's sheet, and makes a new board.
+fn settle_board(
+    alloc: Global,
+    board: SiteBoard,
+    quirks: &QuirkBook,
+    ranks: &Ranks,
+) -> Result<(Sheet, Board), NoMemory>
+    requires { IsPlan board.faults }
+    ensures sheet { IfOk result (λ s. s.0 ≡ settled_sheet quirks.now ranks.now.names.items ranks.now.priorities.items board.sheet) }
+    ensures board { IfOk result (λ s. first_seen s.1 ≡ new_board board) }
+{
+    let SiteBoard {
+        sheet,
+        image,
+        faults,
+    } = board;
+    let settled = settle_sheet(alloc, sheet, quirks, ranks)?;
+    let made = Board::new(alloc, image.items(), faults.into_items());
+    Ok((settled, made))
 }
 
 /// The sheet after quirks, with the priority of its plugin added.

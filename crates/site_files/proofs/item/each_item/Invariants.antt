@@ -9,6 +9,5 @@ abbrev pub invariant-loop-value : goal.invariant-loop-value
 invariant-loop-value l = record {
   rest : each (λ earlier. item_at (l.taken + length earlier)) (entry_spot l.spot Third) l.read.items (items_view (drop l.value-index l.values))
       ≡ each (λ earlier. item_at (l.taken + length earlier)) (entry_spot l.spot Third) [] (items_view l.values);
-  count : length l.read.items ≡ l.i;
-  few : l.taken + l.i ≤ 8192;
+  few : l.taken + length l.read.items ≤ 8192;
 }
