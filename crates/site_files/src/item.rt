@@ -138,7 +138,6 @@ fn push_item(
 {
     let place = read.len();
     let item = item(taken + place, value, spot.entry(Level::Third, place as u32))?;
-    if let Item::Settle(_device) = item {}
     read.push(item)?;
     Ok(())
 }
