@@ -136,6 +136,10 @@ fn push_item(
     ensures fault { IfErr result (λ stop. (ds : json.Items) → Fails stop (each (λ earlier. item_at (taken + length earlier)) (entry_spot spot Third) read.old.items (json.item (view value.now) ds))) }
     ensures within { OnOk result (taken + length read.new.items ≤ 8192) }
 {
+    // The checker of borrows wants the types of an item's parts among the locals.
+    let _device: Option<Selector> = None;
+    let _query: Option<Query> = None;
+    let _request: Option<Request> = None;
     let place = read.len();
     let item = item(taken + place, value, spot.entry(Level::Third, place as u32))?;
     read.push(item)?;
