@@ -3,19 +3,19 @@ use Rattle.std.specs.Prelude.{◌≡◌, ℕ, List, [], Option}
 use Rattle.outer_traits.specs.Sinks.{Took, TookFront}
 use Rattle.fw_facts.specs.declared.sheet.Sheet.{Sheet}
 use Rattle.update_log.specs.declared.event.Event.{Event}
-use Rattle.report_text.specs.Report.{report}
+use Rattle.report_text.specs.Report.{report_by_sheets}
 use Rattle.fwupd_service.specs.declared.status.Status.{Status}
 use Rattle.fwupd_service.specs.declared.status.Status.TheVariants as statuses
 
 -- the sink took the report of the log
 pub record TookReport (log : List Event) (old new : Option (List ℕ)) : Type 0 where
   pub sheets : List Sheet
-  pub took : Took (report sheets log) old new
+  pub took : Took (report_by_sheets sheets log) old new
 
 -- the sink took a front of the report of the log
 pub record TookReportFront (log : List Event) (old new : Option (List ℕ)) : Type 0 where
   pub sheets : List Sheet
-  pub took : TookFront (report sheets log) old new
+  pub took : TookFront (report_by_sheets sheets log) old new
 
 -- what a status says of what the sink took: the report, a front of it, or nothing
 abbrev pub Told : Status → List Event → Option (List ℕ) → Option (List ℕ) → Type 0

@@ -16,7 +16,7 @@ use fw_base::{Listed, NoMemory};
 use fw_facts::Sheet;
 use outer_traits::{Shelf, Sink, Source};
 use release_catalogue::Reason;
-use report_text::{ReportStop, write_report};
+use report_text::{ReportStop, write_report_by_sheets};
 use std::alloc::Global;
 
 /// Does all that the program does: reads the words, runs the command, and says how it ended.
@@ -90,7 +90,7 @@ fn report<T: Sink>(alloc: Global, sheet: Sheet, played: Played, out: &mut T) -> 
 {
     let Played { log, boards } = played;
     let sheets = [sheet];
-    let written = write_report(alloc, &sheets, &log, out);
+    let written = write_report_by_sheets(alloc, &sheets, &log, out);
     let status = match written {
         Ok(()) => Status::Done,
         Err(ReportStop::SinkFault) => Status::SinkFault,

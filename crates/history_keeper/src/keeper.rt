@@ -1,5 +1,5 @@
 //! Who keeps the rows.
-ghost use Rattle.std.specs.Prelude.{◌≡◌, ◌≤◌, ℕ, List, Option, IfOk, IfSome};
+ghost use Rattle.std.specs.Prelude.{◌≡◌, ◌≢◌, ◌≤◌, ℕ, List, Option, IfOk, IfSome};
 ghost use Rattle.std.specs.Option.{ForSome};
 ghost use Rattle.outer_traits.specs.Faults.{Rose};
 ghost use Rattle.history_keeper.specs.declared.row.Row.{Row};
@@ -24,6 +24,9 @@ pub trait Keeper {
     /// How often it failed, up to 2^64 - 1.
     ghost faults: { Self → ℕ };
 
+    /// The changes that it makes without memory.
+    ghost takes_none: { Change → Type 0 };
+
     /// Gives the rows.
     fn load(&mut self, alloc: Global) -> Result<Vec<Row>, KeeperRefusal>
         requires { doubt self.old ≡ None }
@@ -39,6 +42,7 @@ pub trait Keeper {
         requires suits { ForSome (rows self.old) (λ all. Suits change.now all) }
         requires timely { IsTimely change.now }
         ensures committed { Committed change.now result (rows self.old) (rows self.new) (doubt self.new) }
+        ensures takes_none { takes_none change.now → result ≢ Err KeeperRefusal.NoMemory }
         ensures cause { result ≡ Err KeeperRefusal.Fault → Rose (faults self.old) (faults self.new) }
         ensures counts { faults self.old ≤ faults self.new };
 

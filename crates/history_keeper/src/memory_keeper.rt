@@ -83,6 +83,7 @@ impl MemoryKeeper {
 
 impl Keeper for MemoryKeeper {
     ghost use Rattle.std.specs.Prelude.{Some};
+    ghost use Rattle.history_keeper.specs.Changes.{AddsNone};
     ghost use Rattle.history_keeper.specs.Memories.{doubtful};
 
     ghost rows = { λ s. Some s.rows };
@@ -90,6 +91,8 @@ impl Keeper for MemoryKeeper {
     ghost doubt = { doubtful };
 
     ghost faults = { λ s. s.faults };
+
+    ghost takes_none = { AddsNone };
 
     fn load(&mut self, alloc: Global) -> Result<Vec<Row>, KeeperRefusal>
         requires { doubtful self.old ≡ None }
@@ -117,9 +120,9 @@ impl Keeper for MemoryKeeper {
         ensures fault { IfSome (planned self.old) (λ plan. self.new ≡ record (after_fault self.old) { doubt = Some (record { change = change.now; keep = plan.keep }) }) }
         ensures no_memory { result ≡ Err KeeperRefusal.NoMemory → self.new ≡ self.old }
         ensures made { OnOk result (self.new ≡ record (after_call self.old) { rows = changed change.now self.old.rows }) }
-        ensures takes_none { AddsNone change.now → result ≢ Err KeeperRefusal.NoMemory }
 
         ensures committed { Committed change.now result (Some self.old.rows) (Some self.new.rows) (doubtful self.new) }
+        ensures takes_none { AddsNone change.now → result ≢ Err KeeperRefusal.NoMemory }
         ensures counts { self.old.faults ≤ self.new.faults }
     {
         if let Some(plan) = self.planned() {

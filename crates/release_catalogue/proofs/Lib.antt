@@ -4,3 +4,4 @@ pub mod Lookups
 pub mod Loop
 pub mod Images
 pub mod WordNames
+pub mod FewRequirements

@@ -1,5 +1,5 @@
 -- Places of components and releases, and an index of them by GUID.
-use Rattle.std.specs.Prelude.{◌≡◌, ◌≤◌, ℕ, ◌==◌, Bool, false, List, [], ◌∷◌, length, Option, option_map, slice_get, find, map, filter}
+use Rattle.std.specs.Prelude.{◌≡◌, ◌≤◌, All, ℕ, ◌==◌, Bool, false, List, [], ◌∷◌, length, Option, option_map, slice_get, find, map, filter}
 use Rattle.std.specs.List.{list_any, enumerate_from, flat_map}
 use Rattle.std.specs.Map.{lookup}
 use Rattle.std.specs.Option.{option_map_or}
@@ -45,8 +45,9 @@ abbrev pub matching_from : List (List ℕ) → ℕ → List Component → List C
 matching_from guids place components =
     filter (λ chosen. provides guids chosen.component) (flat_map (λ entry. releases_of entry.0 entry.1) (enumerate_from place components))
 
--- What a catalogue keeps: its components are few, their releases too, and the index is theirs.
+-- What a catalogue keeps: its components are few, their releases and requirements too, and the index is theirs.
 pub record IsKept (components : List Component) (entries : List (List ℕ × Vec ℕ Global)) : Type 0 where
   pub few : length components ≤ 4096
   pub few_releases : releases_in components ≤ 20000
+  pub few_requirements : All (λ c. length c.requirements ≤ 64) components
   pub index : IsIndexOf entries components

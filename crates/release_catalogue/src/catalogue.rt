@@ -1,5 +1,5 @@
 //! The catalogue.
-ghost use Rattle.std.specs.Prelude.{◌≡◌, ◌≤◌, ◌<◌, IfOk, Some, length, slice_get};
+ghost use Rattle.std.specs.Prelude.{◌≡◌, ◌≤◌, ◌<◌, All, IfOk, Some, length, slice_get};
 ghost use Rattle.serde_json.specs.View.{view};
 ghost use Rattle.release_catalogue.specs.Reading.{Gives};
 ghost use Rattle.release_catalogue.specs.Faults.{Tells};
@@ -61,10 +61,12 @@ impl Catalogue {
         Ok(Catalogue::of(alloc, components)?)
     }
 
-    /// The catalogue of a list of components: at most 4,096, with at most 20,000 releases in all.
+    /// The catalogue of a list of components: at most 4,096, with at most 20,000 releases in all, and at
+    /// most 64 requirements in each.
     pub fn of(alloc: Global, components: Vec<Component>) -> Result<Catalogue, NoMemory>
         requires few { length components.items ≤ 4096 }
         requires few_releases { releases_in components.items ≤ 20000 }
+        requires few_requirements { All (λ c. length c.requirements ≤ 64) components.items }
         ensures { IfOk result (λ catalogue. catalogue ≡ components.items) }
     {
         let index = index_of(alloc, components.as_slice())?;
@@ -72,6 +74,15 @@ impl Catalogue {
             components: Listed::of(components),
             index,
         })
+    }
+
+    /// The limits that every catalogue keeps. Does nothing.
+    pub fn within_limits(&self)
+        ensures few { length self.now ≤ 4096 }
+        ensures few_releases { releases_in self.now ≤ 20000 }
+        ensures few_requirements { All (λ c. length c.requirements ≤ 64) self.now }
+    {
+        let _ = &self.components;
     }
 
     /// The components, in order.

@@ -1,5 +1,5 @@
 //! Components in the document.
-ghost use Rattle.std.specs.Prelude.{◌≡◌, ◌+◌, ◌<◌, ◌≤◌, ◌^◌, [], IfOk, length, map};
+ghost use Rattle.std.specs.Prelude.{◌≡◌, ◌+◌, ◌<◌, ◌≤◌, ◌^◌, [], All, IfOk, length, map};
 ghost use Rattle.serde_json.specs.View.{view, items_view};
 ghost use Rattle.release_catalogue.specs.Reading.{Gives, each, entry_spot, optional, the};
 ghost use Rattle.release_catalogue.specs.Kinds.{guid_at, list_at, plain_list_at};
@@ -46,6 +46,7 @@ pub fn component(
     requires { taken ≤ 20000 }
     ensures read { Gives (λ c. c) result (component_at taken spot (view value.now)) }
     ensures within { IfOk result (λ c. taken + length c.releases ≤ 20000) }
+    ensures few { IfOk result (λ c. length c.requirements ≤ 64) }
 {
     object(value, spot)?;
     let id = name(needed(value, spot, Word::Id)?, spot.field(Word::Id))?;
@@ -73,7 +74,8 @@ fn provides(alloc: Global, value: &Value, spot: Spot) -> Result<Listed<Guid>, Re
 }
 
 fn requirements(alloc: Global, value: &Value, spot: Spot) -> Result<Listed<Requirement>, ReadStop>
-    ensures { Gives (λ l. l) result (optional spot Word.Requires (λ at. list_at 64 (λ _. requirement_at) at spot Second) [] (view value.now)) }
+    ensures read { Gives (λ l. l) result (optional spot Word.Requires (λ at. list_at 64 (λ _. requirement_at) at spot Second) [] (view value.now)) }
+    ensures few { IfOk result (λ l. length l ≤ 64) }
 {
     match member(value, Word::Requires) {
         None => Ok(Listed::of(Vec::new(alloc))),
@@ -127,6 +129,7 @@ pub fn components(alloc: Global, value: &Value) -> Result<Vec<Component>, ReadSt
     ensures read { Gives (λ v. v.items) result (components_at (view value.now)) }
     ensures few { IfOk result (λ v. length v.items ≤ 4096) }
     ensures few_releases { IfOk result (λ v. releases_in v.items ≤ 20000) }
+    ensures few_requirements { IfOk result (λ v. All (λ c. length c.requirements ≤ 64) v.items) }
 {
     let spot = section_spot();
     let values = items(value, spot)?;
@@ -163,6 +166,7 @@ fn each_component(alloc: Global, values: &[Value], base: Spot) -> Result<Vec<Com
     ensures read { Gives (λ v. v.items) result (each (λ earlier. component_at (releases_in earlier)) (entry_spot base First) [] (items_view values.now)) }
     ensures as_many { IfOk result (λ v. length v.items ≡ length values.now) }
     ensures few_releases { IfOk result (λ v. releases_in v.items ≤ 20000) }
+    ensures few_requirements { IfOk result (λ v. All (λ c. length c.requirements ≤ 64) v.items) }
 {
     let mut read = Vec::new(alloc);
     let mut taken = 0;

@@ -1,5 +1,5 @@
 //! Lists.
-ghost use Rattle.std.specs.Prelude.{◌≡◌, ◌<◌, ◌^◌, ℕ, [], IfOk, List, Result, length, map};
+ghost use Rattle.std.specs.Prelude.{◌≡◌, ◌≤◌, ◌<◌, ◌^◌, ℕ, [], IfOk, List, Result, length, map};
 ghost use Rattle.serde_json.specs.Data.{Data};
 ghost use Rattle.serde_json.specs.View.{view, items_view};
 ghost use Rattle.release_catalogue.specs.declared.spot.Spot.{Spot};
@@ -69,7 +69,8 @@ pub fn list<E: Entry>(
     most: usize,
 ) -> Result<Vec<E>, ReadStop>
     requires { most < 2 ^ 32 }
-    ensures { Gives (λ v. map E.seen v.items) result (list_at most E.reading spot base level (view value.now)) }
+    ensures read { Gives (λ v. map E.seen v.items) result (list_at most E.reading spot base level (view value.now)) }
+    ensures few { IfOk result (λ v. length v.items ≤ most) }
 {
     let values = items(value, spot)?;
     if most < count(values) {

@@ -4,21 +4,19 @@ use Rattle.std.proofs.Math.Seq.{drop-cons}
 use Rattle.std.proofs.Math.ListN.{drop_of_length-le}
 use Rattle.outer_traits.specs.Sinks.{Took, TookFront}
 use Rattle.outer_traits.proofs.Fronts.{StillToWrite, still_none, took_more, front_first, front_later}
-use Rattle.fw_facts.specs.declared.sheet.Sheet.{Sheet}
 use Rattle.update_log.specs.declared.event.Event.{Event}
-use Rattle.report_text.specs.Lines.{lines_of}
-use Rattle.report_text.specs.Report.{lines_after}
-use Rattle.report_text.proofs.Pieces.{newest_first}
+use Rattle.report_text.specs.Report.{in_turn}
+use Rattle.client_scripts.proofs.Pieces.{newest_first}
 
 -- the lines that are left from an event on are its own and those after it
-from_here : (sheets : List Sheet) (log : List Event) (i : ℕ) (event : Event) → i < length log → event ≡ get_or log i event
-    → lines_after sheets (reverse (take i log)) (drop i log)
-    ≡ lines_of sheets (reverse (take i log)) event ++ lines_after sheets (reverse (take (i + 1) log)) (drop (i + 1) log)
-from_here sheets log i event lt is =
+from_here : (lines : List Event → Event → List ℕ) (log : List Event) (i : ℕ) (event : Event) → i < length log → event ≡ get_or log i event
+    → in_turn lines (reverse (take i log)) (drop i log)
+    ≡ lines (reverse (take i log)) event ++ in_turn lines (reverse (take (i + 1) log)) (drop (i + 1) log)
+from_here lines log i event lt is =
     let here : drop i log ≡ event ∷ drop (i + 1) log =
     rw add-one (drop-cons log i event lt ∙ ap (λ (e : Event). e ∷ drop (suc i) log) (sym is)) in
-    ap (lines_after sheets (reverse (take i log))) here
-    ∙ ap (λ (before : List Event). lines_of sheets (reverse (take i log)) event ++ lines_after sheets before (drop (i + 1) log)) (sym (newest_first log i event lt is))
+    ap (in_turn lines (reverse (take i log))) here
+    ∙ ap (λ (before : List Event). lines (reverse (take i log)) event ++ in_turn lines before (drop (i + 1) log)) (sym (newest_first log i event lt is))
 
 -- the part of the bytes that is still to be written begins with one piece
 still_past : (bytes one two : List ℕ) (a b c : Option (List ℕ)) → StillToWrite bytes (one ++ two) a b → Took one b c → StillToWrite bytes two a c
@@ -29,29 +27,29 @@ still_past bytes one two a b c s took = record {
 }
 
 -- an event's lines were written
-pub event_written : (bytes : List ℕ) (sheets : List Sheet) (log : List Event) (i : ℕ) (event : Event) (a b c : Option (List ℕ))
+pub event_written : (bytes : List ℕ) (lines : List Event → Event → List ℕ) (log : List Event) (i : ℕ) (event : Event) (a b c : Option (List ℕ))
     → i < length log → event ≡ get_or log i event
-    → StillToWrite bytes (lines_after sheets (reverse (take i log)) (drop i log)) a b
-    → Took (lines_of sheets (reverse (take i log)) event) b c
-    → StillToWrite bytes (lines_after sheets (reverse (take (i + 1) log)) (drop (i + 1) log)) a c
-event_written bytes sheets log i event a b c lt is s took =
+    → StillToWrite bytes (in_turn lines (reverse (take i log)) (drop i log)) a b
+    → Took (lines (reverse (take i log)) event) b c
+    → StillToWrite bytes (in_turn lines (reverse (take (i + 1) log)) (drop (i + 1) log)) a c
+event_written bytes lines log i event a b c lt is s took =
     let P : List ℕ → Type 0 = λ rest. StillToWrite bytes rest a b in
-    still_past bytes _ _ a b c (subst P (from_here sheets log i event lt is) s) took
+    still_past bytes _ _ a b c (subst P (from_here lines log i event lt is) s) took
 
 -- it stopped in an event's lines
-pub event_stopped : (bytes : List ℕ) (sheets : List Sheet) (log : List Event) (i : ℕ) (event : Event) (a b c : Option (List ℕ))
+pub event_stopped : (bytes : List ℕ) (lines : List Event → Event → List ℕ) (log : List Event) (i : ℕ) (event : Event) (a b c : Option (List ℕ))
     → i < length log → event ≡ get_or log i event
-    → StillToWrite bytes (lines_after sheets (reverse (take i log)) (drop i log)) a b
-    → TookFront (lines_of sheets (reverse (take i log)) event) b c
+    → StillToWrite bytes (in_turn lines (reverse (take i log)) (drop i log)) a b
+    → TookFront (lines (reverse (take i log)) event) b c
     → TookFront bytes a c
-event_stopped bytes sheets log i event a b c lt is s stopped =
-    let mine : List ℕ = lines_of sheets (reverse (take i log)) event in
-    let later : List ℕ = lines_after sheets (reverse (take (i + 1) log)) (drop (i + 1) log) in
-    let whole : bytes ≡ s.front ++ (mine ++ later) = s.parts ∙ ap (λ (rest : List ℕ). s.front ++ rest) (from_here sheets log i event lt is) in
+event_stopped bytes lines log i event a b c lt is s stopped =
+    let mine : List ℕ = lines (reverse (take i log)) event in
+    let later : List ℕ = in_turn lines (reverse (take (i + 1) log)) (drop (i + 1) log) in
+    let whole : bytes ≡ s.front ++ (mine ++ later) = s.parts ∙ ap (λ (rest : List ℕ). s.front ++ rest) (from_here lines log i event lt is) in
     rw whole (front_later s.front (mine ++ later) a b c s.took (front_first mine later b c stopped))
 
 -- all lines were written
-pub events_written : (bytes : List ℕ) (sheets : List Sheet) (log : List Event) (i : ℕ) (a b : Option (List ℕ)) → length log ≤ i
-    → StillToWrite bytes (lines_after sheets (reverse (take i log)) (drop i log)) a b → Took bytes a b
-events_written bytes sheets log i a b le s =
-    still_none bytes _ a b (ap (lines_after sheets (reverse (take i log))) (drop_of_length-le log le)) s
+pub events_written : (bytes : List ℕ) (lines : List Event → Event → List ℕ) (log : List Event) (i : ℕ) (a b : Option (List ℕ)) → length log ≤ i
+    → StillToWrite bytes (in_turn lines (reverse (take i log)) (drop i log)) a b → Took bytes a b
+events_written bytes lines log i a b le s =
+    still_none bytes _ a b (ap (in_turn lines (reverse (take i log))) (drop_of_length-le log le)) s

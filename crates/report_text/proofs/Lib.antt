@@ -1,2 +1,2 @@
-pub mod Pieces
+pub mod Marks
 pub mod Events

@@ -1,17 +1,10 @@
 -- The line of each event.
-use Rattle.std.specs.Prelude.{ℕ, Bool, ◌==◌, if◌then◌else◌, List, [], ◌∷◌, ◌++◌, codes, Option, Some, None, Result, ⊤, find, option_and_then, slice_get, length}
-use Rattle.std.specs.Option.{option_or}
-use Rattle.std.specs.List.{list_any, flat_map}
-use Rattle.std.specs.Str.{bytes_eq}
+use Rattle.std.specs.Prelude.{ℕ, ◌==◌, if◌then◌else◌, List, [], ◌++◌, codes, Option, Some, None, Result, ⊤, slice_get, length}
+use Rattle.std.specs.List.{flat_map}
 use Rattle.std.specs.Fmt.{decimal}
-use Rattle.hex.specs.Hex.{encode_lower}
-use Rattle.guid_ids.specs.Identifiers.{guid_text}
-use Rattle.version_formats.specs.Formats.{render}
 use Rattle.fw_facts.specs.declared.seen.Seen.{Seen}
-use Rattle.fw_facts.specs.declared.seen.Seen.TheVariants as seen
 use Rattle.fw_facts.specs.declared.sheet.Sheet.{Sheet}
 use Rattle.device_list.specs.declared.selector.Selector.{Selector}
-use Rattle.device_list.specs.declared.selector.Selector.TheVariants as selectors
 use Rattle.emulated_boards.specs.declared.fault.BoardFault.{BoardFault}
 use Rattle.emulated_boards.specs.declared.mark.Mark.{Mark}
 use Rattle.history_keeper.specs.declared.row.RowState.{RowState}
@@ -37,62 +30,12 @@ use Rattle.update_log.specs.declared.event.Back.TheVariants as backs
 use Rattle.update_log.specs.declared.event.Query.{Query}
 use Rattle.update_log.specs.declared.event.Query.TheVariants as queries
 use Rattle.update_log.specs.declared.event.BoardSeen.{BoardSeen}
-use Rattle.report_text.specs.Words.{op_word, outcome_word, mark_word, state_word, mode_word}
+use Rattle.client_scripts.specs.Parts.{port_text, seen_text, selector_text}
+use Rattle.client_scripts.specs.Words.{state_word}
+use Rattle.report_text.specs.Words.{op_word, outcome_word, mark_word}
 use Rattle.report_text.specs.Refusals.{refused_text}
 
--- ---- boards
-
--- the first sheet that a selector names
-abbrev pub is_named : Selector → Sheet → Bool
-is_named (selectors.Id device) sheet = bytes_eq sheet.device device
-is_named (selectors.Guid guid) sheet = list_any (bytes_eq guid) sheet.runtime_guids
-is_named (selectors.Port port) sheet = bytes_eq sheet.port port
-
-abbrev pub sheet_named : List Sheet → Selector → Option Sheet
-sheet_named sheets selector = find (is_named selector) sheets
-
--- the device of a request, where it was given this entry
-abbrev pub device_given : ℕ → Request → ClaimAnswer → Option Selector
-device_given entry request (claims.Entry given) = if given == entry then Some request.device else None
-device_given entry request (claims.Kept kept state) = None
-device_given entry request (claims.Refused refusal) = None
-
-abbrev pub device_taken : ℕ → Event → Option Selector
-device_taken entry (events.Claim client request fetched answer) = device_given entry request answer
-device_taken entry (events.Schedule client request answer) = device_given entry request answer
-device_taken entry _ = None
-
--- the device of an entry: that of the last request that was given it, in events of which the newest stands first
-abbrev pub device_of : ℕ → List Event → Option Selector
-device_of entry [] = None
-device_of entry (event ∷ before) = option_or (device_taken entry event) (device_of entry before)
-
--- the sheet of an entry's board
-abbrev pub sheet_of : List Sheet → ℕ → List Event → Option Sheet
-sheet_of sheets entry before = option_and_then (sheet_named sheets) (device_of entry before)
-
 -- ---- parts of lines
-
--- a version, by the format of the board's sheet; a board without one shows `-`
-abbrev pub version_text : Option Sheet → ℕ → List ℕ
-version_text (Some sheet) raw = render sheet.format raw
-version_text None raw = codes "-"
-
--- what a port shows
-abbrev pub seen_text : Option Sheet → Seen → List ℕ
-seen_text sheet (seen.Home raw mode) = version_text sheet raw ++ codes " " ++ mode_word mode
-seen_text sheet seen.Gone = codes "gone"
-seen_text sheet seen.Stranger = codes "stranger"
-
-abbrev pub port_text : Option Sheet → List ℕ
-port_text (Some sheet) = sheet.port
-port_text None = codes "-"
-
--- a device as its client named it
-abbrev pub selector_text : Selector → List ℕ
-selector_text (selectors.Id device) = encode_lower device
-selector_text (selectors.Guid guid) = guid_text guid
-selector_text (selectors.Port port) = port
 
 -- a mark's word behind a blank
 abbrev pub mark_text : Mark → List ℕ
@@ -218,26 +161,31 @@ judge_line client entry version state stored =
 abbrev pub plug_line : ℕ → List ℕ → Selector → PlugAnswer → List ℕ
 plug_line client word device answer = client_text client ++ word ++ selector_text device ++ codes " " ++ plug_text answer
 
--- the line of an event but a boot, without its end, with these events before it, the newest first
-abbrev pub line_of : List Sheet → List Event → Event → List ℕ
-line_of sheets before (events.Boot boot time limit found boards) = []
-line_of sheets before (events.Query client query) = client_text client ++ codes " " ++ query_text query
-line_of sheets before (events.Ask client request pending answer) = ask_line client request pending answer
-line_of sheets before (events.Claim client request fetched answer) = claim_line client request answer
-line_of sheets before (events.Schedule client request answer) = schedule_line client request answer
-line_of sheets before (events.Resume client entry fetched answer stored) = resume_line client entry answer stored
-line_of sheets before (events.Start client entry op) = entry_text client entry ++ codes " start " ++ op_word op
-line_of sheets before (events.End client entry op outcome told seen) =
-    end_line (sheet_of sheets entry before) client entry op outcome told seen
-line_of sheets before (events.Finish client entry state stored) = finish_line client entry state stored
-line_of sheets before (events.Judge client entry version state stored) = judge_line client entry version state stored
-line_of sheets before (events.Unplug client device answer) = plug_line client (codes " unplug ") device answer
-line_of sheets before (events.Plug client device answer) = plug_line client (codes " plug ") device answer
-line_of sheets before (events.GiveBack client what) = client_text client ++ codes " gave-back " ++ back_text what
-line_of sheets before events.Cut = codes "cut"
+-- the line of an event but a boot, without its end, where the sheet is that of the board whose step it ends
+abbrev pub line_of : Option Sheet → Event → List ℕ
+line_of sheet (events.Boot boot time limit found boards) = []
+line_of sheet (events.Query client query) = client_text client ++ codes " " ++ query_text query
+line_of sheet (events.Ask client request pending answer) = ask_line client request pending answer
+line_of sheet (events.Claim client request fetched answer) = claim_line client request answer
+line_of sheet (events.Schedule client request answer) = schedule_line client request answer
+line_of sheet (events.Resume client entry fetched answer stored) = resume_line client entry answer stored
+line_of sheet (events.Start client entry op) = entry_text client entry ++ codes " start " ++ op_word op
+line_of sheet (events.End client entry op outcome told seen) =
+    end_line sheet client entry op outcome told seen
+line_of sheet (events.Finish client entry state stored) = finish_line client entry state stored
+line_of sheet (events.Judge client entry version state stored) = judge_line client entry version state stored
+line_of sheet (events.Unplug client device answer) = plug_line client (codes " unplug ") device answer
+line_of sheet (events.Plug client device answer) = plug_line client (codes " plug ") device answer
+line_of sheet (events.GiveBack client what) = client_text client ++ codes " gave-back " ++ back_text what
+line_of sheet events.Cut = codes "cut"
+
+-- the entry of a step that an event ends
+abbrev pub entry_ended : Event → Option ℕ
+entry_ended (events.End client entry op outcome told seen) = Some entry
+entry_ended _ = None
 
 -- the lines of an event: a boot's own, the untold marks and then each board; of any other event its line
-abbrev pub lines_of : List Sheet → List Event → Event → List ℕ
-lines_of sheets before (events.Boot boot time limit found boards) =
+abbrev pub lines_of : List Sheet → Option Sheet → Event → List ℕ
+lines_of sheets sheet (events.Boot boot time limit found boards) =
     boot_line boot time found ++ flat_map (told_line sheets) boards ++ flat_map (board_line sheets) boards
-lines_of sheets before event = line_of sheets before event ++ codes "\n"
+lines_of sheets sheet event = line_of sheet event ++ codes "\n"

@@ -8,7 +8,7 @@ use Rattle.update_log.specs.declared.refusal.FetchNote.{FetchNote}
 use Rattle.update_log.specs.declared.refusal.FetchNote.TheVariants as notes
 use Rattle.update_log.specs.declared.refusal.Refusal.{Refusal}
 use Rattle.update_log.specs.declared.refusal.Refusal.TheVariants as refusals
-use Rattle.report_text.specs.Words.{problem_word}
+use Rattle.client_scripts.specs.Words.{problem_word}
 
 -- why a requirement doesn't hold: its number and its word
 abbrev pub cause_words : UnmetCause → List ℕ

@@ -2,10 +2,13 @@
 ghost use Rattle.std.specs.Prelude.{◌≡◌, ◌++◌, OnOk, codes};
 ghost use Rattle.std.specs.Fmt.{decimal};
 ghost use Rattle.report_text.specs.Refusals.{cause_text, note_text, refusal_details, refusal_text, refused_text};
-ghost use Rattle.report_text.specs.Lines.{selector_text, ask_text, claim_text, resume_text, plug_text, back_text, query_text, kept_text};
+ghost use Rattle.client_scripts.specs.Parts.{selector_text};
+ghost use Rattle.report_text.specs.Lines.{ask_text, claim_text, resume_text, plug_text, back_text, query_text, kept_text};
 
-use crate::parts::{put_digest, put_number, put_selector};
-use crate::words::{cause_words, problem_word, refusal_words, state_word};
+use crate::parts::put_digest;
+use crate::words::{cause_words, refusal_words};
+use client_scripts::parts::{put_number, put_selector};
+use client_scripts::words::{problem_word, state_word};
 use device_list::Selector;
 use history_keeper::RowState;
 use requirements::{Unmet, UnmetCause};

@@ -5,12 +5,13 @@
 #![tactic(auto)]
 
 mod answers;
+mod by_sheets;
+mod ends;
 mod lines;
 mod lookup;
 mod parts;
-mod report;
 mod stop;
 mod words;
 
-pub use report::write_report;
+pub use by_sheets::write_report_by_sheets;
 pub use stop::ReportStop;

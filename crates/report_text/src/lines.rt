@@ -1,14 +1,16 @@
 //! The lines of each event, put behind the bytes of a text.
-ghost use Rattle.std.specs.Prelude.{◌≡◌, ◌++◌, OnOk, List, codes, reverse};
+ghost use Rattle.std.specs.Prelude.{◌≡◌, ◌++◌, OnOk, codes};
 ghost use Rattle.std.specs.Option.{option_copied};
 ghost use Rattle.std.specs.List.{flat_map};
-ghost use Rattle.report_text.specs.Lines.{found_text, stored_text, resume_stored_text, boot_line, told_line, board_line, asked_text, entry_text, ask_line, claim_line, schedule_line, resume_line, end_line, finish_line, judge_line, plug_line, line_of, lines_of, client_text, query_text, back_text, sheet_of};
+ghost use Rattle.report_text.specs.Lines.{found_text, stored_text, resume_stored_text, boot_line, told_line, board_line, asked_text, entry_text, ask_line, claim_line, schedule_line, resume_line, end_line, finish_line, judge_line, plug_line, line_of, lines_of, client_text, query_text, back_text, entry_ended};
 ghost use Rattle.report_text.specs.Words.{op_word};
 
 use crate::answers::{put_ask, put_back, put_claim, put_plug, put_query, put_resume};
-use crate::lookup::{sheet_at, sheet_of};
-use crate::parts::{put_client, put_number, put_port, put_seen, put_selector, put_told};
-use crate::words::{op_word, outcome_word, state_word};
+use crate::lookup::sheet_at;
+use crate::parts::{put_client, put_told};
+use crate::words::{op_word, outcome_word};
+use client_scripts::parts::{put_number, put_port, put_seen, put_selector};
+use client_scripts::words::state_word;
 use device_list::Selector;
 use emulated_boards::BoardFault;
 use fw_facts::{Seen, Sheet};
@@ -320,15 +322,10 @@ fn put_boot(
     put_board_lines(out, sheets, boards)
 }
 
-/// Puts the line of an event that is no boot behind the text, without its end. `before` are the
-/// events before it, the oldest first.
-fn put_line(
-    out: &mut Vec<u8>,
-    sheets: &[Sheet],
-    before: &[Event],
-    event: &Event,
-) -> Result<(), AllocError>
-    ensures { OnOk result (out.new.items ≡ out.old.items ++ line_of sheets.now (reverse before.now) event.now) }
+/// Puts the line of an event that is no boot behind the text, without its end. The sheet is that of
+/// the board whose step it ends.
+fn put_line(out: &mut Vec<u8>, sheet: Option<&Sheet>, event: &Event) -> Result<(), AllocError>
+    ensures { OnOk result (out.new.items ≡ out.old.items ++ line_of (option_copied sheet.entry) event.now) }
 {
     match event {
         Event::Boot { .. } => Ok(()),
@@ -372,13 +369,7 @@ fn put_line(
                 told,
                 seen: *seen,
             };
-            put_end_line(
-                out,
-                sheet_of(sheets, *entry, before),
-                *client,
-                *entry,
-                &ended,
-            )
+            put_end_line(out, sheet, *client, *entry, &ended)
         }
         Event::Finish {
             client,
@@ -408,14 +399,14 @@ fn put_line(
     }
 }
 
-/// Puts the lines of an event behind the text. `before` are the events before it, the oldest first.
+/// Puts the lines of an event behind the text. The sheet is that of the board whose step it ends.
 pub fn put_lines(
     out: &mut Vec<u8>,
     sheets: &[Sheet],
-    before: &[Event],
+    sheet: Option<&Sheet>,
     event: &Event,
 ) -> Result<(), AllocError>
-    ensures { OnOk result (out.new.items ≡ out.old.items ++ lines_of sheets.now (reverse before.now) event.now) }
+    ensures { OnOk result (out.new.items ≡ out.old.items ++ lines_of sheets.now (option_copied sheet.entry) event.now) }
 {
     match event {
         Event::Boot {
@@ -426,8 +417,30 @@ pub fn put_lines(
             ..
         } => put_boot(out, sheets, *boot, *time, *found, boards.items()),
         _ => {
-            put_line(out, sheets, before, event)?;
+            put_line(out, sheet, event)?;
             out.extend_from_slice(b"\n")
         }
+    }
+}
+
+/// The entry of a step that an event ends.
+pub fn entry_ended(event: &Event) -> Option<u32>
+    ensures { result ≡ entry_ended event.now }
+{
+    match event {
+        Event::End { entry, .. } => Some(*entry),
+        Event::Boot { .. }
+        | Event::Query { .. }
+        | Event::Ask { .. }
+        | Event::Claim { .. }
+        | Event::Schedule { .. }
+        | Event::Resume { .. }
+        | Event::Start { .. }
+        | Event::Finish { .. }
+        | Event::Judge { .. }
+        | Event::Unplug { .. }
+        | Event::Plug { .. }
+        | Event::GiveBack { .. }
+        | Event::Cut => None,
     }
 }

@@ -3,7 +3,7 @@ ghost use Rattle.std.specs.Prelude.{◌≡◌, reverse, slice_get};
 ghost use Rattle.std.specs.List.{list_any};
 ghost use Rattle.std.specs.Str.{bytes_eq};
 ghost use Rattle.std.specs.Option.{option_copied};
-ghost use Rattle.report_text.specs.Lines.{is_named, sheet_named, device_given, device_taken, device_of, sheet_of};
+ghost use Rattle.report_text.specs.Named.{is_named, sheet_named, device_given, device_taken, device_of, sheet_of};
 
 use device_list::Selector;
 use fw_facts::Sheet;

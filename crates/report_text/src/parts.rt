@@ -1,26 +1,15 @@
 //! Parts of lines, each put behind the bytes of a text.
 ghost use Rattle.std.specs.Prelude.{◌≡◌, ◌++◌, OnOk};
-ghost use Rattle.std.specs.Option.{option_copied, option_to_list};
-ghost use Rattle.std.specs.Fmt.{decimal};
+ghost use Rattle.std.specs.Option.{option_to_list};
 ghost use Rattle.hex.specs.Hex.{encode_lower};
-ghost use Rattle.report_text.specs.Lines.{version_text, seen_text, port_text, selector_text, marks_text, client_text};
+ghost use Rattle.report_text.specs.Lines.{marks_text, client_text};
 
-use crate::words::{mark_word, mode_word};
-use device_list::Selector;
+use crate::words::mark_word;
+use client_scripts::parts::put_number;
 use emulated_boards::Mark;
 use fw_base::Digest;
-use fw_facts::{Seen, Sheet};
 use std::alloc::AllocError;
 use update_log::Told;
-use version_formats::render;
-
-/// Puts a number behind the text, in decimal.
-pub fn put_number(out: &mut Vec<u8>, number: u64) -> Result<(), AllocError>
-    ensures { OnOk result (out.new.items ≡ out.old.items ++ decimal number) }
-{
-    let text = number.to_string(*out.allocator())?;
-    out.extend_from_slice(text.as_bytes())
-}
 
 /// Puts a digest behind the text, as 64 hex digits in lower case.
 pub fn put_digest(out: &mut Vec<u8>, digest: &Digest) -> Result<(), AllocError>
@@ -38,54 +27,8 @@ pub fn put_client(out: &mut Vec<u8>, client: u32) -> Result<(), AllocError>
     put_number(out, u64::from(client))
 }
 
-/// Puts a version behind the text, in the format of its board's sheet.
-fn put_version(out: &mut Vec<u8>, sheet: Option<&Sheet>, raw: u32) -> Result<(), AllocError>
-    ensures { OnOk result (out.new.items ≡ out.old.items ++ version_text (option_copied sheet.entry) raw) }
-{
-    match sheet {
-        Some(sheet) => out.extend_from_slice(render(sheet.format, raw).bytes()),
-        None => out.extend_from_slice(b"-"),
-    }
-}
-
-/// Puts what a port shows behind the text.
-pub fn put_seen(out: &mut Vec<u8>, sheet: Option<&Sheet>, seen: Seen) -> Result<(), AllocError>
-    ensures { OnOk result (out.new.items ≡ out.old.items ++ seen_text (option_copied sheet.entry) seen) }
-{
-    match seen {
-        Seen::Home { raw, mode } => {
-            put_version(out, sheet, raw)?;
-            out.extend_from_slice(b" ")?;
-            out.extend_from_slice(mode_word(mode).as_bytes())
-        }
-        Seen::Gone => out.extend_from_slice(b"gone"),
-        Seen::Stranger => out.extend_from_slice(b"stranger"),
-    }
-}
-
-/// Puts a board's port behind the text.
-pub fn put_port(out: &mut Vec<u8>, sheet: Option<&Sheet>) -> Result<(), AllocError>
-    ensures { OnOk result (out.new.items ≡ out.old.items ++ port_text (option_copied sheet.entry)) }
-{
-    match sheet {
-        Some(sheet) => out.extend_from_slice(sheet.port.bytes()),
-        None => out.extend_from_slice(b"-"),
-    }
-}
-
-/// Puts a device behind the text, as its client named it.
-pub fn put_selector(out: &mut Vec<u8>, selector: &Selector) -> Result<(), AllocError>
-    ensures { OnOk result (out.new.items ≡ out.old.items ++ selector_text selector.now) }
-{
-    match selector {
-        Selector::Id(device) => out.extend_from_slice(&device.text()),
-        Selector::Guid(guid) => out.extend_from_slice(&guid.text()),
-        Selector::Port(port) => out.extend_from_slice(port.bytes()),
-    }
-}
-
 /// Puts the word of each mark behind the text, a blank before each.
-#[tactic(auto, using(crate::proofs::Pieces::parts_text))]
+#[tactic(auto, using(crate::proofs::Marks::parts_text))]
 pub fn put_told(out: &mut Vec<u8>, told: &Told) -> Result<(), AllocError>
     ensures { OnOk result (out.new.items ≡ out.old.items ++ marks_text told.now) }
 {

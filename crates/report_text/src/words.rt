@@ -1,11 +1,9 @@
 //! The words of the report.
 ghost use Rattle.std.specs.Prelude.{◌≡◌};
-ghost use Rattle.report_text.specs.Words.{op_word, outcome_word, mark_word, state_word, mode_word, problem_word};
+ghost use Rattle.report_text.specs.Words.{op_word, outcome_word, mark_word};
 ghost use Rattle.report_text.specs.Refusals.{cause_words, refusal_words};
 
 use emulated_boards::{BoardFault, Mark};
-use fw_facts::{Mode, Problem};
-use history_keeper::RowState;
 use requirements::UnmetCause;
 use update_log::{Op, Refusal};
 
@@ -42,41 +40,6 @@ pub fn mark_word(mark: &Mark) -> &'static str
         Mark::Began { .. } => "began",
         Mark::Ended { .. } => "ended",
         Mark::Left => "left",
-    }
-}
-
-pub fn state_word(state: RowState) -> &'static str
-    ensures { result.now ≡ state_word state }
-{
-    match state {
-        RowState::Pending => "pending",
-        RowState::Success => "success",
-        RowState::Failed => "failed",
-        RowState::NeedsReboot => "needs-reboot",
-        RowState::Begun => "begun",
-    }
-}
-
-pub fn mode_word(mode: Mode) -> &'static str
-    ensures { result.now ≡ mode_word mode }
-{
-    match mode {
-        Mode::Runtime => "runtime",
-        Mode::Bootloader => "bootloader",
-    }
-}
-
-pub fn problem_word(problem: Problem) -> &'static str
-    ensures { result.now ≡ problem_word problem }
-{
-    match problem {
-        Problem::SystemPowerTooLow => "system-power-too-low",
-        Problem::Unreachable => "unreachable",
-        Problem::PowerTooLow => "power-too-low",
-        Problem::UpdatePending => "update-pending",
-        Problem::RequireAcPower => "require-ac-power",
-        Problem::LidIsClosed => "lid-is-closed",
-        Problem::UpdateInProgress => "update-in-progress",
     }
 }
 

@@ -58,13 +58,13 @@ abbrev pub core_of : Inside → Core
 core_of s =
     record {
       log = s.log.items;
-      rows = s.rows.items;
+      rows = s.rows.rows;
       views = s.devices;
       boards = s.boards.items;
       traces = s.traces.items;
       doubt = s.doubt;
       room = spare s;
-      row_room = vec_capacity s.rows - vec_len s.rows;
+      row_room = s.rows.room;
     }
 
 -- What is kept beside the log is what the log says, so far as that needs no facts.

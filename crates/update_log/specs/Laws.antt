@@ -7,6 +7,7 @@ use Rattle.update_log.specs.declared.event.Found.{Found}
 use Rattle.update_log.specs.declared.event.BoardSeen.{BoardSeen}
 use Rattle.update_log.specs.declared.facts.BootPlan.{BootPlan}
 use Rattle.update_log.specs.Pasts.{past_of}
+use Rattle.update_log.specs.Known.{rows}
 use Rattle.update_log.specs.Boards.{OneDevice}
 use Rattle.update_log.specs.declared.facts.Facts.{Facts}
 use Rattle.update_log.specs.Shows.{Campaign}
@@ -45,6 +46,13 @@ abbrev pub TakenOnce : Type 0
 TakenOnce =
     (c : Campaign) (opening : List Row) (log : List Event)
     → IsHistory opening → Legal c opening log → IsTakenOnce c.facts opening (past_of log)
+
+-- Over any number of boots the rows are a valid history: so no device has two rows that wait for their
+-- end, whatever was committed, lost or found in doubt.
+abbrev pub HistoryStays : Type 0
+HistoryStays =
+    (c : Campaign) (opening : List Row) (log : List Event)
+    → IsHistory opening → Legal c opening log → IsHistory (rows c.facts opening (past_of log))
 
 -- The priority rule leaves one device for each ID, whatever the facts.
 abbrev pub OneDeviceAnID : Type 0

@@ -18,7 +18,7 @@ use crate::refusing::{
     vetoed,
 };
 use crate::request::Request;
-use crate::row_lookup::{in_the_way, row_of, row_with_tag};
+use crate::row_lookup::in_the_way;
 use crate::target::{Target, target_at};
 use device_list::Devices;
 use fw_base::{Digest, Name};
@@ -26,13 +26,14 @@ use fw_facts::DeviceView;
 use history_keeper::Row;
 use release_catalogue::ReleaseRef;
 use requirements::{Unmet, first_unmet};
+use row_index::IndexedRows;
 
 /// All that a decision reads.
 #[derive(Drop)]
 pub struct Case<'a> {
     pub facts: &'a Facts,
     pub devices: &'a Devices,
-    pub rows: &'a [Row],
+    pub rows: &'a IndexedRows,
     pub live: &'a [LiveEntry],
     pub holds: &'a [Held],
     pub client: u32,
@@ -79,22 +80,22 @@ fn wants_row(stage: Stage) -> bool
 }
 
 // The row of the pending request, where one makes it.
-fn own_row<'a>(rows: &'a [Row], stage: Stage) -> Option<&'a Row>
-    ensures { option_copied result ≡ option_and_then (row_of rows.now) (pending_of stage) }
+fn own_row(rows: &IndexedRows, stage: Stage) -> Option<&Row>
+    ensures { option_copied result ≡ option_and_then (row_of rows.now.rows) (pending_of stage) }
 {
     match pending_of(stage) {
-        Some(entry) => row_of(rows, entry),
+        Some(entry) => rows.row_of(entry),
         None => None,
     }
 }
 
 // The row that has the request's tag. A pending row's request passes.
-fn kept<'a>(rows: &'a [Row], tag: &Name, stage: Stage) -> Option<&'a Row>
-    ensures { option_copied result ≡ (if is_some (pending_of stage) then None else row_with_tag rows.now tag.now) }
+fn kept<'a>(rows: &'a IndexedRows, tag: &Name, stage: Stage) -> Option<&'a Row>
+    ensures { option_copied result ≡ (if is_some (pending_of stage) then None else row_with_tag rows.now.rows tag.now) }
 {
     match pending_of(stage) {
         Some(_) => None,
-        None => row_with_tag(rows, tag),
+        None => rows.with_tag(tag),
     }
 }
 
@@ -183,7 +184,7 @@ fn has_digest(own: Option<&Row>, digest: &Digest) -> bool
 
 // The place of the device that the request names, where that device is present.
 fn present(case: &Case) -> Option<usize>
-    ensures exact { result ≡ present (case_with case.now.facts.now case.now.devices.now case.now.rows.now case.now.live.now case.now.holds.now case.now.client case.now.request.now case.now.stage) }
+    ensures exact { result ≡ present (case_with case.now.facts.now case.now.devices.now case.now.rows.now.rows case.now.live.now case.now.holds.now case.now.client case.now.request.now case.now.stage) }
     ensures there { IfSome result (λ at. IsPresent case.now.devices.now case.now.request.now.device at) }
 {
     let at = case.devices.resolve(&case.request.device)?;
@@ -196,7 +197,7 @@ fn present(case: &Case) -> Option<usize>
 
 // The entry of the device's row that is in the way.
 fn unsettled(case: &Case, view: &DeviceView) -> Option<Refusal>
-    ensures { result ≡ option_map (λ r. Refusal.Unsettled r.entry) (find (λ r. bytes_eq r.device view.now.sheet.device && is_unsettled r.state && not (is_live case.now.live.now r.entry) && not (unwrap_or (option_map (λ entry. entry == r.entry) (pending_of case.now.stage)) false)) case.now.rows.now) }
+    ensures { result ≡ option_map (λ r. Refusal.Unsettled r.entry) (find (λ r. bytes_eq r.device view.now.sheet.device && is_unsettled r.state && not (is_live case.now.live.now r.entry) && not (unwrap_or (option_map (λ entry. entry == r.entry) (pending_of case.now.stage)) false)) case.now.rows.now.rows) }
 {
     let own = pending_of(case.stage);
     match in_the_way(case.rows, case.live, &view.sheet.device, own) {
@@ -207,7 +208,7 @@ fn unsettled(case: &Case, view: &DeviceView) -> Option<Refusal>
 
 // What refuses it by the device itself.
 fn of_device(case: &Case, target: &Target) -> Option<Refusal>
-    ensures { result ≡ first_refusal (device_refusals (case_with case.now.facts.now case.now.devices.now case.now.rows.now case.now.live.now case.now.holds.now case.now.client case.now.request.now case.now.stage) (target_with target.now.place target.now.view.now target.now.at target.now.component.now target.now.release.now)) }
+    ensures { result ≡ first_refusal (device_refusals (case_with case.now.facts.now case.now.devices.now case.now.rows.now.rows case.now.live.now case.now.holds.now case.now.client case.now.request.now case.now.stage) (target_with target.now.place target.now.view.now target.now.at target.now.component.now target.now.release.now)) }
 {
     let view = target.view;
     if let Some(refusal) = busy(view) {
@@ -228,7 +229,7 @@ fn of_device(case: &Case, target: &Target) -> Option<Refusal>
 // What refuses it by the versions.
 fn of_versions(case: &Case, target: &Target) -> Option<Refusal>
     requires { IsTrue (is_home target.now.view.now.seen) }
-    ensures { result ≡ first_refusal (version_refusals (case_with case.now.facts.now case.now.devices.now case.now.rows.now case.now.live.now case.now.holds.now case.now.client case.now.request.now case.now.stage) (target_with target.now.place target.now.view.now target.now.at target.now.component.now target.now.release.now)) }
+    ensures { result ≡ first_refusal (version_refusals (case_with case.now.facts.now case.now.devices.now case.now.rows.now.rows case.now.live.now case.now.holds.now case.now.client case.now.request.now case.now.stage) (target_with target.now.place target.now.view.now target.now.at target.now.component.now target.now.release.now)) }
 {
     let shown = target.view.version()?;
     let release = &target.release.version;
@@ -245,7 +246,7 @@ fn of_rules(case: &Case, target: &Target) -> Option<Refusal>
     requires place { target.now.place < length case.now.devices.now }
     requires there { slice_get case.now.devices.now target.now.place ≡ Some target.now.view.now }
     requires few { length target.now.component.now.requirements < 2 ^ 32 }
-    ensures { result ≡ first_refusal (rule_refusals (case_with case.now.facts.now case.now.devices.now case.now.rows.now case.now.live.now case.now.holds.now case.now.client case.now.request.now case.now.stage) (target_with target.now.place target.now.view.now target.now.at target.now.component.now target.now.release.now)) }
+    ensures { result ≡ first_refusal (rule_refusals (case_with case.now.facts.now case.now.devices.now case.now.rows.now.rows case.now.live.now case.now.holds.now case.now.client case.now.request.now case.now.stage) (target_with target.now.place target.now.view.now target.now.at target.now.component.now target.now.release.now)) }
 {
     if let Some(unmet) = unmet_of(case, target) {
         return Some(Refusal::Unmet(unmet));
@@ -258,7 +259,7 @@ fn unmet_of(case: &Case, target: &Target) -> Option<Unmet>
     requires place { target.now.place < length case.now.devices.now }
     requires there { slice_get case.now.devices.now target.now.place ≡ Some target.now.view.now }
     requires few { length target.now.component.now.requirements < 2 ^ 32 }
-    ensures { let c = case_with case.now.facts.now case.now.devices.now case.now.rows.now case.now.live.now case.now.holds.now case.now.client case.now.request.now case.now.stage in result ≡ first_unmet_for c.facts (client_for c) c.views (target_with target.now.place target.now.view.now target.now.at target.now.component.now target.now.release.now) }
+    ensures { let c = case_with case.now.facts.now case.now.devices.now case.now.rows.now.rows case.now.live.now case.now.holds.now case.now.client case.now.request.now case.now.stage in result ≡ first_unmet_for c.facts (client_for c) c.views (target_with target.now.place target.now.view.now target.now.at target.now.component.now target.now.release.now) }
 {
     let client = client_for(own_row(case.rows, case.stage), case.client);
     first_unmet(
@@ -272,7 +273,7 @@ fn unmet_of(case: &Case, target: &Target) -> Option<Unmet>
 
 // What refuses it by the room that it takes.
 fn of_room(case: &Case, target: &Target) -> Option<Refusal>
-    ensures { result ≡ first_refusal (room_refusals (case_with case.now.facts.now case.now.devices.now case.now.rows.now case.now.live.now case.now.holds.now case.now.client case.now.request.now case.now.stage) (target_with target.now.place target.now.view.now target.now.at target.now.component.now target.now.release.now)) }
+    ensures { result ≡ first_refusal (room_refusals (case_with case.now.facts.now case.now.devices.now case.now.rows.now.rows case.now.live.now case.now.holds.now case.now.client case.now.request.now case.now.stage) (target_with target.now.place target.now.view.now target.now.at target.now.component.now target.now.release.now)) }
 {
     let size = target.release.size;
     let sheet = &target.view.sheet;
@@ -283,7 +284,7 @@ fn of_room(case: &Case, target: &Target) -> Option<Refusal>
     if let Some(refusal) = no_room(wants_room(case.stage), blocks_of(size), free) {
         return Some(refusal);
     }
-    rows_full(wants_row(case.stage), case.rows.len())
+    rows_full(wants_row(case.stage), case.rows.rows().len())
 }
 
 // The first refusal of a request for a target.
@@ -292,7 +293,7 @@ fn refusal(case: &Case, target: &Target) -> Option<Refusal>
     requires there { slice_get case.now.devices.now target.now.place ≡ Some target.now.view.now }
     requires home { IsTrue (is_home target.now.view.now.seen) }
     requires few { length target.now.component.now.requirements < 2 ^ 32 }
-    ensures { result ≡ first_refusal (refusals (case_with case.now.facts.now case.now.devices.now case.now.rows.now case.now.live.now case.now.holds.now case.now.client case.now.request.now case.now.stage) (target_with target.now.place target.now.view.now target.now.at target.now.component.now target.now.release.now)) }
+    ensures { result ≡ first_refusal (refusals (case_with case.now.facts.now case.now.devices.now case.now.rows.now.rows case.now.live.now case.now.holds.now case.now.client case.now.request.now case.now.stage) (target_with target.now.place target.now.view.now target.now.at target.now.component.now target.now.release.now)) }
 {
     if let Some(refusal) = of_device(case, target) {
         return Some(refusal);
@@ -313,7 +314,7 @@ fn on_target(case: &Case, target: &Target) -> Decision
     requires there { slice_get case.now.devices.now target.now.place ≡ Some target.now.view.now }
     requires home { IsTrue (is_home target.now.view.now.seen) }
     requires few { length target.now.component.now.requirements < 2 ^ 32 }
-    ensures { result ≡ on_target (case_with case.now.facts.now case.now.devices.now case.now.rows.now case.now.live.now case.now.holds.now case.now.client case.now.request.now case.now.stage) (target_with target.now.place target.now.view.now target.now.at target.now.component.now target.now.release.now) }
+    ensures { result ≡ on_target (case_with case.now.facts.now case.now.devices.now case.now.rows.now.rows case.now.live.now case.now.holds.now case.now.client case.now.request.now case.now.stage) (target_with target.now.place target.now.view.now target.now.at target.now.component.now target.now.release.now) }
 {
     match refusal(case, target) {
         Some(refusal) => Decision::Refused(refusal),
@@ -330,7 +331,7 @@ fn on_found(case: &Case, at: usize) -> Decision
     requires devices { length case.now.devices.now < 2 ^ 32 }
     requires few { HasFew case.now.facts.now.catalogue }
     requires present { IsPresent case.now.devices.now case.now.request.now.device at }
-    ensures { let c = case_with case.now.facts.now case.now.devices.now case.now.rows.now case.now.live.now case.now.holds.now case.now.client case.now.request.now case.now.stage in result ≡ on_found c (target c.facts c.views c.request) }
+    ensures { let c = case_with case.now.facts.now case.now.devices.now case.now.rows.now.rows case.now.live.now case.now.holds.now case.now.client case.now.request.now case.now.stage in result ≡ on_found c (target c.facts c.views c.request) }
 {
     match target_at(case.facts, case.devices.views(), &case.request.version, at) {
         Some(target) => on_release(case, &target),
@@ -344,7 +345,7 @@ fn on_release(case: &Case, target: &Target) -> Decision
     requires there { slice_get case.now.devices.now target.now.place ≡ Some target.now.view.now }
     requires home { IsTrue (is_home target.now.view.now.seen) }
     requires few { length target.now.component.now.requirements < 2 ^ 32 }
-    ensures { result ≡ on_found (case_with case.now.facts.now case.now.devices.now case.now.rows.now case.now.live.now case.now.holds.now case.now.client case.now.request.now case.now.stage) (Some (target_with target.now.place target.now.view.now target.now.at target.now.component.now target.now.release.now)) }
+    ensures { result ≡ on_found (case_with case.now.facts.now case.now.devices.now case.now.rows.now.rows case.now.live.now case.now.holds.now case.now.client case.now.request.now case.now.stage) (Some (target_with target.now.place target.now.view.now target.now.at target.now.component.now target.now.release.now)) }
 {
     let own = own_row(case.rows, case.stage);
     if is_asked(case.stage, target.at) && has_digest(own, &target.release.digest) {
@@ -358,7 +359,7 @@ fn on_release(case: &Case, target: &Target) -> Decision
 fn on_present(case: &Case) -> Decision
     requires devices { length case.now.devices.now < 2 ^ 32 }
     requires few { HasFew case.now.facts.now.catalogue }
-    ensures { let c = case_with case.now.facts.now case.now.devices.now case.now.rows.now case.now.live.now case.now.holds.now case.now.client case.now.request.now case.now.stage in result ≡ on_present c (present c) }
+    ensures { let c = case_with case.now.facts.now case.now.devices.now case.now.rows.now.rows case.now.live.now case.now.holds.now case.now.client case.now.request.now case.now.stage in result ≡ on_present c (present c) }
 {
     match present(case) {
         Some(at) => on_found(case, at),
@@ -370,7 +371,7 @@ fn on_present(case: &Case) -> Decision
 pub fn decided(case: &Case) -> Decision
     requires devices { length case.now.devices.now < 2 ^ 32 }
     requires few { HasFew case.now.facts.now.catalogue }
-    ensures { result ≡ decided (case_with case.now.facts.now case.now.devices.now case.now.rows.now case.now.live.now case.now.holds.now case.now.client case.now.request.now case.now.stage) }
+    ensures { result ≡ decided (case_with case.now.facts.now case.now.devices.now case.now.rows.now.rows case.now.live.now case.now.holds.now case.now.client case.now.request.now case.now.stage) }
 {
     match kept(case.rows, &case.request.tag, case.stage) {
         Some(row) => Decision::Kept {

@@ -2,7 +2,6 @@
 ghost use Rattle.std.specs.Prelude.{◌≡◌, List};
 ghost use Rattle.history_keeper.specs.declared.row.Row.{Row};
 ghost use Rattle.update_log.specs.Core.{Stands};
-ghost use Rattle.update_log.specs.CoreCase.{HasFew};
 ghost use Rattle.update_log.specs.Pasts.{past_of};
 ghost use Rattle.update_log.specs.Verdicts.{verdict};
 
@@ -26,7 +25,6 @@ pub fn verdict(
     request: &Request,
     stage: Stage,
 ) -> Decision
-    requires { HasFew facts.now.catalogue }
     ensures { (opening : List Row) → Stands facts.now opening state.now → result ≡ verdict facts.now opening (past_of state.now.log) client request.now stage }
 {
     state.decided(facts, client, request, stage)

@@ -1,5 +1,5 @@
 //! Laws of the definitions alone.
-ghost use Rattle.update_log.specs.Laws.{AtMostOnce, AtMostOnceAfterCrashes, OneDeviceAnID, TakenOnce};
+ghost use Rattle.update_log.specs.Laws.{AtMostOnce, AtMostOnceAfterCrashes, HistoryStays, OneDeviceAnID, TakenOnce};
 
 /// Each write that a board lived through belongs to one accepted request.
 pub fn legal_once()
@@ -15,6 +15,11 @@ pub fn crash_once()
 /// Over any number of boots no tag has two rows, and no entry is taken twice, written or not.
 pub fn taken_once()
     ensures { TakenOnce }
+{}
+
+/// Over any number of boots the rows are a valid history.
+pub fn history_stays()
+    ensures { HistoryStays }
 {}
 
 /// Of the served boards with one device ID exactly one is a device.

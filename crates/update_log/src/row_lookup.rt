@@ -4,29 +4,25 @@ ghost use Rattle.std.specs.List.{list_any};
 ghost use Rattle.std.specs.Str.{bytes_eq};
 ghost use Rattle.history_keeper.specs.Histories.{is_unsettled};
 ghost use Rattle.update_log.specs.Holding.{is_live};
-ghost use Rattle.update_log.specs.Known.{row_of, row_with_tag};
 
 use crate::live::LiveEntry;
-use fw_base::Name;
 use guid_ids::DeviceId;
 use history_keeper::{Row, RowState};
-
-/// The row of an entry.
-pub fn row_of(rows: &[Row], entry: u32) -> Option<&Row>
-    ensures { option_copied result ≡ row_of rows.now entry }
-{
-    rows.iter().find(|row| row.entry == entry)
-}
-
-/// The row of a tag.
-pub fn row_with_tag<'a>(rows: &'a [Row], tag: &Name) -> Option<&'a Row>
-    ensures { option_copied result ≡ row_with_tag rows.now tag.now }
-{
-    rows.iter().find(|row| *tag == row.tag)
-}
+use row_index::IndexedRows;
 
 /// The first row of the device that waits for its end, isn't live and isn't the request's own.
 pub fn in_the_way<'a>(
+    rows: &'a IndexedRows,
+    live: &[LiveEntry],
+    device: &DeviceId,
+    own: Option<u32>,
+) -> Option<&'a Row>
+    ensures { option_copied result ≡ find (λ r. bytes_eq r.device device.now && is_unsettled r.state && not (is_live live.now r.entry) && not (unwrap_or (option_map (λ entry. entry == r.entry) own) false)) rows.now.rows }
+{
+    first_in_the_way(rows.near(device), live, device, own)
+}
+
+fn first_in_the_way<'a>(
     rows: &'a [Row],
     live: &[LiveEntry],
     device: &DeviceId,

@@ -1,4 +1,4 @@
-use Rattle.std.proofs.Common.{◌≡◌, ◌≤◌, drop, length, []}
+use Rattle.std.proofs.Common.{◌≡◌, ◌≤◌, All, drop, length, []}
 use Rattle.serde_json.specs.View.{items_view}
 use Rattle.release_catalogue.specs.declared.spot.Level.TheVariants.{First}
 use Rattle.release_catalogue.specs.Reading.{each, entry_spot}
@@ -12,4 +12,5 @@ invariant-loop-i l = record {
   read : length l.read.items ≡ l.i;
   taken : l.taken ≡ releases_in l.read.items;
   few : l.taken ≤ 20000;
+  requirements : All (λ c. length c.requirements ≤ 64) l.read.items;
 }

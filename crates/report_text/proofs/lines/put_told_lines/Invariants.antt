@@ -1,5 +1,5 @@
 use Rattle.report_text.specs.Lines.{told_line}
-use Rattle.report_text.proofs.Pieces.{PutUpTo}
+use Rattle.client_scripts.proofs.Pieces.{PutUpTo}
 use Rattle.report_text.proofs.lines.put_told_lines.Given as goal
 
 abbrev pub invariant-loop-board : goal.invariant-loop-board

@@ -1,5 +1,5 @@
 use Rattle.std.proofs.Common.{◌≡◌, reverse, take}
-use Rattle.report_text.specs.Lines.{device_of}
+use Rattle.report_text.specs.Named.{device_of}
 use Rattle.report_text.proofs.lookup.device_of.Given as goal
 
 abbrev pub invariant-loop-event : goal.invariant-loop-event

@@ -1,0 +1,5 @@
+pub mod Pieces
+mod Worded
+mod Newest
+mod Placed
+mod First

@@ -1,0 +1,88 @@
+-- A row that is read from the columns of a row is that row.
+use Rattle.std.proofs.Common.{◌≡◌, ◌⊎◌, inl, inr, ℕ, ◌^◌, pos, Bool, true, false, nat_lt, ◌==◌, if◌then◌else◌, List, [], ◌∷◌, map, length, position, Option, Some, None, Result, Ok, Err, refl, ap}
+use Rattle.std.specs.Result.{result_ok}
+use Rattle.fw_base.specs.Names.{name_read, name_unless, is_no_name_byte}
+use Rattle.version_formats.specs.Versions.{version_read, version_unless, is_no_version_byte}
+use Rattle.sqlite.specs.declared.types.Value.TheVariants.{Int, Text, Blob}
+use Rattle.history_keeper.specs.declared.row.Row.{Row}
+use Rattle.history_keeper.specs.declared.row.RowState.{RowState}
+use Rattle.history_keeper.specs.declared.row.RowState.TheVariants.{Pending, Success, Failed, NeedsReboot, Begun}
+use Rattle.history_sqlite.specs.Columns.{◌>>=◌, columns_of, row_read, number_in, bytes_in, name_in, version_in, state_in, state_number}
+
+step : {A B : Type 0} (o : Option A) (a : A) (f : A → Option B) (b : B) → (o ≡ None) ⊎ (o ≡ Some a) → (o >>= f) ≡ Some b → f a ≡ Some b
+step o a f b (inl none) h = absurd (let e = rw none at h in cc)
+step o a f b (inr some) h = rw some at h
+
+none_or : {A : Type 0} (o : Option A) (a : A) → ((x : A) → o ≡ Some x → x ≡ a) → (o ≡ None) ⊎ (o ≡ Some a)
+none_or None a same = inl refl
+none_or (Some x) a same = inr (ap Some (same x refl))
+
+chosen : {A : Type 0} (b : Bool) (x y : A) → (if b then Some x else None) ≡ Some y → y ≡ x
+chosen true x y h = cc
+chosen false x y h = absurd cc
+
+number_same : (end n m : ℕ) → number_in end (Int (pos n)) ≡ Some m → m ≡ n
+number_same end n m h = chosen (nat_lt n end) n m h
+
+bytes_same : (size : ℕ) (b x : List ℕ) → bytes_in size (Blob b) ≡ Some x → x ≡ b
+bytes_same size b x h = chosen (length b == size) b x h
+
+ok_same : {A E : Type 0} (r : Result A E) (x : A) → result_ok r ≡ Some x → r ≡ Ok x
+ok_same (Ok a) x h = cc
+ok_same (Err e) x h = absurd cc
+
+unless_name : (o : Option ℕ) (t x : List ℕ) → name_unless o t ≡ Ok x → x ≡ t
+unless_name None t x h = cc
+unless_name (Some at) t x h = absurd cc
+
+unless_version : (o : Option ℕ) (t x : List ℕ) → version_unless o t ≡ Ok x → x ≡ t
+unless_version None t x h = cc
+unless_version (Some at) t x h = absurd cc
+
+tested : {A E : Type 0} (b : Bool) (e : E) (r : Result A E) (x : A) → (if b then Err e else r) ≡ Ok x → r ≡ Ok x
+tested true e r x h = absurd cc
+tested false e r x h = h
+
+name_same : (t x : List ℕ) → name_in (Text t) ≡ Some x → x ≡ t
+name_same t x h = unless_name (position is_no_name_byte t) t x (tested (nat_lt 64 (length t)) _ _ x (tested (length t == 0) _ _ x (ok_same (name_read t) x h)))
+
+version_same : (t x : List ℕ) → version_in (Text t) ≡ Some x → x ≡ t
+version_same t x h = unless_version (position is_no_version_byte t) t x (tested (nat_lt 64 (length t)) _ _ x (tested (length t == 0) _ _ x (ok_same (version_read t) x h)))
+
+state_same : (s x : RowState) → state_in (Int (pos (state_number s))) ≡ Some x → x ≡ s
+state_same Pending x h = cc
+state_same Success x h = cc
+state_same Failed x h = cc
+state_same NeedsReboot x h = cc
+state_same Begun x h = cc
+
+some_same : {A : Type 0} (a b : A) → Some a ≡ Some b → b ≡ a
+some_same a b h = cc
+
+pub read_back : (row r : Row) → row_read (columns_of row) ≡ Some r → r ≡ row
+read_back row r h0 =
+    let h1 = step (number_in (2 ^ 32) (Int (pos row.entry))) row.entry _ r (none_or (number_in (2 ^ 32) (Int (pos row.entry))) row.entry (number_same (2 ^ 32) row.entry)) h0 in
+    let h2 = step (name_in (Text row.tag)) row.tag _ r (none_or (name_in (Text row.tag)) row.tag (name_same row.tag)) h1 in
+    let h3 = step (number_in (2 ^ 32) (Int (pos row.client))) row.client _ r (none_or (number_in (2 ^ 32) (Int (pos row.client))) row.client (number_same (2 ^ 32) row.client)) h2 in
+    let h4 = step (bytes_in 20 (Blob row.device)) row.device _ r (none_or (bytes_in 20 (Blob row.device)) row.device (bytes_same 20 row.device)) h3 in
+    let h5 = step (name_in (Text row.component)) row.component _ r (none_or (name_in (Text row.component)) row.component (name_same row.component)) h4 in
+    let h6 = step (version_in (Text row.version_old)) row.version_old _ r (none_or (version_in (Text row.version_old)) row.version_old (version_same row.version_old)) h5 in
+    let h7 = step (version_in (Text row.version_new)) row.version_new _ r (none_or (version_in (Text row.version_new)) row.version_new (version_same row.version_new)) h6 in
+    let h8 = step (bytes_in 32 (Blob row.digest)) row.digest _ r (none_or (bytes_in 32 (Blob row.digest)) row.digest (bytes_same 32 row.digest)) h7 in
+    let h9 = step (number_in (2 ^ 8) (Int (pos row.flags))) row.flags _ r (none_or (number_in (2 ^ 8) (Int (pos row.flags))) row.flags (number_same (2 ^ 8) row.flags)) h8 in
+    let h10 = step (state_in (Int (pos (state_number row.state)))) row.state _ r (none_or (state_in (Int (pos (state_number row.state)))) row.state (state_same row.state)) h9 in
+    let h11 = step (number_in (2 ^ 8) (Int (pos row.reason))) row.reason _ r (none_or (number_in (2 ^ 8) (Int (pos row.reason))) row.reason (number_same (2 ^ 8) row.reason)) h10 in
+    let h12 = step (number_in (2 ^ 64) (Int (pos row.time_added))) row.time_added _ r (none_or (number_in (2 ^ 64) (Int (pos row.time_added))) row.time_added (number_same (2 ^ 64) row.time_added)) h11 in
+    let h13 = step (number_in (2 ^ 64) (Int (pos row.time_changed))) row.time_changed _ r (none_or (number_in (2 ^ 64) (Int (pos row.time_changed))) row.time_changed (number_same (2 ^ 64) row.time_changed)) h12 in
+    some_same row r h13
+
+pub all_back : (rows read : List Row) → map (λ (r : Row). Some r) read ≡ map row_read (map columns_of rows) → read ≡ rows
+all_back [] [] h = refl
+all_back [] (r ∷ read) h = absurd cc
+all_back (row ∷ rows) [] h = absurd cc
+all_back (row ∷ rows) (r ∷ read) h =
+    let first : row_read (columns_of row) ≡ Some r = cc in
+    let rest : map (λ (r : Row). Some r) read ≡ map row_read (map columns_of rows) = cc in
+    let a = read_back row r first in
+    let b = all_back rows read rest in
+    rw (a, b)

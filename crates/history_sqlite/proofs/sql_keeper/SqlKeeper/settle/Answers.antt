@@ -1,0 +1,25 @@
+use Rattle.std.proofs.Common.{◌≡◌, ◌∙◌, Some, inr, sym, ap}
+use Rattle.std.proofs.lemmas.Result.{on_ok_weaker, on_err_weaker}
+use Rattle.history_sqlite.specs.Keeping.{Keeping}
+use Rattle.history_sqlite.specs.Telling.{database}
+use Rattle.history_sqlite.proofs.TellingLemmas.{settled}
+use Rattle.history_sqlite.proofs.sql_keeper.SqlKeeper.settle.Goals as goal
+
+pub returns-in-Some-clause-settles : goal.returns-in-Some-clause-settles
+returns-in-Some-clause-settles g c clean =
+    let old = c.args.self.now in
+    let doubt : old.doubt ≡ Some c.in-Some.doubt = sym (ap (λ (k : Keeping g.row.D.Denot). k.doubt) c.read.ensures.same) ∙ sym (ap (λ (k : Keeping g.row.D.Denot). k.doubt) c.self-2.view_is) ∙ c.in-Some.is in
+    on_ok_weaker c.write.result
+    (settled (database g.D.Store old) (database g.D.Store c.read.new.self) (database g.D.Store c.write.new.self) old.doubt c.in-Some.doubt c.in_ok-_rows._rows.items doubt c.if-doubt.true
+    (c.in_ok-_rows.ensures.loads (c.write.ensures.clean clean)))
+    (c.write.ensures.makes clean)
+
+pub returns-in-Some-clause-refused : goal.returns-in-Some-clause-refused
+returns-in-Some-clause-refused g c clean is_open =
+    let loads = c.in_ok-_rows.ensures.loads (c.write.ensures.clean clean) in on_err_weaker c.write.result (λ keeps rows holds. keeps rows (loads rows holds).1) (c.write.ensures.refused clean is_open)
+
+pub returns-in-Some-clause-failed : goal.returns-in-Some-clause-failed
+returns-in-Some-clause-failed g c clean is =
+    let old = c.args.self.now in
+    let doubt : old.doubt ≡ Some c.in-Some.doubt = sym (ap (λ (k : Keeping g.row.D.Denot). k.doubt) c.read.ensures.same) ∙ sym (ap (λ (k : Keeping g.row.D.Denot). k.doubt) c.self-2.view_is) ∙ c.in-Some.is in
+    inr (c.in-Some.doubt, doubt, c.read.new.self.connection, c.write.ensures.failed clean is)

@@ -1,0 +1,18 @@
+//! The rows of the history in a table of a SQLite database.
+//!
+//! Three statements write and read the table, each by itself outside any transaction, so that it
+//! commits by itself. Any tool that reads SQLite's files reads the table.
+#![tactic(auto)]
+
+pub mod columns;
+pub mod lasting;
+pub mod refusal;
+pub mod sql_keeper;
+pub mod statements;
+pub mod tables;
+#[cfg(test)]
+mod tests;
+
+pub use columns::read_row;
+pub use lasting::Lasting;
+pub use sql_keeper::SqlKeeper;

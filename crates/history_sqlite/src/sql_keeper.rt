@@ -1,0 +1,355 @@
+//! A keeper over a table.
+ghost use Rattle.std.specs.Prelude.{◌≡◌, ◌≢◌, ◌≤◌, ◌==◌, ◌⊎◌, option_map, Some, None, [], IsTrue, IsSome, IfSome, IfOk, OnOk, OnErr, find};
+ghost use Rattle.std.specs.Option.{option_copied, ForSome};
+ghost use Rattle.sqlite.specs.Held.{state};
+ghost use Rattle.sqlite.specs.State.{HasCleanDisk};
+ghost use Rattle.sqlite.specs.Files.{over_files};
+ghost use Rattle.sqlite.specs.Steps.{over_memory};
+ghost use Rattle.history_keeper.specs.Changes.{IsTimely, Suits, changed};
+ghost use Rattle.history_keeper.specs.Keepers.{Committed, Reopened};
+ghost use Rattle.outer_traits.specs.Faults.{Rose};
+ghost use Rattle.outer_traits.specs.Plans.{one_more};
+ghost use Rattle.history_sqlite.specs.Causes.{FailsToLoad, FailsToMake, FailsToSettle};
+ghost use Rattle.history_sqlite.specs.Keeping.{planned, doubtful, after_fault};
+ghost use Rattle.history_sqlite.specs.Tables.{Keeps, Loads, Makes, Opens};
+ghost use Rattle.history_sqlite.specs.Telling.{database, told_by, Settles, IsUnused};
+
+use crate::lasting::Lasting;
+use crate::refusal::refusal_of_error;
+use crate::statements::{load_rows, make};
+use crate::tables::{make_tables, open_tables};
+use history_keeper::{Change, Doubt, Keeper, KeeperPlan, KeeperRefusal, Row};
+use sqlite::{Connection, File, FileStore, MemStore};
+use std::alloc::Global;
+use std::marker::Model;
+use std::rt::HostRuntime;
+
+/// A keeper whose rows stand in a table of a database. `D` is the store of its connection.
+#[derive(Drop)]
+pub struct SqlKeeper<D: Lasting> {
+    connection: Connection<D>,
+    doubt: Option<Doubt>,
+    plan: Vec<KeeperPlan>,
+    calls: u64,
+    faults: u64,
+    tells: bool,
+    alloc: Global,
+}
+
+impl<D: Lasting> Model for SqlKeeper<D> {
+    ghost use Rattle.sqlite.specs.Held.{state};
+    ghost use Rattle.history_sqlite.specs.Keeping.{Keeping, keeping_code, IsTimelyDoubt};
+    ghost use Rattle.history_sqlite.specs.Telling.{Knows};
+
+    ghost Value = { Keeping D };
+
+    ghost coded = { keeping_code D.code };
+
+    ghost view = { λ s. record { connection = s.connection; doubt = s.doubt; plan = s.plan.items; calls = s.calls; faults = s.faults; tells = s.tells } };
+
+    ghost invariant = { λ s. IsTimelyDoubt s.doubt × Knows s.tells D.Lasting.lasts (state D.Store s.connection) s.doubt };
+}
+
+impl SqlKeeper<MemStore> {
+    /// A keeper without rows, over a database in memory. It tells its rows.
+    pub fn memory(alloc: Global) -> Result<SqlKeeper<MemStore>, KeeperRefusal>
+        ensures { IfOk result (λ keeper. IsUnused over_memory (Some []) [] keeper) }
+    {
+        SqlKeeper::planned(alloc, Vec::new(alloc))
+    }
+
+    /// The same, and the planned calls fail. Of two plans for one call the first counts. A planned
+    /// commit whose change is to be kept makes it at the next reopening that isn't planned.
+    pub fn planned(
+        alloc: Global,
+        plan: Vec<KeeperPlan>,
+    ) -> Result<SqlKeeper<MemStore>, KeeperRefusal>
+        ensures { IfOk result (λ keeper. IsUnused over_memory (Some []) plan.items keeper) }
+    {
+        let mut connection = match Connection::open_in_memory(alloc) {
+            Ok(connection) => connection,
+            Err(_) => return Err(KeeperRefusal::NoMemory),
+        };
+        match make_tables(&mut connection) {
+            Ok(()) => Ok(SqlKeeper {
+                connection,
+                doubt: None,
+                plan,
+                calls: 0,
+                faults: 0,
+                tells: true,
+                alloc,
+            }),
+            Err(error) => Err(refusal_of_error(error)),
+        }
+    }
+}
+
+impl SqlKeeper<FileStore<File>> {
+    /// A keeper over the file at the path, which is made where it isn't there. It is a fault where the
+    /// file can't be opened, is no database, has another schema number, or has a row that stands
+    /// for none. Such a file is left as it was.
+    pub fn file(rt: &HostRuntime, path: &str) -> Result<SqlKeeper<FileStore<File>>, KeeperRefusal>
+        ensures { IfOk result (λ keeper. IsUnused over_files None [] keeper) }
+    {
+        match Connection::open(rt, path) {
+            Ok(connection) => SqlKeeper::adopt(rt.alloc(), connection),
+            Err(error) => Err(refusal_of_error(error)),
+        }
+    }
+}
+
+impl<D: Lasting + Drop> SqlKeeper<D> {
+    /// A keeper over an open connection, whose database is empty or has the tables. It tells no rows.
+    /// The rows are left, and a blank database has the tables and no rows, while the disk returns what
+    /// was written.
+    pub fn adopt(alloc: Global, connection: Connection<D>) -> Result<SqlKeeper<D>, KeeperRefusal>
+        ensures unused { IfOk result (λ keeper. IsUnused D.Store None [] keeper) }
+        ensures opens { IfOk result (λ keeper. HasCleanDisk (database D.Store keeper) → Opens (state D.Store connection) (database D.Store keeper)) }
+    {
+        let mut connection = connection;
+        connection.set_step_limit(None);
+        open_tables(&mut connection)?;
+        let _rows = load_rows(&mut connection, alloc)?;
+        Ok(SqlKeeper {
+            connection,
+            doubt: None,
+            plan: Vec::new(alloc),
+            calls: 0,
+            faults: 0,
+            tells: false,
+            alloc,
+        })
+    }
+}
+
+impl<D: Lasting> SqlKeeper<D> {
+    /// How many calls there were that did not want for memory.
+    pub fn calls(&self) -> u64
+        ensures { result ≡ self.now.calls }
+    {
+        self.calls
+    }
+
+    // What is planned for the next call.
+    fn next_plan(&self) -> Option<KeeperPlan>
+        ensures { result ≡ planned self.now }
+    {
+        plan_of(&self.plan, self.calls.saturating_add(1))
+    }
+
+    fn count_call(&mut self)
+        ensures { self.new ≡ record self.old { calls = one_more self.old.calls } }
+    {
+        self.calls = self.calls.saturating_add(1);
+    }
+
+    fn count_fault(&mut self)
+        ensures counted { self.new ≡ after_fault self.old }
+        ensures no_fall { self.old.faults ≤ self.new.faults }
+    {
+        self.calls = self.calls.saturating_add(1);
+        self.faults = self.faults.saturating_add(1);
+    }
+
+    // Counts a refusal that is a fault.
+    fn count_refusal(&mut self, refusal: KeeperRefusal)
+        ensures same { self.new ≡ record self.old { calls = self.new.calls; faults = self.new.faults } }
+        ensures rose { refusal ≡ KeeperRefusal.Fault → Rose self.old.faults self.new.faults }
+        ensures numbered { refusal ≢ KeeperRefusal.NoMemory → self.new.calls ≡ one_more self.old.calls }
+        ensures no_fall { self.old.faults ≤ self.new.faults }
+    {
+        match refusal {
+            KeeperRefusal::Fault => self.count_fault(),
+            KeeperRefusal::NoMemory => {}
+        }
+    }
+}
+
+impl<D: Lasting> SqlKeeper<D> {
+    // Reads the rows.
+    fn read(&mut self, alloc: Global) -> Result<Vec<Row>, KeeperRefusal>
+        ensures same { self.new ≡ record self.old { connection = self.new.connection } }
+        ensures answer { IfOk result (λ loaded. IfSome (told_by D.Store self.old) (λ all. loaded.items ≡ all)) }
+        ensures unchanged { told_by D.Store self.new ≡ told_by D.Store self.old }
+        ensures loads { HasCleanDisk (database D.Store self.new) → IfOk result (λ loaded. Loads (database D.Store self.old) (database D.Store self.new) loaded.items) }
+        ensures refused { HasCleanDisk (database D.Store self.new) → IsTrue (database D.Store self.new).is_open → OnErr result (Keeps (database D.Store self.old) (database D.Store self.new)) }
+        ensures failed { HasCleanDisk (database D.Store self.new) → result ≡ Err KeeperRefusal.Fault → FailsToLoad (database D.Store self.old) (database D.Store self.new) }
+        ensures clean { HasCleanDisk (database D.Store self.new) → HasCleanDisk (database D.Store self.old) }
+    {
+        load_rows(&mut self.connection, alloc)
+    }
+
+    // Makes the change. Where it was made there is no doubt left.
+    fn write(&mut self, change: &Change) -> Result<(), KeeperRefusal>
+        requires suits { ForSome (told_by D.Store self.old) (λ all. Suits change.now all) }
+        requires timely { IsTimely change.now }
+        ensures made { OnOk result (told_by D.Store self.new ≡ option_map (changed change.now) (told_by D.Store self.old)) }
+        ensures no_doubt { OnOk result (self.new ≡ record self.old { connection = self.new.connection; doubt = None }) }
+        ensures unchanged { OnErr result (told_by D.Store self.new ≡ told_by D.Store self.old) }
+        ensures same { OnErr result (self.new ≡ record self.old { connection = self.new.connection }) }
+        ensures makes { HasCleanDisk (database D.Store self.new) → OnOk result (Makes (database D.Store self.old) (database D.Store self.new) change.now) }
+        ensures refused { HasCleanDisk (database D.Store self.new) → IsTrue (database D.Store self.new).is_open → OnErr result (Keeps (database D.Store self.old) (database D.Store self.new)) }
+        ensures failed { HasCleanDisk (database D.Store self.new) → result ≡ Err KeeperRefusal.Fault → FailsToMake change.now (database D.Store self.old) (database D.Store self.new) }
+        ensures clean { HasCleanDisk (database D.Store self.new) → HasCleanDisk (database D.Store self.old) }
+    {
+        match make(&mut self.connection, change) {
+            Ok(()) => {
+                self.doubt = None;
+                Ok(())
+            }
+            Err(refusal) => Err(refusal),
+        }
+    }
+
+    // Reads the rows once more, and then makes the doubtful change where it is to be kept.
+    fn settle(&mut self) -> Result<(), KeeperRefusal>
+        ensures reopened { Reopened result (told_by D.Store self.old) (doubtful self.old) (told_by D.Store self.new) (doubtful self.new) }
+        ensures same { self.new ≡ record self.old { connection = self.new.connection; doubt = self.new.doubt } }
+        ensures settles { HasCleanDisk (database D.Store self.new) → OnOk result (Settles (database D.Store self.old) (database D.Store self.new) self.old.doubt) }
+        ensures refused { HasCleanDisk (database D.Store self.new) → IsTrue (database D.Store self.new).is_open → OnErr result (Keeps (database D.Store self.old) (database D.Store self.new)) }
+        ensures failed { HasCleanDisk (database D.Store self.new) → result ≡ Err KeeperRefusal.Fault → FailsToSettle D.Store self.old.connection self.new.connection self.old.doubt }
+    {
+        let alloc = self.alloc;
+        let _rows = self.read(alloc)?;
+        match self.doubt {
+            Some(doubt) if doubt.keep => self.write(&doubt.change),
+            _ => {
+                self.doubt = None;
+                Ok(())
+            }
+        }
+    }
+}
+
+impl<D: Lasting> Keeper for SqlKeeper<D> {
+    ghost use Rattle.history_sqlite.specs.Keeping.{doubtful};
+    ghost use Rattle.history_sqlite.specs.Telling.{told_by};
+
+    ghost rows = { told_by D.Store };
+
+    ghost doubt = { doubtful };
+
+    ghost faults = { λ s. s.faults };
+
+    // Each statement may want for memory.
+    ghost takes_none = { λ _. ⊥ };
+
+    fn load(&mut self, alloc: Global) -> Result<Vec<Row>, KeeperRefusal>
+        requires { doubtful self.old ≡ None }
+        ensures loads { HasCleanDisk (database D.Store self.new) → IfOk result (λ loaded. Loads (database D.Store self.old) (database D.Store self.new) loaded.items) }
+        ensures refused { HasCleanDisk (database D.Store self.new) → IsTrue (database D.Store self.new).is_open → OnErr result (Keeps (database D.Store self.old) (database D.Store self.new)) }
+        ensures failed { HasCleanDisk (database D.Store self.new) → result ≡ Err KeeperRefusal.Fault → IsSome (planned self.old) ⊎ FailsToLoad (database D.Store self.old) (database D.Store self.new) }
+        ensures planned { IsSome (planned self.old) → result ≡ Err KeeperRefusal.Fault }
+        ensures idle { IsSome (planned self.old) → self.new ≡ after_fault self.old }
+        ensures numbered { result ≢ Err KeeperRefusal.NoMemory → self.new.calls ≡ one_more self.old.calls }
+        ensures plan { self.new.plan ≡ self.old.plan }
+
+        ensures answer { IfOk result (λ loaded. IfSome (told_by D.Store self.old) (λ all. loaded.items ≡ all)) }
+        ensures unchanged { told_by D.Store self.new ≡ told_by D.Store self.old }
+        ensures no_doubt { doubtful self.new ≡ None }
+        ensures cause { result ≡ Err KeeperRefusal.Fault → Rose self.old.faults self.new.faults }
+        ensures counts { self.old.faults ≤ self.new.faults }
+    {
+        if self.next_plan().is_some() {
+            self.count_fault();
+            return Err(KeeperRefusal::Fault);
+        }
+        match self.read(alloc) {
+            Ok(rows) => {
+                self.count_call();
+                Ok(rows)
+            }
+            Err(refusal) => {
+                self.count_refusal(refusal);
+                Err(refusal)
+            }
+        }
+    }
+
+    fn commit(&mut self, change: &Change) -> Result<(), KeeperRefusal>
+        requires no_doubt { doubtful self.old ≡ None }
+        requires suits { ForSome (told_by D.Store self.old) (λ all. Suits change.now all) }
+        requires timely { IsTimely change.now }
+        ensures makes { HasCleanDisk (database D.Store self.new) → OnOk result (Makes (database D.Store self.old) (database D.Store self.new) change.now) }
+        ensures refused { HasCleanDisk (database D.Store self.new) → IsTrue (database D.Store self.new).is_open → OnErr result (Keeps (database D.Store self.old) (database D.Store self.new)) }
+        ensures failed { HasCleanDisk (database D.Store self.new) → result ≡ Err KeeperRefusal.Fault → IsSome (planned self.old) ⊎ FailsToMake change.now (database D.Store self.old) (database D.Store self.new) }
+        ensures planned { IsSome (planned self.old) → result ≡ Err KeeperRefusal.Fault }
+        ensures idle { IfSome (planned self.old) (λ plan. self.new ≡ record (after_fault self.old) { doubt = Some (record { change = change.now; keep = plan.keep }) }) }
+        ensures numbered { result ≢ Err KeeperRefusal.NoMemory → self.new.calls ≡ one_more self.old.calls }
+        ensures plan { self.new.plan ≡ self.old.plan }
+
+        ensures committed { Committed change.now result (told_by D.Store self.old) (told_by D.Store self.new) (doubtful self.new) }
+        ensures cause { result ≡ Err KeeperRefusal.Fault → Rose self.old.faults self.new.faults }
+        ensures counts { self.old.faults ≤ self.new.faults }
+    {
+        if let Some(plan) = self.next_plan() {
+            self.count_fault();
+            self.doubt = Some(Doubt {
+                change: *change,
+                keep: plan.keep,
+            });
+            return Err(KeeperRefusal::Fault);
+        }
+        match self.write(change) {
+            Ok(()) => {
+                self.count_call();
+                Ok(())
+            }
+            Err(KeeperRefusal::Fault) => {
+                self.count_fault();
+                self.doubt = Some(Doubt {
+                    change: *change,
+                    keep: false,
+                });
+                Err(KeeperRefusal::Fault)
+            }
+            Err(KeeperRefusal::NoMemory) => Err(KeeperRefusal::NoMemory),
+        }
+    }
+
+    fn reopen(&mut self) -> Result<(), KeeperRefusal>
+        ensures settles { HasCleanDisk (database D.Store self.new) → OnOk result (Settles (database D.Store self.old) (database D.Store self.new) self.old.doubt) }
+        ensures refused { HasCleanDisk (database D.Store self.new) → IsTrue (database D.Store self.new).is_open → OnErr result (Keeps (database D.Store self.old) (database D.Store self.new)) }
+        ensures failed { HasCleanDisk (database D.Store self.new) → result ≡ Err KeeperRefusal.Fault → IsSome (planned self.old) ⊎ FailsToSettle D.Store self.old.connection self.new.connection self.old.doubt }
+        ensures planned { IsSome (planned self.old) → result ≡ Err KeeperRefusal.Fault }
+        ensures idle { IsSome (planned self.old) → self.new ≡ after_fault self.old }
+        ensures numbered { result ≢ Err KeeperRefusal.NoMemory → self.new.calls ≡ one_more self.old.calls }
+        ensures plan { self.new.plan ≡ self.old.plan }
+
+        ensures reopened { Reopened result (told_by D.Store self.old) (doubtful self.old) (told_by D.Store self.new) (doubtful self.new) }
+        ensures cause { result ≡ Err KeeperRefusal.Fault → Rose self.old.faults self.new.faults }
+        ensures counts { self.old.faults ≤ self.new.faults }
+    {
+        if self.next_plan().is_some() {
+            self.count_fault();
+            return Err(KeeperRefusal::Fault);
+        }
+        match self.settle() {
+            Ok(()) => {
+                self.count_call();
+                Ok(())
+            }
+            Err(refusal) => {
+                self.count_refusal(refusal);
+                Err(refusal)
+            }
+        }
+    }
+}
+
+// The first plan for the call of that number.
+fn plan_of(plan: &[KeeperPlan], number: u64) -> Option<KeeperPlan>
+    ensures { result ≡ find (λ plan. plan.call == number) plan.now }
+{
+    match first_of(plan, number) {
+        Some(plan) => Some(*plan),
+        None => None,
+    }
+}
+
+fn first_of(plan: &[KeeperPlan], number: u64) -> Option<&KeeperPlan>
+    ensures { option_copied result ≡ find (λ plan. plan.call == number) plan.now }
+{
+    plan.iter().find(|plan| plan.call as u64 == number)
+}
