@@ -17,6 +17,7 @@ fn copies(alloc: Global, text: &str, count: u32, between: &str) -> Result<String
 }
 
 /// A list, by the text of the base document that it takes the place of and what stands round it.
+#[derive(Drop)]
 struct Case<'a> {
     old: &'a str,
     front: &'a str,
