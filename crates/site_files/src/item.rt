@@ -1,0 +1,298 @@
+//! The items of scripts.
+ghost use Rattle.std.specs.Prelude.{◌≡◌, ◌+◌, ◌≤◌, ◌<◌, [], IfErr, IfOk, OnOk, find, length};
+ghost use Rattle.serde_json.specs.Data as json;
+ghost use Rattle.std.specs.Str.{bytes_eq};
+ghost use Rattle.serde_json.specs.View.{view, items_view};
+ghost use Rattle.release_catalogue.specs.declared.spot.Level.TheVariants.{Third};
+ghost use Rattle.release_catalogue.specs.Reading.{Fails, Gives, each, entry_spot, optional, the};
+ghost use Rattle.site_files.specs.Boots.{done_at, each_install_flag, flag_word, flag_word_at, install_at, install_flags_at, item_at, no_install_flags, selector_at, verb_at, verb_word, with_flag};
+
+use client_scripts::Item;
+use device_list::Selector;
+use guid_ids::{DeviceId, Guid};
+use release_catalogue::kinds::{items, name, object, text, version};
+use release_catalogue::members::{member, needed};
+use release_catalogue::spot::fault_at;
+use release_catalogue::{Level, ReadStop, Reason, Spot, Word};
+use serde_json::Value;
+use std::alloc::Global;
+use update_log::{InstallFlags, Query, Request};
+
+/// The most items of a document.
+pub const ITEMS_MAX: usize = 8_192;
+
+/// What an item does.
+#[derive(Clone, Copy, Debug, PartialEq, Eq)]
+pub enum Verb {
+    GetDevices,
+    GetReleases,
+    GetUpgrades,
+    Install,
+    GetHistory,
+    GetResults,
+    Settle,
+    Unplug,
+    Plug,
+}
+
+impl Verb {
+    const ALL: [Verb; 9] = [
+        Verb::GetDevices,
+        Verb::GetReleases,
+        Verb::GetUpgrades,
+        Verb::Install,
+        Verb::GetHistory,
+        Verb::GetResults,
+        Verb::Settle,
+        Verb::Unplug,
+        Verb::Plug,
+    ];
+
+    fn word(self) -> &'static [u8]
+        ensures { result.now ≡ verb_word self }
+    {
+        match self {
+            Verb::GetDevices => b"get-devices",
+            Verb::GetReleases => b"get-releases",
+            Verb::GetUpgrades => b"get-upgrades",
+            Verb::Install => b"install",
+            Verb::GetHistory => b"get-history",
+            Verb::GetResults => b"get-results",
+            Verb::Settle => b"settle",
+            Verb::Unplug => b"unplug",
+            Verb::Plug => b"plug",
+        }
+    }
+
+    fn of_word(all: &[Verb], word: &[u8]) -> Option<Verb>
+        ensures { result ≡ find (λ verb. bytes_eq (verb_word verb) word.now) all.now }
+    {
+        all.iter().copied().find(|verb| verb.word() == word)
+    }
+}
+
+/// A flag of an install.
+#[derive(Clone, Copy, Debug, PartialEq, Eq)]
+pub enum FlagWord {
+    Offline,
+    AllowReinstall,
+    AllowOlder,
+}
+
+impl FlagWord {
+    const ALL: [FlagWord; 3] = [
+        FlagWord::Offline,
+        FlagWord::AllowReinstall,
+        FlagWord::AllowOlder,
+    ];
+
+    fn word(self) -> &'static [u8]
+        ensures { result.now ≡ flag_word self }
+    {
+        match self {
+            FlagWord::Offline => b"offline",
+            FlagWord::AllowReinstall => b"allow-reinstall",
+            FlagWord::AllowOlder => b"allow-older",
+        }
+    }
+
+    fn of_word(all: &[FlagWord], word: &[u8]) -> Option<FlagWord>
+        ensures { result ≡ find (λ one. bytes_eq (flag_word one) word.now) all.now }
+    {
+        all.iter().copied().find(|one| one.word() == word)
+    }
+}
+
+/// The items of a script, where `taken` were taken before it.
+pub fn each_item(
+    alloc: Global,
+    taken: usize,
+    values: &[Value],
+    spot: Spot,
+) -> Result<Vec<Item>, ReadStop>
+    requires { taken ≤ 8192 }
+    ensures read { Gives (λ v. v.items) result (each (λ earlier. item_at (taken + length earlier)) (entry_spot spot Third) [] (items_view values.now)) }
+    ensures within { IfOk result (λ v. taken + length v.items ≤ 8192) }
+{
+    let mut read = Vec::new(alloc);
+    for value in values {
+        match push_item(&mut read, taken, value, spot) {
+            Ok(()) => {}
+            Err(stop) => return Err(stop),
+        }
+    }
+    Ok(read)
+}
+
+/// Puts the next item of a script behind the others.
+fn push_item(
+    read: &mut Vec<Item>,
+    taken: usize,
+    value: &Value,
+    spot: Spot,
+) -> Result<(), ReadStop>
+    requires { taken + length read.old.items ≤ 8192 }
+    ensures read { OnOk result ((ds : json.Items) → each (λ earlier. item_at (taken + length earlier)) (entry_spot spot Third) read.old.items (json.item (view value.now) ds) ≡ each (λ earlier. item_at (taken + length earlier)) (entry_spot spot Third) read.new.items ds) }
+    ensures fault { IfErr result (λ stop. (ds : json.Items) → Fails stop (each (λ earlier. item_at (taken + length earlier)) (entry_spot spot Third) read.old.items (json.item (view value.now) ds))) }
+    ensures within { OnOk result (taken + length read.new.items ≤ 8192) }
+{
+    // The checker of borrows wants the types of an item's parts among the locals.
+    let _device: Option<Selector> = None;
+    let _query: Option<Query> = None;
+    let _request: Option<Request> = None;
+    let place = read.len();
+    let item = item(taken + place, value, spot.entry(Level::Third, place as u32))?;
+    read.push(item)?;
+    Ok(())
+}
+
+/// An item, where `taken` were taken before: `TooMany` at its `do` from the 8,193rd on.
+#[tactic(auto, unfolding(crate::specs::Boots::item_at))]
+pub fn item(taken: usize, value: &Value, spot: Spot) -> Result<Item, ReadStop>
+    ensures read { Gives (λ i. i) result (item_at taken spot (view value.now)) }
+    ensures within { IfOk result (λ _. taken < 8192) }
+{
+    object(value, spot)?;
+    if ITEMS_MAX <= taken {
+        return Err(fault_at(spot.field(Word::Do), Reason::TooMany));
+    }
+    let verb = read_verb(needed(value, spot, Word::Do)?, spot.field(Word::Do))?;
+    done(verb, value, spot)
+}
+
+/// What an item does, by its word, else `WrongKind`.
+fn read_verb(value: &Value, spot: Spot) -> Result<Verb, ReadStop>
+    ensures { Gives (λ v. v) result (verb_at spot (view value.now)) }
+{
+    let text = text(value, spot)?;
+    match Verb::of_word(&Verb::ALL, text.as_bytes()) {
+        None => Err(fault_at(spot, Reason::WrongKind)),
+        Some(verb) => Ok(verb),
+    }
+}
+
+#[tactic(auto, unfolding(crate::specs::Boots::done_at))]
+fn done(verb: Verb, value: &Value, spot: Spot) -> Result<Item, ReadStop>
+    ensures { Gives (λ i. i) result (done_at verb spot (view value.now)) }
+{
+    match verb {
+        Verb::GetDevices => Ok(Item::Ask(Query::Devices)),
+        Verb::GetReleases => Ok(Item::Ask(Query::Releases(device(value, spot)?))),
+        Verb::GetUpgrades => Ok(Item::Ask(Query::Upgrades(device(value, spot)?))),
+        Verb::Install => install(value, spot),
+        Verb::GetHistory => Ok(Item::Ask(Query::History)),
+        Verb::GetResults => Ok(Item::Ask(Query::Results(device(value, spot)?))),
+        Verb::Settle => Ok(Item::Settle(device(value, spot)?)),
+        Verb::Unplug => Ok(Item::Unplug(device(value, spot)?)),
+        Verb::Plug => Ok(Item::Plug(device(value, spot)?)),
+    }
+}
+
+/// The device of an item, which must be there.
+fn device(value: &Value, spot: Spot) -> Result<Selector, ReadStop>
+    ensures { Gives (λ s. s) result (the spot Word.Device selector_at (view value.now)) }
+{
+    let found = needed(value, spot, Word::Device)?;
+    selector(found, spot.field(Word::Device))
+}
+
+/// A device by its ID, by a GUID, or else by the port of its board.
+pub fn selector(value: &Value, spot: Spot) -> Result<Selector, ReadStop>
+    ensures { Gives (λ s. s) result (selector_at spot (view value.now)) }
+{
+    let name = name(value, spot)?;
+    if let Some(device) = DeviceId::read(name.bytes()) {
+        return Ok(Selector::Id(device));
+    }
+    if let Some(guid) = Guid::read(name.bytes()) {
+        return Ok(Selector::Guid(guid));
+    }
+    Ok(Selector::Port(name))
+}
+
+#[tactic(auto, unfolding(crate::specs::Boots::install_at))]
+fn install(value: &Value, spot: Spot) -> Result<Item, ReadStop>
+    ensures { Gives (λ i. i) result (install_at spot (view value.now)) }
+{
+    let device = device(value, spot)?;
+    let tag = name(needed(value, spot, Word::Tag)?, spot.field(Word::Tag))?;
+    let version = version(
+        needed(value, spot, Word::Version)?,
+        spot.field(Word::Version),
+    )?;
+    let flags = install_flags_or_none(value, spot)?;
+    Ok(Item::Install(Request {
+        tag,
+        device,
+        version,
+        flags,
+    }))
+}
+
+fn install_flags_or_none(value: &Value, spot: Spot) -> Result<InstallFlags, ReadStop>
+    ensures { Gives (λ f. f) result (optional spot Word.Flags install_flags_at no_install_flags (view value.now)) }
+{
+    match member(value, Word::Flags) {
+        None => Ok(no_flags()),
+        Some(found) => install_flags(found, spot.field(Word::Flags)),
+    }
+}
+
+/// No flag of an install.
+pub fn no_flags() -> InstallFlags
+    ensures { result ≡ no_install_flags }
+{
+    InstallFlags {
+        offline: false,
+        allow_reinstall: false,
+        allow_older: false,
+    }
+}
+
+/// The flags of an install, as a list of their words.
+fn install_flags(value: &Value, spot: Spot) -> Result<InstallFlags, ReadStop>
+    ensures { Gives (λ f. f) result (install_flags_at spot (view value.now)) }
+{
+    let values = items(value, spot)?;
+    each_install_flag(values, spot)
+}
+
+fn each_install_flag(values: &[Value], spot: Spot) -> Result<InstallFlags, ReadStop>
+    ensures { Gives (λ f. f) result (each_install_flag spot no_install_flags (items_view values.now)) }
+{
+    let mut flags = no_flags();
+    for value in values {
+        let word = read_flag_word(value, spot)?;
+        flags = with_flag(word, flags);
+    }
+    Ok(flags)
+}
+
+fn read_flag_word(value: &Value, spot: Spot) -> Result<FlagWord, ReadStop>
+    ensures { Gives (λ w. w) result (flag_word_at spot (view value.now)) }
+{
+    let text = text(value, spot)?;
+    match FlagWord::of_word(&FlagWord::ALL, text.as_bytes()) {
+        None => Err(fault_at(spot, Reason::WrongKind)),
+        Some(word) => Ok(word),
+    }
+}
+
+fn with_flag(word: FlagWord, flags: InstallFlags) -> InstallFlags
+    ensures { result ≡ with_flag word flags }
+{
+    match word {
+        FlagWord::Offline => InstallFlags {
+            offline: true,
+            ..flags
+        },
+        FlagWord::AllowReinstall => InstallFlags {
+            allow_reinstall: true,
+            ..flags
+        },
+        FlagWord::AllowOlder => InstallFlags {
+            allow_older: true,
+            ..flags
+        },
+    }
+}
