@@ -77,7 +77,7 @@ good_list : {A : Type 0} (P : List A → Type 0) (most : ℕ) (read : List A →
 good_list {A = A} P most read spot base level d step none =
     good_after P (items_at spot d) (λ (ds : Items). if nat_lt most (items_len ds) then at_spot spot TooMany else each read (entry_spot base level) [] ds)
     (λ (ds : Items). good_below P (nat_lt most (items_len ds)) spot TooMany (each read (entry_spot base level) [] ds)
-        (good_each P read (entry_spot base level) step [] ds none))
+    (good_each P read (entry_spot base level) step [] ds none))
 
 -- ---- numbers
 
@@ -131,8 +131,8 @@ plan_rises : (spot : Spot) (d : Data) → Good IsPlan (plan_at spot d)
 plan_rises spot d =
     good_list IsPlan 64 (λ (earlier : List PlannedFault). planned_at (last_call earlier)) spot spot Whole d
     (λ (earlier : List PlannedFault) (at : Spot) (one : Data) (h : IsPlan earlier).
-        good_weaker (λ (x : PlannedFault). last_call earlier < x.call) (λ (x : PlannedFault). IsPlan (earlier ++ x ∷ [])) (planned_at (last_call earlier) at one)
-        (λ (x : PlannedFault) (later : last_call earlier < x.call). plan_more 0 earlier x h later) (planned_later (last_call earlier) at one))
+    good_weaker (λ (x : PlannedFault). last_call earlier < x.call) (λ (x : PlannedFault). IsPlan (earlier ++ x ∷ [])) (planned_at (last_call earlier) at one)
+    (λ (x : PlannedFault) (later : last_call earlier < x.call). plan_more 0 earlier x h later) (planned_later (last_call earlier) at one))
     (λ k l. absurd (omega arith))
 
 -- ---- boards
@@ -182,7 +182,7 @@ boards_sound spot d =
     let Sound : Placed → Type 0 = λ placed. IsSound placed.board in
     good_list (λ (boards : List Placed). All Sound boards) 256 board_at spot (spot_in words.Boards words.Entry) First d
     (λ (earlier : List Placed) (at : Spot) (one : Data) (h : All Sound earlier).
-        good_weaker Sound (λ (x : Placed). All Sound (earlier ++ x ∷ [])) (board_at earlier at one) (λ (x : Placed) (sound : Sound x). All-push Sound earlier x h sound) (board_sound earlier at one))
+    good_weaker Sound (λ (x : Placed). All Sound (earlier ++ x ∷ [])) (board_at earlier at one) (λ (x : Placed) (sound : Sound x). All-push Sound earlier x h sound) (board_sound earlier at one))
     (All-nil Sound)
 
 -- ---- the whole

@@ -125,12 +125,7 @@ pub fn each_item(
 }
 
 /// Puts the next item of a script behind the others.
-fn push_item(
-    read: &mut Vec<Item>,
-    taken: usize,
-    value: &Value,
-    spot: Spot,
-) -> Result<(), ReadStop>
+fn push_item(read: &mut Vec<Item>, taken: usize, value: &Value, spot: Spot) -> Result<(), ReadStop>
     requires { taken + length read.old.items ≤ 8192 }
     ensures read { OnOk result ((ds : json.Items) → each (λ earlier. item_at (taken + length earlier)) (entry_spot spot Third) read.old.items (json.item (view value.now) ds) ≡ each (λ earlier. item_at (taken + length earlier)) (entry_spot spot Third) read.new.items ds) }
     ensures fault { IfErr result (λ stop. (ds : json.Items) → Fails stop (each (λ earlier. item_at (taken + length earlier)) (entry_spot spot Third) read.old.items (json.item (view value.now) ds))) }

@@ -3,8 +3,8 @@
 //! A row is a text, an arrow, and what is told of the base document with that text in it: the first
 //! fault with its place and reason, or `read`.
 use crate::{make_site, read_site, settle_site};
-use plugin_order::Arrangement;
 use fw_base::Listed;
+use plugin_order::Arrangement;
 use std::alloc::Global;
 use std::process::Abort;
 use std::test::Fail;
@@ -108,7 +108,10 @@ fn whole_texts(rt: HostRuntime) -> Result<(), Fail> {
         assert_eq!(rt; told(alloc, text.as_bytes())?.as_str(), want, "{row}");
     }
     for bytes in [b"".as_slice(), b"{\"format\":1,\"x\":\"\xff\"}"] {
-        assert_eq!(rt; told(alloc, bytes)?.as_str(), "document 0 0 0 text: not-json");
+        assert_eq!(rt;
+            told(alloc, bytes)?.as_str(),
+            "document 0 0 0 text: not-json"
+        );
     }
     Ok(())
 }
@@ -244,7 +247,8 @@ fn the_largest_generated_site(rt: HostRuntime) -> Result<(), Fail> {
 }
 
 /// The base document with a quirk that names another plugin.
-const QUIRK: &str = r#""quirks":["[2082b5e0-7a64-478a-b1b2-e3404fab6dad]\nPlugin=loader"],"components":"#;
+const QUIRK: &str =
+    r#""quirks":["[2082b5e0-7a64-478a-b1b2-e3404fab6dad]\nPlugin=loader"],"components":"#;
 
 #[test]
 fn a_site_is_settled(rt: HostRuntime) -> Result<(), Fail> {

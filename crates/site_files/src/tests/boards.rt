@@ -143,7 +143,13 @@ const MORE: &[&str] = &[
 #[test]
 fn boards_behind_the_first(rt: HostRuntime) -> Result<(), Fail> {
     let between = (r#""image":""}"#, "");
-    check_rows(&rt, rt.alloc(), r#""image":"EMU1 01000000\n"}"#, between, MORE)
+    check_rows(
+        &rt,
+        rt.alloc(),
+        r#""image":"EMU1 01000000\n"}"#,
+        between,
+        MORE,
+    )
 }
 
 /// The base document with so many more boards, each under the one before it or all at the root.
@@ -151,14 +157,20 @@ pub fn with_boards(alloc: Global, more: u32, in_a_chain: bool) -> Result<String,
     let mut boards = String::new(alloc);
     for i in 2..more + 2 {
         let parent = i - 1;
-        boards.push_str(r#",{"physical":"p","plugin":"flash","instance-ids":["a"],"version-format":"plain","image":"","port":""#)?;
+        boards.push_str(
+            r#",{"physical":"p","plugin":"flash","instance-ids":["a"],"version-format":"plain","image":"","port":""#,
+        )?;
         boards.push_str(format!(in alloc; "usb{i}\"")?.as_str())?;
         if in_a_chain {
             boards.push_str(format!(in alloc; ",\"parent\":\"usb{parent}\"")?.as_str())?;
         }
         boards.push_str("}")?;
     }
-    edited(alloc, r#""image":"EMU1 01000000\n"}"#, &[r#""image":""}"#, boards.as_str()])
+    edited(
+        alloc,
+        r#""image":"EMU1 01000000\n"}"#,
+        &[r#""image":""}"#, boards.as_str()],
+    )
 }
 
 #[test]

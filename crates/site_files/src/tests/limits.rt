@@ -60,12 +60,29 @@ fn member<'a>(old: &'a str, front: &'a str, entry: &'a str, back: &'a str) -> Ca
 fn lists_of_the_machine(rt: HostRuntime) -> Result<(), Fail> {
     let alloc = rt.alloc();
     let hub = "\"2082b5e0-7a64-478a-b1b2-e3404fab6dad\"";
-    let files = member("\"components\":", "\"quirks\":[", "\"\"", "],\"components\":");
+    let files = member(
+        "\"components\":",
+        "\"quirks\":[",
+        "\"\"",
+        "],\"components\":",
+    );
     check_limit(&rt, alloc, &files, 64, "document 0 0 0 quirks: too-many")?;
     let hardware = member("\"pool\":16", "\"pool\":16,\"hardware\":[", hub, "]");
-    check_limit(&rt, alloc, &hardware, 64, "machine 0 0 0 hardware: too-many")?;
+    check_limit(
+        &rt,
+        alloc,
+        &hardware,
+        64,
+        "machine 0 0 0 hardware: too-many",
+    )?;
     let provides = member("\"size\":14}]", "\"size\":14}],\"provides\":[", hub, "]");
-    check_limit(&rt, alloc, &provides, 64, "components 0 0 0 provides: too-many")
+    check_limit(
+        &rt,
+        alloc,
+        &provides,
+        64,
+        "components 0 0 0 provides: too-many",
+    )
 }
 
 #[test]
@@ -74,7 +91,10 @@ fn lists_of_a_board(rt: HostRuntime) -> Result<(), Fail> {
     for (front, fault) in [
         ("\"vendor-ids\":[", "boards 0 0 0 vendor-ids: too-many"),
         ("\"instance-ids\":[", "boards 0 0 0 instance-ids: too-many"),
-        ("\"loader-instance-ids\":[", "boards 0 0 0 loader-instance-ids: too-many"),
+        (
+            "\"loader-instance-ids\":[",
+            "boards 0 0 0 loader-instance-ids: too-many",
+        ),
         ("\"counterparts\":[", "boards 0 0 0 counterparts: too-many"),
     ] {
         let names = member("\"version-format\"", front, "\"a\"", "],\"version-format\"");
@@ -89,7 +109,13 @@ fn lists_of_clients_and_boots(rt: HostRuntime) -> Result<(), Fail> {
     let clients = member("[{}]", "[", "{}", "]");
     check_limit(&rt, alloc, &clients, 16, "document 0 0 0 clients: too-many")?;
     let features = member("[{}]", "[{\"features\":[", "\"a\"", "]}]");
-    check_limit(&rt, alloc, &features, 64, "clients 0 0 0 features: too-many")?;
+    check_limit(
+        &rt,
+        alloc,
+        &features,
+        64,
+        "clients 0 0 0 features: too-many",
+    )?;
     let boots = member("}]]}]}", "}]]}],\"boots\":[", "{\"time\":0}", "]}");
     check_limit(&rt, alloc, &boots, 32, "document 0 0 0 boots: too-many")
 }
@@ -99,7 +125,11 @@ fn the_count_stands_before_the_entries(rt: HostRuntime) -> Result<(), Fail> {
     let alloc = rt.alloc();
     for (front, count, want) in [
         ("\"quirks\":[", 65, "document 0 0 0 quirks: too-many"),
-        ("\"components\":[", 4097, "document 0 0 0 components: too-many"),
+        (
+            "\"components\":[",
+            4097,
+            "document 0 0 0 components: too-many",
+        ),
         ("\"boards\":[", 257, "document 0 0 0 boards: too-many"),
         ("\"clients\":[", 17, "document 0 0 0 clients: too-many"),
         ("\"boots\":[", 33, "document 0 0 0 boots: too-many"),
@@ -116,7 +146,12 @@ fn the_count_stands_before_the_entries(rt: HostRuntime) -> Result<(), Fail> {
 fn items_of_all_boots(rt: HostRuntime) -> Result<(), Fail> {
     let alloc = rt.alloc();
     let items = "{\"do\":\"get-devices\"}";
-    let last = member("}]]}]}", "}]]}],\"boots\":[{\"time\":0,\"scripts\":[[", items, "]]}]}");
+    let last = member(
+        "}]]}]}",
+        "}]]}],\"boots\":[{\"time\":0,\"scripts\":[[",
+        items,
+        "]]}]}",
+    );
     check_limit(&rt, alloc, &last, 8192, "boots 0 0 8192 do: too-many")?;
     // one item stands in the first boot
     let next = member("}]]}]}", "}]]},{\"time\":0,\"scripts\":[[", items, "]]}]}");
@@ -149,7 +184,13 @@ fn texts_end(rt: HostRuntime) -> Result<(), Fail> {
         between: "",
         back: "\"],\"components\":",
     };
-    check_limit(&rt, alloc, &file, 1_048_576, "quirks 0 0 0 entry: bad-quirk 5 0")
+    check_limit(
+        &rt,
+        alloc,
+        &file,
+        1_048_576,
+        "quirks 0 0 0 entry: bad-quirk 5 0",
+    )
 }
 
 /// The whole object is the first level, and 127 levels are read.
