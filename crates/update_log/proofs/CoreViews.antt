@@ -53,7 +53,7 @@ views-after told before now live live' (b ∷ boards) h =
     ∷ map (claimed now.rows live') (told_on told (map (λ b. b.number) boards) (map (view_of live before) boards))) (sym (h b.number))
     ∙ ap (λ (vs : List DeviceView). view_of live' now b ∷ vs) (views-after told before now live live' boards h)
 
-none-past : {X : Type 0} (xs : List X) (i : ℕ) → slice_get xs i ≡ None → i < length xs → ⊥
+pub none-past : {X : Type 0} (xs : List X) (i : ℕ) → slice_get xs i ≡ None → i < length xs → ⊥
 none-past [] i h lt = absurd (omega arith)
 none-past (x ∷ xs) zero h lt = cc
 none-past (x ∷ xs) (suc i) h lt = none-past xs i h (omega arith)
@@ -77,15 +77,8 @@ length-mapped f [] (suc i) = refl
 length-mapped f (x ∷ xs) zero = refl
 length-mapped f (x ∷ xs) (suc i) = ap suc (length-mapped f xs i)
 
--- One turn of a loop that gives each device its live entry.
-pub claim-step : (rows : List Row) (entries : List LiveEntry) (xs now new : List DeviceView) (i : ℕ) (view : DeviceView) (claim : Option ℕ)
-    → now ≡ map (claimed rows entries) (take i xs) ++ drop i xs → i < length xs → view ≡ get_or now i view
-    → claim ≡ option_map (λ l. l.entry) (find (is_on rows view.sheet.device) entries)
-    → IfSome (slice_get now i) (λ v. new ≡ set now i (record v { claim = claim }))
-    → new ≡ map (claimed rows entries) (take (i + 1) xs) ++ drop (i + 1) xs
-claim-step rows entries xs now new i view claim n lt e h c =
-    let m : length now ≡ length xs = ap length n ∙ length-mapped (claimed rows entries) xs i in
-    let g : slice_get now i ≡ Some view = at-index now i view (omega arith) e in
-    let is : new ≡ set now i (record view { claim = claim }) = rw g at c in
-    is ∙ ap (λ (o : Option ℕ). set now i (record view { claim = o })) h
-    ∙ map_over_more (claimed rows entries) xs now i view lt n e
+-- Where nothing is told, the views stay.
+pub told_none : (boards : List ℕ) (views : List DeviceView) → views ≡ told_on (λ board. None) boards views
+told_none [] views = refl
+told_none (b ∷ boards) [] = refl
+told_none (b ∷ boards) (v ∷ views) = ap (λ (vs : List DeviceView). v ∷ vs) (told_none boards views)

@@ -12,13 +12,13 @@ use Rattle.update_log.proofs.Openings.{bytes-self, bytes-same}
 use Rattle.update_log.proofs.StrokeFacts.{and-true}
 
 -- An element is in a list where each test that it passes finds some.
-abbrev IsIn : {X : Type 0} → List X → X → Type 0
+abbrev pub IsIn : {X : Type 0} → List X → X → Type 0
 IsIn {X} xs x = (p : X → Bool) → p x ≡ true → list_any p xs ≡ true
 
 in-more : {X : Type 0} (x : X) (xs : List X) (y : X) → IsIn xs y → IsIn (x ∷ xs) y
 in-more x xs y h = λ p t. by_test (p x) _ (λ u. rw u refl) (λ u. rw u (h p t))
 
-each-in : {X : Type 0} (xs : List X) → AllByRecursion (IsIn xs) xs
+pub each-in : {X : Type 0} (xs : List X) → AllByRecursion (IsIn xs) xs
 each-in [] = tt
 each-in (x ∷ xs) = (λ p t. rw t refl, All-map (IsIn xs) (IsIn (x ∷ xs)) xs (each-in xs) (λ y h. in-more x xs y h))
 
@@ -112,7 +112,7 @@ not-true : (b : Bool) → not b ≡ true → b ≡ false
 not-true true h = cc
 not-true false h = refl
 
-one-of : (facts : Facts) (b : Board) → IsIn (all_boards facts) b → is_device facts b ≡ true → IsOne facts b
+pub one-of : (facts : Facts) (b : Board) → IsIn (all_boards facts) b → is_device facts b ≡ true → IsOne facts b
 one-of facts b i d =
     let p = and-true (is_served facts b) (not (list_any (is_beaten facts b) (all_boards facts))) d in
     record { inside = i; served = p.0; unbeaten = not-true (list_any (is_beaten facts b) (all_boards facts)) p.1 }
@@ -121,7 +121,7 @@ pub devices-are : (facts : Facts) → AllByRecursion (IsOne facts) (devices fact
 devices-are facts = All-filter (IsIn (all_boards facts)) (IsOne facts) (is_device facts) (all_boards facts) (each-in (all_boards facts)) (λ b i d. one-of facts b i d)
 
 -- Two devices with different numbers have different IDs.
-apart : (facts : Facts) (a b : Board) → IsOne facts a → IsOne facts b → a.number < b.number → a.sheet.device ≢ b.sheet.device
+pub apart : (facts : Facts) (a b : Board) → IsOne facts a → IsOne facts b → a.number < b.number → a.sheet.device ≢ b.sheet.device
 apart facts a b x y n e = at (above-one (rank_of facts a) (rank_of facts b) n)
   where
     at : Above (rank_of facts a) (rank_of facts b) ⊎ Above (rank_of facts b) (rank_of facts a) → ⊥

@@ -20,3 +20,17 @@ pub mod Worked
 pub mod CoreStands
 pub mod CoreOpenings
 pub mod CoreViews
+pub mod BoardsInTurn
+pub mod Starts
+pub mod CoreTargets
+pub mod StepsFew
+pub mod CoreKnown
+pub mod CoreTells
+pub mod CoreTraces
+pub mod CoreLegal
+pub mod CoreTaken
+pub mod ClaimLoops
+pub mod CoreClaims
+pub mod CoreAfter
+pub mod CoreKept
+pub mod CoreTake

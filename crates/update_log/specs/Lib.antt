@@ -17,3 +17,6 @@ pub mod CoreFolds
 pub mod Examples
 pub mod WorkedAnswers
 pub mod CoreViews
+pub mod CoreBoards
+pub mod CoreSteps
+pub mod CoreAfter

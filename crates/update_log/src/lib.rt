@@ -8,6 +8,9 @@
 #![tactic(auto)]
 
 pub mod answer;
+mod arranging;
+mod asking;
+mod changing;
 mod clock;
 mod copying;
 mod decide;
@@ -29,12 +32,15 @@ mod row_changes;
 mod row_lookup;
 mod showing;
 pub mod state;
+mod stepping;
 mod taking;
 mod target;
+mod telling;
 #[cfg(test)]
 mod tests;
 pub mod told;
 pub mod trace;
+mod tracing;
 
 pub use answer::{AskAnswer, ClaimAnswer, PlugAnswer, ResumeAnswer};
 pub use deciding::verdict;
@@ -47,5 +53,6 @@ pub use next_step::next_op;
 pub use refusal::{FetchNote, Refusal};
 pub use request::{InstallFlags, Request};
 pub use state::CoreState;
+pub use stepping::step;
 pub use told::Told;
 pub use trace::{Trace, TraceStep, TraceSteps, Traced};

@@ -1,5 +1,5 @@
 //! The state that stands for a log.
-ghost use Rattle.std.specs.Prelude.{◌≡◌, ◌≤◌, ◌-◌, List, OnOk, IsSome, Some};
+ghost use Rattle.std.specs.Prelude.{◌≡◌, ◌≤◌, ◌-◌, ◌+◌, List, [], length, IfOk, OnOk, IsSome, Some, None};
 ghost use Rattle.history_keeper.specs.declared.row.Row.{Row};
 ghost use Rattle.update_log.specs.declared.facts.Facts.{Facts};
 ghost use Rattle.update_log.specs.Holding.{held, hold, holds, live, live_entry, step_open};
@@ -7,23 +7,32 @@ ghost use Rattle.update_log.specs.Pasts.{boots, counted, finished, limit_of, off
 ghost use Rattle.update_log.specs.Steps.{trace};
 ghost use Rattle.history_keeper.specs.Histories.{IsHistory};
 ghost use Rattle.update_log.specs.Core.{Stands};
+ghost use Rattle.update_log.specs.CoreAfter.{IsAfter, Takes};
 ghost use Rattle.update_log.specs.CoreFolds.{AllFaults};
 ghost use Rattle.update_log.specs.CoreCase.{HasFew, case_with};
 ghost use Rattle.update_log.specs.Verdicts.{decided};
 
+use crate::arranging::arrange;
+use crate::asking::{Asking, change_on};
+use crate::changing::{change_if, doubt_at, made_at};
 use crate::clock::Clock;
 use crate::decide::{Case, decided, free_blocks};
 use crate::decision::{Decision, Stage};
 use crate::event::{Event, Log};
 use crate::facts::Facts;
 use crate::finding::{has_entry, hold_of, live_with, step_of, trace_of};
+use crate::holding::{finished_after, holds_after, live_after, open_after};
 use crate::live::{Held, LiveEntry, OpenStep};
 use crate::request::Request;
+use crate::showing::claims_after;
+use crate::telling::tell;
 use crate::trace::{Trace, Traced};
+use crate::tracing::traces_after;
 use device_list::Devices;
 use fw_base::{Listed, NoMemory};
 use fw_facts::DeviceView;
 use history_keeper::{Change, Row};
+use std::alloc::Global;
 use std::marker::Model;
 
 /// What the code keeps of the rows and the log, so that no decision reads the log. Contracts see the
@@ -55,6 +64,42 @@ impl Model for CoreState {
 }
 
 impl CoreState {
+    /// The state before the first event: nothing is logged, no row is known, and no device of these
+    /// facts is there. There are at most 256 sheets, and only memory may be wanting.
+    pub fn new(alloc: Global, facts: &Facts) -> Result<CoreState, NoMemory>
+        requires { length facts.now.sheets ≤ 256 }
+        ensures empty { IfOk result (λ state. state.log ≡ []) }
+        ensures stands { IfOk result (λ state. Stands facts.now [] state) }
+    {
+        let (devices, boards) = arrange(alloc, facts)?;
+        Ok(CoreState::of_devices(alloc, devices, boards))
+    }
+
+    fn of_devices(alloc: Global, devices: Devices, boards: Vec<u32>) -> CoreState
+        requires few { length devices ≤ 256 }
+        requires matched { length boards.items ≡ length devices }
+        ensures log { result.log ≡ [] }
+        ensures rows { result.rows ≡ [] }
+        ensures traces { result.traces ≡ [] }
+        ensures doubt { result.doubt ≡ None }
+        ensures views { result.views ≡ devices }
+        ensures boards { result.boards ≡ boards.items }
+    {
+        CoreState {
+            log: Vec::new(alloc),
+            clock: Clock::new(),
+            live: Vec::new(alloc),
+            traces: Vec::new(alloc),
+            holds: Vec::new(alloc),
+            open: Vec::new(alloc),
+            finished: Vec::new(alloc),
+            devices,
+            boards,
+            rows: Vec::new(alloc),
+            doubt: None,
+        }
+    }
+
     /// Gives the rows before the log, of which nothing is known yet: each event so far is a boot that
     /// couldn't read the history.
     pub fn set_rows(&mut self, rows: Vec<Row>)
@@ -215,6 +260,35 @@ impl CoreState {
         ensures { (facts : Facts) (opening : List Row) → Stands facts opening self.now → trace facts opening entry (past_of self.now.log) ≡ Some result }
     {
         trace_of(&self.traces, entry)
+    }
+
+    // Takes one more event: all that is kept becomes what it is after the event.
+    pub(crate) fn take(&mut self, facts: &Facts, event: Event)
+        requires { Takes facts.now self.old event }
+        ensures after { IsAfter facts.now event self.old self.new }
+        ensures room { self.old.room ≤ self.new.room + 1 }
+        ensures row_room { self.new.row_room + length self.new.rows ≡ self.old.row_room + length self.old.rows }
+    {
+        let change = change_on(
+            &Asking {
+                facts,
+                devices: &self.devices,
+                rows: &self.rows,
+                time: self.clock.time,
+            },
+            &event,
+        );
+        traces_after(&mut self.traces, facts, &self.devices, &self.holds, &event);
+        tell(&mut self.devices, &self.boards, &self.rows, &event);
+        change_if(&mut self.rows, made_at(&event, &change, &self.doubt));
+        self.doubt = doubt_at(&event, &change, &self.doubt);
+        live_after(&mut self.live, &event);
+        holds_after(&mut self.holds, &event);
+        open_after(&mut self.open, &event);
+        finished_after(&mut self.finished, &event);
+        self.clock = self.clock.after(&event);
+        claims_after(&mut self.devices, &self.rows, &self.live, &event);
+        self.log.push_reserved(event);
     }
 
     // What is decided of a request, over what is kept here.

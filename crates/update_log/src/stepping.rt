@@ -1,0 +1,28 @@
+//! One more event.
+ghost use Rattle.std.specs.Prelude.{◌≡◌, ◌<◌, ◌≤◌, ◌+◌, ◌∷◌, ◌++◌, [], List, length};
+ghost use Rattle.history_keeper.specs.declared.row.Row.{Row};
+ghost use Rattle.update_log.specs.Core.{Stands};
+ghost use Rattle.update_log.specs.CoreAfter.{IsNext};
+ghost use Rattle.update_log.specs.Known.{rows};
+ghost use Rattle.update_log.specs.Pasts.{past_of};
+
+use crate::event::Event;
+use crate::facts::Facts;
+use crate::state::CoreState;
+
+/// Puts an event behind the log, and the state stands for that log then. The facts are those that the
+/// state was made with, and the log with the event must be legal. It takes no memory: there must be
+/// room for one event, and for a row where the event adds one (`CoreState::reserve`).
+pub fn step(facts: &Facts, state: &mut CoreState, event: Event)
+    ghost opening: { List Row }
+    requires stands { Stands facts.now opening state.old }
+    requires legal { IsNext facts.now opening (past_of state.old.log) event }
+    requires room { 0 < state.old.room }
+    requires row { length (rows facts.now opening (event ∷ past_of state.old.log)) ≤ length state.old.rows + state.old.row_room }
+    ensures log { state.new.log ≡ state.old.log ++ event ∷ [] }
+    ensures stands { Stands facts.now opening state.new }
+    ensures room { state.old.room ≤ state.new.room + 1 }
+    ensures row_room { state.new.row_room + length state.new.rows ≡ state.old.row_room + length state.old.rows }
+{
+    state.take(facts, event);
+}
