@@ -1,7 +1,5 @@
 -- A log that a state follows, event by event.
 use Rattle.std.proofs.Common.{◌≡◌, ℕ, suc, ◌+◌, ◌<◌, ◌≤◌, arith, true, List, [], ◌∷◌, ◌++◌, length, take, drop, get_or, map, reverse, Option, Some, None, ◌⊎◌, inl, inr, refl, sym, ap, subst, ◌∙◌}
-use Rattle.std.specs.Prelude.{Result, Ok, IfOk}
-use Rattle.fw_base.specs.declared.memory.NoMemory.{NoMemory}
 use Rattle.history_keeper.specs.Histories.{IsHistory}
 use Rattle.outer_traits.specs.Sinks.{Took, TookFront}
 use Rattle.std.proofs.lemmas.List.{length_push, length-map, reverse-append, take-append-drop, take_more, append-nil}
@@ -43,19 +41,19 @@ found-few Found.Fault doubt rows = omega arith
 
 pub rows-few : (facts : Facts) (opening : List Row) (past : List Event) (event : Event) → length (rows facts opening (event ∷ past)) ≤ length (rows facts opening past) + 1
 rows-few facts opening past (Event.Boot number time limit found boards) = found-few found _ (rows facts opening past)
-rows-few facts opening past (Event.Query client query) = made-few _ _ (rows facts opening past)
-rows-few facts opening past (Event.Ask client request pending answer) = made-few _ _ (rows facts opening past)
+rows-few facts opening past (Event.Query client query) = omega arith
+rows-few facts opening past (Event.Ask client request pending answer) = omega arith
 rows-few facts opening past (Event.Claim client request fetched answer) = made-few _ _ (rows facts opening past)
 rows-few facts opening past (Event.Schedule client request answer) = made-few _ _ (rows facts opening past)
 rows-few facts opening past (Event.Resume client entry fetched answer stored) = made-few _ _ (rows facts opening past)
-rows-few facts opening past (Event.Start client entry op) = made-few _ _ (rows facts opening past)
-rows-few facts opening past (Event.End client entry op outcome told seen) = made-few _ _ (rows facts opening past)
+rows-few facts opening past (Event.Start client entry op) = omega arith
+rows-few facts opening past (Event.End client entry op outcome told seen) = omega arith
 rows-few facts opening past (Event.Finish client entry state stored) = made-few _ _ (rows facts opening past)
 rows-few facts opening past (Event.Judge client entry version state stored) = made-few _ _ (rows facts opening past)
-rows-few facts opening past (Event.Unplug client device answer) = made-few _ _ (rows facts opening past)
-rows-few facts opening past (Event.Plug client device answer) = made-few _ _ (rows facts opening past)
-rows-few facts opening past (Event.GiveBack client what) = made-few _ _ (rows facts opening past)
-rows-few facts opening past Event.Cut = made-few _ _ (rows facts opening past)
+rows-few facts opening past (Event.Unplug client device answer) = omega arith
+rows-few facts opening past (Event.Plug client device answer) = omega arith
+rows-few facts opening past (Event.GiveBack client what) = omega arith
+rows-few facts opening past Event.Cut = omega arith
 
 -- A state with more room stands for the same log, and takes one row more.
 pub stands-roomy : (facts : Facts) (opening : List Row) (old new : Core) (room row_room : ℕ) → new ≡ (record old { room = room; row_room = row_room }) → Stands facts opening old → Stands facts opening new
@@ -71,7 +69,7 @@ pub row-fits : (facts : Facts) (opening : List Row) (core : Core) (event : Event
 row-fits facts opening core event s room =
     let few : length (rows facts opening (event ∷ past_of core.log)) ≤ length (rows facts opening (past_of core.log)) + 1 = rows-few facts opening (past_of core.log) event in
     let same : length core.rows ≡ length (rows facts opening (past_of core.log)) = ap (length {A = Row}) s.rows in
-    omega arith
+    omega (arith, few, same, room)
 
 -- ---- each front of a legal log is legal
 
@@ -152,7 +150,7 @@ pub faults-lines : (facts : Facts) (opening : List Row) (log : List Event) → A
 faults-lines facts opening log h = boots-lines facts opening [] log h
 
 -- Rows that are no history: each event is such a boot.
-pub boots-only : (rows : List Row) (log : List Event) (at : ℕ) (found : Result (Option ℕ) NoMemory) → (IsHistory rows → IfOk found (λ f. f ≡ None)) → found ≡ Ok (Some at)
+pub boots-only : (rows : List Row) (log : List Event) (at : ℕ) (found : Option ℕ) → (IsHistory rows → found ≡ None) → found ≡ Some at
     → IsHistory rows ⊎ AllFaults (past_of log) → AllFaults (past_of log)
 boots-only rows log at found valid is (inl history) = let none : Some at ≡ None = rw is at (valid history) in cc
 boots-only rows log at found valid is (inr faults) = faults

@@ -12,6 +12,8 @@ mod lookup;
 mod parts;
 mod report;
 mod stop;
+#[cfg(test)]
+mod tests;
 mod words;
 
 pub use by_sheets::write_report_by_sheets;

@@ -177,11 +177,13 @@ fn write_over<T: Sink>(
     log: &[Event],
     out: &mut T,
 ) -> Result<(), ReportStop>
+    ghost opening: { List Row }
     requires few { length facts.now.sheets ≤ 256 }
-    requires legal { (c : Campaign) × (c.facts ≡ facts.now) × Legal c rows.now log.now }
-    requires history { IsHistory rows.now }
-    ensures whole { OnOk result (Took (in_turn (lines_in facts.now rows.now) [] log.now) (T.taken out.old) (T.taken out.new)) }
-    ensures front { OnErr result (TookFront (in_turn (lines_in facts.now rows.now) [] log.now) (T.taken out.old) (T.taken out.new)) }
+    requires same { rows.now ≡ opening }
+    requires legal { (c : Campaign) × (c.facts ≡ facts.now) × Legal c opening log.now }
+    requires history { IsHistory opening }
+    ensures whole { OnOk result (Took (in_turn (lines_in facts.now opening) [] log.now) (T.taken out.old) (T.taken out.new)) }
+    ensures front { OnErr result (TookFront (in_turn (lines_in facts.now opening) [] log.now) (T.taken out.old) (T.taken out.new)) }
     ensures cause { IsErrOf result ReportStop.SinkFault → Rose (T.faults out.old) (T.faults out.new) }
     ensures counts { T.faults out.old ≤ T.faults out.new }
 {
@@ -191,10 +193,12 @@ fn write_over<T: Sink>(
 
 /// The state before the first event of a log over a history.
 fn state_over(alloc: Global, facts: &Facts, rows: &[Row]) -> Result<CoreState, NoMemory>
+    ghost opening: { List Row }
     requires few { length facts.now.sheets ≤ 256 }
-    requires history { IsHistory rows.now }
+    requires same { rows.now ≡ opening }
+    requires history { IsHistory opening }
     ensures empty { IfOk result (λ state. state.log ≡ []) }
-    ensures stands { IfOk result (λ state. Stands facts.now rows.now state) }
+    ensures stands { IfOk result (λ state. Stands facts.now opening state) }
 {
     let mut state = CoreState::new(alloc, facts)?;
     state.set_rows(Vec::from_slice(alloc, rows)?);
@@ -221,8 +225,27 @@ pub fn write_report<T: Sink>(
     ensures cause { IsErrOf result ReportStop.SinkFault → Rose (T.faults out.old) (T.faults out.new) }
     ensures counts { T.faults out.old ≤ T.faults out.new }
 {
+    write_parts(alloc, facts, rows, log.items(), out)
+}
+
+/// Writes the first line, the lines of all events, and the last line.
+fn write_parts<T: Sink>(
+    alloc: Global,
+    facts: &Facts,
+    rows: &[Row],
+    log: &[Event],
+    out: &mut T,
+) -> Result<(), ReportStop>
+    requires few { length facts.now.sheets ≤ 256 }
+    requires legal { (c : Campaign) × (c.facts ≡ facts.now) × Legal c rows.now log.now }
+    requires history { IsHistory rows.now ⊎ AllFaults (past_of log.now) }
+    ensures whole { OnOk result (Took (report facts.now rows.now log.now) (T.taken out.old) (T.taken out.new)) }
+    ensures front { OnErr result (TookFront (report facts.now rows.now log.now) (T.taken out.old) (T.taken out.new)) }
+    ensures cause { IsErrOf result ReportStop.SinkFault → Rose (T.faults out.old) (T.faults out.new) }
+    ensures counts { T.faults out.old ≤ T.faults out.new }
+{
     write_first(out)?;
-    write_log(alloc, facts, rows, log.items(), out)?;
-    write_last(alloc, log.items().len() as u64, out)?;
+    write_log(alloc, facts, rows, log, out)?;
+    write_last(alloc, log.len() as u64, out)?;
     Ok(())
 }

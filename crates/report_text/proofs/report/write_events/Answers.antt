@@ -18,11 +18,11 @@ pub returns-in_err-follow-clause-front : goal.returns-in_err-follow-clause-front
 returns-in_err-follow-clause-front g c =
     let p = err_from_is_err_and c.from_residual-in_err-follow.result c.from_residual-in_err-follow.ensures.1 in
     let written = event_written (in_turn (lines_in c.args.facts.now g.opening) [] c.args.log.now) (lines_in c.args.facts.now g.opening) c.args.log.now c.loop-event.event-index c.event-item.result _ _ _ c.loop-event-test.true c.event-item.is c.loop-event.invariant.so_far
-        (lines-took c.args.facts.now g.opening c.loop-event.state c.args.log.now c.loop-event.event-index c.event-item.result _ _ c.loop-event.invariant.stands c.loop-event.invariant.log c.in_ok-write_event.ensures.whole) in
+    (lines-took c.args.facts.now g.opening c.loop-event.state c.args.log.now c.loop-event.event-index c.event-item.result _ _ c.loop-event.invariant.stands c.loop-event.invariant.log c.in_ok-write_event.ensures.whole) in
     rw p.1 (still_front _ _ _ _ _ refl written)
 
 pub follow-requires : goal.follow-requires
-follow-requires g c = (c.loop-event.invariant.stands, next-legal c.args.facts.now g.opening c.args.log.now c.loop-event.event-index c.event-item.result c.loop-event.state.log c.loop-event-test.true c.event-item.is c.loop-event.invariant.log c.requires.1.1)
+follow-requires g c = (c.loop-event.invariant.stands, next-legal c.args.facts.now g.opening c.args.log.now c.loop-event.event-index c.event-item.result c.loop-event.state.log c.loop-event-test.true c.event-item.is c.loop-event.invariant.log c.requires.1.1.1)
 
 pub loop-event-preserved : goal.loop-event-preserved
 loop-event-preserved g c = record {

@@ -2,7 +2,7 @@ use Rattle.std.proofs.lemmas.Result.{err_from_is_err_and}
 use Rattle.std.proofs.Common.{[]}
 use Rattle.outer_traits.proofs.Fronts.{front_first, front_later}
 use Rattle.report_text.specs.Report.{first_line, in_turn, lines_in}
-use Rattle.report_text.proofs.report.write_report.Goals as goal
+use Rattle.report_text.proofs.report.write_parts.Goals as goal
 
 pub returns-in_err-write_first-clause-front : goal.returns-in_err-write_first-clause-front
 returns-in_err-write_first-clause-front g c =
