@@ -10,8 +10,12 @@ mod ends;
 mod lines;
 mod lookup;
 mod parts;
+mod report;
 mod stop;
+#[cfg(test)]
+mod tests;
 mod words;
 
 pub use by_sheets::write_report_by_sheets;
+pub use report::write_report;
 pub use stop::ReportStop;

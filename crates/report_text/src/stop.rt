@@ -30,3 +30,11 @@ impl From<Failed> for ReportStop {
         ReportStop::SinkFault
     }
 }
+
+impl From<fw_base::NoMemory> for ReportStop {
+    ghost from_gives = { λ _ e. e ≡ NoMemory };
+
+    fn from(_refused: fw_base::NoMemory) -> ReportStop {
+        ReportStop::NoMemory
+    }
+}
