@@ -89,7 +89,9 @@ fn each_refusal(rt: HostRuntime) -> Result<(), Fail> {
 #[test]
 fn each_event(rt: HostRuntime) -> Result<(), Fail> {
     let alloc = rt.alloc();
-    let asked = request()?;
+    let device = Selector::Port(Name::read(b"usb1")?);
+    let version = Version::read(b"1.1.0")?;
+    let (asked, claimed, scheduled) = (request()?, request()?, request()?);
     let home = Seen::Home {
         raw: 0x0101_0000,
         mode: Mode::Runtime,
@@ -108,7 +110,7 @@ fn each_event(rt: HostRuntime) -> Result<(), Fail> {
         (
             Event::Query {
                 client: 1,
-                query: Query::Results(asked.device),
+                query: Query::Results(device),
             },
             "client 1 get-results usb1\n",
         ),
@@ -127,7 +129,7 @@ fn each_event(rt: HostRuntime) -> Result<(), Fail> {
         (
             Event::Claim {
                 client: 2,
-                request: asked,
+                request: claimed,
                 fetched: FetchNote::Missing,
                 answer: ClaimAnswer::Refused(Refusal::Payload(FetchNote::Missing)),
             },
@@ -136,7 +138,7 @@ fn each_event(rt: HostRuntime) -> Result<(), Fail> {
         (
             Event::Schedule {
                 client: 2,
-                request: asked,
+                request: scheduled,
                 answer: ClaimAnswer::Entry(4),
             },
             "client 2 schedule t1 usb1 1.1.0 entry 4\n",
@@ -183,7 +185,7 @@ fn each_event(rt: HostRuntime) -> Result<(), Fail> {
             Event::Judge {
                 client: 1,
                 entry: 4,
-                version: asked.version,
+                version: version,
                 state: RowState::Success,
                 stored: Stored::Yes,
             },
@@ -192,7 +194,7 @@ fn each_event(rt: HostRuntime) -> Result<(), Fail> {
         (
             Event::Unplug {
                 client: 1,
-                device: asked.device,
+                device: device,
                 answer: PlugAnswer::Busy { entry: 4 },
             },
             "client 1 unplug usb1 busy 4\n",
@@ -200,7 +202,7 @@ fn each_event(rt: HostRuntime) -> Result<(), Fail> {
         (
             Event::Plug {
                 client: 1,
-                device: asked.device,
+                device: device,
                 answer: PlugAnswer::Done { seen: home },
             },
             "client 1 plug usb1 done\n",
