@@ -2,7 +2,7 @@
 //!
 //! A row is a text, an arrow, and what is told of the base document with that text in it: the first
 //! fault with its place and reason, or `read`.
-use crate::{make_site, read_site, settle_site};
+use crate::{Site, SiteFault, make_site, read_site, settle_site};
 use fw_base::Listed;
 use plugin_order::Arrangement;
 use std::alloc::Global;
@@ -34,9 +34,17 @@ pub const BASE: &str = r#"{"format":1,"machine":{"daemon":"1.9.5","pool":16},
 /// The first fault of a document, or `read`.
 pub fn told(alloc: Global, text: &[u8]) -> Result<String, Fail> {
     match read_site(alloc, text) {
-        Ok(_) => Ok(String::from_str(alloc, "read")?),
-        Err(fault) => Ok(format!(in alloc; "{fault}")?),
+        Ok(site) => told_of_site(alloc, site),
+        Err(fault) => told_of_fault(alloc, fault),
     }
+}
+
+fn told_of_site(alloc: Global, _site: Site) -> Result<String, Fail> {
+    Ok(String::from_str(alloc, "read")?)
+}
+
+fn told_of_fault(alloc: Global, fault: SiteFault) -> Result<String, Fail> {
+    Ok(format!(in alloc; "{fault}")?)
 }
 
 /// The base document with these texts for one of its texts.
@@ -75,13 +83,19 @@ fn the_base_document_is_read(rt: HostRuntime) -> Result<(), Fail> {
     assert_eq!(rt; site.pool, 16);
     assert_eq!(rt; site.machine.ids.items().len(), 1);
     assert_eq!(rt; site.boards.items().len(), 1);
-    assert_eq!(rt;
-        site.boards.items()[0].image.items(),
-        b"EMU1 01000000\n".as_slice()
-    );
+    for board in site.boards.items() {
+        assert_eq!(rt; board.image.items(), b"EMU1 01000000\n".as_slice());
+    }
     assert_eq!(rt; site.features.items().len(), 1);
-    assert_eq!(rt; site.boots.items()[0].time, 1000);
-    assert_eq!(rt; site.scripts.items()[0].items()[0].items().len(), 1);
+    assert_eq!(rt; site.boots.items().len(), 1);
+    for boot in site.boots.items() {
+        assert_eq!(rt; boot.time, 1000);
+    }
+    for boot in site.scripts.items() {
+        for script in boot.items() {
+            assert_eq!(rt; script.items().len(), 1);
+        }
+    }
     Ok(())
 }
 

@@ -155,12 +155,13 @@ fn boards_behind_the_first(rt: HostRuntime) -> Result<(), Fail> {
 /// The base document with so many more boards, each under the one before it or all at the root.
 pub fn with_boards(alloc: Global, more: u32, in_a_chain: bool) -> Result<String, Fail> {
     let mut boards = String::new(alloc);
-    for i in 2..more + 2 {
-        let parent = i - 1;
+    for i in 0..more {
+        let parent = u64::from(i) + 1;
+        let port = u64::from(i) + 2;
         boards.push_str(
             r#",{"physical":"p","plugin":"flash","instance-ids":["a"],"version-format":"plain","image":"","port":""#,
         )?;
-        boards.push_str(format!(in alloc; "usb{i}\"")?.as_str())?;
+        boards.push_str(format!(in alloc; "usb{port}\"")?.as_str())?;
         if in_a_chain {
             boards.push_str(format!(in alloc; ",\"parent\":\"usb{parent}\"")?.as_str())?;
         }

@@ -41,7 +41,10 @@ fn check_limit(
     fault: &str,
 ) -> Result<(), Fail> {
     assert_eq!(rt; told_of(alloc, case, most)?.as_str(), "read", "{fault}");
-    assert_eq!(rt; told_of(alloc, case, most + 1)?.as_str(), fault);
+    assert_eq!(rt;
+        told_of(alloc, case, most.saturating_add(1))?.as_str(),
+        fault
+    );
     Ok(())
 }
 
