@@ -14,6 +14,10 @@ pub mod parts;
 mod releases;
 mod reply;
 mod rows;
+#[cfg(test)]
+mod scenes;
+#[cfg(test)]
+mod tests;
 pub mod words;
 
 pub use item::Item;

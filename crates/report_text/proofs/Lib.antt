@@ -1,3 +1,4 @@
 pub mod Marks
 pub mod Events
 mod Followed
+pub mod QuietLogs

@@ -11,9 +11,13 @@ mod lines;
 mod lookup;
 mod parts;
 mod report;
+#[cfg(test)]
+mod sink_tests;
 mod stop;
 #[cfg(test)]
 mod tests;
+#[cfg(test)]
+mod word_tests;
 mod words;
 
 pub use by_sheets::write_report_by_sheets;

@@ -1,13 +1,11 @@
 //! What no clause says: that calls succeed, and that the lines are the ones that were meant.
 use crate::answers::put_ask;
 use crate::lines::put_lines;
-use crate::write_report_by_sheets;
 use device_list::Selector;
 use emulated_boards::{BoardFault, Mark};
 use fw_base::{Listed, Name};
 use fw_facts::{Mode, Problem, Seen};
 use history_keeper::RowState;
-use outer_traits::{MemorySink, Sink};
 use requirements::{Unmet, UnmetCause};
 use std::test::Fail;
 use update_log::{

@@ -1,0 +1,58 @@
+-- What a call answers, by how its turn began.
+use Rattle.std.proofs.Common.{◌≡◌, ℕ, List, [], ◌∷◌, ◌++◌, ap, ◌∙◌, inl, inr}
+use Rattle.std.specs.Prelude.{Err}
+use Rattle.update_log.specs.declared.event.Event.{Event}
+use Rattle.daemon_core.specs.Annals.{Appended, Entered, Ready, Runs, Unchanged, roomier}
+use Rattle.daemon_core.specs.Housed.{Annalled}
+use Rattle.daemon_core.specs.Turns.{Turned}
+use Rattle.daemon_core.specs.declared.stop.Stop.{Stop}
+
+-- More room is no change of the facts and the log.
+pub roomier-same : (old new : Annalled) → new ≡ roomier old new → Unchanged old new
+roomier-same old new e =
+    record {
+      same = record {
+        facts = ap (λ (a : Annalled). a.facts) e;
+        first = ap (λ (a : Annalled). a.first) e;
+        opening = ap (λ (a : Annalled). a.opening) e;
+        loaded = ap (λ (a : Annalled). a.loaded) e;
+      };
+      log = ap (λ (a : Annalled). a.core.log) e;
+      makers = ap (λ (a : Annalled). a.makers) e;
+    }
+
+pub same-unchanged : (old new : Annalled) → new ≡ old → Unchanged old new
+same-unchanged old new e =
+    record {
+      same = record {
+        facts = ap (λ (a : Annalled). a.facts) e;
+        first = ap (λ (a : Annalled). a.first) e;
+        opening = ap (λ (a : Annalled). a.opening) e;
+        loaded = ap (λ (a : Annalled). a.loaded) e;
+      };
+      log = ap (λ (a : Annalled). a.core.log) e;
+      makers = ap (λ (a : Annalled). a.makers) e;
+    }
+
+-- A turn that didn't begin.
+pub stopped : (A : Type 0) {B : Type 0} (client events : ℕ) (event : B → Event) (stop : Stop) (old new : Annalled) → Entered {A = A} client events (Err stop) old new → Turned client event (Err stop) old new
+stopped A client events event Stop.Off old new (inl e) = inl (e.0, same-unchanged old new e.1)
+stopped A client events event Stop.Off old new (inr e) = inr (e.0, e.2)
+stopped A client events event Stop.NoMemory old new e = (e.0, roomier-same old new e.1)
+
+-- What was put behind the log after it began.
+pub unchanged-appended : (client : ℕ) (event : Event) (old mid new : Annalled) → Unchanged old mid → Appended client event mid new → Appended client event old new
+unchanged-appended client event old mid new u a =
+    record {
+      same = record {
+        facts = a.same.facts ∙ u.same.facts;
+        first = a.same.first ∙ u.same.first;
+        opening = a.same.opening ∙ u.same.opening;
+        loaded = a.same.loaded ∙ u.same.loaded;
+      };
+      log = a.log ∙ ap (λ (l : List Event). l ++ event ∷ []) u.log;
+      makers = a.makers ∙ ap (λ (l : List ℕ). l ++ client ∷ []) u.makers;
+    }
+
+pub ready-appended : (client events : ℕ) (event : Event) (old mid new : Annalled) → Ready events old mid → Appended client event mid new → Runs old × Appended client event old new
+ready-appended client events event old mid new r a = (r.runs, unchanged-appended client event old mid new (roomier-same old mid r.same) a)

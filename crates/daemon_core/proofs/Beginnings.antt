@@ -1,0 +1,154 @@
+-- The house before the first boot.
+use Rattle.std.proofs.Common.{◌≡◌, ℕ, ◌≤◌, Bool, true, false, List, [], ◌∷◌, ◌++◌, append_assoc, zero, suc, length, map, reverse, refl, ap, sym, ◌∙◌, subst, arith, inl}
+use Rattle.std.specs.Prelude.{Option, Some, None, slice_get, is_some, unwrap_or, if◌then◌else◌}
+use Rattle.std.proofs.lemmas.List.{length-map, reverse-append}
+use Rattle.block_pool.specs.Views.{PoolCounts}
+use Rattle.emulated_boards.specs.Boards.{BoardState}
+use Rattle.emulated_boards.specs.Conditions.{booted, fresh, plugged, view_of}
+use Rattle.emulated_boards.specs.declared.condition.Condition.{Condition}
+use Rattle.emulated_boards.specs.declared.image.Image.{Image}
+use Rattle.fw_facts.specs.declared.seen.Mode.{Mode}
+use Rattle.fw_facts.specs.declared.seen.Seen.{Seen}
+use Rattle.history_keeper.specs.declared.change.Change.{Change}
+use Rattle.history_keeper.specs.declared.row.Row.{Row}
+use Rattle.update_log.specs.Core.{Stands}
+use Rattle.update_log.specs.CoreFolds.{AllFaults}
+use Rattle.update_log.specs.Holding.{held}
+use Rattle.update_log.specs.Legal.{IsLegal}
+use Rattle.update_log.specs.Once.{ShowsFirst}
+use Rattle.update_log.specs.Pasts.{boots, past_of, time_of}
+use Rattle.update_log.specs.Shows.{Campaign, FreshShows, HasRaw, first_of_board}
+use Rattle.update_log.specs.declared.event.Event.{Event}
+use Rattle.update_log.specs.declared.facts.Facts.{Facts}
+use Rattle.daemon_core.specs.Annals.{IsAnnals, IsBlank, MadeBy}
+use Rattle.daemon_core.specs.Boards.{PlaceStands}
+use Rattle.daemon_core.specs.House.{IsHouse, IsNewBoard, IsNewHouse, place_of, shown_by}
+use Rattle.daemon_core.specs.Housed.{Annalled, Housed, Place, past, past_in, rows_before, rows_taken}
+use Rattle.daemon_core.specs.Owed.{owed}
+
+blank-past : (facts : Facts) (first : List Seen) (a : Annalled) → IsBlank facts first a → past_in a ≡ []
+blank-past facts first a b = ap past_of b.log
+
+blank-before : (facts : Facts) (first : List Seen) (a : Annalled) → IsBlank facts first a → rows_before a ≡ []
+blank-before facts first a b = ap (λ (l : Bool). rows_taken l a.opening) b.loaded
+
+-- Blank annals are annals.
+pub annals-blank : (a : Annalled) → IsBlank a.facts a.first a → length a.facts.sheets ≤ 256 → length a.first ≡ length a.facts.sheets → Stands a.facts [] a.core → IsAnnals a
+annals-blank a b few firsts s =
+    let p : past_in a ≡ [] = blank-past a.facts a.first a b in
+    let c : Campaign = record { facts = a.facts; first = a.first; plans = [] } in
+    let o = ap owed p in
+    let n = ap boots p in
+    let t = ap time_of p in
+    record {
+      legal = (c, refl, refl, subst (λ (es : List Event). IsLegal c (rows_before a) es) (sym p) tt);
+      stands = subst (λ (r : List Row). Stands a.facts r a.core) (sym (blank-before a.facts a.first a b)) s;
+      makers = subst (λ (l : List Event). MadeBy l a.makers) (sym b.log) (subst (λ (m : List ℕ). MadeBy [] m) (sym b.makers) tt);
+      few = few;
+      firsts = firsts;
+      unloaded = λ _. subst AllFaults (sym p) tt;
+      room = omega (arith, o);
+      few_boots = omega (arith, n);
+      timely = omega (arith, t);
+    }
+
+shows-itself : (s : Seen) → ShowsFirst s s
+shows-itself (Seen.Home raw mode) = refl
+shows-itself Seen.Gone = tt
+shows-itself Seen.Stranger = tt
+
+raw-shown : (s : Seen) (raw : ℕ) (mode : Mode) → s ≡ Seen.Home raw mode → HasRaw s raw
+raw-shown (Seen.Home r m) raw mode e = cc
+raw-shown Seen.Gone raw mode e = cc
+raw-shown Seen.Stranger raw mode e = cc
+
+loader-only : (o : Option ℕ) (raw : ℕ) → Seen.Home (unwrap_or o 0) (if is_some o then Mode.Runtime else Mode.Bootloader) ≡ Seen.Home raw Mode.Bootloader → raw ≡ 0
+loader-only (Some r) raw e = cc
+loader-only None raw e = cc
+
+first-shown : (facts : Facts) (first : List Seen) (number : ℕ) (image : Image) → first_of_board first number ≡ view_of (fresh image) → FreshShows facts first [] [] number [] (view_of (fresh image))
+first-shown facts first number image e =
+    record {
+      raw = λ raw mode h. inl (subst (λ (s : Seen). HasRaw s raw) (sym e) (raw-shown (view_of (fresh image)) raw mode h));
+      mode = λ raw h. loader-only image.raw raw h;
+    }
+
+gone-shown : (facts : Facts) (first : List Seen) (number : ℕ) → FreshShows facts first [] [] number [] Seen.Gone
+gone-shown facts first number = record { raw = λ raw mode h. cc; mode = λ raw h. cc }
+
+boots-shown : (facts : Facts) (first : List Seen) (number : ℕ) (image : Image) → first_of_board first number ≡ view_of (fresh image) → (absent : Bool) → FreshShows facts first [] [] number [] (view_of (booted absent (fresh image)))
+boots-shown facts first number image e true = gone-shown facts first number
+boots-shown facts first number image e false = first-shown facts first number image e
+
+-- A new board stands to the empty past.
+pub place-new : (facts : Facts) (first : List Seen) (number : ℕ) (b : BoardState) → IsNewBoard b → first_of_board first number ≡ shown_by b → PlaceStands facts first [] [] number (place_of b)
+place-new facts first number b n e =
+    let f : first_of_board first number ≡ view_of (fresh n.image) = e ∙ ap view_of n.condition in
+    record {
+      told = refl;
+      home = (
+        refl,
+        (
+          [],
+          record {
+            fits = record {
+              journal = record { told_and_tail = n.journal; tail_is = tt };
+              view = λ o z. absurd (omega arith);
+              unwritten = λ _. subst (λ (s : Seen). ShowsFirst (shown_by b) s) (sym e) (shows-itself (shown_by b));
+            };
+            boots = λ absent. subst (λ (c : Condition). FreshShows facts first [] [] number [] (view_of (booted absent c))) (sym n.condition) (boots-shown facts first number n.image f absent);
+            plugs = λ o. subst (λ (c : Condition). FreshShows facts first [] [] number [] (view_of (plugged c))) (sym n.condition) (first-shown facts first number n.image f);
+            faults = omega arith;
+          },
+        ),
+      );
+    }
+
+-- An element of a mapped list.
+pub get-map : {X Y : Type 0} (f : X → Y) (xs : List X) (i : ℕ) (y : Y) → slice_get (map f xs) i ≡ Some y → (x : X) × (slice_get xs i ≡ Some x) × (f x ≡ y)
+get-map f [] i y h = cc
+get-map f (x ∷ xs) zero y h = (x, refl, cc)
+get-map f (x ∷ xs) (suc i) y h = get-map f xs i y h
+
+pub map-get : {X Y : Type 0} (f : X → Y) (xs : List X) (i : ℕ) (x : X) → slice_get xs i ≡ Some x → slice_get (map f xs) i ≡ Some (f x)
+map-get f [] i x h = cc
+map-get f (x' ∷ xs) zero x h = cc
+map-get f (x' ∷ xs) (suc i) x h = map-get f xs i x h
+
+-- A new house is a house.
+pub house-new : {K : Type 0} (told : K → Option (List Row)) (doubted : K → Option Change) (facts : Facts) (boards : List BoardState) (pool : PoolCounts) (keeper : K) (h : Housed K) → IsNewHouse facts boards pool keeper h → length boards ≡ length facts.sheets
+    → ((number : ℕ) (b : BoardState) → slice_get boards number ≡ Some b → IsNewBoard b) → doubted keeper ≡ None → pool.capacity ≡ facts.pool → pool.free ≡ pool.capacity → IsHouse told doubted h
+house-new {K} told doubted facts boards pool keeper h n count new no_doubt capacity free =
+    let p : past h ≡ [] = blank-past facts (map shown_by boards) h.annals n.blank in
+    let r : rows_before h.annals ≡ [] = blank-before facts (map shown_by boards) h.annals n.blank in
+    let f : h.annals.facts ≡ facts = n.blank.facts_are in
+    let none : held (past h) ≡ 0 = ap held p in
+    let cap : h.pool.capacity ≡ pool.capacity = ap (λ (x : PoolCounts). x.capacity) n.pool_is in
+    let free' : h.pool.free ≡ pool.free = ap (λ (x : PoolCounts). x.free) n.pool_is in
+    let all : h.annals.facts.pool ≡ facts.pool = ap (λ (x : Facts). x.pool) f in
+    record {
+      count = ap length n.places ∙ length-map boards place_of ∙ count ∙ ap (λ (x : Facts). length x.sheets) (sym f);
+      places = λ number place e.
+          let g = get-map place_of boards number place (ap (λ (x : List Place). slice_get x number) (sym n.places) ∙ e) in
+          let b : BoardState = g.0 in
+          let shown : first_of_board (map shown_by boards) number ≡ shown_by b = ap (λ (o : Option Seen). unwrap_or o Seen.Gone) (map-get shown_by boards number b g.1) in
+          subst (λ (x : Facts). PlaceStands x h.annals.first (rows_before h.annals) (past h) number place) (sym f)
+          (subst (λ (x : List Seen). PlaceStands facts x (rows_before h.annals) (past h) number place) (sym n.blank.first_are)
+          (subst (λ (x : List Row). PlaceStands facts (map shown_by boards) x (past h) number place) (sym r)
+          (subst (λ (x : List Event). PlaceStands facts (map shown_by boards) [] x number place) (sym p)
+          (subst (λ (x : Place). PlaceStands facts (map shown_by boards) [] [] number x) g.2
+          (place-new facts (map shown_by boards) number b (new number b g.1) shown)))));
+      unloaded = λ _. ap doubted n.keeper_is ∙ no_doubt;
+      kept = λ l. let e : true ≡ false = sym l ∙ n.blank.loaded in cc;
+      capacity = cap ∙ capacity ∙ sym all;
+      free = omega (arith, none, cap, free', all, capacity, free);
+    }
+
+reverse_push : (xs : List BoardState) (x : BoardState) → reverse (xs ++ x ∷ []) ≡ x ∷ reverse xs
+reverse_push xs x = reverse-append xs (x ∷ [])
+
+-- One board more is taken from the end, and put into its place.
+pub place-turn : (places : List Place) (left rest all : List BoardState) (b : BoardState) → left ≡ rest ++ b ∷ [] → places ++ map place_of (reverse left) ≡ map place_of all → (places ++ place_of b ∷ []) ++ map place_of (reverse rest) ≡ map place_of all
+place-turn places left rest all b e h =
+    append_assoc places (place_of b ∷ []) (map place_of (reverse rest))
+    ∙ sym (ap (λ (x : List BoardState). places ++ map place_of x) (ap reverse e ∙ reverse_push rest b)) ∙ h

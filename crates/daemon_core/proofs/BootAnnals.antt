@@ -1,0 +1,90 @@
+-- The annals over other rows, and behind a boot.
+use Rattle.std.proofs.Common.{◌≡◌, ℕ, true, false, ◌+◌, ◌≤◌, List, [], ◌∷◌, refl, ap, sym, ◌∙◌, arith, subst}
+use Rattle.std.specs.Prelude.{Option, min}
+use Rattle.history_keeper.specs.declared.change.Change.{Change}
+use Rattle.history_keeper.specs.declared.row.Row.{Row}
+use Rattle.update_log.specs.Core.{Core, Stands}
+use Rattle.update_log.specs.CoreFolds.{AllFaults}
+use Rattle.update_log.specs.Crashes.{next_boot}
+use Rattle.update_log.specs.declared.event.BoardSeen.{BoardSeen}
+use Rattle.update_log.specs.declared.event.Event.{Event}
+use Rattle.update_log.specs.declared.event.Found.{Found}
+use Rattle.update_log.specs.declared.facts.BootPlan.{BootPlan}
+use Rattle.update_log.specs.Known.{rows, rows_found}
+use Rattle.update_log.specs.Legal.{FoundAllowed}
+use Rattle.update_log.specs.Pasts.{boots, is_found_fault}
+use Rattle.daemon_core.proofs.BootLegal.{boot-legal}
+use Rattle.daemon_core.proofs.BootOpenings.{legal-over}
+use Rattle.daemon_core.specs.Annals.{IsAnnals, IsLegalSo}
+use Rattle.daemon_core.specs.Booting.{AllListed, opened}
+use Rattle.daemon_core.specs.Housed.{Annalled, past_in, rows_before}
+use Rattle.daemon_core.specs.Owed.{owed}
+
+-- rows that nobody took
+pub before-none : (old : Annalled) → old.loaded ≡ false → rows_before old ≡ []
+before-none old l = rw l refl
+
+pub annals-opened : (old : Annalled) (all : List Row) (n : ℕ) → IsAnnals old → old.loaded ≡ false → Stands old.facts all (opened all n old).core → IsAnnals (opened all n old)
+annals-opened old all n k l s =
+    record {
+      legal = legal-over old.facts old.first (rows_before old) all (past_in old) (k.unloaded l) k.legal;
+      stands = s;
+      makers = k.makers;
+      few = k.few;
+      firsts = k.firsts;
+      unloaded = λ h. cc;
+      room = k.room;
+      few_boots = k.few_boots;
+      timely = k.timely;
+    }
+
+-- rows that are refused
+pub annals-refused : (old : Annalled) (all : List Row) → IsAnnals old → old.loaded ≡ false → IsAnnals (record old { opening = all })
+annals-refused old all k l =
+    let e : rows_before (record old { opening = all }) ≡ rows_before old = rw l refl in
+    record {
+      legal = subst (λ (o : List Row). IsLegalSo old.facts old.first o (past_in old)) (sym e) k.legal;
+      stands = subst (λ (o : List Row). Stands old.facts o old.core) (sym e) k.stands;
+      makers = k.makers;
+      few = k.few;
+      firsts = k.firsts;
+      unloaded = k.unloaded;
+      room = k.room;
+      few_boots = k.few_boots;
+      timely = k.timely;
+    }
+
+-- a boot may come
+pub boot-legal_in : (old : Annalled) (plan : BootPlan) (found : Found) (boards : List BoardSeen) → IsAnnals old → AllListed old.facts old.first (rows_before old) (past_in old) plan boards → FoundAllowed found old.core.doubt
+    → IsLegalSo old.facts old.first (rows_before old) (next_boot (past_in old) plan found boards ∷ past_in old)
+boot-legal_in old plan found boards k l f =
+    boot-legal old.facts old.first (rows_before old) (past_in old) plan found boards k.legal l
+    (subst (FoundAllowed found) k.stands.doubt f)
+
+-- its rows
+pub boot-rows : (old : Annalled) (plan : BootPlan) (found : Found) (boards : List BoardSeen) → IsAnnals old
+    → rows old.facts (rows_before old) (next_boot (past_in old) plan found boards ∷ past_in old) ≡ rows_found found old.core.doubt old.core.rows
+boot-rows old plan found boards k =
+    ap (λ (d : Option Change). rows_found found d (rows old.facts (rows_before old) (past_in old))) (sym k.stands.doubt)
+    ∙ ap (λ (r : List Row). rows_found found old.core.doubt r) (sym k.stands.rows)
+
+-- it couldn't read the history, while no boot could
+pub boot-faults : (old : Annalled) (plan : BootPlan) (found : Found) (boards : List BoardSeen) → IsAnnals old → (old.loaded ≡ false → is_found_fault found ≡ true) → old.loaded ≡ false → AllFaults (next_boot (past_in old) plan found boards ∷ past_in old)
+boot-faults old plan found boards k h l = (h l, k.unloaded l)
+
+-- the annals as they are made over rows that are taken
+pub annals-taken : (old : Annalled) (opening all : List Row) (core : Core) (cap : ℕ) → IsAnnals old → old.loaded ≡ false → opening ≡ all
+    → core ≡ record old.core { rows = all; row_room = core.row_room } → min old.core.room cap ≡ old.room → Stands old.facts all core
+    → IsAnnals (record { facts = old.facts; first = old.first; opening = opening; loaded = true; core = core; makers = old.makers; room = min core.room cap })
+annals-taken old opening all core cap k l same e r s =
+    subst (λ (x : Core). IsAnnals (record { facts = old.facts; first = old.first; opening = opening; loaded = true; core = x; makers = old.makers; room = min x.room cap })) (sym e)
+    (subst (λ (o : List Row). IsAnnals (record { facts = old.facts; first = old.first; opening = o; loaded = true; core = record old.core { rows = all; row_room = core.row_room }; makers = old.makers; room = min old.core.room cap })) (sym same)
+    (subst (λ (n : ℕ). IsAnnals (record { facts = old.facts; first = old.first; opening = all; loaded = true; core = record old.core { rows = all; row_room = core.row_room }; makers = old.makers; room = n })) (sym r)
+    (annals-opened old all core.row_room k l (subst (Stands old.facts all) e s))))
+
+-- what the event of a boot is
+pub boot-event : (past : List Event) (plan : BootPlan) (found : Found) (n : ℕ) (boards listed : List BoardSeen) → n ≡ boots past → boards ≡ listed → Event.Boot (n + 1) plan.time plan.limit found boards ≡ next_boot past plan found listed
+boot-event past plan found n boards listed e f = ap (λ (m : ℕ). Event.Boot (m + 1) plan.time plan.limit found boards) e ∙ ap (λ (b : List BoardSeen). Event.Boot (boots past + 1) plan.time plan.limit found b) f
+
+pub owed-boot : (past : List Event) (plan : BootPlan) (found : Found) (listed : List BoardSeen) → owed (next_boot past plan found listed ∷ past) ≤ 1
+owed-boot past plan found listed = omega arith

@@ -1,0 +1,183 @@
+-- A house that read the history.
+use Rattle.std.proofs.Common.{◌≡◌, ℕ, true, false, List, refl, sym, ◌∙◌, ◌⊎◌, inl, inr, ◌+◌, ◌≤◌, arith, length, subst}
+use Rattle.std.specs.Prelude.{Some, None, Option, IfSome, Result, Ok, Err}
+use Rattle.fw_base.specs.declared.memory.NoMemory.{NoMemory}
+use Rattle.history_keeper.specs.declared.change.Change.{Change}
+use Rattle.history_keeper.specs.declared.row.Row.{Row}
+use Rattle.history_keeper.specs.Keepers.{with_doubt}
+use Rattle.update_log.proofs.CoreOpenings.{faults-doubt}
+use Rattle.std.proofs.lemmas.List.{length_push}
+use Rattle.history_keeper.specs.Changes.{changed, with_state}
+use Rattle.update_log.proofs.Rows.{length-map}
+use Rattle.update_log.specs.Legal.{FoundAllowed}
+use Rattle.update_log.specs.Pasts.{is_found_fault}
+use Rattle.update_log.proofs.Lists.{by_test}
+use Rattle.update_log.specs.declared.event.Found.{Found}
+use Rattle.update_log.specs.Known.{doubt_found, rows_found}
+use Rattle.daemon_core.proofs.BootHouse.{stand-over}
+use Rattle.daemon_core.specs.Annals.{IsAnnals}
+use Rattle.daemon_core.specs.Boards.{PlaceStands}
+use Rattle.daemon_core.specs.Booting.{PlacesStand, opened}
+use Rattle.daemon_core.specs.House.{IsHouse}
+use Rattle.daemon_core.specs.Housed.{Annalled, Housed, past_in, rows_before}
+use Rattle.daemon_core.specs.Keeping.{HasRows, Keeps}
+use Rattle.daemon_core.specs.Reading.{CanBoot, CanBootAfter, FirstRead, LaterRead}
+use Rattle.daemon_core.specs.declared.reading.Loaded.{Loaded}
+
+-- the rows with what was found are those without or with the change in doubt
+found-cases : (found : Found) (change : Option Change) (rows : List Row) → (rows_found found change rows ≡ rows) ⊎ (rows_found found change rows ≡ with_doubt change rows)
+found-cases Found.Kept (Some change) rows = inr refl
+found-cases Found.Kept None rows = inl refl
+found-cases Found.Plain change rows = inl refl
+found-cases Found.Lost change rows = inl refl
+found-cases Found.Fault change rows = inl refl
+
+told-cases : (told : Option (List Row)) (found : Found) (change : Option Change) (rows : List Row) → IfSome told (λ all. all ≡ rows_found found change rows) → IfSome told (λ all. (all ≡ rows) ⊎ (all ≡ with_doubt change rows))
+told-cases None found change rows h = tt
+told-cases (Some all) found change rows h = at (found-cases found change rows)
+  where
+    at : (rows_found found change rows ≡ rows) ⊎ (rows_found found change rows ≡ with_doubt change rows) → (all ≡ rows) ⊎ (all ≡ with_doubt change rows)
+    at (inl e) = inl (h ∙ e)
+    at (inr e) = inr (h ∙ e)
+
+-- a boot that went well leaves no doubt
+found-none : (found : Found) (change : Option Change) → FoundAllowed found change → is_found_fault found ≡ false → doubt_found found change ≡ None
+found-none Found.Kept change a w = refl
+found-none Found.Lost change a w = refl
+found-none Found.Plain None a w = refl
+found-none Found.Plain (Some change) a w = absurd a
+found-none Found.Fault change a w = cc
+
+-- it adds one row at most
+changed-one : (change : Change) (rows : List Row) → length (changed change rows) ≤ length rows + 1
+changed-one (Change.Add row) rows = omega (arith, length_push rows row)
+changed-one (Change.Advance entry state reason time) rows = omega (arith, length-map (with_state entry state reason time) rows)
+
+found-one : (found : Found) (change : Option Change) (rows : List Row) → length (rows_found found change rows) ≤ length rows + 1
+found-one Found.Kept (Some change) rows = changed-one change rows
+found-one Found.Kept None rows = omega arith
+found-one Found.Plain change rows = omega arith
+found-one Found.Lost change rows = omega arith
+found-one Found.Fault change rows = omega arith
+
+module _ {K : Type 0} (tells : K → Option (List Row)) (doubts : K → Option Change) (faults : K → ℕ) (old : Housed K) (keeper : K) (h : IsHouse tells doubts old) (k : IsAnnals old.annals) where
+  -- a house whose keeper has these rows still
+  house-kept : (old.annals.loaded ≡ false → doubts keeper ≡ None) → (old.annals.loaded ≡ true → Keeps tells doubts keeper old.annals.core.rows old.annals.core.doubt) → IsHouse tells doubts (record old { keeper = keeper })
+  house-kept u t = record { count = h.count; places = h.places; unloaded = u; kept = t; capacity = h.capacity; free = h.free }
+
+  house-same : (new : Annalled) → new ≡ old.annals → (old.annals.loaded ≡ false → doubts keeper ≡ None) → (old.annals.loaded ≡ true → Keeps tells doubts keeper old.annals.core.rows old.annals.core.doubt)
+      → IsHouse tells doubts (record { annals = new; places = old.places; pool = old.pool; keeper = keeper })
+  house-same new e u t = subst (λ (a : Annalled). IsHouse tells doubts (record { annals = a; places = old.places; pool = old.pool; keeper = keeper })) (sym e) (house-kept u t)
+
+  stood : PlacesStand old.annals old.places
+  stood = record { count = h.count; each = h.places }
+
+  house-opened : (all : List Row) (n : ℕ) → old.annals.loaded ≡ false → HasRows tells doubts keeper all None → IsHouse tells doubts (record { annals = opened all n old.annals; places = old.places; pool = old.pool; keeper = keeper })
+  house-opened all n l r =
+      let s = stand-over old.annals all n old.places k l stood in
+      let none : old.annals.core.doubt ≡ None = k.stands.doubt ∙ faults-doubt old.annals.facts (rows_before old.annals) (past_in old.annals) (k.unloaded l) in
+      record {
+        count = h.count;
+        places = s.each;
+        unloaded = λ e. cc;
+        kept = λ e. inl (subst (λ (d : Option Change). HasRows tells doubts keeper all d) (sym none) r);
+        capacity = h.capacity;
+        free = h.free;
+      }
+
+  house-refused : (all : List Row) → old.annals.loaded ≡ false → doubts keeper ≡ None → IsHouse tells doubts (record { annals = record old.annals { opening = all }; places = old.places; pool = old.pool; keeper = keeper })
+  house-refused all l d =
+      let e : rows_before (record old.annals { opening = all }) ≡ rows_before old.annals = rw l refl in
+      record {
+        count = h.count;
+        places = λ number place g. subst (λ (o : List Row). PlaceStands old.annals.facts old.annals.first o (past_in old.annals) number place) (sym e) (h.places number place g);
+        unloaded = λ _. d;
+        kept = λ t. let bad : true ≡ false = sym t ∙ l in cc;
+        capacity = h.capacity;
+        free = h.free;
+      }
+
+  not-loaded : old.annals.loaded ≡ false → old.annals.loaded ≡ true → Keeps tells doubts keeper old.annals.core.rows old.annals.core.doubt
+  not-loaded l t = let bad : true ≡ false = sym t ∙ l in cc
+
+  not-unloaded : old.annals.loaded ≡ true → old.annals.loaded ≡ false → doubts keeper ≡ None
+  not-unloaded t l = let bad : true ≡ false = sym t ∙ l in cc
+
+  house-first : (result : Result Loaded NoMemory) (new : Annalled) → old.annals.loaded ≡ false → FirstRead tells doubts faults result old.annals new old.keeper keeper
+      → IsHouse tells doubts (record { annals = new; places = old.places; pool = old.pool; keeper = keeper })
+  house-first (Ok (Loaded.Found found)) new l r =
+      subst (λ (a : Annalled). IsHouse tells doubts (record { annals = a; places = old.places; pool = old.pool; keeper = keeper })) (sym r.opened_so)
+      (house-opened new.opening new.core.row_room l r.keeps)
+  house-first (Ok (Loaded.Bad entry)) new l r =
+      subst (λ (a : Annalled). IsHouse tells doubts (record { annals = a; places = old.places; pool = old.pool; keeper = keeper })) (sym r.same)
+      (house-refused new.opening l r.no_doubt)
+  house-first (Ok Loaded.Fault) new l r = house-same new r.0.same (λ _. r.0.no_doubt) (not-loaded l)
+  house-first (Err refused) new l r = house-same new r.same (λ _. r.no_doubt) (not-loaded l)
+
+  house-later : (result : Result Loaded NoMemory) (new : Annalled) → old.annals.loaded ≡ true → new ≡ old.annals → LaterRead tells doubts faults result old.annals.core.rows old.annals.core.doubt old.keeper keeper
+      → IsHouse tells doubts (record { annals = new; places = old.places; pool = old.pool; keeper = keeper })
+  house-later (Ok (Loaded.Found found)) new t e r =
+      house-same new e (not-unloaded t) (λ _. inr (record { rows_are = told-cases (tells keeper) found old.annals.core.doubt old.annals.core.rows r.keeps.rows_are; no_doubt = r.keeps.doubt_is }))
+  house-later (Ok (Loaded.Bad entry)) new t e r = house-same new e (not-unloaded t) (λ _. r.keeps)
+  house-later (Ok Loaded.Fault) new t e r = house-same new e (not-unloaded t) (λ _. r.0)
+  house-later (Err refused) new t e r = house-same new e (not-unloaded t) (λ _. r)
+
+  pub house-read : (result : Result Loaded NoMemory) (new : Annalled)
+      → (old.annals.loaded ≡ false → FirstRead tells doubts faults result old.annals new old.keeper keeper)
+      → (old.annals.loaded ≡ true → (new ≡ old.annals) × LaterRead tells doubts faults result old.annals.core.rows old.annals.core.doubt old.keeper keeper)
+      → IsHouse tells doubts (record { annals = new; places = old.places; pool = old.pool; keeper = keeper })
+  house-read result new first later =
+      by_test old.annals.loaded _
+      (λ t. let w = later t in house-later result new t w.0 w.1)
+      (λ l. house-first result new l (first l))
+
+  -- so a boot may be put behind the log
+  module _ (room : 1 ≤ old.annals.core.row_room) where
+    can-same : (found : Found) → CanBoot tells doubts found (record old { keeper = keeper }) → (new : Annalled) → new ≡ old.annals → CanBoot tells doubts found (record { annals = new; places = old.places; pool = old.pool; keeper = keeper })
+    can-same found b new e = subst (λ (a : Annalled). CanBoot tells doubts found (record { annals = a; places = old.places; pool = old.pool; keeper = keeper })) (sym e) b
+
+    can-fault : (old.annals.loaded ≡ true → Keeps tells doubts keeper old.annals.core.rows old.annals.core.doubt) → CanBoot tells doubts Found.Fault (record old { keeper = keeper })
+    can-fault t = record { allowed = tt; unloaded = λ _. refl; keeps = t; row = omega arith }
+
+    can-open : (all : List Row) (n : ℕ) → old.annals.loaded ≡ false → HasRows tells doubts keeper all None → CanBoot tells doubts Found.Plain (record { annals = opened all n old.annals; places = old.places; pool = old.pool; keeper = keeper })
+    can-open all n l r =
+        let none : old.annals.core.doubt ≡ None = k.stands.doubt ∙ faults-doubt old.annals.facts (rows_before old.annals) (past_in old.annals) (k.unloaded l) in
+        record {
+          allowed = subst (FoundAllowed Found.Plain) (sym none) tt;
+          unloaded = λ e. cc;
+          keeps = λ e. inl (subst (λ (d : Option Change). HasRows tells doubts keeper all d) (sym none) r);
+          row = omega arith;
+        }
+
+    can-first : (result : Result Loaded NoMemory) (new : Annalled) → old.annals.loaded ≡ false → FirstRead tells doubts faults result old.annals new old.keeper keeper
+        → CanBootAfter tells doubts result (record { annals = new; places = old.places; pool = old.pool; keeper = keeper })
+    can-first (Ok (Loaded.Found found)) new l r =
+        subst (λ (f : Found). CanBoot tells doubts f (record { annals = new; places = old.places; pool = old.pool; keeper = keeper })) (sym r.found_is)
+        (subst (λ (a : Annalled). CanBoot tells doubts Found.Plain (record { annals = a; places = old.places; pool = old.pool; keeper = keeper })) (sym r.opened_so)
+        (can-open new.opening new.core.row_room l r.keeps))
+    can-first (Ok (Loaded.Bad entry)) new l r = tt
+    can-first (Ok Loaded.Fault) new l r = can-same Found.Fault (can-fault (not-loaded l)) new r.0.same
+    can-first (Err refused) new l r = tt
+
+    can-later : (result : Result Loaded NoMemory) (new : Annalled) → old.annals.loaded ≡ true → new ≡ old.annals → LaterRead tells doubts faults result old.annals.core.rows old.annals.core.doubt old.keeper keeper
+        → CanBootAfter tells doubts result (record { annals = new; places = old.places; pool = old.pool; keeper = keeper })
+    can-later (Ok (Loaded.Found found)) new t e r =
+        let none : doubt_found found old.annals.core.doubt ≡ None = found-none found old.annals.core.doubt r.allowed r.well in
+        can-same found (record {
+          allowed = r.allowed;
+          unloaded = λ l. let bad : true ≡ false = sym t ∙ l in cc;
+          keeps = λ _. inl (subst (λ (d : Option Change). HasRows tells doubts keeper (rows_found found old.annals.core.doubt old.annals.core.rows) d) (sym none) r.keeps);
+          row = (let one = found-one found old.annals.core.doubt old.annals.core.rows in omega (arith, one, room));
+        }) new e
+    can-later (Ok (Loaded.Bad entry)) new t e r = tt
+    can-later (Ok Loaded.Fault) new t e r = can-same Found.Fault (can-fault (λ _. r.0)) new e
+    can-later (Err refused) new t e r = tt
+
+    pub can-boot : (result : Result Loaded NoMemory) (new : Annalled)
+        → (old.annals.loaded ≡ false → FirstRead tells doubts faults result old.annals new old.keeper keeper)
+        → (old.annals.loaded ≡ true → (new ≡ old.annals) × LaterRead tells doubts faults result old.annals.core.rows old.annals.core.doubt old.keeper keeper)
+        → CanBootAfter tells doubts result (record { annals = new; places = old.places; pool = old.pool; keeper = keeper })
+    can-boot result new first later =
+        by_test old.annals.loaded _
+        (λ t. let w = later t in can-later result new t w.0 w.1)
+        (λ l. can-first result new l (first l))

@@ -1,0 +1,306 @@
+-- What a boot did, by its answer.
+use Rattle.std.proofs.Common.{◌≡◌, ℕ, true, false, ◌+◌, ◌≤◌, ◌<◌, ◌-◌, ◌^◌, List, [], ◌∷◌, ◌++◌, refl, ap, sym, ◌∙◌, ◌⊎◌, inl, inr, arith, length, subst}
+use Rattle.std.specs.Prelude.{None, Option, MatchBool, Result, Ok, Err, nat_le}
+use Rattle.std.proofs.lemmas.Bool.{leb-true, leb-false}
+use Rattle.fw_base.specs.declared.memory.NoMemory.{NoMemory}
+use Rattle.outer_traits.specs.Faults.{Rose}
+use Rattle.history_keeper.specs.declared.change.Change.{Change}
+use Rattle.history_keeper.specs.declared.row.Row.{Row}
+use Rattle.history_keeper.specs.Histories.{IsHistory}
+use Rattle.update_log.proofs.Lists.{by_test}
+use Rattle.update_log.specs.Crashes.{next_boot}
+use Rattle.update_log.specs.declared.event.BoardSeen.{BoardSeen}
+use Rattle.update_log.specs.declared.event.Event.{Event}
+use Rattle.update_log.specs.declared.event.Found.{Found}
+use Rattle.update_log.specs.declared.facts.BootPlan.{BootPlan}
+use Rattle.update_log.specs.Holding.{holds, live}
+use Rattle.update_log.specs.Known.{rows_found}
+use Rattle.update_log.specs.Pasts.{boots, is_found_fault, past_of}
+use Rattle.daemon_core.proofs.AnnalsKept.{appended-past}
+use Rattle.daemon_core.specs.Annals.{roomier}
+use Rattle.daemon_core.specs.Booting.{AllStarted, BoardsStarted, opened}
+use Rattle.daemon_core.specs.Boots.{BootNoted, CouldntRead, IsReady, NoBoot, ReadOthers, SameGrounds, WentWell}
+use Rattle.daemon_core.specs.House.{SameElsewhere}
+use Rattle.daemon_core.specs.Housed.{Annalled, Housed, Place, past}
+use Rattle.daemon_core.specs.Keeping.{HasRows, keeper_faults}
+use Rattle.daemon_core.specs.Reading.{AreOthers, AreTold, CanBoot, FirstRead, LaterRead}
+use Rattle.daemon_core.specs.Turns.{FaultsCounted}
+use Rattle.daemon_core.specs.declared.reading.Loaded.{Loaded}
+
+-- the annals with the same log
+pub record SameLog (old new : Annalled) : Type 0 where
+  pub facts : new.facts ≡ old.facts
+  pub first : new.first ≡ old.first
+  pub log : new.core.log ≡ old.core.log
+  pub makers : new.makers ≡ old.makers
+
+same-trans : (a b c : Annalled) → SameLog a b → SameLog b c → SameLog a c
+same-trans a b c s t = record { facts = t.facts ∙ s.facts; first = t.first ∙ s.first; log = t.log ∙ s.log; makers = t.makers ∙ s.makers }
+
+same-roomier : (old new : Annalled) → new ≡ roomier old new → SameLog old new
+same-roomier old new e =
+    record { facts = ap (λ (a : Annalled). a.facts) e; first = ap (λ (a : Annalled). a.first) e; log = ap (λ (a : Annalled). a.core.log) e; makers = ap (λ (a : Annalled). a.makers) e }
+
+same-itself : (old new : Annalled) → new ≡ old → SameLog old new
+same-itself old new e =
+    record { facts = ap (λ (a : Annalled). a.facts) e; first = ap (λ (a : Annalled). a.first) e; log = ap (λ (a : Annalled). a.core.log) e; makers = ap (λ (a : Annalled). a.makers) e }
+
+same-opened : (old new : Annalled) (all : List Row) (n : ℕ) → new ≡ opened all n old → SameLog old new
+same-opened old new all n e =
+    record { facts = ap (λ (a : Annalled). a.facts) e; first = ap (λ (a : Annalled). a.first) e; log = ap (λ (a : Annalled). a.core.log) e; makers = ap (λ (a : Annalled). a.makers) e }
+
+same-refused : (old new : Annalled) (all : List Row) → new ≡ record old { opening = all } → SameLog old new
+same-refused old new all e =
+    record { facts = ap (λ (a : Annalled). a.facts) e; first = ap (λ (a : Annalled). a.first) e; log = ap (λ (a : Annalled). a.core.log) e; makers = ap (λ (a : Annalled). a.makers) e }
+
+-- from the count of faults to what the log tells of them
+rose-cases : (a b : ℕ) → Rose a b → (a + 1 ≤ b) ⊎ (2 ^ 64 - 1 ≤ b)
+rose-cases a b r =
+    by_test (nat_le (a + 1) b) _
+    (λ t. inl (leb-true (a + 1) b t))
+    (λ f. let g = leb-false (a + 1) b f in inr (omega (arith, r, g)))
+
+module _ {K : Type 0} (tells : K → Option (List Row)) (doubts : K → Option Change) (faults : K → ℕ) (old room mid new : Housed K) (plan : BootPlan)
+    (roomy : room.annals ≡ roomier old.annals room.annals) (elsewhere : SameElsewhere old room)
+    (places : mid.places ≡ room.places) (pool : mid.pool ≡ room.pool) (counts : faults room.keeper ≤ faults mid.keeper) where
+  pub counted : faults old.keeper ≤ faults mid.keeper
+  counted = subst (λ (k : K). faults k ≤ faults mid.keeper) elsewhere.keeper counts
+
+  -- what reading left
+  module _ (result : Result Loaded NoMemory)
+      (first : room.annals.loaded ≡ false → FirstRead tells doubts faults result room.annals mid.annals room.keeper mid.keeper)
+      (later : room.annals.loaded ≡ true → (mid.annals ≡ room.annals) × LaterRead tells doubts faults result room.annals.core.rows room.annals.core.doubt room.keeper mid.keeper) where
+    first-same : (r : Result Loaded NoMemory) → FirstRead tells doubts faults r room.annals mid.annals room.keeper mid.keeper → SameLog room.annals mid.annals
+    first-same (Ok (Loaded.Found found)) f = same-opened room.annals mid.annals mid.annals.opening mid.annals.core.row_room f.opened_so
+    first-same (Ok (Loaded.Bad entry)) f = same-refused room.annals mid.annals mid.annals.opening f.same
+    first-same (Ok Loaded.Fault) f = same-itself room.annals mid.annals f.0.same
+    first-same (Err refused) f = same-itself room.annals mid.annals f.same
+
+    pub same-log : SameLog old.annals mid.annals
+    same-log = same-trans old.annals room.annals mid.annals (same-roomier old.annals room.annals roomy)
+        (by_test room.annals.loaded _ (λ t. same-itself room.annals mid.annals (later t).0) (λ l. first-same result (first l)))
+
+    pub same-past : past mid ≡ past old
+    same-past = ap past_of same-log.log
+
+    grounds : SameGrounds old mid
+    grounds = record { facts = same-log.facts; first = same-log.first; pool = pool ∙ elsewhere.pool }
+
+    pub room-loaded : room.annals.loaded ≡ old.annals.loaded
+    room-loaded = ap (λ (a : Annalled). a.loaded) roomy
+
+    pub room-opening : room.annals.opening ≡ old.annals.opening
+    room-opening = ap (λ (a : Annalled). a.opening) roomy
+
+    -- it left the room
+    first-room : (r : Result Loaded NoMemory) → FirstRead tells doubts faults r room.annals mid.annals room.keeper mid.keeper → mid.annals.room ≡ room.annals.room
+    first-room (Ok (Loaded.Found found)) f = ap (λ (a : Annalled). a.room) f.opened_so
+    first-room (Ok (Loaded.Bad entry)) f = ap (λ (a : Annalled). a.room) f.same
+    first-room (Ok Loaded.Fault) f = ap (λ (a : Annalled). a.room) f.0.same
+    first-room (Err refused) f = ap (λ (a : Annalled). a.room) f.same
+
+    same-room : mid.annals.room ≡ room.annals.room
+    same-room = by_test room.annals.loaded _ (λ t. ap (λ (a : Annalled). a.room) (later t).0) (λ l. first-room result (first l))
+
+    -- the boot can be put behind the log
+    pub ready-now : (found : Found) (listed : List BoardSeen) (cap : ℕ) → holds (past old) ≡ [] → live (past old) ≡ [] → CanBoot tells doubts found mid → listed ≡ [] → length old.places ≤ cap → 2 ≤ room.annals.room
+        → boots (past old) + 1 < 2 ^ 32 → plan.time ≤ 2 ^ 63 - 1 → IsReady tells doubts plan found listed cap mid
+    ready-now found listed cap h l can e n r few t =
+        record {
+          holds = ap holds same-past ∙ h;
+          live = ap live same-past ∙ l;
+          can = can;
+          empty = e;
+          enough = subst (λ (ps : List Place). length ps ≤ cap) (sym (places ∙ elsewhere.places)) n;
+          room = subst (λ (x : ℕ). 2 ≤ x) (sym same-room) r;
+          few = subst (λ (es : List Event). boots es + 1 < 2 ^ 32) (sym same-past) few;
+          timely = t;
+        }
+
+    pub none-noted : mid.annals.loaded ≡ old.annals.loaded → NoBoot old mid
+    none-noted l = record { grounds = grounds; log = same-log.log; makers = same-log.makers; loaded = l; places = places ∙ elsewhere.places }
+
+    pub faults-none : FaultsCounted faults old mid
+    faults-none = inl (let e : keeper_faults (past mid) ≡ keeper_faults (past old) = ap keeper_faults same-past in let c = counted in omega (arith, e, c))
+
+    -- what a boot put behind the log
+    module _ (found : Found) (b : BoardsStarted plan found mid.annals new.annals mid.places new.places) (keeper : new.keeper ≡ mid.keeper) (pool_new : new.pool ≡ mid.pool) where
+      pub noted : BootNoted plan found b.listed old new
+      noted =
+          record {
+            grounds = record { facts = b.appended.same.facts ∙ same-log.facts; first = b.appended.same.first ∙ same-log.first; pool = pool_new ∙ pool ∙ elsewhere.pool };
+            log = b.appended.log ∙ ap (λ (l : List Event). l ++ next_boot (past_of l) plan found b.listed ∷ []) same-log.log;
+            makers = b.appended.makers ∙ ap (λ (m : List ℕ). m ++ 0 ∷ []) same-log.makers;
+            started = subst (λ (ps : List Place). AllStarted plan ps new.places b.listed) (places ∙ elsewhere.places) b.started;
+          }
+
+      past-new : past new ≡ next_boot (past mid) plan found b.listed ∷ past mid
+      past-new = appended-past 0 (next_boot (past mid) plan found b.listed) mid.annals new.annals b.appended
+
+      pub counts-new : faults old.keeper ≤ faults new.keeper
+      counts-new = subst (λ (k : K). faults old.keeper ≤ faults k) (sym keeper) counted
+
+      pub faults-well : is_found_fault found ≡ false → FaultsCounted faults old new
+      faults-well w =
+          let e : keeper_faults (past new) ≡ keeper_faults (past mid) = ap keeper_faults past-new ∙ rw w refl in
+          let f : keeper_faults (past mid) ≡ keeper_faults (past old) = ap keeper_faults same-past in
+          let c = counts-new in inl (omega (arith, e, f, c))
+
+      pub faults-fault : is_found_fault found ≡ true → Rose (faults room.keeper) (faults mid.keeper) → FaultsCounted faults old new
+      faults-fault w r = at (rose-cases (faults room.keeper) (faults mid.keeper) r)
+        where
+          at : (faults room.keeper + 1 ≤ faults mid.keeper) ⊎ (2 ^ 64 - 1 ≤ faults mid.keeper) → FaultsCounted faults old new
+          at (inl h) =
+              let e : keeper_faults (past new) ≡ keeper_faults (past mid) + 1 = ap keeper_faults past-new ∙ rw w refl in
+              let f : keeper_faults (past mid) ≡ keeper_faults (past old) = ap keeper_faults same-past in
+              let k : faults room.keeper ≡ faults old.keeper = ap faults elsewhere.keeper in
+              let n : faults new.keeper ≡ faults mid.keeper = ap faults keeper in
+              inl (omega (arith, e, f, h, k, n))
+          at (inr h) = inr (subst (λ (k : K). 2 ^ 64 - 1 ≤ faults k) (sym keeper) h)
+
+      pub loaded-new : new.annals.loaded ≡ mid.annals.loaded
+      loaded-new = b.appended.same.loaded
+
+      pub opening-new : new.annals.opening ≡ mid.annals.opening
+      opening-new = b.appended.same.opening
+
+-- what a boot did that found no room
+pub turn-no_room : {K : Type 0} (faults : K → ℕ) (old room : Housed K) → room.annals ≡ roomier old.annals room.annals → SameElsewhere old room
+    → (NoBoot old room × (room.annals.opening ≡ old.annals.opening)) × FaultsCounted faults old room × (faults old.keeper ≤ faults room.keeper)
+turn-no_room faults old room e s =
+    let l = same-roomier old.annals room.annals e in
+    let k : faults room.keeper ≡ faults old.keeper = ap faults s.keeper in
+    let p : keeper_faults (past room) ≡ keeper_faults (past old) = ap (λ (es : List Event). keeper_faults (past_of es)) l.log in (
+      (
+        record {
+          grounds = record { facts = l.facts; first = l.first; pool = s.pool };
+          log = l.log;
+          makers = l.makers;
+          loaded = ap (λ (a : Annalled). a.loaded) e;
+          places = s.places;
+        },
+        ap (λ (a : Annalled). a.opening) e,
+      ),
+      inl (omega (arith, p, k)),
+      omega (arith, k),
+    )
+
+module _ {K : Type 0} (tells : K → Option (List Row)) (doubts : K → Option Change) (faults : K → ℕ) (old room mid new : Housed K) (plan : BootPlan)
+    (roomy : room.annals ≡ roomier old.annals room.annals) (elsewhere : SameElsewhere old room)
+    (places : mid.places ≡ room.places) (pool : mid.pool ≡ room.pool) (counts : faults room.keeper ≤ faults mid.keeper) where
+  loaded-was : room.annals.loaded ≡ old.annals.loaded
+  loaded-was = ap (λ (a : Annalled). a.loaded) roomy
+
+  opening-was : room.annals.opening ≡ old.annals.opening
+  opening-was = ap (λ (a : Annalled). a.opening) roomy
+
+  -- want of memory
+  pub turn-none : (refused : NoMemory)
+      → (room.annals.loaded ≡ false → FirstRead tells doubts faults (Err refused) room.annals mid.annals room.keeper mid.keeper)
+      → (room.annals.loaded ≡ true → (mid.annals ≡ room.annals) × LaterRead tells doubts faults (Err refused) room.annals.core.rows room.annals.core.doubt room.keeper mid.keeper)
+      → (NoBoot old mid × (mid.annals.opening ≡ old.annals.opening)) × FaultsCounted faults old mid × (faults old.keeper ≤ faults mid.keeper)
+  turn-none refused first later =
+      let same : mid.annals ≡ room.annals = by_test room.annals.loaded _ (λ t. (later t).0) (λ l. (first l).same) in (
+        (
+          none-noted tells doubts faults old room mid new plan roomy elsewhere places pool counts (Err refused) first later (ap (λ (a : Annalled). a.loaded) same ∙ loaded-was),
+          ap (λ (a : Annalled). a.opening) same ∙ opening-was,
+        ),
+        faults-none tells doubts faults old room mid new plan roomy elsewhere places pool counts (Err refused) first later,
+        counted tells doubts faults old room mid new plan roomy elsewhere places pool counts,
+      )
+
+  -- other rows
+  pub turn-others : (entry : ℕ)
+      → (room.annals.loaded ≡ false → FirstRead tells doubts faults (Ok (Loaded.Bad entry)) room.annals mid.annals room.keeper mid.keeper)
+      → (room.annals.loaded ≡ true → (mid.annals ≡ room.annals) × LaterRead tells doubts faults (Ok (Loaded.Bad entry)) room.annals.core.rows room.annals.core.doubt room.keeper mid.keeper)
+      → ReadOthers tells entry old mid × FaultsCounted faults old mid × (faults old.keeper ≤ faults mid.keeper)
+  turn-others entry first later =
+      let loaded : mid.annals.loaded ≡ room.annals.loaded = by_test room.annals.loaded _ (λ t. ap (λ (a : Annalled). a.loaded) (later t).0) (λ l. ap (λ (a : Annalled). a.loaded) (first l).same) in (
+        record {
+          none = none-noted tells doubts faults old room mid new plan roomy elsewhere places pool counts (Ok (Loaded.Bad entry)) first later (loaded ∙ loaded-was);
+          first = λ l.
+              let f = first (loaded-was ∙ l) in
+              (record { at = f.at; faulty = f.faulty; entry_is = f.entry_is }, subst (λ (k : K). AreTold (tells k) mid.annals.opening) elsewhere.keeper f.told_are);
+          later = λ t.
+              let w = later (loaded-was ∙ t) in
+              let o = w.1 in (
+                ap (λ (a : Annalled). a.opening) w.0 ∙ opening-was,
+                o.silent,
+                (
+                  o.loaded,
+                  subst (λ (rs : List Row). AreOthers entry o.loaded rs old.annals.core.doubt) (ap (λ (a : Annalled). a.core.rows) roomy)
+                      (subst (λ (d : Option Change). AreOthers entry o.loaded room.annals.core.rows d) (ap (λ (a : Annalled). a.core.doubt) roomy) o.others),
+                ),
+              );
+        },
+        faults-none tells doubts faults old room mid new plan roomy elsewhere places pool counts (Ok (Loaded.Bad entry)) first later,
+        counted tells doubts faults old room mid new plan roomy elsewhere places pool counts,
+      )
+
+  -- a boot that couldn't read
+  pub turn-fault : (first : room.annals.loaded ≡ false → FirstRead tells doubts faults (Ok Loaded.Fault) room.annals mid.annals room.keeper mid.keeper)
+      → (later : room.annals.loaded ≡ true → (mid.annals ≡ room.annals) × LaterRead tells doubts faults (Ok Loaded.Fault) room.annals.core.rows room.annals.core.doubt room.keeper mid.keeper)
+      → (b : BoardsStarted plan Found.Fault mid.annals new.annals mid.places new.places) → new.keeper ≡ mid.keeper → new.pool ≡ mid.pool
+      → ((listed : List BoardSeen) × CouldntRead plan listed old new) × FaultsCounted faults old new × (faults old.keeper ≤ faults new.keeper)
+  turn-fault first later b keeper pool_new =
+      let same : mid.annals ≡ room.annals = by_test room.annals.loaded _ (λ t. (later t).0) (λ l. (first l).0.same) in
+      let rose : Rose (faults room.keeper) (faults mid.keeper) = by_test room.annals.loaded _ (λ t. (later t).1.1) (λ l. (first l).1) in (
+        (
+          b.listed,
+          record {
+            noted = noted tells doubts faults old room mid new plan roomy elsewhere places pool counts (Ok Loaded.Fault) first later Found.Fault b keeper pool_new;
+            loaded = b.appended.same.loaded ∙ ap (λ (a : Annalled). a.loaded) same ∙ loaded-was;
+            opening = b.appended.same.opening ∙ ap (λ (a : Annalled). a.opening) same ∙ opening-was;
+          },
+        ),
+        faults-fault tells doubts faults old room mid new plan roomy elsewhere places pool counts (Ok Loaded.Fault) first later Found.Fault b keeper pool_new refl rose,
+        counts-new tells doubts faults old room mid new plan roomy elsewhere places pool counts (Ok Loaded.Fault) first later Found.Fault b keeper pool_new,
+      )
+
+  -- one that went well
+  module _ (found : Found)
+      (first : room.annals.loaded ≡ false → FirstRead tells doubts faults (Ok (Loaded.Found found)) room.annals mid.annals room.keeper mid.keeper)
+      (later : room.annals.loaded ≡ true → (mid.annals ≡ room.annals) × LaterRead tells doubts faults (Ok (Loaded.Found found)) room.annals.core.rows room.annals.core.doubt room.keeper mid.keeper)
+      (b : BoardsStarted plan found mid.annals new.annals mid.places new.places) (keeper : new.keeper ≡ mid.keeper) (pool_new : new.pool ≡ mid.pool)
+      (rows_are : new.annals.core.rows ≡ rows_found found mid.annals.core.doubt mid.annals.core.rows) where
+    was-read : is_found_fault found ≡ false
+    was-read = by_test room.annals.loaded _ (λ t. (later t).1.well) (λ l. ap is_found_fault (first l).found_is)
+
+    now-loaded : mid.annals.loaded ≡ true
+    now-loaded = by_test room.annals.loaded _ (λ t. ap (λ (a : Annalled). a.loaded) (later t).0 ∙ t) (λ l. ap (λ (a : Annalled). a.loaded) (first l).opened_so)
+
+    mid-keeps : HasRows tells doubts mid.keeper (rows_found found mid.annals.core.doubt mid.annals.core.rows) None
+    mid-keeps =
+        by_test room.annals.loaded _
+        (λ t. subst (λ (a : Annalled). HasRows tells doubts mid.keeper (rows_found found a.core.doubt a.core.rows) None) (sym (later t).0) (later t).1.keeps)
+        (λ l.
+        let f = first l in
+        let all : rows_found found mid.annals.core.doubt mid.annals.core.rows ≡ mid.annals.opening =
+        ap (λ (x : Found). rows_found x mid.annals.core.doubt mid.annals.core.rows) f.found_is ∙ ap (λ (a : Annalled). a.core.rows) f.opened_so in
+        subst (λ (rs : List Row). HasRows tells doubts mid.keeper rs None) (sym all) f.keeps)
+
+    opened-well : MatchBool old.annals.loaded (new.annals.opening ≡ old.annals.opening) (IsHistory new.annals.opening × AreTold (tells old.keeper) new.annals.opening)
+    opened-well =
+        by_test old.annals.loaded _
+        (λ t. rw t (b.appended.same.opening ∙ ap (λ (a : Annalled). a.opening) (later (loaded-was ∙ t)).0 ∙ opening-was))
+        (λ l.
+        let f = first (loaded-was ∙ l) in
+        let o : mid.annals.opening ≡ new.annals.opening = sym b.appended.same.opening in
+        rw l (subst IsHistory o f.history, subst (λ (k : K). AreTold (tells k) new.annals.opening) elsewhere.keeper (subst (λ (rs : List Row). AreTold (tells room.keeper) rs) o f.told_are)))
+
+    pub turn-well : ((f : Found) × (listed : List BoardSeen) × WentWell tells doubts plan f listed old new) × FaultsCounted faults old new × (faults old.keeper ≤ faults new.keeper)
+    turn-well = (
+      (
+        found,
+        b.listed,
+        record {
+          noted = noted tells doubts faults old room mid new plan roomy elsewhere places pool counts (Ok (Loaded.Found found)) first later found b keeper pool_new;
+          read = was-read;
+          loaded = b.appended.same.loaded ∙ now-loaded;
+          opening = opened-well;
+          keeps = subst (λ (k : K). HasRows tells doubts k new.annals.core.rows None) (sym keeper) (subst (λ (rs : List Row). HasRows tells doubts mid.keeper rs None) (sym rows_are) mid-keeps);
+        },
+      ),
+      faults-well tells doubts faults old room mid new plan roomy elsewhere places pool counts (Ok (Loaded.Found found)) first later found b keeper pool_new was-read,
+      counts-new tells doubts faults old room mid new plan roomy elsewhere places pool counts (Ok (Loaded.Found found)) first later found b keeper pool_new,
+    )

@@ -1,0 +1,168 @@
+-- A house after the finish of a live entry.
+use Rattle.std.proofs.Common.{◌≡◌, ◌≢◌, ℕ, suc, ◌<◌, ◌≤◌, ◌+◌, ◌-◌, ◌^◌, true, false, List, [], ◌∷◌, length, refl, ap, sym, ◌∙◌, subst, arith, ◌⊎◌, inl, inr, min}
+use Rattle.std.specs.Prelude.{Option, Some, None, IfSome, ◌==◌, Any, nat_le}
+use Rattle.std.specs.Option.{ForSome}
+use Rattle.std.proofs.lemmas.Bool.{eqb-true, leb-true, leb-false}
+use Rattle.outer_traits.specs.Faults.{Rose}
+use Rattle.block_pool.specs.Views.{PoolCounts}
+use Rattle.emulated_boards.specs.Boards.{BoardState}
+use Rattle.emulated_boards.specs.declared.mark.Mark.{Mark}
+use Rattle.history_keeper.specs.declared.row.Row.{Row}
+use Rattle.history_keeper.specs.declared.row.RowState.{RowState}
+use Rattle.history_keeper.specs.declared.change.Change.{Change}
+use Rattle.history_keeper.specs.Changes.{with_state}
+use Rattle.update_log.proofs.Lists.{by_test}
+use Rattle.update_log.proofs.Rows.{length-map}
+use Rattle.update_log.specs.declared.event.Event.{Event}
+use Rattle.update_log.specs.declared.event.Stored.{Stored}
+use Rattle.update_log.specs.declared.facts.Facts.{Facts}
+use Rattle.update_log.specs.declared.live.LiveEntry.{LiveEntry}
+use Rattle.update_log.specs.Holding.{held}
+use Rattle.update_log.specs.Known.{doubt, doubt_by, fate_stored, reason_of, row_of, rows, rows_by}
+use Rattle.update_log.specs.Legal.{FinishAllowed, UnchangedExactly, closing_stored}
+use Rattle.update_log.specs.Pasts.{boots, off, time_of}
+use Rattle.daemon_core.specs.Annals.{Appended, IsAnnals, Runs}
+use Rattle.daemon_core.specs.Commits.{StoredAs}
+use Rattle.daemon_core.specs.Finishes.{ClosedAs, IsDone}
+use Rattle.daemon_core.specs.House.{IsHouse}
+use Rattle.daemon_core.specs.Housed.{Annalled, Housed, past, past_in, rows_before}
+use Rattle.daemon_core.specs.Keeping.{HasRows, Keeps, keeper_faults}
+use Rattle.daemon_core.specs.Returns.{place_at, places_with}
+use Rattle.daemon_core.proofs.ClaimAlone.{row-on}
+use Rattle.daemon_core.proofs.ClaimDone.{finish-ends}
+use Rattle.daemon_core.proofs.ClaimEnds.{length-set, own-board}
+use Rattle.daemon_core.proofs.ClaimHome.{HomeTo, home-places}
+use Rattle.daemon_core.proofs.ClaimHouse.{IsReady, runs-takes, spent-ready}
+use Rattle.daemon_core.proofs.CommitKept.{house-clear, on-no_doubt, stored-keeps}
+use Rattle.daemon_core.proofs.Held.{held-finished}
+use Rattle.daemon_core.proofs.HeldOnce.{out-once}
+use Rattle.daemon_core.proofs.HouseKept.{house-next}
+
+-- What is done, over annals.
+abbrev pub DoneIn : Annalled → ℕ → RowState → Type 0
+DoneIn a entry closed = IsDone a.facts (rows_before a) (past_in a) entry closed
+
+abbrev pub closing_change : Annalled → ℕ → RowState → Change
+closing_change a entry closed = Change.Advance entry closed (reason_of a.core.rows entry) (time_of (past_in a))
+
+-- A row of an entry is among the rows.
+any-row : (all : List Row) (entry : ℕ) (r : Row) → row_of all entry ≡ Some r → Any (λ row. row.entry ≡ entry) all
+any-row [] entry r h = cc
+any-row (x ∷ xs) entry r h =
+    by_test (x.entry == entry) _
+    (λ t. (0, x, omega arith, refl, eqb-true x.entry entry t))
+    (λ t. let rest = any-row xs entry r (rw t at h) in (suc rest.0, rest.1, (let l = rest.2 in omega (arith, l)), rest.3, rest.4))
+
+all-told : (o : Option (List Row)) (all : List Row) (entry : ℕ) → IfSome o (λ x. x ≡ all) → Any (λ row. row.entry ≡ entry) all → ForSome o (λ x. Any (λ row. row.entry ≡ entry) x)
+all-told None all entry h s = λ x e. cc
+all-told (Some told) all entry h s = λ x e. let same : x ≡ all = (let q : told ≡ x = cc in sym q ∙ h) in subst (λ (r : List Row). Any (λ row. row.entry ≡ entry) r) (sym same) s
+
+-- What the keeper is asked for suits its rows.
+pub close-suits : {K : Type 0} (told : K → Option (List Row)) (doubted : K → Option Change) (client entry number : ℕ) (l : LiveEntry) (tail : List Mark) (b : BoardState) (blocks : ℕ) (h : Housed K) → HasRows told doubted h.keeper h.annals.core.rows None → IsAnnals h.annals → HomeTo h.annals client entry number l tail b blocks
+    → ForSome (told h.keeper) (λ all. Any (λ row. row.entry ≡ entry) all)
+close-suits told doubted client entry number l tail b blocks h k o s =
+    let r = row-on h.annals.facts (rows h.annals.facts (rows_before h.annals) (past h)) entry number (own-board h.annals.facts (rows h.annals.facts (rows_before h.annals) (past h)) entry number s.board) in
+    let found : row_of h.annals.core.rows entry ≡ Some r.row = ap (λ (rs : List Row). row_of rs entry) o.stands.rows ∙ r.row_is in
+    all-told (told h.keeper) h.annals.core.rows entry k.rows_are (any-row h.annals.core.rows entry r.row found)
+
+stored-changed : {K : Type 0} (told : K → Option (List Row)) (doubted : K → Option Change) (change : Change) (stored : Stored) (old new : K) → StoredAs change stored (told old) (told new) (doubted new) → stored ≢ Stored.Unchanged
+stored-changed told doubted change Stored.Yes old new s = λ e. cc
+stored-changed told doubted change Stored.Fault old new s = λ e. cc
+stored-changed told doubted change Stored.NoMemory old new s = λ e. cc
+stored-changed told doubted change Stored.Unchanged old new s = absurd s
+
+pub closed-unchanged : {K : Type 0} (told : K → Option (List Row)) (doubted : K → Option Change) (closed : RowState) (change : Change) (stored : Stored) (old new : K) → ClosedAs told doubted closed change stored old new → UnchangedExactly closed stored
+closed-unchanged told doubted RowState.Begun change stored old new s = s.0
+closed-unchanged told doubted RowState.Pending change stored old new s = stored-changed told doubted change stored old new s
+closed-unchanged told doubted RowState.Success change stored old new s = stored-changed told doubted change stored old new s
+closed-unchanged told doubted RowState.Failed change stored old new s = stored-changed told doubted change stored old new s
+closed-unchanged told doubted RowState.NeedsReboot change stored old new s = stored-changed told doubted change stored old new s
+
+-- The keeper's rows once the change was stored, or wasn't.
+after-stored : {K : Type 0} (told : K → Option (List Row)) (doubted : K → Option Change) (old new : K) (all : List Row) (entry : ℕ) (closed : RowState) (reason time : ℕ) (stored : Stored) → HasRows told doubted old all None → StoredAs (Change.Advance entry closed reason time) stored (told old) (told new) (doubted new)
+    → Keeps told doubted new (rows_by (fate_stored stored) (Some (Change.Advance entry (closing_stored closed stored) reason time)) all) (doubt_by (fate_stored stored) (Some (Change.Advance entry (closing_stored closed stored) reason time)) None)
+after-stored told doubted old new all entry closed reason time Stored.Yes h s = stored-keeps told doubted old new all (Change.Advance entry closed reason time) Stored.Yes h s
+after-stored told doubted old new all entry closed reason time Stored.Fault h s = stored-keeps told doubted old new all (Change.Advance entry closed reason time) Stored.Fault h s
+after-stored told doubted old new all entry closed reason time Stored.NoMemory h s = stored-keeps told doubted old new all (Change.Advance entry closed reason time) Stored.NoMemory h s
+after-stored told doubted old new all entry closed reason time Stored.Unchanged h s = absurd s
+
+after-none : {K : Type 0} (told : K → Option (List Row)) (doubted : K → Option Change) (old new : K) (all : List Row) (change : Change) (stored : Stored) → HasRows told doubted old all None → stored ≡ Stored.Unchanged → new ≡ old → Keeps told doubted new (rows_by (fate_stored stored) (Some change) all) (doubt_by (fate_stored stored) (Some change) None)
+after-none told doubted old new all change stored h e n = rw (e, n) (inl h)
+
+pub after-closed : {K : Type 0} (told : K → Option (List Row)) (doubted : K → Option Change) (old new : K) (all : List Row) (entry : ℕ) (closed : RowState) (reason time : ℕ) (stored : Stored) → HasRows told doubted old all None → ClosedAs told doubted closed (Change.Advance entry closed reason time) stored old new
+    → Keeps told doubted new (rows_by (fate_stored stored) (Some (Change.Advance entry (closing_stored closed stored) reason time)) all) (doubt_by (fate_stored stored) (Some (Change.Advance entry (closing_stored closed stored) reason time)) None)
+after-closed told doubted old new all entry RowState.Begun reason time stored h s = after-none told doubted old new all (Change.Advance entry (closing_stored RowState.Begun stored) reason time) stored h s.0 s.1
+after-closed told doubted old new all entry RowState.Pending reason time stored h s = after-stored told doubted old new all entry RowState.Pending reason time stored h s
+after-closed told doubted old new all entry RowState.Success reason time stored h s = after-stored told doubted old new all entry RowState.Success reason time stored h s
+after-closed told doubted old new all entry RowState.Failed reason time stored h s = after-stored told doubted old new all entry RowState.Failed reason time stored h s
+after-closed told doubted old new all entry RowState.NeedsReboot reason time stored h s = after-stored told doubted old new all entry RowState.NeedsReboot reason time stored h s
+
+-- The finish is allowed.
+
+abbrev pub finish_event : ℕ → ℕ → RowState → Stored → Event
+finish_event client entry closed stored = Event.Finish client entry (closing_stored closed stored) stored
+
+advanced-length : (stored : Stored) (entry : ℕ) (state : RowState) (reason time : ℕ) (all : List Row) → length (rows_by (fate_stored stored) (Some (Change.Advance entry state reason time)) all) ≤ length all
+advanced-length Stored.Yes entry state reason time all = let e = length-map (with_state entry state reason time) all in omega (arith, e)
+advanced-length Stored.Fault entry state reason time all = omega arith
+advanced-length Stored.NoMemory entry state reason time all = omega arith
+advanced-length Stored.Unchanged entry state reason time all = omega arith
+
+pub finish-ready : (a : Annalled) (client entry number : ℕ) (l : LiveEntry) (tail : List Mark) (b : BoardState) (blocks : ℕ) (closed : RowState) (stored : Stored) → IsAnnals a → Runs a → 0 < boots (past_in a) → HomeTo a client entry number l tail b blocks → DoneIn a entry closed → UnchangedExactly closed stored → IsReady a (finish_event client entry closed stored)
+finish-ready a client entry number l tail b blocks closed stored k r n s d u =
+    spent-ready a (finish_event client entry closed stored) k
+    (runs-takes a (finish_event client entry closed stored) r n refl)
+    (λ c f g. (
+      l,
+      closed,
+      subst (λ (x : Facts). FinishAllowed x (rows_before a) (past_in a) client entry (closing_stored closed stored) stored l closed) (sym f)
+          (record { live = s.live; client_is = s.client_is; open_none = d.closed_none; done = d.done; closing = d.closing; state_is = refl; unchanged = u }),
+    ))
+    refl
+    (advanced-length stored entry (closing_stored closed stored) (reason_of (rows a.facts (rows_before a) (past_in a)) entry) (time_of (past_in a)) (rows a.facts (rows_before a) (past_in a)))
+
+-- The blocks that are held.
+pub finish-held : (a : Annalled) (client entry number : ℕ) (l : LiveEntry) (tail : List Mark) (b : BoardState) (blocks : ℕ) (closed : RowState) (stored : Stored) → IsAnnals a → HomeTo a client entry number l tail b blocks → held (finish_event client entry closed stored ∷ past_in a) + blocks ≡ held (past_in a)
+finish-held a client entry number l tail b blocks closed stored k s =
+    let w = k.legal in
+    let h = held-finished (past_in a) client entry (closing_stored closed stored) stored l (out-once w.0 (rows_before a) (past_in a) k.stands.history w.3) s.live in
+    let e = s.blocks_are in omega (arith, h, e)
+
+pub finish-fits : {K : Type 0} (told : K → Option (List Row)) (doubted : K → Option Change) (client entry number : ℕ) (l : LiveEntry) (tail : List Mark) (b : BoardState) (blocks : ℕ) (h : Housed K) → IsHouse told doubted h → IsAnnals h.annals → HomeTo h.annals client entry number l tail b blocks → h.pool.free + blocks ≤ h.pool.capacity
+finish-fits told doubted client entry number l tail b blocks h k o s =
+    let e = finish-held h.annals client entry number l tail b blocks RowState.Begun Stored.Unchanged o s in
+    let f = k.free in let c = k.capacity in omega (arith, e, f, c)
+
+-- After a finish.
+pub house-finished : {K : Type 0} (told : K → Option (List Row)) (doubted : K → Option Change) (client entry number : ℕ) (l : LiveEntry) (tail : List Mark) (b : BoardState) (blocks : ℕ) (closed : RowState) (stored : Stored) (old : Housed K) (new : Annalled) (pool : PoolCounts) (keeper : K) → IsHouse told doubted old → IsAnnals old.annals → IsAnnals new
+    → Appended client (finish_event client entry closed stored) old.annals new → old.annals.loaded ≡ true → off (past old) ≡ false → HomeTo old.annals client entry number l tail b blocks
+    → ClosedAs told doubted closed (closing_change old.annals entry closed) stored old.keeper keeper → pool.capacity ≡ old.pool.capacity → pool.free ≡ old.pool.free + blocks
+    → IsHouse told doubted (record { annals = new; places = places_with old.places number b; pool = pool; keeper = keeper })
+house-finished told doubted client entry number l tail b blocks closed stored old new pool keeper h o k a loaded on s cs pc pf =
+    let clear = house-clear told doubted old h o loaded on in
+    let all : List Row = rows old.annals.facts (rows_before old.annals) (past old) in
+    let kept = after-closed told doubted old.keeper keeper old.annals.core.rows entry closed (reason_of old.annals.core.rows entry) (time_of (past old)) stored clear cs in
+    let none : doubt old.annals.facts (rows_before old.annals) (past old) ≡ None = on-no_doubt old.annals o on in
+    house-next told doubted client (finish_event client entry closed stored) old (record { annals = new; places = places_with old.places number b; pool = pool; keeper = keeper }) h a k
+    (record {
+      count = length-set old.places number (record (place_at old.places number) { board = Some b });
+      places = home-places old.annals (finish_event client entry closed stored) client entry number l tail b blocks old.places o h.count h.places s (finish-ends old.annals.facts (rows_before old.annals) (past old) client entry (closing_stored closed stored) stored);
+      loaded = loaded;
+      kept =
+          subst (λ (x : Option Change). Keeps told doubted keeper (rows old.annals.facts (rows_before old.annals) (finish_event client entry closed stored ∷ past old)) (doubt_by (fate_stored stored) (Some (Change.Advance entry (closing_stored closed stored) (reason_of (rows old.annals.facts (rows_before old.annals) (past old)) entry) (time_of (past old)))) x)) (sym none)
+          (subst (λ (x : List Row). Keeps told doubted keeper (rows_by (fate_stored stored) (Some (Change.Advance entry (closing_stored closed stored) (reason_of x entry) (time_of (past old)))) x) (doubt_by (fate_stored stored) (Some (Change.Advance entry (closing_stored closed stored) (reason_of x entry) (time_of (past old)))) None)) o.stands.rows kept);
+      capacity = pc;
+      free = (let e = finish-held old.annals client entry number l tail b blocks closed stored o s in let f = h.free in omega (arith, pf, e, f));
+    })
+
+-- Its fault was counted.
+pub finish-counted : (client entry : ℕ) (state : RowState) (stored : Stored) (past : List Event) (before after : ℕ) → (stored ≡ Stored.Fault → Rose before after) → before ≤ after → (keeper_faults (Event.Finish client entry state stored ∷ past) + before ≤ keeper_faults past + after) ⊎ (2 ^ 64 - 1 ≤ after)
+finish-counted client entry state Stored.Yes past before after c l = inl (omega arith)
+finish-counted client entry state Stored.NoMemory past before after c l = inl (omega arith)
+finish-counted client entry state Stored.Unchanged past before after c l = inl (omega arith)
+finish-counted client entry state Stored.Fault past before after c l =
+    let r : min (before + 1) (2 ^ 64 - 1) ≤ after = c refl in
+    at (before + 1) (2 ^ 64 - 1) r refl
+  where
+    at : (m n : ℕ) → min m n ≤ after → m ≡ before + 1 → (keeper_faults past + 1 + before ≤ keeper_faults past + after) ⊎ (n ≤ after)
+    at m n h e = by_test (nat_le m n) _ (λ t. inl (let le : m ≤ n = leb-true m n t in omega arith)) (λ t. inr (let le = leb-false m n t in omega arith))

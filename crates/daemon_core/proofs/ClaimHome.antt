@@ -1,0 +1,147 @@
+-- A house to which the board of a live entry comes home.
+use Rattle.std.proofs.Common.{◌≡◌, ◌≢◌, ℕ, ◌<◌, ◌≤◌, ◌+◌, ◌-◌, Bool, true, false, List, [], ◌∷◌, ◌++◌, length, refl, ap, sym, ◌∙◌, subst, arith, ◌⊎◌, inl, inr}
+use Rattle.std.specs.Prelude.{Option, Some, None, slice_get, unwrap_or, find, ◌==◌}
+use Rattle.fw_facts.specs.declared.seen.Seen.{Seen}
+use Rattle.block_pool.specs.Views.{PoolCounts}
+use Rattle.emulated_boards.specs.Boards.{BoardState}
+use Rattle.emulated_boards.specs.declared.mark.Mark.{Mark}
+use Rattle.history_keeper.specs.declared.row.Row.{Row}
+use Rattle.history_keeper.specs.declared.change.Change.{Change}
+use Rattle.history_keeper.specs.Histories.{IsHistory}
+use Rattle.update_log.specs.declared.event.Back.{Back}
+use Rattle.update_log.specs.declared.event.Event.{Event}
+use Rattle.update_log.specs.declared.facts.Facts.{Facts}
+use Rattle.update_log.specs.declared.live.LiveEntry.{LiveEntry}
+use Rattle.update_log.specs.CoreFolds.{AllFaults}
+use Rattle.update_log.specs.Holding.{held, live, live_entry}
+use Rattle.update_log.specs.Known.{board_of, doubt, rows}
+use Rattle.update_log.specs.Legal.{BackAllowed, BootTakes, IsLegal}
+use Rattle.update_log.specs.Pasts.{boots, off}
+use Rattle.update_log.specs.Shows.{Campaign}
+use Rattle.daemon_core.specs.Annals.{Appended, IsAllowedSo, IsAnnals, Runs}
+use Rattle.daemon_core.specs.Boards.{BoardStands, PlaceStands}
+use Rattle.daemon_core.specs.House.{IsHouse}
+use Rattle.daemon_core.specs.Housed.{Annalled, Housed, Place, past, past_in, rows_before}
+use Rattle.daemon_core.specs.Keeping.{Keeps}
+use Rattle.daemon_core.specs.Returns.{ComesHome, number_of, place_at, places_with}
+use Rattle.daemon_core.proofs.ClaimDone.{Ends, back-ends, ends-other, ends-own}
+use Rattle.daemon_core.proofs.ClaimEnds.{get-set, length-set, number-within, other-number, own-board, place-found}
+use Rattle.daemon_core.proofs.ClaimHouse.{IsReady, spent-ready}
+use Rattle.daemon_core.proofs.Held.{held-given_entry}
+use Rattle.daemon_core.proofs.HeldOnce.{out-once}
+use Rattle.daemon_core.proofs.HouseKept.{HouseNext, house-next}
+
+-- What comes home to annals.
+abbrev pub HomeTo : Annalled → ℕ → ℕ → ℕ → LiveEntry → List Mark → BoardState → ℕ → Type 0
+HomeTo a client entry number l tail b blocks = ComesHome a.facts a.first (rows_before a) (past_in a) client entry number l tail b blocks
+
+-- What the code reads before.
+pub record HomePlan (places : List Place) (number n : ℕ) : Type 0 where
+  pub number_is : n ≡ number
+  pub within : n < length places
+
+pub home-plan : {K : Type 0} (told : K → Option (List Row)) (doubted : K → Option Change) (client entry number n : ℕ) (l : LiveEntry) (tail : List Mark) (b : BoardState) (blocks : ℕ) (h : Housed K) → IsHouse told doubted h → IsAnnals h.annals → HomeTo h.annals client entry number l tail b blocks
+    → n ≡ unwrap_or (board_of h.annals.facts h.annals.core.rows entry) 0 → HomePlan h.places number n
+home-plan told doubted client entry number n l tail b blocks h k o s e =
+    let all : board_of h.annals.facts h.annals.core.rows entry ≡ Some number = ap (λ (rs : List Row). board_of h.annals.facts rs entry) o.stands.rows ∙ s.board in
+    let num : n ≡ number = e ∙ ap (λ (x : Option ℕ). unwrap_or x 0) all in
+    let w = number-within h.annals.facts (rows h.annals.facts (rows_before h.annals) (past h)) entry number s.board in
+    let c = k.count in
+    record { number_is = num; within = omega (arith, num, w, c) }
+
+-- The places once it is home, at an event that ends the entry.
+pub home-places : (a : Annalled) (event : Event) (client entry number : ℕ) (l : LiveEntry) (tail : List Mark) (b : BoardState) (blocks : ℕ) (places : List Place) → IsAnnals a → length places ≡ length a.facts.sheets
+    → ((m : ℕ) (place : Place) → slice_get places m ≡ Some place → PlaceStands a.facts a.first (rows_before a) (past_in a) m place)
+    → HomeTo a client entry number l tail b blocks → Ends a.facts (rows_before a) (past_in a) event entry
+    → (m : ℕ) (place : Place) → slice_get (places_with places number b) m ≡ Some place → PlaceStands a.facts a.first (rows_before a) (event ∷ past_in a) m place
+home-places a event client entry number l tail b blocks places k count stand s ends m place e = at (get-set places number m (record (place_at places number) { board = Some b }) place e)
+  where
+    within : number < length places
+    within = (let w = number-within a.facts (rows a.facts (rows_before a) (past_in a)) entry number s.board in omega (arith, w, count))
+
+    -- over the facts and the first images of the campaign in which the log is legal
+    own : (c : Campaign) → c.facts ≡ a.facts → c.first ≡ a.first → IsLegal c (rows_before a) (past_in a) → PlaceStands a.facts a.first (rows_before a) (event ∷ past_in a) number (record (place_at places number) { board = Some b })
+    own c f g legal =
+        let P : Facts → List Seen → Type 0 = λ x y. Ends x (rows_before a) (past_in a) event entry → board_of x (rows x (rows_before a) (past_in a)) entry ≡ Some number → BoardStands x y (rows_before a) (past_in a) number b tail → PlaceStands x y (rows_before a) (past_in a) number (place_at places number) → PlaceStands x y (rows_before a) (event ∷ past_in a) number (record (place_at places number) { board = Some b }) in
+        let at : P c.facts c.first = λ en bo st pl. ends-own c (rows_before a) (past_in a) event entry number l (place_at places number) b tail k.stands.history legal en s.live (own-board c.facts (rows c.facts (rows_before a) (past_in a)) entry number bo) st pl in
+        let at' : P a.facts a.first = subst (λ (x : Facts). P x a.first) f (subst (λ (y : List Seen). P c.facts y) g at) in
+        at' ends s.board s.stands (stand number (place_at places number) (place-found places number within))
+
+    at : ((m ≡ number) × (record (place_at places number) { board = Some b } ≡ place)) ⊎ ((m ≢ number) × (slice_get places m ≡ Some place)) → PlaceStands a.facts a.first (rows_before a) (event ∷ past_in a) m place
+    at (inl h) =
+        let w = k.legal in
+        subst (λ (n : ℕ). PlaceStands a.facts a.first (rows_before a) (event ∷ past_in a) n place) (sym h.0)
+        (subst (λ (p : Place). PlaceStands a.facts a.first (rows_before a) (event ∷ past_in a) number p) h.1 (own w.0 w.1 w.2 w.3))
+    at (inr h) =
+        ends-other a.facts a.first (rows_before a) (past_in a) event entry m place ends
+        (other-number a.facts (rows a.facts (rows_before a) (past_in a)) entry number m s.board h.0)
+        (stand m place h.1)
+
+-- Giving back.
+
+abbrev pub back_event : ℕ → ℕ → Event
+back_event client entry = Event.GiveBack client (Back.Entry entry)
+
+same-length : (n : ℕ) → n ≤ n
+same-length n = omega arith
+
+pub back-ready : (a : Annalled) (client entry number : ℕ) (l : LiveEntry) (tail : List Mark) (b : BoardState) (blocks : ℕ) → IsAnnals a → 0 < boots (past_in a) → off (past_in a) ≡ true → HomeTo a client entry number l tail b blocks → IsReady a (back_event client entry)
+back-ready a client entry number l tail b blocks k n o s =
+    spent-ready a (back_event client entry) k
+    (record { booted = λ _. n; on = λ h. cc; below = λ h. absurd (no h) })
+    (λ c f g. (l, s.live, s.client_is, o))
+    refl (same-length (length (rows a.facts (rows_before a) (past_in a))))
+  where
+    no : false ≡ true → ⊥
+    no h = cc
+
+-- the blocks that are held
+pub back-held : (a : Annalled) (client entry number : ℕ) (l : LiveEntry) (tail : List Mark) (b : BoardState) (blocks : ℕ) → IsAnnals a → HomeTo a client entry number l tail b blocks → held (back_event client entry ∷ past_in a) + blocks ≡ held (past_in a)
+back-held a client entry number l tail b blocks k s =
+    let w = k.legal in
+    let h = held-given_entry (past_in a) client entry l (out-once w.0 (rows_before a) (past_in a) k.stands.history w.3) s.live s.client_is in
+    let e = s.blocks_are in omega (arith, h, e)
+
+pub back-fits : {K : Type 0} (told : K → Option (List Row)) (doubted : K → Option Change) (client entry number : ℕ) (l : LiveEntry) (tail : List Mark) (b : BoardState) (blocks : ℕ) (h : Housed K) → IsHouse told doubted h → IsAnnals h.annals → HomeTo h.annals client entry number l tail b blocks → h.pool.free + blocks ≤ h.pool.capacity
+back-fits told doubted client entry number l tail b blocks h k o s =
+    let e = back-held h.annals client entry number l tail b blocks o s in
+    let f = k.free in let c = k.capacity in omega (arith, e, f, c)
+
+pub house-back : {K : Type 0} (told : K → Option (List Row)) (doubted : K → Option Change) (client entry number : ℕ) (l : LiveEntry) (tail : List Mark) (b : BoardState) (blocks : ℕ) (old : Housed K) (new : Annalled) (pool : PoolCounts) → IsHouse told doubted old → IsAnnals old.annals → IsAnnals new → Appended client (back_event client entry) old.annals new → old.annals.loaded ≡ true → HomeTo old.annals client entry number l tail b blocks
+    → pool.capacity ≡ old.pool.capacity → pool.free ≡ old.pool.free + blocks → IsHouse told doubted (record { annals = new; places = places_with old.places number b; pool = pool; keeper = old.keeper })
+house-back told doubted client entry number l tail b blocks old new pool h o k a loaded s pc pf =
+    house-next told doubted client (back_event client entry) old (record { annals = new; places = places_with old.places number b; pool = pool; keeper = old.keeper }) h a k
+    (record {
+      count = length-set old.places number (record (place_at old.places number) { board = Some b });
+      places = home-places old.annals (back_event client entry) client entry number l tail b blocks old.places o h.count h.places s (back-ends old.annals.facts (rows_before old.annals) (past old) client entry);
+      loaded = loaded;
+      kept =
+          subst (λ (x : List Row). Keeps told doubted old.keeper x (doubt old.annals.facts (rows_before old.annals) (past old))) o.stands.rows
+          (subst (λ (x : Option Change). Keeps told doubted old.keeper old.annals.core.rows x) o.stands.doubt (h.kept loaded));
+      capacity = pc;
+      free = (let e = back-held old.annals client entry number l tail b blocks o s in let f = h.free in omega (arith, pf, e, f));
+    })
+
+-- Where an entry is live, a boot took the rows that it loaded.
+live-faults : (past : List Event) → AllFaults past → live past ≡ []
+live-faults [] a = refl
+live-faults (Event.Boot number time limit found boards ∷ past) a = refl
+live-faults (Event.Query client query ∷ past) a = let e : false ≡ true = a.0 in cc
+live-faults (Event.Ask client request pending answer ∷ past) a = let e : false ≡ true = a.0 in cc
+live-faults (Event.Claim client request fetched answer ∷ past) a = let e : false ≡ true = a.0 in cc
+live-faults (Event.Schedule client request answer ∷ past) a = let e : false ≡ true = a.0 in cc
+live-faults (Event.Resume client entry fetched answer stored ∷ past) a = let e : false ≡ true = a.0 in cc
+live-faults (Event.Start client entry op ∷ past) a = let e : false ≡ true = a.0 in cc
+live-faults (Event.End client entry op outcome told seen ∷ past) a = let e : false ≡ true = a.0 in cc
+live-faults (Event.Finish client entry state stored ∷ past) a = let e : false ≡ true = a.0 in cc
+live-faults (Event.Judge client entry version state stored ∷ past) a = let e : false ≡ true = a.0 in cc
+live-faults (Event.Unplug client device answer ∷ past) a = let e : false ≡ true = a.0 in cc
+live-faults (Event.Plug client device answer ∷ past) a = let e : false ≡ true = a.0 in cc
+live-faults (Event.GiveBack client what ∷ past) a = let e : false ≡ true = a.0 in cc
+live-faults (Event.Cut ∷ past) a = let e : false ≡ true = a.0 in cc
+
+pub loaded-live : (loaded : Bool) (past : List Event) (entry : ℕ) (l : LiveEntry) → (loaded ≡ false → AllFaults past) → live_entry past entry ≡ Some l → loaded ≡ true
+loaded-live true past entry l u f = refl
+loaded-live false past entry l u f =
+    let none : live_entry past entry ≡ None = ap (find (λ (x : LiveEntry). x.entry == entry)) (live-faults past (u refl)) in
+    let bad : Some l ≡ None = sym f ∙ none in cc

@@ -1,0 +1,120 @@
+-- A house, after an event that asks the keeper for a change.
+use Rattle.std.proofs.Common.{◌≡◌, ℕ, ◌+◌, true, false, List, [], ◌∷◌, refl, ap, sym, ◌∙◌, subst, ◌⊎◌, inl, inr}
+use Rattle.std.specs.Prelude.{Option, Some, None, IfSome, option_map}
+use Rattle.std.specs.Option.{ForSome}
+use Rattle.history_keeper.specs.declared.row.Row.{Row}
+use Rattle.history_keeper.specs.declared.change.Change.{Change}
+use Rattle.history_keeper.specs.Changes.{Suits, changed}
+use Rattle.update_log.proofs.LegalOnce.{past-kept}
+use Rattle.update_log.specs.declared.event.Event.{Event}
+use Rattle.update_log.specs.declared.event.Stored.{Stored}
+use Rattle.update_log.specs.declared.facts.Facts.{Facts}
+use Rattle.update_log.specs.declared.live.Held.{Held}
+use Rattle.update_log.specs.declared.live.LiveEntry.{LiveEntry}
+use Rattle.update_log.specs.Holding.{blocks_out, held, holds, live, open_steps}
+use Rattle.update_log.specs.Known.{doubt, doubt_by, fate_stored, known, rows, rows_by, tells}
+use Rattle.update_log.specs.Pasts.{is_boot, off}
+use Rattle.update_log.specs.Shows.{told_by}
+use Rattle.daemon_core.specs.Annals.{Appended, IsAnnals, IsLegalSo}
+use Rattle.fw_facts.specs.declared.seen.Seen.{Seen}
+use Rattle.daemon_core.proofs.AnnalsKept.{appended-before, appended-past}
+use Rattle.daemon_core.specs.Boards.{is_faulty_end}
+use Rattle.daemon_core.specs.Commits.{StoredAs}
+use Rattle.daemon_core.specs.House.{IsHouse}
+use Rattle.daemon_core.specs.Housed.{Annalled, Housed, past, past_in, rows_before}
+use Rattle.daemon_core.specs.Keeping.{HasRows, Keeps}
+use Rattle.daemon_core.proofs.BoardsQuiet.{quiet-board}
+use Rattle.daemon_core.proofs.HouseKept.{house-next}
+use Rattle.daemon_core.proofs.PlacesKept.{place-same}
+
+-- A boot that isn't off has no doubt.
+pub on-no_doubt : (a : Annalled) → IsAnnals a → off (past_in a) ≡ false → doubt a.facts (rows_before a) (past_in a) ≡ None
+on-no_doubt a k o =
+    let l = k.legal in
+    subst (λ (f : Facts). doubt f (rows_before a) (past_in a) ≡ None) l.1
+    ((past-kept l.0 (rows_before a) (past_in a) k.stands.history l.3).rows_kept.doubt_off o)
+
+either-same : (o : Option (List Row)) (rows : List Row) → IfSome o (λ all. (all ≡ rows) ⊎ (all ≡ rows)) → IfSome o (λ all. all ≡ rows)
+either-same None rows h = tt
+either-same (Some all) rows (inl h) = h
+either-same (Some all) rows (inr h) = h
+
+-- Where the log has no doubt, the keeper has its rows, also where it was opened again.
+pub keeps-clear : {K : Type 0} (told : K → Option (List Row)) (doubted : K → Option Change) (keeper : K) (rows : List Row) → Keeps told doubted keeper rows None → HasRows told doubted keeper rows None
+keeps-clear told doubted keeper rows (inl h) = h
+keeps-clear told doubted keeper rows (inr w) = record { rows_are = either-same (told keeper) rows w.rows_are; doubt_is = w.no_doubt }
+
+-- The keeper of a house whose boot isn't off has the rows of the log, and no doubt.
+pub house-clear : {K : Type 0} (told : K → Option (List Row)) (doubted : K → Option Change) (h : Housed K) → IsHouse told doubted h → IsAnnals h.annals → h.annals.loaded ≡ true → off (past h) ≡ false → HasRows told doubted h.keeper h.annals.core.rows None
+house-clear told doubted h k a l o =
+    keeps-clear told doubted h.keeper h.annals.core.rows
+    (subst (λ (d : Option Change). Keeps told doubted h.keeper h.annals.core.rows d) (a.stands.doubt ∙ on-no_doubt h.annals a o) (k.kept l))
+
+-- So a change that suits the rows of the log suits those of the keeper.
+pub suits-told : (o : Option (List Row)) (rows : List Row) (change : Change) → IfSome o (λ all. all ≡ rows) → Suits change rows → ForSome o (λ all. Suits change all)
+suits-told None rows change h s = λ x e. cc
+suits-told (Some all) rows change h s =
+    λ x e. let same : x ≡ rows = (let q : all ≡ x = cc in sym q ∙ h) in subst (λ (r : List Row). Suits change r) (sym same) s
+
+changed-told : (o p : Option (List Row)) (rows : List Row) (change : Change) → IfSome o (λ all. all ≡ rows) → p ≡ option_map (changed change) o → IfSome p (λ all. all ≡ changed change rows)
+changed-told None p rows change h e = subst (λ (q : Option (List Row)). IfSome q (λ all. all ≡ changed change rows)) (sym e) tt
+changed-told (Some all) p rows change h e = subst (λ (q : Option (List Row)). IfSome q (λ all. all ≡ changed change rows)) (sym e) (ap (changed change) h)
+
+same-told : (o p : Option (List Row)) (rows : List Row) → IfSome o (λ all. all ≡ rows) → p ≡ o → IfSome p (λ all. all ≡ rows)
+same-told o p rows h e = subst (λ (q : Option (List Row)). IfSome q (λ all. all ≡ rows)) (sym e) h
+
+-- After a change the keeper has the rows that the log has then, and its doubt.
+pub stored-keeps : {K : Type 0} (told : K → Option (List Row)) (doubted : K → Option Change) (old new : K) (rows : List Row) (change : Change) (stored : Stored) → HasRows told doubted old rows None → StoredAs change stored (told old) (told new) (doubted new)
+    → Keeps told doubted new (rows_by (fate_stored stored) (Some change) rows) (doubt_by (fate_stored stored) (Some change) None)
+stored-keeps told doubted old new rows change Stored.Yes h s = inl (record { rows_are = changed-told (told old) (told new) rows change h.rows_are s.0; doubt_is = s.1 })
+stored-keeps told doubted old new rows change Stored.Fault h s = inl (record { rows_are = same-told (told old) (told new) rows h.rows_are s.0; doubt_is = s.1 })
+stored-keeps told doubted old new rows change Stored.NoMemory h s = inl (record { rows_are = same-told (told old) (told new) rows h.rows_are s.0; doubt_is = s.1 })
+stored-keeps told doubted old new rows change Stored.Unchanged h s = absurd s
+
+-- The log with the event is legal.
+pub legal-after : (client : ℕ) (event : Event) (old new : Annalled) → Appended client event old new → IsAnnals new → IsLegalSo old.facts old.first (rows_before old) (event ∷ past_in old)
+legal-after client event old new a k =
+    subst (λ (f : Facts). IsLegalSo f old.first (rows_before old) (event ∷ past_in old)) a.same.facts
+    (subst (λ (s : List Seen). IsLegalSo new.facts s (rows_before old) (event ∷ past_in old)) a.same.first
+    (subst (λ (o : List Row). IsLegalSo new.facts new.first o (event ∷ past_in old)) (appended-before client event old new a)
+    (subst (λ (es : List Event). IsLegalSo new.facts new.first (rows_before new) es) (appended-past client event old new a) k.legal)))
+
+held-same : (past other : List Event) → holds other ≡ holds past → live other ≡ live past → held other ≡ held past
+held-same past other h l = ap (λ (x : List Held). blocks_out x (live other)) h ∙ ap (λ (x : List LiveEntry). blocks_out (holds past) x) l
+
+-- The event asks for the change, and tells what became of it; it says nothing else of boards, holds and live entries.
+pub record AsksOnly (facts : Facts) (opening : List Row) (past : List Event) (event : Event) (change : Change) (stored : Stored) : Type 0 where
+  pub no_boot : is_boot event ≡ false
+  pub told : (number : ℕ) → told_by facts (rows facts opening past) event number ≡ []
+  pub same_tells : (number : ℕ) → tells facts (live past) (known facts opening past) event number ≡ None
+  pub faulty : (number : ℕ) → is_faulty_end facts (rows facts opening past) number event ≡ false
+  pub same_live : live (event ∷ past) ≡ live past
+  pub same_steps : open_steps (event ∷ past) ≡ open_steps past
+  pub same_holds : holds (event ∷ past) ≡ holds past
+  pub rows_are : rows facts opening (event ∷ past) ≡ rows_by (fate_stored stored) (Some change) (rows facts opening past)
+  pub doubt_is : doubt facts opening (event ∷ past) ≡ doubt_by (fate_stored stored) (Some change) (doubt facts opening past)
+
+-- After such an event, and the keeper's commit, it is a house.
+pub house-asked : {K : Type 0} (told : K → Option (List Row)) (doubted : K → Option Change) (client : ℕ) (event : Event) (change : Change) (stored : Stored) (old : Housed K) (new : Annalled) (keeper : K) → IsHouse told doubted old → IsAnnals old.annals → IsAnnals new → Appended client event old.annals new → old.annals.loaded ≡ true → off (past old) ≡ false
+    → AsksOnly old.annals.facts (rows_before old.annals) (past old) event change stored → StoredAs change stored (told old.keeper) (told keeper) (doubted keeper) → IsHouse told doubted (record old { annals = new; keeper = keeper })
+house-asked told doubted client event change stored old new keeper h o k a l on q s =
+    let f : Facts = old.annals.facts in
+    let b : List Row = rows_before old.annals in
+    let clear = house-clear told doubted old h o l on in
+    let kept = stored-keeps told doubted old.keeper keeper old.annals.core.rows change stored clear s in
+    let legal = legal-after client event old.annals new a k in
+    house-next told doubted client event old (record old { annals = new; keeper = keeper }) h a k
+    (record {
+      count = refl;
+      places = λ number place e.
+          place-same f old.annals.first b (past old) (event ∷ past old) number place
+          (quiet-board f old.annals.first b (past old) event o.stands.history legal number (q.told number) (q.same_tells number) (q.faulty number) q.no_boot q.same_live q.same_steps)
+          (h.places number place e);
+      loaded = l;
+      kept =
+          subst (λ (x : List Row). Keeps told doubted keeper x (doubt f b (event ∷ past old))) (ap (rows_by (fate_stored stored) (Some change)) o.stands.rows ∙ sym q.rows_are)
+          (subst (λ (x : Option Change). Keeps told doubted keeper (rows_by (fate_stored stored) (Some change) old.annals.core.rows) x)
+          (ap (doubt_by (fate_stored stored) (Some change)) (sym (on-no_doubt old.annals o on)) ∙ sym q.doubt_is) kept);
+      capacity = refl;
+      free = ap (λ (n : ℕ). old.pool.free + n) (held-same (past old) (event ∷ past old) q.same_holds q.same_live) ∙ h.free;
+    })

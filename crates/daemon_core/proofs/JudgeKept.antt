@@ -1,0 +1,220 @@
+-- Judgements.
+use Rattle.std.proofs.Common.{◌≡◌, ℕ, suc, ◌<◌, ◌≤◌, ◌+◌, ◌-◌, ◌^◌, Bool, true, false, List, [], ◌∷◌, length, refl, ap, sym, ◌∙◌, subst, arith, ◌⊎◌, inl, inr}
+use Rattle.std.specs.Prelude.{Option, Some, None, IfSome, if◌then◌else◌, ◌||◌, min, not, ◌==◌, option_map, Any}
+use Rattle.std.specs.Option.{ForSome}
+use Rattle.outer_traits.specs.Faults.{Rose}
+use Rattle.fw_facts.specs.Views.{is_home, version_of, version_shown}
+use Rattle.fw_facts.specs.declared.seen.Seen.{Seen}
+use Rattle.fw_facts.specs.declared.view.DeviceView.{DeviceView}
+use Rattle.history_keeper.specs.Changes.{Suits}
+use Rattle.history_keeper.specs.Histories.{is_unsettled}
+use Rattle.history_keeper.specs.declared.change.Change.{Change}
+use Rattle.history_keeper.specs.declared.row.Row.{Row}
+use Rattle.history_keeper.specs.declared.row.RowState.{RowState}
+use Rattle.std.proofs.lemmas.Bool.{eqb-true}
+use Rattle.update_log.proofs.Lists.{by_test}
+use Rattle.update_log.proofs.Rows.{length-map}
+use Rattle.update_log.specs.CoreSteps.{advance_on}
+use Rattle.update_log.specs.Holding.{is_live, live}
+use Rattle.update_log.specs.Known.{row_of, rows, views}
+use Rattle.update_log.specs.Legal.{JudgeAllowed, may_judge}
+use Rattle.update_log.specs.Pasts.{boots, finished, time_of}
+use Rattle.update_log.specs.Steps.{judge, view_of_row}
+use Rattle.update_log.specs.declared.event.Event.{Event}
+use Rattle.update_log.specs.declared.event.Stored.{Stored}
+use Rattle.update_log.specs.declared.facts.Facts.{Facts}
+use Rattle.daemon_core.specs.Annals.{Appended, IsAllowedSo, IsAnnals, Runs}
+use Rattle.daemon_core.specs.Commits.{StoredAs}
+use Rattle.daemon_core.specs.House.{IsHouse}
+use Rattle.daemon_core.specs.Housed.{Annalled, Housed, past, past_in, rows_before}
+use Rattle.daemon_core.specs.Judging.{judged_by, judged_on, must_wait, standing, standing_of}
+use Rattle.daemon_core.specs.Keeping.{HasRows, keeper_faults}
+use Rattle.daemon_core.specs.Owed.{owed}
+use Rattle.daemon_core.specs.Turns.{FaultsCounted}
+use Rattle.daemon_core.specs.declared.judged.Standing.{Standing}
+use Rattle.daemon_core.proofs.AnnalsKept.{legal-next}
+use Rattle.daemon_core.proofs.ClaimHouse.{IsReady, runs-takes}
+use Rattle.daemon_core.proofs.CommitKept.{AsksOnly, house-asked, house-clear, suits-told}
+use Rattle.daemon_core.proofs.Owed.{adds-legal}
+
+-- What a row that is judged is, and the device that shows the version.
+pub record IsJudged (past : List Event) (views : List DeviceView) (rows : List Row) (entry : ℕ) (version : List ℕ) (state : RowState) : Type 0 where
+  pub row : Row
+  pub view : DeviceView
+  pub row_is : row_of rows entry ≡ Some row
+  pub waits : may_judge past row.state entry ≡ true
+  pub device : view_of_row views row ≡ Some view
+  pub home : is_home view.seen ≡ true
+  pub version_is : version_of view ≡ Some version
+  pub state_is : state ≡ judge version row
+
+may-judge : (past : List Event) (entry : ℕ) (state : RowState) → is_unsettled state ≡ true → must_wait past entry state ≡ false → may_judge past state entry ≡ true
+may-judge past entry RowState.Pending u w = cc
+may-judge past entry RowState.Begun u w = rw w refl
+may-judge past entry RowState.NeedsReboot u w = at (is_live (live past) entry) (finished entry past) w
+  where
+    at : (a b : Bool) → (a || b) ≡ false → not b ≡ true
+    at true b h = cc
+    at false true h = cc
+    at false false h = refl
+may-judge past entry RowState.Success u w = cc
+may-judge past entry RowState.Failed u w = cc
+
+shown-home : (view : DeviceView) (version : List ℕ) → version_of view ≡ Some version → is_home view.seen ≡ true
+shown-home view version h = at view.seen h
+  where
+    at : (s : Seen) → version_shown view.sheet s ≡ Some version → is_home s ≡ true
+    at (Seen.Home raw mode) h = refl
+    at Seen.Gone h = cc
+    at Seen.Stranger h = cc
+
+pub is-judged : (past : List Event) (views : List DeviceView) (rows : List Row) (entry : ℕ) (version : List ℕ) (state : RowState) → option_map (standing past views entry) (row_of rows entry) ≡ Some (Standing.Judged version state) → IsJudged past views rows entry version state
+is-judged past views rows entry version state h = at-row (row_of rows entry) refl h
+  where
+    at-version : (row : Row) (view : DeviceView) → row_of rows entry ≡ Some row → is_unsettled row.state ≡ true → must_wait past entry row.state ≡ false → view_of_row views row ≡ Some view
+        → (o : Option (List ℕ)) → version_of view ≡ o → judged_by row o ≡ Standing.Judged version state → IsJudged past views rows entry version state
+    at-version row view r u w v None e g = cc
+    at-version row view r u w v (Some shown) e g =
+        let s : shown ≡ version = cc in
+        let t : judge shown row ≡ state = cc in
+        record {
+          row = row;
+          view = view;
+          row_is = r;
+          waits = may-judge past entry row.state u w;
+          device = v;
+          home = shown-home view shown e;
+          version_is = e ∙ ap Some s;
+          state_is = sym t ∙ ap (λ (x : List ℕ). judge x row) s;
+        }
+
+    at-view : (row : Row) → row_of rows entry ≡ Some row → is_unsettled row.state ≡ true → must_wait past entry row.state ≡ false
+        → (o : Option DeviceView) → view_of_row views row ≡ o → judged_on row o ≡ Standing.Judged version state → IsJudged past views rows entry version state
+    at-view row r u w None e g = cc
+    at-view row r u w (Some view) e g = at-version row view r u w e (version_of view) refl g
+
+    at-tests : (row : Row) → row_of rows entry ≡ Some row → (u w : Bool) → is_unsettled row.state ≡ u → must_wait past entry row.state ≡ w
+        → (if u then (if w then Standing.Waits else judged_on row (view_of_row views row)) else Standing.Settled) ≡ Standing.Judged version state → IsJudged past views rows entry version state
+    at-tests row r false w eu ew g = cc
+    at-tests row r true true eu ew g = cc
+    at-tests row r true false eu ew g = at-view row r eu ew (view_of_row views row) refl g
+
+    at-row : (o : Option Row) → row_of rows entry ≡ o → option_map (standing past views entry) o ≡ Some (Standing.Judged version state) → IsJudged past views rows entry version state
+    at-row None e g = cc
+    at-row (Some row) e g =
+        let k : standing past views entry row ≡ Standing.Judged version state = cc in
+        at-tests row e (is_unsettled row.state) (must_wait past entry row.state) refl refl k
+
+-- Such a judgement may come next.
+pub judge-allowed : (a : Annalled) (client entry : ℕ) (version : List ℕ) (state : RowState) (stored : Stored) → IsAnnals a → standing_of a entry ≡ Some (Standing.Judged version state) → (stored ≡ Stored.Yes) ⊎ (stored ≡ Stored.Fault)
+    → IsAllowedSo a.facts a.first (rows_before a) (past_in a) (Event.Judge client entry version state stored)
+judge-allowed a client entry version state stored k h s =
+    let j = is-judged (past_in a) a.core.views a.core.rows entry version state h in
+    λ c f i.
+    subst (λ (x : Facts). (row : Row) × (view : DeviceView) × JudgeAllowed x (rows_before a) (past_in a) entry version state stored row view) (sym f) (
+      j.row,
+      j.view,
+      record {
+        row_is = subst (λ (rs : List Row). row_of rs entry ≡ Some j.row) k.stands.rows j.row_is;
+        waits = j.waits;
+        device = subst (λ (vs : List DeviceView). view_of_row vs j.row ≡ Some j.view) k.stands.views j.device;
+        home = j.home;
+        version_is = j.version_is;
+        state_is = j.state_is;
+        stored_is = s;
+      },
+    )
+
+-- It asks for the advance of its row.
+pub judge-asks : (a : Annalled) (client entry : ℕ) (version : List ℕ) (state : RowState) (stored : Stored) → IsAnnals a
+    → AsksOnly a.facts (rows_before a) (past_in a) (Event.Judge client entry version state stored) (advance_on (time_of (past_in a)) a.core.rows entry state) stored
+judge-asks a client entry version state stored k =
+    subst (λ (rs : List Row). AsksOnly a.facts (rows_before a) (past_in a) (Event.Judge client entry version state stored) (advance_on (time_of (past_in a)) rs entry state) stored) (sym k.stands.rows)
+    (record { no_boot = refl; told = λ n. refl; same_tells = λ n. refl; faulty = λ n. refl; same_live = refl; same_steps = refl; same_holds = refl; rows_are = refl; doubt_is = refl })
+
+found-any : (rows : List Row) (entry : ℕ) (row : Row) → row_of rows entry ≡ Some row → Any (λ r. r.entry ≡ entry) rows
+found-any [] entry row h = cc
+found-any (r ∷ rs) entry row h =
+    by_test (r.entry == entry) _
+    (λ t. (0, r, omega arith, refl, eqb-true r.entry entry t))
+    (λ f. let k = found-any rs entry row (rw f at h) in
+    let within = k.2 in (suc k.0, k.1, omega (arith, within), k.3, k.4))
+
+-- The advance suits the rows.
+pub judge-suits : (rows : List Row) (time entry : ℕ) (state : RowState) (row : Row) → row_of rows entry ≡ Some row → Suits (advance_on time rows entry state) rows
+judge-suits rows time entry state row h = found-any rows entry row h
+
+-- There is room for it.
+pub judge-ready : (a : Annalled) (client entry : ℕ) (version : List ℕ) (state : RowState) (stored : Stored) → IsAnnals a → Runs a → 0 < boots (past_in a) → owed (past_in a) + 1 ≤ a.room → standing_of a entry ≡ Some (Standing.Judged version state) → (stored ≡ Stored.Yes) ⊎ (stored ≡ Stored.Fault)
+    → IsReady a (Event.Judge client entry version state stored)
+judge-ready a client entry version state stored k r b room h s =
+    let event : Event = Event.Judge client entry version state stored in
+    let t = runs-takes a event r b refl in
+    let w = judge-allowed a client entry version state stored k h s in
+    let l = legal-next a.facts a.first (rows_before a) (past_in a) event k.legal t w in
+    let less = adds-legal l.0 (rows_before a) (past_in a) event l.3 refl in
+    record {
+      takes = t;
+      allowed = w;
+      room = omega (arith, less, room);
+      row = (let e = ap length k.stands.rows in let m = same-many a entry state stored in omega (arith, e, m));
+    }
+  where
+    same-many : (a : Annalled) (entry : ℕ) (state : RowState) (stored : Stored) → length (rows a.facts (rows_before a) (Event.Judge client entry version state stored ∷ past_in a)) ≡ length (rows a.facts (rows_before a) (past_in a))
+    same-many a entry state Stored.Yes = length-map _ (rows a.facts (rows_before a) (past_in a))
+    same-many a entry state Stored.Fault = refl
+    same-many a entry state Stored.NoMemory = refl
+    same-many a entry state Stored.Unchanged = refl
+
+-- Faults are counted.
+pub faults-same : {K : Type 0} (faults : K → ℕ) (old new : Housed K) → past new ≡ past old → faults old.keeper ≤ faults new.keeper → FaultsCounted faults old new
+faults-same faults old new p c = inl (rw p (omega (arith, c)))
+
+rose-or : (old new met : ℕ) → min (old + 1) (2 ^ 64 - 1) ≤ new → (met + 1 + old ≤ met + new) ⊎ (2 ^ 64 - 1 ≤ new)
+rose-or old new met h = grind (arith, h)
+
+pub faults-judged : {K : Type 0} (faults : K → ℕ) (client entry : ℕ) (version : List ℕ) (state : RowState) (stored : Stored) (old new : Housed K) → past new ≡ Event.Judge client entry version state stored ∷ past old → faults old.keeper ≤ faults new.keeper → (stored ≡ Stored.Fault → Rose (faults old.keeper) (faults new.keeper)) → FaultsCounted faults old new
+faults-judged faults client entry version state Stored.Yes old new p c r = inl (rw p (omega (arith, c)))
+faults-judged faults client entry version state Stored.Fault old new p c r =
+    subst (λ (es : List Event). (keeper_faults es + faults old.keeper ≤ keeper_faults (past old) + faults new.keeper) ⊎ (2 ^ 64 - 1 ≤ faults new.keeper)) (sym p)
+    (rose-or (faults old.keeper) (faults new.keeper) (keeper_faults (past old)) (r refl))
+faults-judged faults client entry version state Stored.NoMemory old new p c r = inl (rw p (omega (arith, c)))
+faults-judged faults client entry version state Stored.Unchanged old new p c r = inl (rw p (omega (arith, c)))
+
+-- What wasn't for want of memory was stored, or met a fault.
+pub done-stored : (change : Change) (stored : Stored) (old new : Option (List Row)) (left : Option Change) → StoredAs change stored old new left → (stored ≡ Stored.NoMemory → ⊥) → (stored ≡ Stored.Yes) ⊎ (stored ≡ Stored.Fault)
+done-stored change Stored.Yes old new left s n = inl refl
+done-stored change Stored.Fault old new left s n = inr refl
+done-stored change Stored.NoMemory old new left s n = absurd (n refl)
+done-stored change Stored.Unchanged old new left s n = absurd s
+
+-- The same over annals that are equal to those that a call began with.
+pub clear-over : {K : Type 0} (told : K → Option (List Row)) (doubted : K → Option Change) (h : Housed K) (b : Annalled) → h.annals ≡ b → IsHouse told doubted h → IsAnnals h.annals → b.loaded ≡ true → Runs b → HasRows told doubted h.keeper h.annals.core.rows None
+clear-over told doubted h b e k a l r =
+    house-clear told doubted h k a (subst (λ (x : Annalled). x.loaded ≡ true) (sym e) l) (subst Runs (sym e) r).on
+
+pub suits-over : (o : Option (List Row)) (a b : Annalled) (entry : ℕ) (version : List ℕ) (state : RowState) (change : Change) → a ≡ b → IfSome o (λ all. all ≡ a.core.rows) → standing_of b entry ≡ Some (Standing.Judged version state) → change ≡ advance_on (time_of (past_in a)) a.core.rows entry state
+    → ForSome o (λ all. Suits change all)
+suits-over o a b entry version state change e told h is =
+    let j = is-judged (past_in a) a.core.views a.core.rows entry version state (subst (λ (x : Annalled). standing_of x entry ≡ Some (Standing.Judged version state)) (sym e) h) in
+    suits-told o a.core.rows change told
+    (subst (λ (x : Change). Suits x a.core.rows) (sym is) (judge-suits a.core.rows (time_of (past_in a)) entry state j.row j.row_is))
+
+pub ready-over : (a b : Annalled) (client entry : ℕ) (version : List ℕ) (state : RowState) (stored : Stored) → a ≡ b → IsAnnals a → Runs b → 0 < boots (past_in b) → owed (past_in b) + 1 ≤ b.room → standing_of b entry ≡ Some (Standing.Judged version state) → (stored ≡ Stored.Yes) ⊎ (stored ≡ Stored.Fault)
+    → IsReady a (Event.Judge client entry version state stored)
+ready-over a b client entry version state stored e k r n room h s =
+    judge-ready a client entry version state stored k
+    (subst Runs (sym e) r)
+    (subst (λ (x : Annalled). 0 < boots (past_in x)) (sym e) n)
+    (subst (λ (x : Annalled). owed (past_in x) + 1 ≤ x.room) (sym e) room)
+    (subst (λ (x : Annalled). standing_of x entry ≡ Some (Standing.Judged version state)) (sym e) h) s
+
+-- A house, after a judgement.
+pub house-judged : {K : Type 0} (told : K → Option (List Row)) (doubted : K → Option Change) (client entry : ℕ) (version : List ℕ) (state : RowState) (stored : Stored) (change : Change) (old : Housed K) (b : Annalled) (new : Annalled) (keeper : K) → old.annals ≡ b → IsHouse told doubted old → IsAnnals old.annals → IsAnnals new
+    → Appended client (Event.Judge client entry version state stored) old.annals new → b.loaded ≡ true → Runs b → change ≡ advance_on (time_of (past old)) old.annals.core.rows entry state → StoredAs change stored (told old.keeper) (told keeper) (doubted keeper) → IsHouse told doubted (record old { annals = new; keeper = keeper })
+house-judged told doubted client entry version state stored change old b new keeper e h o k a l r is s =
+    house-asked told doubted client (Event.Judge client entry version state stored) change stored old new keeper h o k a
+    (subst (λ (x : Annalled). x.loaded ≡ true) (sym e) l)
+    (subst Runs (sym e) r).on
+    (subst (λ (x : Change). AsksOnly old.annals.facts (rows_before old.annals) (past old) (Event.Judge client entry version state stored) x stored) (sym is) (judge-asks old.annals client entry version state stored o))
+    s

@@ -1,0 +1,51 @@
+-- An entry has at most twelve strokes: six steps start and end.
+use Rattle.std.proofs.Common.{◌≡◌, ℕ, List, [], ◌∷◌, ◌≤◌, ◌+◌, ◌*◌, arith, length}
+use Rattle.history_keeper.specs.declared.row.Row.{Row}
+use Rattle.history_keeper.specs.Histories.{IsHistory}
+use Rattle.update_log.proofs.LegalOnce.{past-kept}
+use Rattle.update_log.specs.declared.event.Event.{Event}
+use Rattle.update_log.specs.declared.event.Op.{Op}
+use Rattle.update_log.specs.Legal.{IsLegal}
+use Rattle.update_log.specs.Once.{InOrder, Stroke, strokes}
+use Rattle.update_log.specs.Shows.{Campaign}
+use Rattle.update_log.specs.Steps.{op_number}
+
+-- The strokes are no more than two for each step up to the last one.
+abbrev Below : List Stroke → Type 0
+Below [] = Unit {0}
+Below (Stroke.Started op ∷ rest) = length rest + 2 ≤ 2 * op_number op
+Below (Stroke.Ended op ∷ rest) = length rest + 1 ≤ 2 * op_number op
+
+six : (op : Op) → op_number op ≤ 6
+six Op.Prepare = omega arith
+six Op.Detach = omega arith
+six Op.Write = omega arith
+six Op.Attach = omega arith
+six Op.Reload = omega arith
+six Op.Cleanup = omega arith
+
+below : (s : List Stroke) → InOrder s → Below s
+below [] i = tt
+below (Stroke.Started op ∷ []) i = let e : op ≡ Op.Prepare = i in rw e (omega arith)
+below (Stroke.Started op ∷ Stroke.Ended last ∷ rest) i =
+    let b : length rest + 1 ≤ 2 * op_number last = below (Stroke.Ended last ∷ rest) i.1 in omega (arith, i.0)
+below (Stroke.Ended op ∷ Stroke.Started last ∷ rest) i =
+    let b : length rest + 2 ≤ 2 * op_number last = below (Stroke.Started last ∷ rest) i.1 in
+    let e : op ≡ last = i.0 in rw e (omega arith)
+below (Stroke.Ended op ∷ []) i = absurd i
+below (Stroke.Started op ∷ Stroke.Started last ∷ rest) i = absurd i
+below (Stroke.Ended op ∷ Stroke.Ended last ∷ rest) i = absurd i
+
+twelve : (s : List Stroke) → Below s → length s ≤ 12
+twelve [] b = omega arith
+twelve (Stroke.Started op ∷ rest) b = omega (arith, b, six op)
+twelve (Stroke.Ended op ∷ rest) b = omega (arith, b, six op)
+
+-- Each entry of a past has so few.
+abbrev pub FewStrokes : List Event → Type 0
+FewStrokes past = (entry : ℕ) → length (strokes entry past) ≤ 12
+
+pub few-strokes : (c : Campaign) (opening : List Row) (past : List Event) → IsHistory opening → IsLegal c opening past → FewStrokes past
+few-strokes c opening past v l =
+    let k = past-kept c opening past v l in
+    λ entry. twelve (strokes entry past) (below (strokes entry past) (k.steps.order entry))

@@ -1,0 +1,69 @@
+-- A board stands to a past as it stood to another one that says the same of it.
+use Rattle.std.proofs.Common.{◌≡◌, ℕ, ◌<◌, ◌≤◌, Bool, List, ◌++◌, length, ap, sym, ◌∙◌, subst, inl, inr}
+use Rattle.std.specs.Prelude.{Option, Some, None, IsTrue, ◌||◌, Contains}
+use Rattle.std.specs.List.{list_any}
+use Rattle.emulated_boards.specs.Boards.{BoardState}
+use Rattle.emulated_boards.specs.declared.mark.Mark.{Mark}
+use Rattle.fw_facts.specs.declared.seen.Seen.{Seen}
+use Rattle.history_keeper.specs.declared.row.Row.{Row}
+use Rattle.update_log.specs.declared.event.Event.{Event}
+use Rattle.update_log.specs.declared.facts.Facts.{Facts}
+use Rattle.update_log.specs.Known.{seen}
+use Rattle.update_log.specs.Legal.{open_marks, open_on}
+use Rattle.update_log.specs.Pasts.{boots}
+use Rattle.update_log.specs.Shows.{FreshShows, HasRaw, IsPrefix, RawAllowed, began_since, home_before, is_began, raw_of, told}
+use Rattle.daemon_core.specs.Boards.{BoardIsHome, BoardStands, PlaceStands, faulty_ends, is_out}
+use Rattle.daemon_core.specs.Housed.{Place}
+
+-- Two pasts say the same of a board.
+pub record SameOfBoard (facts : Facts) (first : List Seen) (opening : List Row) (past other : List Event) (number : ℕ) : Type 0 where
+  pub told : told facts opening other number ≡ told facts opening past number
+  pub out : is_out facts opening other number ≡ is_out facts opening past number
+  pub opened : open_on facts opening other number ≡ open_on facts opening past number
+  pub marks : open_marks facts opening other number ≡ open_marks facts opening past number
+  pub booted : 0 < boots other → 0 < boots past
+  pub seen : seen facts opening other number ≡ seen facts opening past number
+  pub before : home_before facts first opening other number ≡ home_before facts first opening past number
+  pub began : began_since facts first opening other number ≡ began_since facts first opening past number
+  pub raws : (entry raw : ℕ) → raw_of entry past ≡ Some raw → raw_of entry other ≡ Some raw
+  pub faults : faulty_ends facts opening other number ≡ faulty_ends facts opening past number
+
+raw-same : (facts : Facts) (first : List Seen) (opening : List Row) (past other : List Event) (number : ℕ) (marks : List Mark) (raw : ℕ) → SameOfBoard facts first opening past other number
+    → RawAllowed facts first opening past number marks raw → RawAllowed facts first opening other number marks raw
+raw-same facts first opening past other number marks raw s (inl h) = inl (subst (λ (x : Seen). HasRaw x raw) (sym s.before) h)
+raw-same facts first opening past other number marks raw s (inr (inl h)) =
+    inr (inl (h.0, subst (λ (x : Bool). IsTrue (list_any is_began marks || x)) (sym s.began) h.1))
+raw-same facts first opening past other number marks raw s (inr (inr w)) =
+    inr (inr (w.0, w.1, subst (λ (x : List Mark). Contains (x ++ marks) (Mark.Ended w.0 w.1)) (sym s.told) w.2, s.raws w.0 raw w.3))
+
+pub fresh-same : (facts : Facts) (first : List Seen) (opening : List Row) (past other : List Event) (number : ℕ) (marks : List Mark) (shown : Seen) → SameOfBoard facts first opening past other number
+    → FreshShows facts first opening past number marks shown → FreshShows facts first opening other number marks shown
+fresh-same facts first opening past other number marks shown s f =
+    record { raw = λ raw mode e. raw-same facts first opening past other number marks raw s (f.raw raw mode e); mode = f.mode }
+
+pub board-same : (facts : Facts) (first : List Seen) (opening : List Row) (past other : List Event) (number : ℕ) (b : BoardState) (tail : List Mark) → SameOfBoard facts first opening past other number
+    → BoardStands facts first opening past number b tail → BoardStands facts first opening other number b tail
+board-same facts first opening past other number b tail s k =
+    record {
+      fits = record {
+        journal = record {
+          told_and_tail = k.fits.journal.told_and_tail ∙ ap (λ (x : List Mark). x ++ tail) (sym s.told);
+          tail_is = subst (λ (x : List Mark). IsPrefix tail x) (sym s.marks) k.fits.journal.tail_is;
+        };
+        view = λ n z. k.fits.view (sym s.opened ∙ n) (s.booted z) ∙ sym s.seen;
+        unwritten = k.fits.unwritten;
+      };
+      boots = λ absent. fresh-same facts first opening past other number tail _ s (k.boots absent);
+      plugs = λ n. fresh-same facts first opening past other number _ _ s (k.plugs (sym s.opened ∙ n));
+      faults = subst (λ (n : ℕ). n ≤ b.faults) (sym s.faults) k.faults;
+    }
+
+home-same : (facts : Facts) (first : List Seen) (opening : List Row) (past other : List Event) (number : ℕ) (o : Option BoardState) → SameOfBoard facts first opening past other number
+    → BoardIsHome facts first opening past number o → BoardIsHome facts first opening other number o
+home-same facts first opening past other number None s h = subst (λ (x : Bool). IsTrue x) (sym s.out) h
+home-same facts first opening past other number (Some b) s h = (s.out ∙ h.0, (h.1.0, board-same facts first opening past other number b h.1.0 s h.1.1))
+
+pub place-same : (facts : Facts) (first : List Seen) (opening : List Row) (past other : List Event) (number : ℕ) (place : Place) → SameOfBoard facts first opening past other number
+    → PlaceStands facts first opening past number place → PlaceStands facts first opening other number place
+place-same facts first opening past other number place s p =
+    record { told = p.told ∙ ap length (sym s.told); home = home-same facts first opening past other number place.board s p.home }

@@ -1,0 +1,242 @@
+-- A request that is put off, and the keeper that stores its row.
+use Rattle.std.proofs.Common.{◌≡◌, ◌≢◌, ℕ, ◌<◌, ◌≤◌, ◌+◌, ◌-◌, ◌^◌, Bool, true, false, List, [], ◌∷◌, zero, suc, length, map, get_or, refl, ap, sym, ◌∙◌, subst, arith, ◌⊎◌, inl, inr}
+use Rattle.std.specs.Prelude.{Option, Some, None, IfSome, option_map, nat_le, All}
+use Rattle.std.specs.Option.{ForSome}
+use Rattle.std.specs.List.{list_any}
+use Rattle.std.specs.Str.{bytes_eq}
+use Rattle.std.proofs.lemmas.Bool.{leb-false, leb-true}
+use Rattle.fw_facts.specs.declared.seen.Seen.{Seen}
+use Rattle.history_keeper.specs.Changes.{Suits, changed}
+use Rattle.history_keeper.specs.Keepers.{with_doubt}
+use Rattle.history_keeper.specs.declared.change.Change.{Change}
+use Rattle.history_keeper.specs.declared.row.Row.{Row}
+use Rattle.history_keeper.specs.declared.row.RowState.{RowState}
+use Rattle.outer_traits.specs.Faults.{Rose}
+use Rattle.update_log.proofs.Accepts.{accepts-target}
+use Rattle.update_log.proofs.CoreLegal.{decided-other}
+use Rattle.update_log.proofs.Lists.{by_test}
+use Rattle.update_log.proofs.Openings.{bytes-self}
+use Rattle.update_log.proofs.RowsKept.{no-tag, not_kept, is_kept}
+use Rattle.update_log.specs.Core.{Core}
+use Rattle.update_log.specs.CoreSteps.{addition_on}
+use Rattle.update_log.specs.Holding.{live}
+use Rattle.update_log.specs.Known.{Fate, Target, addition, doubt, known, new_row, row_with_tag, rows, rows_by, target, views}
+use Rattle.update_log.specs.Legal.{IsFree, ScheduleAllowed, ScheduleAnswered, next_entry}
+use Rattle.update_log.specs.Pasts.{boots, is_keeper_fault, off, time_of}
+use Rattle.update_log.specs.Verdicts.{Case, case_of, decided, verdict, where_so}
+use Rattle.update_log.specs.declared.answer.ClaimAnswer.{ClaimAnswer}
+use Rattle.update_log.specs.declared.decision.Decision.{Decision}
+use Rattle.update_log.specs.declared.decision.Stage.{Stage}
+use Rattle.update_log.specs.declared.event.Event.{Event}
+use Rattle.update_log.specs.declared.facts.Facts.{Facts}
+use Rattle.update_log.specs.declared.refusal.Refusal.{Refusal}
+use Rattle.update_log.specs.declared.request.Request.{Request}
+use Rattle.daemon_core.specs.Annals.{Appended, IsAllowedSo, IsAnnals, IsLegalSo, Runs}
+use Rattle.daemon_core.specs.Owed.{owed}
+use Rattle.daemon_core.proofs.AnnalsKept.{appended-past, legal-next}
+use Rattle.daemon_core.proofs.OwedLaws.{owed-cut}
+use Rattle.daemon_core.specs.House.{IsHouse}
+use Rattle.daemon_core.specs.Housed.{Annalled, Housed, past, past_in, rows_before}
+use Rattle.daemon_core.specs.Keeping.{HasRows, Keeps, keeper_faults, met_fault}
+use Rattle.daemon_core.specs.PutOff.{IsAccept}
+use Rattle.daemon_core.specs.Turns.{FaultsCounted}
+use Rattle.daemon_core.proofs.BoardsQuiet.{kept-so, quiet-board}
+use Rattle.daemon_core.proofs.HouseKept.{house-next}
+use Rattle.daemon_core.proofs.PlacesKept.{place-same}
+
+-- ---- the keeper
+
+-- Where the log is in no doubt, the keeper has its rows.
+pub keeps-plain : {K : Type 0} (told : K → Option (List Row)) (doubted : K → Option Change) (keeper : K) (all : List Row) → Keeps told doubted keeper all None → HasRows told doubted keeper all None
+keeps-plain told doubted keeper all (inl h) = h
+keeps-plain told doubted keeper all (inr h) = record { rows_are = at (told keeper) h.rows_are; doubt_is = h.no_doubt }
+  where
+    at : (o : Option (List Row)) → IfSome o (λ x. (x ≡ all) ⊎ (x ≡ with_doubt None all)) → IfSome o (λ x. x ≡ all)
+    at None h = tt
+    at (Some x) (inl e) = e
+    at (Some x) (inr e) = e
+
+-- A commit that went well.
+pub keeps-made : {K : Type 0} (told : K → Option (List Row)) (doubted : K → Option Change) (old new : K) (all : List Row) (change : Change) → HasRows told doubted old all None → (told new ≡ option_map (changed change) (told old)) × (doubted new ≡ None) → HasRows told doubted new (changed change all) None
+keeps-made told doubted old new all change h c =
+    record { rows_are = subst (λ (o : Option (List Row)). IfSome o (λ x. x ≡ changed change all)) (sym c.0) (at (told old) h.rows_are); doubt_is = c.1 }
+  where
+    at : (o : Option (List Row)) → IfSome o (λ x. x ≡ all) → IfSome (option_map (changed change) o) (λ x. x ≡ changed change all)
+    at None h = tt
+    at (Some x) e = ap (λ (l : List Row). changed change l) e
+
+-- One that failed, or wanted for memory.
+pub keeps-left : {K : Type 0} (told : K → Option (List Row)) (doubted : K → Option Change) (old new : K) (all : List Row) (left : Option Change) → HasRows told doubted old all None → (told new ≡ told old) × (doubted new ≡ left) → HasRows told doubted new all left
+keeps-left told doubted old new all left h c = record { rows_are = subst (λ (o : Option (List Row)). IfSome o (λ x. x ≡ all)) (sym c.0) h.rows_are; doubt_is = c.1 }
+
+pub suits-told : (o : Option (List Row)) (all : List Row) (change : Change) → IfSome o (λ x. x ≡ all) → Suits change all → ForSome o (λ x. Suits change x)
+suits-told None all change h s = λ x e. cc
+suits-told (Some y) all change h s = λ x e. let f : all ≡ x = (let g : y ≡ x = cc in sym h ∙ g) in subst (λ (l : List Row). Suits change l) f s
+
+-- Where the log has as many faults, or one more and the count rose.
+pub counted-same : {K : Type 0} (faults : K → ℕ) (old new : Housed K) → keeper_faults (past new) ≡ keeper_faults (past old) → faults old.keeper ≤ faults new.keeper → FaultsCounted faults old new
+counted-same faults old new e h = inl (omega (arith, e, h))
+
+pub counted-more : {K : Type 0} (faults : K → ℕ) (old new : Housed K) → keeper_faults (past new) ≡ keeper_faults (past old) + 1 → Rose (faults old.keeper) (faults new.keeper) → FaultsCounted faults old new
+counted-more faults old new e h =
+    by_test (nat_le (faults old.keeper + 1) (2 ^ 64 - 1)) (FaultsCounted faults old new)
+    (λ t. let l = leb-true _ _ t in inl (omega (arith, e, h, l)))
+    (λ f. let l = leb-false _ _ f in inr (omega (arith, h, l)))
+
+-- ---- the row
+
+any-false : {X : Type 0} (p : X → Bool) (xs : List X) (i : ℕ) (d : X) → list_any p xs ≡ false → i < length xs → p (get_or xs i d) ≡ false
+any-false p [] i d h l = absurd (omega arith)
+any-false p (x ∷ xs) zero d h l = by_test (p x) _ (λ t. let e : true ≡ false = rw t at h in cc) (λ f. f)
+any-false p (x ∷ xs) (suc i) d h l = by_test (p x) _ (λ t. let e : true ≡ false = rw t at h in cc) (λ f. any-false p xs i d (rw f at h) (omega arith))
+
+any-mapped : {X Y : Type 0} (f : X → Y) (p : Y → Bool) (xs : List X) → list_any p (map f xs) ≡ list_any (λ x. p (f x)) xs
+any-mapped f p [] = refl
+any-mapped f p (x ∷ xs) = let rest : list_any p (map f xs) ≡ list_any (λ x. p (f x)) xs = any-mapped f p xs in rw rest refl
+
+new-tag : (rows : List Row) (row : Row) → list_any (bytes_eq row.tag) (map (λ r. r.tag) rows) ≡ false → All (λ other. other.tag ≢ row.tag) rows
+new-tag rows row h = λ i d l e.
+    let f : bytes_eq row.tag (get_or rows i d).tag ≡ false = any-false (λ (r : Row). bytes_eq row.tag r.tag) rows i d (sym (any-mapped (λ (r : Row). r.tag) (bytes_eq row.tag) rows) ∙ h) l in
+    let g : true ≡ false = sym (bytes-self row.tag) ∙ ap (λ (t : List ℕ). bytes_eq row.tag t) (sym e) ∙ f in
+    cc
+
+fits-rows : (n : ℕ) → where_so (nat_le 65536 n) Refusal.RowsFull ≡ None → n < 65536
+fits-rows n h = by_test (nat_le 65536 n) (n < 65536) (λ t. let e : Some Refusal.RowsFull ≡ None = rw t at h in cc) (λ f. leb-false 65536 n f)
+
+-- What there is where a request is put off and accepted.
+pub record OffFacts (facts : Facts) (opening : List Row) (past : List Event) (client : ℕ) (request : Request) (t : Target) : Type 0 where
+  pub found : target facts (views facts opening past) request ≡ Some t
+  pub few : length (rows facts opening past) < 65536
+  pub suits : Suits (Change.Add (new_row (length (rows facts opening past) + 1) (time_of past) client request RowState.Pending t)) (rows facts opening past)
+
+pub off-facts : (facts : Facts) (opening : List Row) (past : List Event) (client : ℕ) (request : Request) → IsAccept (verdict facts opening past client request Stage.Schedule) → (t : Target) × OffFacts facts opening past client request t
+off-facts facts opening past client request a =
+    let c : Case = case_of facts opening past client request Stage.Schedule in
+    let h = accepts-target c a.0 a.2 a.1 a.3 in
+    let t : Target = h.0 in
+    let k : row_with_tag (rows facts opening past) request.tag ≡ None = not_kept c (ap is_kept a.3) in (
+      t,
+      record {
+        found = h.1.found;
+        few = fits-rows (length (rows facts opening past)) h.1.none.is_rows_full;
+        suits = (refl, new-tag (rows facts opening past) (new_row (length (rows facts opening past) + 1) (time_of past) client request RowState.Pending t) (no-tag (rows facts opening past) request.tag k));
+      },
+    )
+
+-- The row that is added, over what is kept.
+pub addition-same : (facts : Facts) (opening : List Row) (core : Core) (past : List Event) (client : ℕ) (request : Request) → core.rows ≡ rows facts opening past → core.views ≡ views facts opening past
+    → addition_on facts (time_of past) core.views core.rows client request RowState.Pending ≡ addition facts (time_of past) (live past) (known facts opening past) client request RowState.Pending
+addition-same facts opening core past client request r v = rw (r, v) refl
+
+pub addition-is : (facts : Facts) (opening : List Row) (past : List Event) (client : ℕ) (request : Request) (t : Target) → target facts (views facts opening past) request ≡ Some t
+    → addition facts (time_of past) (live past) (known facts opening past) client request RowState.Pending ≡ Some (Change.Add (new_row (length (rows facts opening past) + 1) (time_of past) client request RowState.Pending t))
+addition-is facts opening past client request t e = rw e refl
+
+-- ---- the house
+
+-- No decision names the keeper.
+pub refusal-other : (c : Case) (refusal : Refusal) → decided c ≡ Decision.Refused refusal → is_keeper_fault refusal ≡ false
+refusal-other c refusal e = let h = decided-other c in rw e at h
+
+-- A schedule is allowed whatever the plans are.
+pub off-allowed : (facts : Facts) (first : List Seen) (opening : List Row) (past : List Event) (client : ℕ) (request : Request) (answer : ClaimAnswer) → ScheduleAllowed facts opening past client request answer → IsAllowedSo facts first opening past (Event.Schedule client request answer)
+off-allowed facts first opening past client request answer a = λ c f i. subst (λ (x : Facts). ScheduleAllowed x opening past client request answer) (sym f) a
+
+-- A house, after a request was put off, or might have been.
+pub house-off : {K : Type 0} (told : K → Option (List Row)) (doubted : K → Option Change) (client : ℕ) (request : Request) (answer : ClaimAnswer) (old : Housed K) (new : Annalled) (keeper : K) → IsHouse told doubted old → IsAnnals old.annals → IsAnnals new
+    → Appended client (Event.Schedule client request answer) old.annals new → IsLegalSo old.annals.facts old.annals.first (rows_before old.annals) (Event.Schedule client request answer ∷ past old) → old.annals.loaded ≡ true
+    → Keeps told doubted keeper (rows old.annals.facts (rows_before old.annals) (Event.Schedule client request answer ∷ past old)) (doubt old.annals.facts (rows_before old.annals) (Event.Schedule client request answer ∷ past old))
+    → IsHouse told doubted (record old { annals = new; keeper = keeper })
+house-off told doubted client request answer old new keeper h o k a l loaded kept =
+    house-next told doubted client (Event.Schedule client request answer) old (record old { annals = new; keeper = keeper }) h a k
+    (record {
+      count = refl;
+      places = λ number place e.
+          place-same old.annals.facts old.annals.first (rows_before old.annals) (past old) (Event.Schedule client request answer ∷ past old) number place
+          (quiet-board old.annals.facts old.annals.first (rows_before old.annals) (past old) (Event.Schedule client request answer) o.stands.history l number refl refl refl refl refl refl) (h.places number place e);
+      loaded = loaded;
+      kept = kept;
+      capacity = refl;
+      free = h.free;
+    })
+
+-- What there is over the annals.
+pub accept-over : (a b : Annalled) (client : ℕ) (request : Request) → a ≡ b → IsAccept (verdict b.facts (rows_before b) (past_in b) client request Stage.Schedule) → IsAccept (verdict a.facts (rows_before a) (past_in a) client request Stage.Schedule)
+accept-over a b client request e h = subst (λ (x : Annalled). IsAccept (verdict x.facts (rows_before x) (past_in x) client request Stage.Schedule)) (sym e) h
+
+pub few-over : (a : Annalled) (client : ℕ) (request : Request) → IsAnnals a → IsAccept (verdict a.facts (rows_before a) (past_in a) client request Stage.Schedule) → length a.core.rows < 65536
+few-over a client request k h =
+    let f = (off-facts a.facts (rows_before a) (past_in a) client request h).1.few in
+    let e = ap length k.stands.rows in
+    omega (arith, f, e)
+
+pub suits-over : (a : Annalled) (client : ℕ) (request : Request) (row : Row) → IsAnnals a → IsAccept (verdict a.facts (rows_before a) (past_in a) client request Stage.Schedule)
+    → addition_on a.facts (time_of (past_in a)) a.core.views a.core.rows client request RowState.Pending ≡ Some (Change.Add row) → Suits (Change.Add row) a.core.rows
+suits-over a client request row k h e =
+    let o = off-facts a.facts (rows_before a) (past_in a) client request h in
+    let t : Target = o.0 in
+    let new : Row = new_row (length (rows a.facts (rows_before a) (past_in a)) + 1) (time_of (past_in a)) client request RowState.Pending t in
+    let s : Some (Change.Add new) ≡ Some (Change.Add row) =
+    sym (addition-is a.facts (rows_before a) (past_in a) client request t o.1.found) ∙ sym (addition-same a.facts (rows_before a) a.core (past_in a) client request k.stands.rows k.stands.views) ∙ e in
+    let r : new ≡ row = cc in
+    subst (λ (x : List Row). Suits (Change.Add row) x) (sym k.stands.rows) (subst (λ (x : Row). Suits (Change.Add x) (rows a.facts (rows_before a) (past_in a))) r o.1.suits)
+
+-- In a boot that runs, the log is in no doubt, and the keeper has its rows.
+pub no-doubt : (a : Annalled) → IsAnnals a → off (past_in a) ≡ false → doubt a.facts (rows_before a) (past_in a) ≡ None
+no-doubt a k o = (kept-so a.facts a.first (rows_before a) (past_in a) k.stands.history k.legal).rows_kept.doubt_off o
+
+pub house-plain : {K : Type 0} (told : K → Option (List Row)) (doubted : K → Option Change) (h : Housed K) (b : Annalled) → h.annals ≡ b → IsHouse told doubted h → IsAnnals h.annals → b.loaded ≡ true → off (past_in b) ≡ false → HasRows told doubted h.keeper h.annals.core.rows None
+house-plain told doubted h b e w k l o =
+    let l' : h.annals.loaded ≡ true = ap (λ (x : Annalled). x.loaded) e ∙ l in
+    let o' : off (past h) ≡ false = ap (λ (x : Annalled). off (past_in x)) e ∙ o in
+    keeps-plain told doubted h.keeper h.annals.core.rows
+    (subst (λ (x : Option Change). Keeps told doubted h.keeper h.annals.core.rows x) (k.stands.doubt ∙ no-doubt h.annals k o') (w.kept l'))
+
+-- What was answered may come.
+pub off-legal : (a b : Annalled) (client : ℕ) (request : Request) (answer : ClaimAnswer) → a ≡ b → IsAnnals a → Runs b → 0 < boots (past_in b) → IsFree (past_in b) client → IsAccept (verdict b.facts (rows_before b) (past_in b) client request Stage.Schedule)
+    → (answer ≡ ClaimAnswer.Entry (length a.core.rows + 1)) ⊎ (answer ≡ ClaimAnswer.Refused Refusal.KeeperFault) → IsLegalSo a.facts a.first (rows_before a) (Event.Schedule client request answer ∷ past_in a)
+off-legal a b client request answer e k r n f h w =
+    let h' = accept-over a b client request e h in
+    let r' : Runs a = subst Runs (sym e) r in
+    let next : length a.core.rows ≡ length (rows a.facts (rows_before a) (past_in a)) = ap length k.stands.rows in
+    legal-next a.facts a.first (rows_before a) (past_in a) (Event.Schedule client request answer) k.legal
+    (record { booted = λ _. subst (λ (x : Annalled). 0 < boots (past_in x)) (sym e) n; on = λ _. r'.on; below = λ _. r'.below })
+    (off-allowed a.facts a.first (rows_before a) (past_in a) client request answer
+    (record {
+      free = subst (λ (x : Annalled). IsFree (past_in x) client) (sym e) f;
+      answer_is = subst (λ (d : Decision). ScheduleAnswered (next_entry a.facts (rows_before a) (past_in a)) d answer) (sym h'.3) (at w next);
+    }))
+  where
+    at : (answer ≡ ClaimAnswer.Entry (length a.core.rows + 1)) ⊎ (answer ≡ ClaimAnswer.Refused Refusal.KeeperFault) → length a.core.rows ≡ length (rows a.facts (rows_before a) (past_in a)) → (answer ≡ ClaimAnswer.Entry (next_entry a.facts (rows_before a) (past_in a))) ⊎ (answer ≡ ClaimAnswer.Refused Refusal.KeeperFault)
+    at (inl x) next = inl (x ∙ ap (λ (n : ℕ). ClaimAnswer.Entry (n + 1)) next)
+    at (inr x) next = inr x
+
+-- The keeper after the row was stored, and after that failed.
+pub kept-made : {K : Type 0} (told : K → Option (List Row)) (doubted : K → Option Change) (a : Annalled) (client : ℕ) (request : Request) (entry : ℕ) (row : Row) (keeper : K) → IsAnnals a → off (past_in a) ≡ false
+    → addition a.facts (time_of (past_in a)) (live (past_in a)) (known a.facts (rows_before a) (past_in a)) client request RowState.Pending ≡ Some (Change.Add row) → HasRows told doubted keeper (changed (Change.Add row) a.core.rows) None
+    → Keeps told doubted keeper (rows a.facts (rows_before a) (Event.Schedule client request (ClaimAnswer.Entry entry) ∷ past_in a)) (doubt a.facts (rows_before a) (Event.Schedule client request (ClaimAnswer.Entry entry) ∷ past_in a))
+kept-made told doubted a client request entry row keeper k o e h =
+    let all : List Row = rows a.facts (rows_before a) (past_in a) in
+    let r : changed (Change.Add row) a.core.rows ≡ rows_by Fate.Made (addition a.facts (time_of (past_in a)) (live (past_in a)) (known a.facts (rows_before a) (past_in a)) client request RowState.Pending) all =
+    ap (λ (x : List Row). changed (Change.Add row) x) k.stands.rows ∙ sym (ap (λ (x : Option Change). rows_by Fate.Made x all) e) in
+    inl (record { rows_are = subst (λ (x : List Row). IfSome (told keeper) (λ y. y ≡ x)) r h.rows_are; doubt_is = h.doubt_is ∙ sym (no-doubt a k o) })
+
+pub kept-doubted : {K : Type 0} (told : K → Option (List Row)) (doubted : K → Option Change) (a : Annalled) (client : ℕ) (request : Request) (row : Row) (keeper : K) → IsAnnals a
+    → addition a.facts (time_of (past_in a)) (live (past_in a)) (known a.facts (rows_before a) (past_in a)) client request RowState.Pending ≡ Some (Change.Add row) → HasRows told doubted keeper a.core.rows (Some (Change.Add row))
+    → Keeps told doubted keeper (rows a.facts (rows_before a) (Event.Schedule client request (ClaimAnswer.Refused Refusal.KeeperFault) ∷ past_in a)) (doubt a.facts (rows_before a) (Event.Schedule client request (ClaimAnswer.Refused Refusal.KeeperFault) ∷ past_in a))
+kept-doubted told doubted a client request row keeper k e h =
+    inl (record { rows_are = subst (λ (x : List Row). IfSome (told keeper) (λ y. y ≡ x)) k.stands.rows h.rows_are; doubt_is = h.doubt_is ∙ sym e })
+
+-- The room that is owed doesn't grow.
+pub owed-entry : (past : List Event) (client : ℕ) (request : Request) (entry : ℕ) → owed (Event.Schedule client request (ClaimAnswer.Entry entry) ∷ past) ≤ owed past
+owed-entry past client request entry = at (owed past)
+  where
+    at : (n : ℕ) → n ≤ n
+    at n = omega arith
+
+pub owed-faulted : (past : List Event) (client : ℕ) (request : Request) → owed (Event.Schedule client request (ClaimAnswer.Refused Refusal.KeeperFault) ∷ past) ≤ owed past
+owed-faulted past client request = owed-cut past
+
+-- An event that met no fault.
+pub quiet-faults : (client : ℕ) (event : Event) (a b : Annalled) → Appended client event a b → met_fault event ≡ false → keeper_faults (past_in b) ≡ keeper_faults (past_in a)
+quiet-faults client event a b p m = ap keeper_faults (appended-past client event a b p) ∙ rw m refl

@@ -1,0 +1,133 @@
+-- What a quiet event leaves as it was.
+use Rattle.std.proofs.Common.{◌≡◌, ℕ, ◌≤◌, Bool, true, false, List, [], ◌∷◌, refl, ap, ◌∙◌, arith}
+use Rattle.std.proofs.lemmas.List.{append-nil}
+use Rattle.std.specs.Prelude.{Option, None, not}
+use Rattle.device_list.specs.declared.selector.Selector.{Selector}
+use Rattle.update_log.specs.declared.request.Request.{Request}
+use Rattle.fw_facts.specs.declared.seen.Seen.{Seen}
+use Rattle.history_keeper.specs.declared.row.Row.{Row}
+use Rattle.update_log.specs.declared.answer.AskAnswer.{AskAnswer}
+use Rattle.update_log.specs.declared.answer.ClaimAnswer.{ClaimAnswer}
+use Rattle.update_log.specs.declared.answer.PlugAnswer.{PlugAnswer}
+use Rattle.update_log.specs.declared.event.Event.{Event}
+use Rattle.update_log.specs.declared.facts.Facts.{Facts}
+use Rattle.update_log.specs.Holding.{holds, live, open_steps}
+use Rattle.update_log.specs.Known.{Known, known, rows, tells}
+use Rattle.update_log.specs.Pasts.{boots, is_boot, is_keeper_fault}
+use Rattle.update_log.specs.Shows.{raw_of, told_by}
+use Rattle.daemon_core.proofs.PlacesKept.{SameOfBoard}
+use Rattle.daemon_core.specs.Boards.{is_faulty_end}
+use Rattle.daemon_core.specs.Keeping.{met_fault}
+use Rattle.daemon_core.specs.Owed.{owed}
+use Rattle.daemon_core.specs.Quiet.{is_quiet}
+use Rattle.daemon_core.proofs.OwedLaws.{owed-cut}
+
+-- An event leaves all as it was.
+pub record Still (facts : Facts) (first : List Seen) (opening : List Row) (past : List Event) (event : Event) : Type 0 where
+  pub same_known : known facts opening (event ∷ past) ≡ known facts opening past
+  pub same_live : live (event ∷ past) ≡ live past
+  pub same_holds : holds (event ∷ past) ≡ holds past
+  pub same_steps : open_steps (event ∷ past) ≡ open_steps past
+  pub same_boots : boots (event ∷ past) ≡ boots past
+  pub told : (number : ℕ) → told_by facts (rows facts opening past) event number ≡ []
+  pub same_tells : (number : ℕ) → tells facts (live past) (known facts opening past) event number ≡ None
+  pub same_raws : (entry : ℕ) → raw_of entry (event ∷ past) ≡ raw_of entry past
+  pub faulty : (number : ℕ) → is_faulty_end facts (rows facts opening past) number event ≡ false
+  pub met : met_fault event ≡ false
+  pub owes : owed (event ∷ past) ≤ owed past
+
+same : (n : ℕ) → n ≤ n
+same n = omega arith
+
+-- What such an event leaves to be said of a board.
+pub still-board : (facts : Facts) (first : List Seen) (opening : List Row) (past : List Event) (event : Event) (number : ℕ) → Still facts first opening past event → SameOfBoard facts first opening past (event ∷ past) number
+still-board facts first opening past event number s =
+    let r : rows facts opening (event ∷ past) ≡ rows facts opening past = ap (λ (k : Known). k.rows) s.same_known in
+    record {
+      told = rw (s.told number) (append-nil _);
+      out = rw (s.same_live, r) refl;
+      opened = rw (s.same_steps, r) refl;
+      marks = rw (s.same_steps, r) refl;
+      booted = λ h. rw s.same_boots at h;
+      seen = ap (λ (k : Known). k.shown number) s.same_known;
+      before = rw (s.same_tells number) refl;
+      began = rw (s.same_tells number, s.told number) refl;
+      raws = λ entry raw h. s.same_raws entry ∙ h;
+      faults = rw (s.faulty number) refl;
+    }
+
+still-ask : (facts : Facts) (first : List Seen) (opening : List Row) (past : List Event) (client : ℕ) (request : Request) (pending : Option ℕ) (answer : AskAnswer) → is_quiet (Event.Ask client request pending answer) ≡ true → Still facts first opening past (Event.Ask client request pending answer)
+still-ask facts first opening past client request pending (AskAnswer.Hold blocks release) q = cc
+still-ask facts first opening past client request pending (AskAnswer.Kept entry state) q =
+    record { same_known = refl; same_live = refl; same_holds = refl; same_steps = refl; same_boots = refl; told = λ n. refl; same_tells = λ n. refl; same_raws = λ e. refl; faulty = λ n. refl; met = refl; owes = same _ }
+still-ask facts first opening past client request pending (AskAnswer.Refused refusal) q =
+    record { same_known = refl; same_live = refl; same_holds = refl; same_steps = refl; same_boots = refl; told = λ n. refl; same_tells = λ n. refl; same_raws = λ e. refl; faulty = λ n. refl; met = refl; owes = same _ }
+
+unfaulted : (b : Bool) → not b ≡ true → b ≡ false
+unfaulted true h = cc
+unfaulted false h = refl
+
+still-schedule : (facts : Facts) (first : List Seen) (opening : List Row) (past : List Event) (client : ℕ) (request : Request) (answer : ClaimAnswer) → is_quiet (Event.Schedule client request answer) ≡ true → Still facts first opening past (Event.Schedule client request answer)
+still-schedule facts first opening past client request (ClaimAnswer.Entry entry) q = cc
+still-schedule facts first opening past client request (ClaimAnswer.Kept entry state) q =
+    record { same_known = refl; same_live = refl; same_holds = refl; same_steps = refl; same_boots = refl; told = λ n. refl; same_tells = λ n. refl; same_raws = λ e. refl; faulty = λ n. refl; met = refl; owes = same _ }
+still-schedule facts first opening past client request (ClaimAnswer.Refused refusal) q =
+    let f : is_keeper_fault refusal ≡ false = unfaulted (is_keeper_fault refusal) q in
+    record { same_known = rw f refl; same_live = refl; same_holds = refl; same_steps = refl; same_boots = refl; told = λ n. refl; same_tells = λ n. refl; same_raws = λ e. refl; faulty = λ n. refl; met = f; owes = rw f (same _) }
+
+still-unplug : (facts : Facts) (first : List Seen) (opening : List Row) (past : List Event) (client : ℕ) (device : Selector) (answer : PlugAnswer) → is_quiet (Event.Unplug client device answer) ≡ true → Still facts first opening past (Event.Unplug client device answer)
+still-unplug facts first opening past client device (PlugAnswer.Done seen) q = cc
+still-unplug facts first opening past client device PlugAnswer.NoDevice q =
+    record { same_known = refl; same_live = refl; same_holds = refl; same_steps = refl; same_boots = refl; told = λ n. refl; same_tells = λ n. refl; same_raws = λ e. refl; faulty = λ n. refl; met = refl; owes = same _ }
+still-unplug facts first opening past client device (PlugAnswer.Busy entry) q =
+    record { same_known = refl; same_live = refl; same_holds = refl; same_steps = refl; same_boots = refl; told = λ n. refl; same_tells = λ n. refl; same_raws = λ e. refl; faulty = λ n. refl; met = refl; owes = same _ }
+still-unplug facts first opening past client device PlugAnswer.NotThere q =
+    record { same_known = refl; same_live = refl; same_holds = refl; same_steps = refl; same_boots = refl; told = λ n. refl; same_tells = λ n. refl; same_raws = λ e. refl; faulty = λ n. refl; met = refl; owes = same _ }
+still-unplug facts first opening past client device PlugAnswer.AlreadyThere q =
+    record { same_known = refl; same_live = refl; same_holds = refl; same_steps = refl; same_boots = refl; told = λ n. refl; same_tells = λ n. refl; same_raws = λ e. refl; faulty = λ n. refl; met = refl; owes = same _ }
+
+still-plug : (facts : Facts) (first : List Seen) (opening : List Row) (past : List Event) (client : ℕ) (device : Selector) (answer : PlugAnswer) → is_quiet (Event.Plug client device answer) ≡ true → Still facts first opening past (Event.Plug client device answer)
+still-plug facts first opening past client device (PlugAnswer.Done seen) q = cc
+still-plug facts first opening past client device PlugAnswer.NoDevice q =
+    record { same_known = refl; same_live = refl; same_holds = refl; same_steps = refl; same_boots = refl; told = λ n. refl; same_tells = λ n. refl; same_raws = λ e. refl; faulty = λ n. refl; met = refl; owes = same _ }
+still-plug facts first opening past client device (PlugAnswer.Busy entry) q =
+    record { same_known = refl; same_live = refl; same_holds = refl; same_steps = refl; same_boots = refl; told = λ n. refl; same_tells = λ n. refl; same_raws = λ e. refl; faulty = λ n. refl; met = refl; owes = same _ }
+still-plug facts first opening past client device PlugAnswer.NotThere q =
+    record { same_known = refl; same_live = refl; same_holds = refl; same_steps = refl; same_boots = refl; told = λ n. refl; same_tells = λ n. refl; same_raws = λ e. refl; faulty = λ n. refl; met = refl; owes = same _ }
+still-plug facts first opening past client device PlugAnswer.AlreadyThere q =
+    record { same_known = refl; same_live = refl; same_holds = refl; same_steps = refl; same_boots = refl; told = λ n. refl; same_tells = λ n. refl; same_raws = λ e. refl; faulty = λ n. refl; met = refl; owes = same _ }
+
+pub quiet-still : (facts : Facts) (first : List Seen) (opening : List Row) (past : List Event) (event : Event) → is_quiet event ≡ true → Still facts first opening past event
+quiet-still facts first opening past (Event.Query client query) q =
+    record { same_known = refl; same_live = refl; same_holds = refl; same_steps = refl; same_boots = refl; told = λ n. refl; same_tells = λ n. refl; same_raws = λ e. refl; faulty = λ n. refl; met = refl; owes = same _ }
+quiet-still facts first opening past (Event.Ask client request pending answer) q = still-ask facts first opening past client request pending answer q
+quiet-still facts first opening past (Event.Schedule client request answer) q = still-schedule facts first opening past client request answer q
+quiet-still facts first opening past (Event.Unplug client device answer) q = still-unplug facts first opening past client device answer q
+quiet-still facts first opening past (Event.Plug client device answer) q = still-plug facts first opening past client device answer q
+quiet-still facts first opening past Event.Cut q =
+    record { same_known = refl; same_live = refl; same_holds = refl; same_steps = refl; same_boots = refl; told = λ n. refl; same_tells = λ n. refl; same_raws = λ e. refl; faulty = λ n. refl; met = refl; owes = owed-cut past }
+quiet-still facts first opening past (Event.Boot number time limit found boards) q = cc
+quiet-still facts first opening past (Event.Claim client request fetched answer) q = cc
+quiet-still facts first opening past (Event.Resume client entry fetched answer stored) q = cc
+quiet-still facts first opening past (Event.Start client entry op) q = cc
+quiet-still facts first opening past (Event.End client entry op outcome told seen) q = cc
+quiet-still facts first opening past (Event.Finish client entry state stored) q = cc
+quiet-still facts first opening past (Event.Judge client entry version state stored) q = cc
+quiet-still facts first opening past (Event.GiveBack client what) q = cc
+
+-- A quiet event is no boot.
+pub quiet-boot : (event : Event) → is_quiet event ≡ true → is_boot event ≡ false
+quiet-boot (Event.Boot number time limit found boards) q = cc
+quiet-boot (Event.Query client query) q = refl
+quiet-boot (Event.Ask client request pending answer) q = refl
+quiet-boot (Event.Claim client request fetched answer) q = refl
+quiet-boot (Event.Schedule client request answer) q = refl
+quiet-boot (Event.Resume client entry fetched answer stored) q = refl
+quiet-boot (Event.Start client entry op) q = refl
+quiet-boot (Event.End client entry op outcome told seen) q = refl
+quiet-boot (Event.Finish client entry state stored) q = refl
+quiet-boot (Event.Judge client entry version state stored) q = refl
+quiet-boot (Event.Unplug client device answer) q = refl
+quiet-boot (Event.Plug client device answer) q = refl
+quiet-boot (Event.GiveBack client what) q = refl
+quiet-boot Event.Cut q = refl

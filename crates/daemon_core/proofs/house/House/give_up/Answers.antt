@@ -1,0 +1,46 @@
+use Rattle.std.proofs.Common.{◌≡◌, ◌≤◌, ◌+◌, ◌∷◌, ap, sym, subst, arith}
+use Rattle.update_log.specs.declared.event.Back.{Back}
+use Rattle.update_log.specs.declared.event.Event.{Event}
+use Rattle.daemon_core.specs.Annals.{Appended, IsAllowedSo}
+use Rattle.daemon_core.specs.Holds.{held_by}
+use Rattle.daemon_core.specs.Housed.{Housed, past_in, rows_before}
+use Rattle.daemon_core.specs.Owed.{owed}
+use Rattle.daemon_core.proofs.GivenUp.{house-given, may-give}
+use Rattle.daemon_core.proofs.house.House.give_up.Goals as goal
+
+pub give-requires : goal.give-requires
+give-requires g c =
+    let e : c.self.inside.annals ≡ c.args.self.now.annals = ap (λ (h : Housed g.row.K.Denot). h.annals) c.self.view_is in
+    let m = may-give c.self.inside.annals c.args.self.now.annals c.args.client (held_by c.args.ticket c.args.blocks.count) e c.known.ensures c.requires.booted c.requires.held in
+    let o = m.blocks_out in
+    let f = c.self.invariant.free in
+    let k = c.self.invariant.capacity in
+    omega (arith, o, f, k)
+
+pub note-requires-clause-loaded : goal.note-requires-clause-loaded
+note-requires-clause-loaded g c =
+    let e : c.self.inside.annals ≡ c.args.self.now.annals = ap (λ (h : Housed g.row.K.Denot). h.annals) c.self.view_is in
+    let m = may-give c.self.inside.annals c.args.self.now.annals c.args.client (held_by c.args.ticket c.args.blocks.count) e c.known.ensures c.requires.booted c.requires.held in
+    m.loaded
+
+pub note-requires-clause-allowed : goal.note-requires-clause-allowed
+note-requires-clause-allowed g c =
+    let e : c.self.inside.annals ≡ c.args.self.now.annals = ap (λ (h : Housed g.row.K.Denot). h.annals) c.self.view_is in
+    let m = may-give c.self.inside.annals c.args.self.now.annals c.args.client (held_by c.args.ticket c.args.blocks.count) e c.known.ensures c.requires.booted c.requires.held in
+    subst (λ (w : Back). IsAllowedSo c.self.inside.annals.facts c.self.inside.annals.first (rows_before c.self.inside.annals) (past_in c.self.inside.annals) (Event.GiveBack c.args.client w)) (sym c.back_of.ensures) m.allowed
+
+pub note-requires-clause-room : goal.note-requires-clause-room
+note-requires-clause-room g c =
+    let e : c.self.inside.annals ≡ c.args.self.now.annals = ap (λ (h : Housed g.row.K.Denot). h.annals) c.self.view_is in
+    let m = may-give c.self.inside.annals c.args.self.now.annals c.args.client (held_by c.args.ticket c.args.blocks.count) e c.known.ensures c.requires.booted c.requires.held in
+    subst (λ (w : Back). owed (Event.GiveBack c.args.client w ∷ past_in c.self.inside.annals) + 1 ≤ c.self.inside.annals.room) (sym c.back_of.ensures) m.room
+
+pub invariant_of-self : goal.invariant_of-self
+invariant_of-self g c =
+    let e : c.self.inside.annals ≡ c.args.self.now.annals = ap (λ (h : Housed g.row.K.Denot). h.annals) c.self.view_is in
+    let m = may-give c.self.inside.annals c.args.self.now.annals c.args.client (held_by c.args.ticket c.args.blocks.count) e c.known.ensures c.requires.booted c.requires.held in
+    house-given _ _ c.args.client c.args.ticket.pending c.args.ticket.request c.args.blocks.count
+    (record { annals = c.self.inside.annals; places = c.self.inside.places.items; pool = c.self.inside.pool; keeper = c.self.inside.keeper })
+    c.note.new.self c.give.new.self c.self.invariant c.known.ensures c.note.ensures.known
+    (subst (λ (w : Back). Appended c.args.client (Event.GiveBack c.args.client w) c.self.inside.annals c.note.new.self) c.back_of.ensures c.note.ensures.appended)
+    m c.give.ensures.capacity c.give.ensures.conserved

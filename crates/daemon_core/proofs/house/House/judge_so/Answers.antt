@@ -1,0 +1,51 @@
+use Rattle.std.proofs.Common.{ap, ◌∙◌}
+use Rattle.update_log.specs.Core.{Core}
+use Rattle.update_log.specs.CoreSteps.{advance_on}
+use Rattle.update_log.specs.Pasts.{past_of, time_of}
+use Rattle.update_log.specs.declared.event.Event.{Event}
+use Rattle.daemon_core.specs.Housed.{Housed}
+use Rattle.daemon_core.proofs.ClaimHouse.{IsReady}
+use Rattle.daemon_core.proofs.JudgeKept.{clear-over, done-stored, house-judged, ready-over, suits-over}
+use Rattle.daemon_core.proofs.house.House.judge_so.Goals as goal
+use Rattle.daemon_core.proofs.house.House.judge_so.Given.{Over}
+
+pub commit-stored-requires-clause-no_doubt : goal.commit-stored-requires-clause-no_doubt
+commit-stored-requires-clause-no_doubt g c =
+    (clear-over _ _ (record { annals = c.self.inside.annals; places = c.self.inside.places.items; pool = c.self.inside.pool; keeper = c.self.inside.keeper })
+    c.args.self.now.annals (ap (λ (h : Housed g.row.K.Denot). h.annals) c.self.view_is) c.self.invariant c.known.ensures c.requires.loaded c.requires.runs).doubt_is
+
+pub commit-stored-requires-clause-suits : goal.commit-stored-requires-clause-suits
+commit-stored-requires-clause-suits g c =
+    suits-over (g.K.Keeper.rows c.self.inside.keeper) c.self.inside.annals c.args.self.now.annals c.args.entry c.args.version c.args.state c.advance-change.result
+    (ap (λ (h : Housed g.row.K.Denot). h.annals) c.self.view_is)
+    (clear-over _ _ (record { annals = c.self.inside.annals; places = c.self.inside.places.items; pool = c.self.inside.pool; keeper = c.self.inside.keeper })
+    c.args.self.now.annals (ap (λ (h : Housed g.row.K.Denot). h.annals) c.self.view_is) c.self.invariant c.known.ensures c.requires.loaded c.requires.runs).rows_are
+    c.requires.stands
+    (c.advance-change.ensures ∙ ap (λ (k : Core). advance_on (time_of (past_of k.log)) k.rows c.args.entry c.args.state) c.core.ensures)
+
+ready : (g : Over) (c : goal.After-note-arg-1 g) → IsReady c.self.inside.annals (Event.Judge c.args.client c.args.entry c.args.version c.args.state c.commit-stored.result)
+ready g c =
+    ready-over c.self.inside.annals c.args.self.now.annals c.args.client c.args.entry c.args.version c.args.state c.commit-stored.result
+    (ap (λ (h : Housed g.row.K.Denot). h.annals) c.self.view_is) c.known.ensures c.requires.runs c.requires.booted c.requires.room c.requires.stands
+    (done-stored c.advance-change.result c.commit-stored.result _ _ _ c.commit-stored.ensures.stored c.in_default.not-NoMemory)
+
+pub note-requires-clause-takes : goal.note-requires-clause-takes
+note-requires-clause-takes g c = (ready g c).takes
+
+pub note-requires-clause-allowed : goal.note-requires-clause-allowed
+note-requires-clause-allowed g c = (ready g c).allowed
+
+pub note-requires-clause-room : goal.note-requires-clause-room
+note-requires-clause-room g c = (ready g c).room
+
+pub note-requires-clause-row : goal.note-requires-clause-row
+note-requires-clause-row g c = (ready g c).row
+
+pub invariant_of-self-2 : goal.invariant_of-self-2
+invariant_of-self-2 g c =
+    house-judged _ _ c.args.client c.args.entry c.args.version c.args.state c.commit-stored.result c.advance-change.result
+    (record { annals = c.self.inside.annals; places = c.self.inside.places.items; pool = c.self.inside.pool; keeper = c.self.inside.keeper })
+    c.args.self.now.annals c.note.new.self c.commit-stored.new.keeper
+    (ap (λ (h : Housed g.row.K.Denot). h.annals) c.self.view_is) c.self.invariant c.known.ensures c.note.ensures.known c.note.ensures.appended
+    c.requires.loaded c.requires.runs
+    (c.advance-change.ensures ∙ ap (λ (k : Core). advance_on (time_of (past_of k.log)) k.rows c.args.entry c.args.state) c.core.ensures) c.commit-stored.ensures.stored

@@ -1,0 +1,85 @@
+-- What a boot of a house did.
+use Rattle.std.specs.Prelude.{◌≡◌, ◌≤◌, ◌<◌, ◌+◌, ◌-◌, ◌^◌, ℕ, length, true, false, MatchBool, List, [], ◌∷◌, ◌++◌, Option, None, Result, Ok, Err}
+use Rattle.history_keeper.specs.declared.change.Change.{Change}
+use Rattle.history_keeper.specs.declared.row.Row.{Row}
+use Rattle.history_keeper.specs.Histories.{IsFirstFaulty, IsHistory}
+use Rattle.update_log.specs.Crashes.{next_boot}
+use Rattle.update_log.specs.declared.event.BoardSeen.{BoardSeen}
+use Rattle.update_log.specs.declared.event.Found.{Found}
+use Rattle.update_log.specs.declared.facts.BootPlan.{BootPlan}
+use Rattle.update_log.specs.Holding.{holds, live}
+use Rattle.update_log.specs.Pasts.{boots, is_found_fault}
+use Rattle.daemon_core.specs.declared.booting.BootStop.{BootStop}
+use Rattle.daemon_core.specs.Booting.{AllStarted}
+use Rattle.daemon_core.specs.Housed.{Housed, past}
+use Rattle.daemon_core.specs.Keeping.{HasRows}
+use Rattle.daemon_core.specs.Reading.{AreOthers, AreTold, CanBoot, place_told}
+
+-- The facts, the first images and the pool are as before.
+pub record SameGrounds {K : Type 0} (old new : Housed K) : Type 0 where
+  pub facts : new.annals.facts ≡ old.annals.facts
+  pub first : new.annals.first ≡ old.annals.first
+  pub pool : new.pool ≡ old.pool
+
+-- The next boot was put behind the log, and each board was started.
+pub record BootNoted {K : Type 0} (plan : BootPlan) (found : Found) (listed : List BoardSeen) (old new : Housed K) : Type 0 where
+  pub grounds : SameGrounds old new
+  pub log : new.annals.core.log ≡ old.annals.core.log ++ next_boot (past old) plan found listed ∷ []
+  pub makers : new.annals.makers ≡ old.annals.makers ++ 0 ∷ []
+  pub started : AllStarted plan old.places new.places listed
+
+-- Nothing was put behind the log, and no board was started.
+pub record NoBoot {K : Type 0} (old new : Housed K) : Type 0 where
+  pub grounds : SameGrounds old new
+  pub log : new.annals.core.log ≡ old.annals.core.log
+  pub makers : new.annals.makers ≡ old.annals.makers
+  pub loaded : new.annals.loaded ≡ old.annals.loaded
+  pub places : new.places ≡ old.places
+
+-- A boot that went well. The first one took the rows that the keeper has for those before the log, and
+-- the keeper has the rows of the log, without a doubt.
+pub record WentWell {K : Type 0} (told : K → Option (List Row)) (doubted : K → Option Change) (plan : BootPlan) (found : Found) (listed : List BoardSeen) (old new : Housed K) : Type 0 where
+  pub noted : BootNoted plan found listed old new
+  pub read : is_found_fault found ≡ false
+  pub loaded : new.annals.loaded ≡ true
+  pub opening : MatchBool old.annals.loaded (new.annals.opening ≡ old.annals.opening) (IsHistory new.annals.opening × AreTold (told old.keeper) new.annals.opening)
+  pub keeps : HasRows told doubted new.keeper new.annals.core.rows None
+
+-- A boot that couldn't read the history.
+pub record CouldntRead {K : Type 0} (plan : BootPlan) (listed : List BoardSeen) (old new : Housed K) : Type 0 where
+  pub noted : BootNoted plan Found.Fault listed old new
+  pub loaded : new.annals.loaded ≡ old.annals.loaded
+  pub opening : new.annals.opening ≡ old.annals.opening
+
+-- The first row that breaks a rule has that place.
+pub record BreaksAt (entry : ℕ) (rows : List Row) : Type 0 where
+  pub at : ℕ
+  pub faulty : IsFirstFaulty rows at
+  pub entry_is : entry ≡ place_told at
+
+-- A boot that read no valid history, while none had gone well, or later other rows than the log's, from a
+-- keeper that doesn't tell its rows.
+pub record ReadOthers {K : Type 0} (told : K → Option (List Row)) (entry : ℕ) (old new : Housed K) : Type 0 where
+  pub none : NoBoot old new
+  pub first : old.annals.loaded ≡ false → BreaksAt entry new.annals.opening × AreTold (told old.keeper) new.annals.opening
+  pub later : old.annals.loaded ≡ true → (new.annals.opening ≡ old.annals.opening) × (told new.keeper ≡ None)
+      × ((loaded : List Row) × AreOthers entry loaded old.annals.core.rows old.annals.core.doubt)
+
+-- What a boot did, by its answer.
+abbrev pub BootTurned : {A K : Type 0} → (K → Option (List Row)) → (K → Option Change) → BootPlan → Result A BootStop → Housed K → Housed K → Type 0
+BootTurned told doubted plan (Ok _) old new = (found : Found) × (listed : List BoardSeen) × WentWell told doubted plan found listed old new
+BootTurned told doubted plan (Err BootStop.KeeperFault) old new = (listed : List BoardSeen) × CouldntRead plan listed old new
+BootTurned told doubted plan (Err (BootStop.BadHistory entry)) old new = ReadOthers told entry old new
+BootTurned told doubted plan (Err BootStop.NoMemory) old new = NoBoot old new × (new.annals.opening ≡ old.annals.opening)
+
+-- A boot that found this can be put behind the log: no client has anything out, there is room for it and
+-- for its boards, and its time and number fit.
+pub record IsReady {K : Type 0} (told : K → Option (List Row)) (doubted : K → Option Change) (plan : BootPlan) (found : Found) (listed : List BoardSeen) (capacity : ℕ) (h : Housed K) : Type 0 where
+  pub holds : holds (past h) ≡ []
+  pub live : live (past h) ≡ []
+  pub can : CanBoot told doubted found h
+  pub empty : listed ≡ []
+  pub enough : length h.places ≤ capacity
+  pub room : 2 ≤ h.annals.room
+  pub few : boots (past h) + 1 < 2 ^ 32
+  pub timely : plan.time ≤ 2 ^ 63 - 1

@@ -1,0 +1,45 @@
+-- What the finish of a live entry did.
+use Rattle.std.specs.Prelude.{◌≡◌, ℕ, ◌+◌, List, Option, Some, None, Result, Ok, Err}
+use Rattle.block_pool.specs.Views.{SealedBytes}
+use Rattle.emulated_boards.specs.Boards.{BoardState}
+use Rattle.history_keeper.specs.declared.row.Row.{Row}
+use Rattle.history_keeper.specs.declared.row.RowState.{RowState}
+use Rattle.history_keeper.specs.declared.change.Change.{Change}
+use Rattle.update_log.specs.declared.event.Event.{Event}
+use Rattle.update_log.specs.declared.event.Stored.{Stored}
+use Rattle.update_log.specs.declared.facts.Facts.{Facts}
+use Rattle.update_log.specs.Holding.{step_open}
+use Rattle.update_log.specs.Steps.{closing, next_op}
+use Rattle.daemon_core.specs.declared.finished.Finished.{Finished}
+use Rattle.daemon_core.specs.declared.finished.FinishStop.{FinishStop}
+use Rattle.daemon_core.specs.Annals.{Appended, Runs}
+use Rattle.daemon_core.specs.Commits.{StoredAs}
+use Rattle.daemon_core.specs.Housed.{Housed}
+use Rattle.daemon_core.specs.House.{SameElsewhere}
+use Rattle.daemon_core.specs.Returns.{places_with}
+use Rattle.daemon_core.specs.Turns.{WentOff}
+
+-- The entry is done: no step of it is open, there is no next one, and it ends in that state.
+pub record IsDone (facts : Facts) (opening : List Row) (past : List Event) (entry : ℕ) (closed : RowState) : Type 0 where
+  pub closed_none : step_open past entry ≡ None
+  pub done : next_op facts opening past entry ≡ None
+  pub closing : closing facts opening past entry ≡ Some closed
+
+-- What became of the row: nothing is stored where it stays begun, and else the change.
+abbrev pub ClosedAs : {K : Type 0} → (K → Option (List Row)) → (K → Option Change) → RowState → Change → Stored → K → K → Type 0
+ClosedAs told doubted RowState.Begun change stored old new = (stored ≡ Stored.Unchanged) × (new ≡ old)
+ClosedAs told doubted RowState.Pending change stored old new = StoredAs change stored (told old) (told new) (doubted new)
+ClosedAs told doubted RowState.Success change stored old new = StoredAs change stored (told old) (told new) (doubted new)
+ClosedAs told doubted RowState.Failed change stored old new = StoredAs change stored (told old) (told new) (doubted new)
+ClosedAs told doubted RowState.NeedsReboot change stored old new = StoredAs change stored (told old) (told new) (doubted new)
+
+-- A finish that was answered tells the state and what was stored, and the board and the blocks came home;
+-- one that was stopped hands both back.
+abbrev pub FinishedSo : {K : Type 0} → ℕ → ℕ → ℕ → BoardState → SealedBytes → Result Finished FinishStop → Housed K → Housed K → Type 0
+FinishedSo client entry number board payload (Ok finished) old new =
+    Runs old.annals
+    × Appended client (Event.Finish client entry finished.state finished.stored) old.annals new.annals
+    × (new.places ≡ places_with old.places number board)
+    × (new.pool.free ≡ old.pool.free + payload.count)
+FinishedSo client entry number board payload (Err stop) old new =
+    WentOff client old.annals new.annals × SameElsewhere old new × (stop.board ≡ board) × (stop.payload ≡ payload)

@@ -1,0 +1,38 @@
+-- How the keeper stands to the log.
+use Rattle.std.specs.Prelude.{◌≡◌, ◌⊎◌, ℕ, ◌+◌, Bool, false, List, [], ◌∷◌, Option, None, IfSome, if◌then◌else◌}
+use Rattle.history_keeper.specs.declared.row.Row.{Row}
+use Rattle.history_keeper.specs.declared.change.Change.{Change}
+use Rattle.history_keeper.specs.Keepers.{with_doubt}
+use Rattle.update_log.specs.declared.answer.ClaimAnswer.{ClaimAnswer}
+use Rattle.update_log.specs.declared.event.Event.{Event}
+use Rattle.update_log.specs.Pasts.{is_fault, is_found_fault, is_keeper_fault}
+
+-- The keeper has these rows, where it tells its rows, and this change is its doubt.
+pub record HasRows {K : Type 0} (told : K → Option (List Row)) (doubted : K → Option Change) (keeper : K) (rows : List Row) (doubt : Option Change) : Type 0 where
+  pub rows_are : IfSome (told keeper) (λ all. all ≡ rows)
+  pub doubt_is : doubted keeper ≡ doubt
+
+-- The keeper was opened again, and no boot has said yet what became of the change in doubt: it has these
+-- rows without or with that change, and no doubt.
+pub record WasReopened {K : Type 0} (told : K → Option (List Row)) (doubted : K → Option Change) (keeper : K) (rows : List Row) (doubt : Option Change) : Type 0 where
+  pub rows_are : IfSome (told keeper) (λ all. (all ≡ rows) ⊎ (all ≡ with_doubt doubt rows))
+  pub no_doubt : doubted keeper ≡ None
+
+-- The keeper has the rows of the log, and its doubt is the log's; or it was opened again.
+abbrev pub Keeps : {K : Type 0} → (K → Option (List Row)) → (K → Option Change) → K → List Row → Option Change → Type 0
+Keeps told doubted keeper rows doubt = HasRows told doubted keeper rows doubt ⊎ WasReopened told doubted keeper rows doubt
+
+-- The event met a fault of the keeper.
+abbrev pub met_fault : Event → Bool
+met_fault (Event.Boot number time limit found boards) = is_found_fault found
+met_fault (Event.Claim client request fetched (ClaimAnswer.Refused refusal)) = is_keeper_fault refusal
+met_fault (Event.Schedule client request (ClaimAnswer.Refused refusal)) = is_keeper_fault refusal
+met_fault (Event.Resume client entry fetched answer stored) = is_fault stored
+met_fault (Event.Finish client entry state stored) = is_fault stored
+met_fault (Event.Judge client entry version state stored) = is_fault stored
+met_fault _ = false
+
+-- How many events did.
+abbrev pub keeper_faults : List Event → ℕ
+keeper_faults [] = 0
+keeper_faults (event ∷ past) = if met_fault event then keeper_faults past + 1 else keeper_faults past

@@ -1,0 +1,114 @@
+//! The finish of a live entry.
+ghost use Rattle.std.specs.Prelude.{◌≡◌, ◌≢◌, ◌≤◌, ◌<◌, ◌+◌, ◌-◌, ◌^◌, ◌∷◌, [], ℕ, true, None, Any, length};
+ghost use Rattle.std.specs.Option.{ForSome};
+ghost use Rattle.outer_traits.specs.Faults.{Rose};
+ghost use Rattle.history_keeper.specs.declared.change.Change.{Change};
+ghost use Rattle.history_keeper.specs.declared.row.RowState.{RowState};
+ghost use Rattle.update_log.specs.declared.event.Event.{Event};
+ghost use Rattle.update_log.specs.declared.event.Stored.{Stored};
+ghost use Rattle.update_log.specs.declared.live.LiveEntry.{LiveEntry};
+ghost use Rattle.update_log.specs.Known.{reason_of};
+ghost use Rattle.update_log.specs.Legal.{closing_stored};
+ghost use Rattle.update_log.specs.Pasts.{boots, time_of};
+ghost use Rattle.daemon_core.specs.Housed.{past_in};
+ghost use Rattle.daemon_core.specs.Finishes.{ClosedAs, FinishedSo, IsDone};
+ghost use Rattle.daemon_core.specs.Returns.{ComesHome, number_of, places_with};
+
+use super::House;
+use super::keeping::commit;
+use super::steps::put;
+use crate::annals::Annals;
+use crate::finished::{FinishStop, Finished};
+use crate::off::Off;
+use block_pool::Payload;
+use emulated_boards::Board;
+use history_keeper::{Keeper, RowState};
+use update_log::{Event, Stored};
+
+impl<K: Keeper> House<K> {
+    ghost use Rattle.daemon_core.specs.Annals.{Appended, Runs};
+    ghost use Rattle.daemon_core.specs.Housed.{past, rows_before};
+    ghost use Rattle.daemon_core.specs.Turns.{FaultsCounted};
+
+    /// Finishes a live entry that has no next step: its row gets the state in which the entry ends, its
+    /// board comes home, and its blocks go to the pool. Of want of memory the row stays begun. It takes no
+    /// memory but the keeper's.
+    pub fn finish(
+        &mut self,
+        client: u32,
+        entry: u32,
+        board: Board,
+        payload: Payload,
+    ) -> Result<Finished, FinishStop>
+        requires booted { 0 < boots (past self.old) }
+        requires comes { (number : ℕ) × (l : LiveEntry) × ComesHome self.old.annals.facts self.old.annals.first (rows_before self.old.annals) (past self.old) client entry number l [] board payload.count }
+        requires done { (closed : RowState) × IsDone self.old.annals.facts (rows_before self.old.annals) (past self.old) entry closed }
+        ensures turn { FinishedSo client entry (number_of self.old.annals.facts (rows_before self.old.annals) (past self.old) entry) board payload result self.old self.new }
+        ensures faults { FaultsCounted K.faults self.old self.new }
+        ensures counts { K.faults self.old.keeper ≤ K.faults self.new.keeper }
+    {
+        match self.go_on(client) {
+            Ok(()) => Ok(self.close(client, entry, board, payload)),
+            Err(Off) => Err(FinishStop { board, payload }),
+        }
+    }
+
+    // Puts the finish behind the log.
+    fn close(&mut self, client: u32, entry: u32, board: Board, payload: Payload) -> Finished
+        requires loaded { self.old.annals.loaded ≡ true }
+        requires runs { Runs self.old.annals }
+        requires booted { 0 < boots (past self.old) }
+        requires comes { (number : ℕ) × (l : LiveEntry) × ComesHome self.old.annals.facts self.old.annals.first (rows_before self.old.annals) (past self.old) client entry number l [] board payload.count }
+        requires done { (closed : RowState) × IsDone self.old.annals.facts (rows_before self.old.annals) (past self.old) entry closed }
+        ensures appended { Appended client (Event.Finish client entry result.state result.stored) self.old.annals self.new.annals }
+        ensures places { self.new.places ≡ places_with self.old.places (number_of self.old.annals.facts (rows_before self.old.annals) (past self.old) entry) board }
+        ensures pool { self.new.pool.free ≡ self.old.pool.free + payload.count }
+        ensures faults { FaultsCounted K.faults self.old self.new }
+        ensures counts { K.faults self.old.keeper ≤ K.faults self.new.keeper }
+    {
+        self.annals.known();
+        let number = self.annals.board_of(entry).unwrap_or(0) as usize;
+        let closed = self.annals.closing(entry).unwrap_or(RowState::Begun);
+        let stored = store(&self.annals, &mut self.keeper, entry, closed);
+        let state = closing_stored(closed, stored);
+        put(&mut self.places, number, board);
+        self.pool.give(payload.into_blocks());
+        self.annals.note(
+            client,
+            Event::Finish {
+                client,
+                entry,
+                state,
+                stored,
+            },
+        );
+        Finished { state, stored }
+    }
+}
+
+// Stores in which state an entry ends. Nothing is stored where its row stays begun.
+fn store<K: Keeper>(annals: &Annals, keeper: &mut K, entry: u32, closed: RowState) -> Stored
+    requires no_doubt { K.doubt keeper.old ≡ None }
+    requires suits { ForSome (K.rows keeper.old) (λ all. Any (λ row. row.entry ≡ entry) all) }
+    requires timely { time_of (past_in annals.now) ≤ 2 ^ 63 - 1 }
+    ensures stored { ClosedAs K.rows K.doubt closed (Change.Advance entry closed (reason_of annals.now.core.rows entry) (time_of (past_in annals.now))) result keeper.old keeper.new }
+    ensures cause { result ≡ Stored.Fault → Rose (K.faults keeper.old) (K.faults keeper.new) }
+    ensures counts { K.faults keeper.old ≤ K.faults keeper.new }
+{
+    match closed {
+        RowState::Begun => Stored::Unchanged,
+        RowState::Pending | RowState::Success | RowState::Failed | RowState::NeedsReboot => {
+            commit(keeper, &annals.advance(entry, closed))
+        }
+    }
+}
+
+// Under want of memory the row stays begun.
+fn closing_stored(closed: RowState, stored: Stored) -> RowState
+    ensures { result ≡ closing_stored closed stored }
+{
+    match stored {
+        Stored::Yes | Stored::Fault | Stored::Unchanged => closed,
+        Stored::NoMemory => RowState::Begun,
+    }
+}

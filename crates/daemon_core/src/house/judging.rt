@@ -1,0 +1,84 @@
+//! Judgements.
+ghost use Rattle.std.specs.Prelude.{◌≡◌, ◌≤◌, ◌<◌, ◌+◌, true, Some, IsSome};
+ghost use Rattle.update_log.specs.declared.event.Event.{Event};
+ghost use Rattle.update_log.specs.Known.{row_of};
+ghost use Rattle.update_log.specs.Pasts.{boots};
+
+use super::House;
+use super::keeping::commit;
+use crate::judged::{Judged, Standing};
+use crate::standing::{advance, standing_of};
+use crate::stop::Stop;
+use history_keeper::{Keeper, RowState};
+use update_log::{Event, Stored};
+use version_formats::Version;
+
+impl<K: Keeper> House<K> {
+    ghost use Rattle.daemon_core.specs.declared.judged.Standing.{Standing};
+    ghost use Rattle.daemon_core.specs.Annals.{Runs};
+    ghost use Rattle.daemon_core.specs.Housed.{past};
+    ghost use Rattle.daemon_core.specs.Judging.{JudgeTurned, standing_of};
+    ghost use Rattle.daemon_core.specs.Owed.{owed};
+    ghost use Rattle.daemon_core.specs.Turns.{FaultsCounted, Turned};
+
+    // Lets the keeper store a judgement, and puts it behind the log.
+    pub(crate) fn judge_so(
+        &mut self,
+        client: u32,
+        entry: u32,
+        version: Version,
+        state: RowState,
+    ) -> Result<Stored, Stop>
+        requires booted { 0 < boots (past self.old) }
+        requires runs { Runs self.old.annals }
+        requires loaded { self.old.annals.loaded ≡ true }
+        requires stands { standing_of self.old.annals entry ≡ Some (Standing.Judged version state) }
+        requires room { owed (past self.old) + 1 ≤ self.old.annals.room }
+        ensures turn { Turned client (λ stored. Event.Judge client entry version state stored) result self.old.annals self.new.annals }
+        ensures places { self.new.places ≡ self.old.places }
+        ensures pool { self.new.pool ≡ self.old.pool }
+        ensures faults { FaultsCounted K.faults self.old self.new }
+        ensures counts { K.faults self.old.keeper ≤ K.faults self.new.keeper }
+    {
+        self.annals.known();
+        let change = advance(self.annals.core(), entry, state);
+        let stored = commit(&mut self.keeper, &change);
+        if let Stored::NoMemory = stored {
+            return Err(Stop::NoMemory);
+        }
+        self.annals.note(
+            client,
+            Event::Judge {
+                client,
+                entry,
+                version,
+                state,
+                stored,
+            },
+        );
+        Ok(stored)
+    }
+
+    /// Judges the row of an entry by the version that its device shows. The entry has a row. Only a
+    /// judgement that is done is put behind the log.
+    pub fn judge(&mut self, client: u32, entry: u32) -> Result<Judged, Stop>
+        requires booted { 0 < boots (past self.old) }
+        requires row { IsSome (row_of self.old.annals.core.rows entry) }
+        ensures turn { JudgeTurned client entry result self.old.annals self.new.annals }
+        ensures places { self.new.places ≡ self.old.places }
+        ensures pool { self.new.pool ≡ self.old.pool }
+        ensures faults { FaultsCounted K.faults self.old self.new }
+        ensures counts { K.faults self.old.keeper ≤ K.faults self.new.keeper }
+    {
+        self.enter(client, 1)?;
+        match standing_of(self.annals.core(), entry) {
+            Standing::Settled => Ok(Judged::Settled),
+            Standing::Waits => Ok(Judged::Waits),
+            Standing::Absent => Ok(Judged::Absent),
+            Standing::Judged { version, state } => {
+                let stored = self.judge_so(client, entry, version, state)?;
+                Ok(Judged::Done { state, stored })
+            }
+        }
+    }
+}

@@ -1,0 +1,9 @@
+pub mod Boards
+pub mod Flags
+pub mod Instances
+pub mod Machines
+pub mod Plans
+pub mod Quirks
+pub mod Sites
+pub mod Texts
+pub mod Told

@@ -1,0 +1,3 @@
+pub mod Priorities
+pub mod Settled
+pub mod Made

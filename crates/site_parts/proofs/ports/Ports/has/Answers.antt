@@ -1,0 +1,9 @@
+use Rattle.site_parts.proofs.References.{any_text}
+use Rattle.site_parts.proofs.ports.Ports.has.Goals as goal
+
+pub returns : goal.returns
+returns c =
+    let found = c.contains.ensures in
+    let told = any_text c.args.port.now c.self.inside.names.keys in
+    let seen = c.self.view_is in
+    cc
