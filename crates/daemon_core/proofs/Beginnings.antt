@@ -98,6 +98,7 @@ place-new facts first number b n e =
             };
             boots = λ absent. subst (λ (c : Condition). FreshShows facts first [] [] number [] (view_of (booted absent c))) (sym n.condition) (boots-shown facts first number n.image f absent);
             plugs = λ o. subst (λ (c : Condition). FreshShows facts first [] [] number [] (view_of (plugged c))) (sym n.condition) (first-shown facts first number n.image f);
+            staged = λ image e. let bad : None ≡ Some image = sym (ap (λ (c : Condition). c.staged) n.condition) ∙ e in cc;
             faults = omega arith;
           },
         ),

@@ -105,6 +105,7 @@ module _ (facts : Facts) (first : List Seen) (before opening : List Row) (past :
         };
         boots = λ absent. fresh-over tail _ (k.boots absent);
         plugs = λ n. fresh-over [] _ (k.plugs (sym s.open_on ∙ n));
+        staged = k.staged;
         faults = subst (λ (n : ℕ). n ≤ b.faults) (sym s.faults) k.faults;
       }
 

@@ -2,7 +2,7 @@
 use Rattle.std.proofs.Common.{◌≡◌, ℕ, Bool, true, false, ◌||◌, ◌≤◌, List, [], ◌∷◌, ◌++◌, refl, ap, sym, ◌∙◌, inl, inr, append-nil, drop, length, subst}
 use Rattle.std.proofs.Math.Seq.{drop-append_seam}
 use Rattle.std.proofs.lemmas.List.Folds.{list_any-append}
-use Rattle.std.specs.Prelude.{Option, Some, Contains, IsTrue, if◌then◌else◌, slice_get, unwrap_or, option_map}
+use Rattle.std.specs.Prelude.{Option, Some, None, Contains, IsTrue, if◌then◌else◌, slice_get, unwrap_or, option_map}
 use Rattle.std.specs.List.{list_any}
 use Rattle.emulated_boards.specs.Boards.{BoardState}
 use Rattle.emulated_boards.specs.Conditions.{booted, plugged, view_of}
@@ -142,6 +142,7 @@ module _ (facts : Facts) (first : List Seen) (opening : List Row) (past : List E
           };
           boots = λ a. subst (λ (c : Condition). FreshShows facts first opening (Event.Boot number time limit found boards ∷ past) n [] (view_of (booted a c))) (sym w.condition) (boots-again a);
           plugs = λ _. subst (λ (c : Condition). FreshShows facts first opening (Event.Boot number time limit found boards ∷ past) n [] (view_of (plugged c))) (sym w.condition) (fresh-again _ refl);
+          staged = λ image e. let bad : None ≡ Some image = sym (ap (λ (c : Condition). c.staged) w.condition) ∙ e in cc;
           faults = subst (λ (k : ℕ). faulty_ends facts opening past n ≤ k) (sym w.same.faults) h.faults;
         }
 

@@ -25,7 +25,7 @@ use Rattle.update_log.specs.declared.live.LiveEntry.{LiveEntry}
 use Rattle.daemon_core.proofs.ClaimOpen.{found-live}
 
 -- A board's number says which sheet is its.
-abbrev HasSheet : List Sheet → Board → Type 0
+abbrev pub HasSheet : List Sheet → Board → Type 0
 HasSheet all b = slice_get all b.number ≡ Some b.sheet
 
 numbered : (all : List Sheet) (n : ℕ) (sheets : List Sheet) → ((i : ℕ) → slice_get all (n + i) ≡ slice_get sheets i) → AllByRecursion (HasSheet all) (boards_from n sheets)
@@ -38,7 +38,7 @@ numbered all n (s ∷ ss) h = (
 from-first : (all : List Sheet) (i : ℕ) → slice_get all (0 + i) ≡ slice_get all i
 from-first all i = let e : 0 + i ≡ i = omega arith in ap (slice_get all) e
 
-device-sheet : (facts : Facts) → AllByRecursion (HasSheet facts.sheets) (devices facts)
+pub device-sheet : (facts : Facts) → AllByRecursion (HasSheet facts.sheets) (devices facts)
 device-sheet facts = All-filter (HasSheet facts.sheets) (HasSheet facts.sheets) (is_device facts) (all_boards facts) (numbered facts.sheets 0 facts.sheets (from-first facts.sheets)) (λ b h _. h)
 
 -- What a board's number says of the device.

@@ -164,6 +164,7 @@ ends-stands facts first opening past event entry number b tail k s =
       };
       boots = λ absent. fresh-on facts first opening past event entry number tail _ k (s.boots absent);
       plugs = λ n. fresh-on facts first opening past event entry number [] _ k (s.plugs (sym opened ∙ n));
+      staged = λ image e. let w = s.staged image e in (w.0, w.1, w.2, k.raws w.0 (unwrap_or image.raw 0) w.3);
       faults = subst (λ (n : ℕ). n ≤ b.faults) (sym ended) s.faults;
     }
 

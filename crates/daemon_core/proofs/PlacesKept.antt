@@ -1,6 +1,6 @@
 -- A board stands to a past as it stood to another one that says the same of it.
 use Rattle.std.proofs.Common.{◌≡◌, ℕ, ◌<◌, ◌≤◌, Bool, List, ◌++◌, length, ap, sym, ◌∙◌, subst, inl, inr}
-use Rattle.std.specs.Prelude.{Option, Some, None, IsTrue, ◌||◌, Contains}
+use Rattle.std.specs.Prelude.{Option, Some, None, IsTrue, ◌||◌, Contains, unwrap_or}
 use Rattle.std.specs.List.{list_any}
 use Rattle.emulated_boards.specs.Boards.{BoardState}
 use Rattle.emulated_boards.specs.declared.mark.Mark.{Mark}
@@ -55,6 +55,7 @@ board-same facts first opening past other number b tail s k =
       };
       boots = λ absent. fresh-same facts first opening past other number tail _ s (k.boots absent);
       plugs = λ n. fresh-same facts first opening past other number _ _ s (k.plugs (sym s.opened ∙ n));
+      staged = λ image e. let w = k.staged image e in (w.0, w.1, w.2, s.raws w.0 (unwrap_or image.raw 0) w.3);
       faults = subst (λ (n : ℕ). n ≤ b.faults) (sym s.faults) k.faults;
     }
 

@@ -94,13 +94,13 @@ any-mapped : {X Y : Type 0} (f : X → Y) (p : Y → Bool) (xs : List X) → lis
 any-mapped f p [] = refl
 any-mapped f p (x ∷ xs) = let rest : list_any p (map f xs) ≡ list_any (λ x. p (f x)) xs = any-mapped f p xs in rw rest refl
 
-new-tag : (rows : List Row) (row : Row) → list_any (bytes_eq row.tag) (map (λ r. r.tag) rows) ≡ false → All (λ other. other.tag ≢ row.tag) rows
+pub new-tag : (rows : List Row) (row : Row) → list_any (bytes_eq row.tag) (map (λ r. r.tag) rows) ≡ false → All (λ other. other.tag ≢ row.tag) rows
 new-tag rows row h = λ i d l e.
     let f : bytes_eq row.tag (get_or rows i d).tag ≡ false = any-false (λ (r : Row). bytes_eq row.tag r.tag) rows i d (sym (any-mapped (λ (r : Row). r.tag) (bytes_eq row.tag) rows) ∙ h) l in
     let g : true ≡ false = sym (bytes-self row.tag) ∙ ap (λ (t : List ℕ). bytes_eq row.tag t) (sym e) ∙ f in
     cc
 
-fits-rows : (n : ℕ) → where_so (nat_le 65536 n) Refusal.RowsFull ≡ None → n < 65536
+pub fits-rows : (n : ℕ) → where_so (nat_le 65536 n) Refusal.RowsFull ≡ None → n < 65536
 fits-rows n h = by_test (nat_le 65536 n) (n < 65536) (λ t. let e : Some Refusal.RowsFull ≡ None = rw t at h in cc) (λ f. leb-false 65536 n f)
 
 -- What there is where a request is put off and accepted.

@@ -1,9 +1,10 @@
 -- How the boards at home stand to the log.
-use Rattle.std.specs.Prelude.{◌≡◌, ◌≤◌, ℕ, Bool, false, ◌+◌, IsTrue, List, [], ◌∷◌, length, Option, Some, None, Err, if◌then◌else◌}
+use Rattle.std.specs.Prelude.{◌≡◌, ◌≤◌, ℕ, Bool, false, ◌+◌, IsTrue, List, [], ◌∷◌, length, Option, Some, None, Err, if◌then◌else◌, unwrap_or}
 use Rattle.std.specs.List.{list_any}
 use Rattle.fw_facts.specs.declared.seen.Seen.{Seen}
 use Rattle.emulated_boards.specs.Boards.{BoardState}
 use Rattle.emulated_boards.specs.Conditions.{booted, plugged, view_of}
+use Rattle.emulated_boards.specs.declared.image.Image.{Image}
 use Rattle.emulated_boards.specs.declared.mark.Mark.{Mark}
 use Rattle.history_keeper.specs.declared.row.Row.{Row}
 use Rattle.update_log.specs.declared.event.Event.{Event}
@@ -12,7 +13,7 @@ use Rattle.update_log.specs.Holding.{live}
 use Rattle.update_log.specs.Known.{is_board_of, rows}
 use Rattle.update_log.specs.Legal.{open_on}
 use Rattle.update_log.specs.Once as once
-use Rattle.update_log.specs.Shows.{FreshShows, told}
+use Rattle.update_log.specs.Shows.{FreshShows, IsWritten, told}
 use Rattle.daemon_core.specs.Housed.{Place}
 
 -- What the laws see of a board.
@@ -37,11 +38,13 @@ faulty_ends facts opening (event ∷ past) number =
     else faulty_ends facts opening past number
 
 -- A board at home: it fits the log, with a tail of marks that weren't told; as it would start, or be put
--- into its port, it would show what it may; and it met at least as many faults as the log tells.
+-- into its port, it would show what it may; an image that is staged is that of a payload whose whole write
+-- is in its journal; and it met at least as many faults as the log tells.
 pub record BoardStands (facts : Facts) (first : List Seen) (opening : List Row) (past : List Event) (number : ℕ) (b : BoardState) (tail : List Mark) : Type 0 where
   pub fits : once.BoardFits facts first opening past number (journal_and_view b) tail
   pub boots : (absent : Bool) → FreshShows facts first opening past number tail (view_of (booted absent b.condition))
   pub plugs : open_on facts opening past number ≡ None → FreshShows facts first opening past number [] (view_of (plugged b.condition))
+  pub staged : (image : Image) → b.condition.staged ≡ Some image → IsWritten past b.journal (unwrap_or image.raw 0)
   pub faults : faulty_ends facts opening past number ≤ b.faults
 
 -- The board of a place is there exactly where no entry is live on it, and then it stands so.

@@ -18,3 +18,8 @@ pub mod Commits
 pub mod Finishes
 pub mod Judging
 pub mod Settling
+pub mod Plugging
+pub mod Fetches
+pub mod Claims
+pub mod Resumes
+pub mod Parts

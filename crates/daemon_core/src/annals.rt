@@ -9,8 +9,11 @@ ghost use Rattle.update_log.specs.Verdicts.{verdict};
 ghost use Rattle.update_log.specs.Pasts.{boots, counted, is_boot, limit_of, time_of};
 
 mod boots;
+mod claims;
 mod closings;
 mod going;
+mod parting;
+mod resumes;
 
 use crate::stop::Stop;
 use fw_base::NoMemory;
@@ -89,6 +92,13 @@ impl Annals {
         ensures { result.now ≡ self.now.opening }
     {
         &self.opening
+    }
+
+    /// The rows before the log: none, until a boot took those that it loaded.
+    pub fn rows_before(&self) -> &[Row]
+        ensures { result.now ≡ rows_before self.now }
+    {
+        if self.loaded { &self.opening } else { &[] }
     }
 
     /// What stands for the log.

@@ -12,10 +12,15 @@ ghost use Rattle.update_log.specs.Verdicts.{verdict};
 ghost use Rattle.update_log.specs.Pasts.{boots};
 
 mod boot;
+mod claiming;
 mod finishing;
 mod giving;
 mod judging;
 mod keeping;
+mod knowing;
+mod parting;
+mod plugging;
+mod resuming;
 mod scheduling;
 mod settling;
 mod steps;

@@ -19,7 +19,7 @@ pub fn device_row(core: &CoreState, device: &Selector) -> DeviceRow
     }
 }
 
-fn found_view<'a>(core: &'a CoreState, device: &Selector) -> Option<&'a DeviceView>
+pub(crate) fn found_view<'a>(core: &'a CoreState, device: &Selector) -> Option<&'a DeviceView>
     ensures { option_copied result ≡ found_view core.now.views device.now }
 {
     match core.resolve(device) {
@@ -40,7 +40,7 @@ fn row_on(core: &CoreState, view: &DeviceView) -> DeviceRow
     }
 }
 
-fn is_home(seen: Seen) -> bool
+pub(crate) fn is_home(seen: Seen) -> bool
     ensures { result ≡ is_home seen }
 {
     match seen {

@@ -4,16 +4,17 @@
 //! stops between the hold and the finish, and every block goes back to the pool.
 ghost use Rattle.std.specs.Prelude.{◌≡◌, ◌+◌, ◌<◌, ◌≤◌, vec_len, vec_capacity, IfOk};
 ghost use Rattle.emulated_boards.specs.declared.condition.Presence.{Presence};
-ghost use Rattle.install_engine.specs.Answers.{block_count};
+ghost use Rattle.daemon_core.specs.Fetches.{block_count};
 
 use crate::campaign::Campaign;
 use block_pool::{BLOCK_BYTES, Blocks, Payload, Pool};
+use daemon_core::Fetched;
 use device_list::Selector;
 use emulated_boards::{Board, BoardFault, Mark, image_raw};
 use fw_base::{Listed, NoMemory};
 use fw_facts::{Release, Seen};
 use history_keeper::RowState;
-use install_engine::{Fetched, fetch};
+use install_engine::fetch_blocks;
 use outer_traits::Shelf;
 use release_catalogue::ReleaseRef;
 use std::alloc::{AllocError, Global};
@@ -109,7 +110,7 @@ fn install<P: Shelf>(
             release: place,
         },
     );
-    let fetched = fetch(shelf, &release.digest, release.size, blocks);
+    let fetched = fetch_blocks(shelf, &release.digest, release.size, blocks);
     pool.give(claim(campaign, release, fetched, log, board));
 }
 

@@ -1,8 +1,8 @@
 -- What the answer of a fetch says.
 use Rattle.std.specs.Prelude.{ℕ, List, Option, Some, None}
 use Rattle.block_pool.specs.Views.{BlockBytes, SealedBytes}
-use Rattle.install_engine.specs.declared.fetched.Fetched.{Fetched}
-use Rattle.install_engine.specs.declared.fetched.Fetched.TheVariants.{Whole, Missing, Length, Mismatch, ShelfFault}
+use Rattle.daemon_core.specs.declared.fetched.Fetched.{Fetched}
+use Rattle.daemon_core.specs.declared.fetched.Fetched.TheVariants.{Whole, Missing, Length, Mismatch, ShelfFault}
 use Rattle.install_engine.specs.Findings.{Finding, missing, other_length, other_digest, whole}
 
 -- what was found, if no fault of the shelf came before
@@ -12,14 +12,6 @@ told (Missing blocks) = Some missing
 told (Length found blocks) = Some (other_length found)
 told (Mismatch found blocks) = Some (other_digest found)
 told (ShelfFault blocks) = None
-
--- how many blocks go on in it
-abbrev pub block_count : Fetched → ℕ
-block_count (Whole payload) = payload.count
-block_count (Missing blocks) = blocks.count
-block_count (Length found blocks) = blocks.count
-block_count (Mismatch found blocks) = blocks.count
-block_count (ShelfFault blocks) = blocks.count
 
 -- this holds of the payload, if there is one
 abbrev pub IfWhole : Fetched → (SealedBytes → Type 0) → Type 0

@@ -1,2 +1,4 @@
 pub mod Answers
 pub mod Findings
+pub mod Runs
+pub mod RunsIn

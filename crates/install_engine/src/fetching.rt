@@ -1,21 +1,56 @@
 //! The fetch of a payload.
-ghost use Rattle.std.specs.Prelude.{◌≡◌, ◌≢◌, ◌+◌, ◌*◌, ◌<◌, ◌≤◌, length, take, OnErr, IfOk, IfSome, IfNone};
+ghost use Rattle.std.specs.Prelude.{◌≡◌, ◌≢◌, ◌+◌, ◌*◌, ◌<◌, ◌≤◌, length, take, OnErr, IfOk, IfSome, IfNone, Some};
 ghost use Rattle.sha2.specs.Sha256.{sha256};
 ghost use Rattle.outer_traits.specs.Faults.{Rose};
 ghost use Rattle.outer_traits.specs.Shelves.{file_of, bytes_of, StandsAt};
-ghost use Rattle.install_engine.specs.Answers.{told, block_count, IfWhole, IfLength, IfMismatch};
+ghost use Rattle.daemon_core.specs.Fetches.{block_count};
+ghost use Rattle.install_engine.specs.Answers.{told, IfWhole, IfLength, IfMismatch};
 ghost use Rattle.install_engine.specs.Findings.{found_of};
 
-use crate::fetched::Fetched;
 use block_pool::{BLOCK_BYTES, BadBlocks, Blocks};
+use daemon_core::{Fetched, Hold, Ticket};
 use fw_base::Digest;
 use outer_traits::{Failed, Shelf};
+
+/// Fetches the payload of a hold from a shelf into the hold's blocks. The ticket is the hold's.
+pub fn fetch<P: Shelf>(shelf: &mut P, hold: Hold) -> (Ticket, Fetched)
+    requires { hold.size ≤ 4096 * hold.blocks.count }
+    ensures ticket { result.0 ≡ hold.ticket }
+    ensures found { IfSome (P.files shelf.old) (λ all. IfSome (told result.1) (λ found. found ≡ found_of (file_of all hold.digest) hold.digest hold.size)) }
+    ensures bytes { IfSome (P.files shelf.old) (λ all. IfWhole result.1 (λ payload. file_of all hold.digest ≡ Some payload.bytes)) }
+
+    // These hold also where the shelf tells nothing.
+    ensures digest { IfWhole result.1 (λ payload. payload.digest ≡ hold.digest) }
+    ensures size { IfWhole result.1 (λ payload. length payload.bytes ≡ hold.size) }
+    ensures other_length { IfLength result.1 (λ found. found ≢ hold.size) }
+    ensures other_digest { IfMismatch result.1 (λ found _. found ≢ hold.digest) }
+    ensures hashed { IfMismatch result.1 (λ found blocks. found ≡ sha256 (take hold.size blocks.bytes)) }
+
+    ensures blocks { block_count result.1 ≡ hold.blocks.count }
+    ensures cause { IfNone (told result.1) (Rose (P.faults shelf.old) (P.faults shelf.new)) }
+    ensures unchanged { P.files shelf.new ≡ P.files shelf.old }
+    ensures counts { P.faults shelf.old ≤ P.faults shelf.new }
+{
+    let Hold {
+        ticket,
+        blocks,
+        digest,
+        size,
+    } = hold;
+    let fetched = fetch_blocks(shelf, &digest, size, blocks);
+    (ticket, fetched)
+}
 
 /// Fetches the payload with this SHA-256 and this size in bytes from a shelf into blocks.
 ///
 /// The length is asked for first, so that a file of another length is not read. A shelf of which
 /// fewer bytes come than it had said gives `Length` with the bytes that came.
-pub fn fetch<P: Shelf>(shelf: &mut P, name: &Digest, size: u32, mut blocks: Blocks) -> Fetched
+pub fn fetch_blocks<P: Shelf>(
+    shelf: &mut P,
+    name: &Digest,
+    size: u32,
+    mut blocks: Blocks,
+) -> Fetched
     requires { size ≤ 4096 * blocks.count }
     ensures found { IfSome (P.files shelf.old) (λ all. IfSome (told result) (λ found. found ≡ found_of (file_of all name.now) name.now size)) }
     ensures bytes { IfSome (P.files shelf.old) (λ all. IfWhole result (λ payload. file_of all name.now ≡ Some payload.bytes)) }

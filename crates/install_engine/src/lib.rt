@@ -5,10 +5,8 @@
 //! here takes memory.
 #![tactic(auto)]
 
-mod fetched;
 mod fetching;
 #[cfg(test)]
 mod tests;
 
-pub use fetched::Fetched;
-pub use fetching::fetch;
+pub use fetching::{fetch, fetch_blocks};

@@ -1,8 +1,9 @@
 //! What no clause says: that fetches succeed, and what they give on files from outside.
 ghost use Rattle.std.specs.Prelude.{◌≡◌};
 
-use crate::{Fetched, fetch};
+use crate::fetch_blocks;
 use block_pool::{HEAD_BYTES, Pool};
+use daemon_core::Fetched;
 use fw_base::Digest;
 use outer_traits::{Failed, MemoryShelf, Shelf};
 use std::alloc::{AllocError, Global};
@@ -88,7 +89,7 @@ fn fetched<P: Shelf>(pool: &mut Pool, shelf: &mut P, name: &Digest, size: u32) -
     let Ok(blocks) = pool.take(size.div_ceil(4096)) else {
         return Told::NoRoom;
     };
-    let fetched = fetch(shelf, name, size, blocks);
+    let fetched = fetch_blocks(shelf, name, size, blocks);
     let answer = shown(&fetched);
     pool.give(fetched.into_blocks());
     answer

@@ -271,7 +271,7 @@ const REQUIREMENT: Frame = Frame {
     place: "components 0 1 0 ",
 };
 
-const REQUIREMENTS: [(&str, &str); 22] = [
+const REQUIREMENTS: [(&str, &str); 24] = [
     ("3", "entry: wrong-kind"),
     ("{}", "tag: missing"),
     (r#"{"tag":1}"#, "tag: wrong-kind"),
@@ -335,6 +335,14 @@ const REQUIREMENTS: [(&str, &str); 22] = [
     (
         r#"{"tag":"firmware","text":"vendor-id","compare":"eq","version":"USB:1"}"#,
         "read",
+    ),
+    (
+        r#"{"x":{"tag":"or"},"tag":"client","text":"a","value":[1e2],"Depth":9}"#,
+        "read",
+    ),
+    (
+        r#"{"x":null,"tag":"id","text":"a","Compare":"eq","version":"1"}"#,
+        "compare: missing",
     ),
 ];
 

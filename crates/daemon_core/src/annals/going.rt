@@ -15,6 +15,7 @@ impl Annals {
     ghost use Rattle.daemon_core.specs.Goes.{GoesOn};
     ghost use Rattle.daemon_core.specs.Housed.{past_in};
     ghost use Rattle.daemon_core.specs.Owed.{owed};
+    ghost use Rattle.daemon_core.specs.Plugging.{number_found};
 
     /// Enters a turn of a client for which room was kept. Where the boot's limit is reached, its power is
     /// cut instead.
@@ -42,6 +43,13 @@ impl Annals {
     {
         board_of_entry(&self.core, entry)
     }
+
+    /// The number of the board whose device a selector finds.
+    pub fn board_found(&self, device: &Selector) -> Option<u32>
+        ensures { result ≡ number_found self.now device.now }
+    {
+        board_on(&self.core, device)
+    }
 }
 
 fn board_of_entry(core: &CoreState, entry: u32) -> Option<u32>
@@ -53,7 +61,7 @@ fn board_of_entry(core: &CoreState, entry: u32) -> Option<u32>
     }
 }
 
-fn board_on(core: &CoreState, selector: &Selector) -> Option<u32>
+pub(crate) fn board_on(core: &CoreState, selector: &Selector) -> Option<u32>
     ensures { result ≡ board_on core.now.boards core.now.views selector.now }
 {
     match core.resolve(selector) {

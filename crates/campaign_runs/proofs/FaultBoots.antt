@@ -1,0 +1,63 @@
+-- Boots that couldn't read the history are played by doing nothing, whatever rows are read later.
+use Rattle.std.proofs.Common.{◌≡◌, ℕ, ◌<◌, Bool, true, false, List, [], ◌∷◌, refl, ap, sym, ◌∙◌, subst}
+use Rattle.history_keeper.specs.declared.row.Row.{Row}
+use Rattle.update_log.specs.declared.event.Event.{Event}
+use Rattle.update_log.specs.declared.facts.Facts.{Facts}
+use Rattle.update_log.specs.CoreFolds.{AllFaults, is_fault_boot}
+use Rattle.update_log.specs.Pasts.{boots, is_boot, off}
+use Rattle.client_scripts.specs.declared.item.Item.{Item}
+use Rattle.client_plays.specs.Moments.{Moment, began, mine}
+use Rattle.client_plays.specs.Plays.{Leaves, Plays, TaskPlays}
+use Rattle.client_plays.specs.Scripts.{BootPlayed, EarlierPlayed, PlayedSo, items_of, scripts_in, tasks}
+use Rattle.client_plays.proofs.BootLaws.{items-none}
+use Rattle.client_plays.proofs.PlayLaws.{item-unplayed, task-unplayed}
+use Rattle.client_plays.proofs.ScriptLaws.{so-all, until-nothing}
+
+-- Such a boot is off, and nobody did anything in it.
+fault-boot : (event : Event) (past : List Event) → is_fault_boot event ≡ true → (is_boot event ≡ true) × (off (event ∷ past) ≡ true)
+fault-boot (Event.Boot number time limit found boards) past e = (refl, e)
+fault-boot (Event.Query client query) past e = cc
+fault-boot (Event.Ask client request pending answer) past e = cc
+fault-boot (Event.Claim client request fetched answer) past e = cc
+fault-boot (Event.Schedule client request answer) past e = cc
+fault-boot (Event.Resume client entry fetched answer stored) past e = cc
+fault-boot (Event.Start client entry op) past e = cc
+fault-boot (Event.End client entry op outcome told seen) past e = cc
+fault-boot (Event.Finish client entry state stored) past e = cc
+fault-boot (Event.Judge client entry version state stored) past e = cc
+fault-boot (Event.Unplug client device answer) past e = cc
+fault-boot (Event.Plug client device answer) past e = cc
+fault-boot (Event.GiveBack client what) past e = cc
+fault-boot Event.Cut past e = cc
+
+nothing-mine : (event : Event) (past : List Event) (client : ℕ) → is_boot event ≡ true → mine client (event ∷ past) ≡ []
+nothing-mine event past client b = rw b refl
+
+nothing-played : {X : Type 0} (is_off wanting : Bool) (client : ℕ) (Play : X → List Moment → Type 0) (xs : List X) (moments : List Moment) → ((x : X) → Leaves client (Play x) []) → is_off ≡ true → moments ≡ [] → PlayedSo is_off wanting client Play xs moments
+nothing-played true wanting client Play xs moments h e m = subst (PlayedSo true wanting client Play xs) (sym m) (until-nothing wanting client Play xs h)
+nothing-played false wanting client Play xs moments h e m = cc
+
+-- Before the first boot there is nothing to do.
+none-played : (wanting : Bool) (facts : Facts) (opening : List Row) (scripts : List (List (List Item))) → BootPlayed wanting facts opening (scripts_in scripts 0) []
+none-played wanting facts opening scripts =
+    record {
+      daemon = refl;
+      clients = λ client c. subst (λ (xs : List Item). PlayedSo false wanting client (Plays facts opening client) xs []) (sym (items-none client)) refl;
+    }
+
+pub faults-played : (wanting : Bool) (facts : Facts) (opening : List Row) (scripts : List (List (List Item))) (past : List Event) → AllFaults past → BootPlayed wanting facts opening (scripts_in scripts (boots past)) past
+faults-played wanting facts opening scripts [] a = none-played wanting facts opening scripts
+faults-played wanting facts opening scripts (event ∷ past) a =
+    let f = fault-boot event past a.0 in
+    record {
+      daemon = nothing-played (off (event ∷ past)) wanting 0 TaskPlays (tasks facts opening (began (event ∷ past))) (mine 0 (event ∷ past)) (task-unplayed 0) f.1 (nothing-mine event past 0 f.0);
+      clients = λ client c.
+          nothing-played (off (event ∷ past)) wanting client (Plays facts opening client) (items_of (scripts_in scripts (boots (event ∷ past))) client) (mine client (event ∷ past))
+          (item-unplayed facts opening client) f.1 (nothing-mine event past client f.0);
+    }
+
+pub faults-earlier : (wanting : Bool) (facts : Facts) (opening : List Row) (scripts : List (List (List Item))) (past : List Event) → AllFaults past → EarlierPlayed wanting facts opening scripts past
+faults-earlier wanting facts opening scripts [] a = tt
+faults-earlier wanting facts opening scripts (event ∷ past) a =
+    let f = fault-boot event past a.0 in
+    (rw f.0 (faults-played wanting facts opening scripts past a.1), faults-earlier wanting facts opening scripts past a.1)

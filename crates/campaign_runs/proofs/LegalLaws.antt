@@ -1,0 +1,73 @@
+-- A log whose boots are those of the plans is legal in the campaign with these plans.
+use Rattle.std.proofs.Common.{◌≡◌, ℕ, List, [], ◌∷◌, refl, sym, subst}
+use Rattle.std.specs.Prelude.{Some, slice_get}
+use Rattle.fw_facts.specs.declared.seen.Seen.{Seen}
+use Rattle.history_keeper.specs.declared.row.Row.{Row}
+use Rattle.update_log.specs.declared.event.Event.{Event}
+use Rattle.update_log.specs.declared.facts.BootPlan.{BootPlan}
+use Rattle.update_log.specs.declared.facts.Facts.{Facts}
+use Rattle.update_log.specs.Legal.{Allowed, IsLegal}
+use Rattle.update_log.specs.Shows.{Campaign}
+use Rattle.daemon_core.specs.Annals.{IsLegalSo}
+use Rattle.campaign_runs.specs.Planned.{BootsPlanned, with_plans}
+
+-- What a past says of its newest event.
+planned-rest : (plans : List BootPlan) (event : Event) (past : List Event) → BootsPlanned plans (event ∷ past) → BootsPlanned plans past
+planned-rest plans (Event.Boot number time limit found boards) past p = p.1
+planned-rest plans (Event.Query client query) past p = p
+planned-rest plans (Event.Ask client request pending answer) past p = p
+planned-rest plans (Event.Claim client request fetched answer) past p = p
+planned-rest plans (Event.Schedule client request answer) past p = p
+planned-rest plans (Event.Resume client entry fetched answer stored) past p = p
+planned-rest plans (Event.Start client entry op) past p = p
+planned-rest plans (Event.End client entry op outcome told seen) past p = p
+planned-rest plans (Event.Finish client entry state stored) past p = p
+planned-rest plans (Event.Judge client entry version state stored) past p = p
+planned-rest plans (Event.Unplug client device answer) past p = p
+planned-rest plans (Event.Plug client device answer) past p = p
+planned-rest plans (Event.GiveBack client what) past p = p
+planned-rest plans Event.Cut past p = p
+
+-- Only a boot is allowed by a plan.
+allowed-planned : (c : Campaign) (plans : List BootPlan) (opening : List Row) (past : List Event) (event : Event) → BootsPlanned plans (event ∷ past) → Allowed c opening past event → Allowed (with_plans c.facts c.first plans) opening past event
+allowed-planned c plans opening past (Event.Boot number time limit found boards) p a =
+    let was = a.1 in
+    let plan = p.0.0 in
+    let is = p.0.2 in (
+      plan,
+      record {
+        number_is = was.number_is;
+        planned = p.0.1;
+        time_is = is.time_is;
+        limit_is = is.limit_is;
+        count = was.count;
+        listed = λ board b g.
+            let l = was.listed board b g in
+            record { number = l.number; presence = is.presence board b g; untold = l.untold; shown = l.shown };
+        found_is = was.found_is;
+      },
+    )
+allowed-planned c plans opening past (Event.Query client query) p a = a
+allowed-planned c plans opening past (Event.Ask client request pending answer) p a = a
+allowed-planned c plans opening past (Event.Claim client request fetched answer) p a = a
+allowed-planned c plans opening past (Event.Schedule client request answer) p a = a
+allowed-planned c plans opening past (Event.Resume client entry fetched answer stored) p a = a
+allowed-planned c plans opening past (Event.Start client entry op) p a = a
+allowed-planned c plans opening past (Event.End client entry op outcome told seen) p a = a
+allowed-planned c plans opening past (Event.Finish client entry state stored) p a = a
+allowed-planned c plans opening past (Event.Judge client entry version state stored) p a = a
+allowed-planned c plans opening past (Event.Unplug client device answer) p a = a
+allowed-planned c plans opening past (Event.Plug client device answer) p a = a
+allowed-planned c plans opening past (Event.GiveBack client what) p a = a
+allowed-planned c plans opening past Event.Cut p a = a
+
+legal-planned : (c : Campaign) (plans : List BootPlan) (opening : List Row) (past : List Event) → BootsPlanned plans past → IsLegal c opening past → IsLegal (with_plans c.facts c.first plans) opening past
+legal-planned c plans opening [] p l = tt
+legal-planned c plans opening (event ∷ past) p l =
+    (legal-planned c plans opening past (planned-rest plans event past p) l.0, l.1, allowed-planned c plans opening past event p l.2)
+
+-- So is a log that is legal in some campaign with these facts.
+pub legal-in : (facts : Facts) (first : List Seen) (plans : List BootPlan) (opening : List Row) (past : List Event) → BootsPlanned plans past → IsLegalSo facts first opening past → IsLegal (with_plans facts first plans) opening past
+legal-in facts first plans opening past p (c, f, s, l) =
+    subst (λ (x : Facts). IsLegal (with_plans x first plans) opening past) f
+    (subst (λ (x : List Seen). IsLegal (with_plans c.facts x plans) opening past) s (legal-planned c plans opening past p l))

@@ -1,0 +1,51 @@
+-- Boots by their plans, and boots played, over events that start no boot.
+use Rattle.std.proofs.Common.{◌≡◌, ℕ, Bool, true, false, ◌||◌, List, [], ◌∷◌, ◌++◌, refl, ap, sym, ◌∙◌, subst}
+use Rattle.std.specs.List.{list_any}
+use Rattle.history_keeper.specs.declared.row.Row.{Row}
+use Rattle.update_log.specs.declared.event.Event.{Event}
+use Rattle.update_log.specs.declared.facts.BootPlan.{BootPlan}
+use Rattle.update_log.specs.declared.facts.Facts.{Facts}
+use Rattle.update_log.specs.Pasts.{is_boot}
+use Rattle.client_scripts.specs.declared.item.Item.{Item}
+use Rattle.client_plays.specs.Moments.{Grew}
+use Rattle.client_plays.specs.Scripts.{EarlierPlayed}
+use Rattle.campaign_runs.specs.Planned.{BootsPlanned}
+
+or-parts : (a b : Bool) → (a || b) ≡ false → (a ≡ false) × (b ≡ false)
+or-parts true b e = cc
+or-parts false b e = (refl, e)
+
+planned-one : (plans : List BootPlan) (event : Event) (past : List Event) → is_boot event ≡ false → BootsPlanned plans past → BootsPlanned plans (event ∷ past)
+planned-one plans (Event.Boot number time limit found boards) past b p = cc
+planned-one plans (Event.Query client query) past b p = p
+planned-one plans (Event.Ask client request pending answer) past b p = p
+planned-one plans (Event.Claim client request fetched answer) past b p = p
+planned-one plans (Event.Schedule client request answer) past b p = p
+planned-one plans (Event.Resume client entry fetched answer stored) past b p = p
+planned-one plans (Event.Start client entry op) past b p = p
+planned-one plans (Event.End client entry op outcome told seen) past b p = p
+planned-one plans (Event.Finish client entry state stored) past b p = p
+planned-one plans (Event.Judge client entry version state stored) past b p = p
+planned-one plans (Event.Unplug client device answer) past b p = p
+planned-one plans (Event.Plug client device answer) past b p = p
+planned-one plans (Event.GiveBack client what) past b p = p
+planned-one plans Event.Cut past b p = p
+
+planned-more : (plans : List BootPlan) (more past : List Event) → list_any is_boot more ≡ false → BootsPlanned plans past → BootsPlanned plans (more ++ past)
+planned-more plans [] past b p = p
+planned-more plans (event ∷ more) past b p =
+    let q = or-parts (is_boot event) (list_any is_boot more) b in planned-one plans event (more ++ past) q.0 (planned-more plans more past q.1 p)
+
+pub planned-grown : (plans : List BootPlan) (old new : List Event) → Grew old new → BootsPlanned plans old → BootsPlanned plans new
+planned-grown plans old new g p = subst (BootsPlanned plans) (sym g.are) (planned-more plans g.more old g.no_boot p)
+
+earlier-more : (wanting : Bool) (facts : Facts) (opening : List Row) (scripts : List (List (List Item))) (more past : List Event) → list_any is_boot more ≡ false → EarlierPlayed wanting facts opening scripts past → EarlierPlayed wanting facts opening scripts (more ++ past)
+earlier-more wanting facts opening scripts [] past b p = p
+earlier-more wanting facts opening scripts (event ∷ more) past b p =
+    let q = or-parts (is_boot event) (list_any is_boot more) b in
+    let rest = earlier-more wanting facts opening scripts more past q.1 p in
+    (rw q.0 tt, rest)
+
+pub earlier-grown : (wanting : Bool) (facts : Facts) (opening : List Row) (scripts : List (List (List Item))) (old new : List Event) → Grew old new → EarlierPlayed wanting facts opening scripts old → EarlierPlayed wanting facts opening scripts new
+earlier-grown wanting facts opening scripts old new g p =
+    subst (EarlierPlayed wanting facts opening scripts) (sym g.are) (earlier-more wanting facts opening scripts g.more old g.no_boot p)

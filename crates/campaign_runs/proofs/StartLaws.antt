@@ -1,0 +1,102 @@
+-- The start of a boot.
+use Rattle.std.proofs.Common.{◌≡◌, ◌⊎◌, ℕ, ◌≤◌, Bool, true, false, List, [], ◌∷◌, length, zero, suc, refl, ap, sym, ◌∙◌, subst, inl, inr, arith}
+use Rattle.std.specs.Prelude.{IsTrue, MatchBool, Option, Some, None, Result, Ok, Err, if◌then◌else◌, slice_get}
+use Rattle.fw_facts.specs.Views.{is_home}
+use Rattle.history_keeper.specs.declared.change.Change.{Change}
+use Rattle.history_keeper.specs.declared.row.Row.{Row}
+use Rattle.history_keeper.specs.Histories.{IsHistory}
+use Rattle.update_log.proofs.Pasts.{past-push}
+use Rattle.update_log.specs.declared.event.BoardSeen.{BoardSeen}
+use Rattle.update_log.specs.declared.event.Found.{Found}
+use Rattle.update_log.specs.declared.facts.BootPlan.{BootPlan}
+use Rattle.update_log.specs.CoreFolds.{AllFaults}
+use Rattle.update_log.specs.Crashes.{next_boot}
+use Rattle.update_log.specs.Legal.{is_absent, is_gone}
+use Rattle.update_log.specs.Pasts.{past_of}
+use Rattle.daemon_core.specs.declared.booting.BootStop.{BootStop}
+use Rattle.daemon_core.specs.Annals.{IsAnnals}
+use Rattle.daemon_core.specs.Booting.{AllStarted}
+use Rattle.daemon_core.specs.Boots.{BootNoted, BootTurned, CouldntRead, NoBoot, ReadOthers, WentWell}
+use Rattle.daemon_core.specs.Housed.{Housed, Place, past, rows_before, rows_taken}
+use Rattle.daemon_core.specs.Reading.{AreTold}
+use Rattle.daemon_core.specs.Turns.{FaultsCounted}
+use Rattle.campaign_runs.specs.declared.ending.Ending.{Ending}
+use Rattle.campaign_runs.specs.Planned.{IsPlanned}
+use Rattle.campaign_runs.specs.Runs.{HasBegun, NoneBegan, StartedSo, ended_by}
+use Rattle.campaign_runs.proofs.Present.{started-present}
+
+-- A list as long has something at the same place.
+get-other : {X Y : Type 0} (xs : List X) (ys : List Y) (n : ℕ) (y : Y) → length ys ≡ length xs → slice_get ys n ≡ Some y → (x : X) × (slice_get xs n ≡ Some x)
+get-other [] [] zero y e g = cc
+get-other [] [] (suc n) y e g = cc
+get-other [] (z ∷ ys) n y e g = absurd (omega arith)
+get-other (x ∷ xs) [] n y e g = absurd (omega arith)
+get-other (x ∷ xs) (z ∷ ys) zero y e g = (x, refl)
+get-other (x ∷ xs) (z ∷ ys) (suc n) y e g = get-other xs ys n y (omega arith) g
+
+-- The boot that was noted lists each board as planned.
+planned-so : (plan : BootPlan) (old new : List Place) (listed : List BoardSeen) → AllStarted plan old new listed → IsPlanned plan plan.time plan.limit listed
+planned-so plan old new listed s =
+    record {
+      time_is = refl;
+      limit_is = refl;
+      presence = λ board b g. let p = get-other old listed board b s.count g in started-present plan board p.0 new listed b (s.each board p.0 p.1) g;
+    }
+
+-- The rows before the log, as a boot leaves them.
+rows-same : (loaded new_loaded : Bool) (opening new_opening : List Row) → new_loaded ≡ loaded → (loaded ≡ true → new_opening ≡ opening) → rows_taken new_loaded new_opening ≡ rows_taken loaded opening
+rows-same true new_loaded opening new_opening e h = ap (λ (b : Bool). rows_taken b new_opening) e ∙ h refl
+rows-same false new_loaded opening new_opening e h = ap (λ (b : Bool). rows_taken b new_opening) e
+
+rows-first : (A : Type 0) (loaded new_loaded : Bool) (opening new_opening : List Row) (Fault : Type 0) → new_loaded ≡ true → (loaded ≡ false → Fault) → MatchBool loaded (new_opening ≡ opening) A → (rows_taken new_loaded new_opening ≡ rows_taken loaded opening) ⊎ Fault
+rows-first A true new_loaded opening new_opening Fault e f m = inl (ap (λ (b : Bool). rows_taken b new_opening) e ∙ m)
+rows-first A false new_loaded opening new_opening Fault e f m = inr (f refl)
+
+begun-well : {K : Type 0} (told : K → Option (List Row)) (doubted : K → Option Change) (faults : K → ℕ) (plan : BootPlan) (found : Found) (listed : List BoardSeen) (old new : Housed K) → IsAnnals old.annals → FaultsCounted faults old new → faults old.keeper ≤ faults new.keeper → WentWell told doubted plan found listed old new → HasBegun faults plan old new
+begun-well told doubted faults plan found listed old new k counted counts w =
+    record {
+      facts = w.noted.grounds.facts;
+      first = w.noted.grounds.first;
+      found = found;
+      listed = listed;
+      past_is = ap past_of w.noted.log ∙ past-push old.annals.core.log (next_boot (past old) plan found listed);
+      planned = planned-so plan old.places new.places listed w.noted.started;
+      before = rows-first (IsHistory new.annals.opening × AreTold (told old.keeper) new.annals.opening) old.annals.loaded new.annals.loaded old.annals.opening new.annals.opening (AllFaults (past old)) w.loaded k.unloaded w.opening;
+      counted = counted;
+      counts = counts;
+    }
+
+begun-fault : {K : Type 0} (faults : K → ℕ) (plan : BootPlan) (listed : List BoardSeen) (old new : Housed K) → FaultsCounted faults old new → faults old.keeper ≤ faults new.keeper → CouldntRead plan listed old new → HasBegun faults plan old new
+begun-fault faults plan listed old new counted counts w =
+    record {
+      facts = w.noted.grounds.facts;
+      first = w.noted.grounds.first;
+      found = Found.Fault;
+      listed = listed;
+      past_is = ap past_of w.noted.log ∙ past-push old.annals.core.log (next_boot (past old) plan Found.Fault listed);
+      planned = planned-so plan old.places new.places listed w.noted.started;
+      before = inl (rows-same old.annals.loaded new.annals.loaded old.annals.opening new.annals.opening w.loaded (λ t. w.opening));
+      counted = counted;
+      counts = counts;
+    }
+
+none-began : {K : Type 0} (faults : K → ℕ) (old new : Housed K) → FaultsCounted faults old new → faults old.keeper ≤ faults new.keeper → NoBoot old new → (old.annals.loaded ≡ true → new.annals.opening ≡ old.annals.opening) → NoneBegan faults old new
+none-began faults old new counted counts n o =
+    record {
+      facts = n.grounds.facts;
+      first = n.grounds.first;
+      past_is = ap past_of n.log;
+      before = rows-same old.annals.loaded new.annals.loaded old.annals.opening new.annals.opening n.loaded o;
+      counted = counted;
+      counts = counts;
+    }
+
+pub started-so : {K : Type 0} (told : K → Option (List Row)) (doubted : K → Option Change) (faults : K → ℕ) (plan : BootPlan) (outcome : Result (Unit {0}) BootStop) (ending : Option Ending) (old new : Housed K) → ending ≡ ended_by outcome → IsAnnals old.annals → FaultsCounted faults old new → faults old.keeper ≤ faults new.keeper → BootTurned told doubted plan outcome old new → StartedSo told faults ending plan old new
+started-so told doubted faults plan outcome ending old new e k counted counts t =
+    subst (λ (x : Option Ending). StartedSo told faults x plan old new) (sym e) (so outcome t)
+  where
+    so : (outcome : Result (Unit {0}) BootStop) → BootTurned told doubted plan outcome old new → StartedSo told faults (ended_by outcome) plan old new
+    so (Ok unit) t = begun-well told doubted faults plan t.0 t.1 old new k counted counts t.2
+    so (Err BootStop.KeeperFault) t = begun-fault faults plan t.0 old new counted counts t.1
+    so (Err (BootStop.BadHistory entry)) t = (none-began faults old new counted counts t.none (λ l. (t.later l).0), t)
+    so (Err BootStop.NoMemory) t = (none-began faults old new counted counts t.0 (λ l. t.1), tt)

@@ -1,0 +1,3 @@
+pub mod Planned
+pub mod Runs
+pub mod Promises

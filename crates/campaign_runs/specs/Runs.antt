@@ -1,0 +1,89 @@
+-- What the boots of a campaign did to a house.
+use Rattle.std.specs.Prelude.{◌≡◌, ◌⊎◌, ◌≤◌, ◌<◌, ℕ, Bool, true, List, ◌∷◌, length, Option, Some, None, Result, Ok, Err}
+use Rattle.history_keeper.specs.declared.row.Row.{Row}
+use Rattle.update_log.specs.declared.event.BoardSeen.{BoardSeen}
+use Rattle.update_log.specs.declared.event.Found.{Found}
+use Rattle.update_log.specs.declared.facts.BootPlan.{BootPlan}
+use Rattle.update_log.specs.CoreFolds.{AllFaults}
+use Rattle.update_log.specs.Crashes.{next_boot}
+use Rattle.update_log.specs.Pasts.{boots}
+use Rattle.daemon_core.specs.declared.booting.BootStop.{BootStop}
+use Rattle.daemon_core.specs.Boots.{ReadOthers}
+use Rattle.daemon_core.specs.Housed.{Housed, past, rows_before}
+use Rattle.daemon_core.specs.Turns.{FaultsCounted}
+use Rattle.client_scripts.specs.declared.item.Item.{Item}
+use Rattle.client_plays.specs.Endings.{HouseBootPlayed, IsIdle}
+use Rattle.client_plays.specs.Scripts.{BootPlayed, EarlierPlayed, scripts_in}
+use Rattle.campaign_runs.specs.declared.ending.Ending.{Ending}
+use Rattle.campaign_runs.specs.Planned.{BootsPlanned, IsPlanned}
+
+-- So many boots of a campaign were run: each by its plan, in order, and played. Nobody has anything out,
+-- and each fault of the keeper that the log tells was counted.
+pub record RanSoFar {K : Type 0} (faults : K → ℕ) (wanting : Bool) (plans : List BootPlan) (scripts : List (List (List Item))) (count : ℕ) (old new : Housed K) : Type 0 where
+  pub facts : new.annals.facts ≡ old.annals.facts
+  pub first : new.annals.first ≡ old.annals.first
+  pub count_is : boots (past new) ≡ count
+  pub planned : BootsPlanned plans (past new)
+  pub played : BootPlayed wanting new.annals.facts (rows_before new.annals) (scripts_in scripts count) (past new)
+  pub earlier : EarlierPlayed wanting new.annals.facts (rows_before new.annals) scripts (past new)
+  pub idle : IsIdle (past new)
+  pub counted : FaultsCounted faults old new
+  pub counts : faults old.keeper ≤ faults new.keeper
+
+-- How the campaign ended: all boots were run; or a boot read no history that could be the log's; or memory
+-- was wanting for a boot. In the last two the boots before were run.
+abbrev pub EndedSo : {K : Type 0} → (K → Option (List Row)) → Ending → List BootPlan → ℕ → Housed K → Type 0
+EndedSo told Ending.Whole plans count new = count ≡ length plans
+EndedSo told (Ending.BadHistory entry) plans count new = (count < length plans) × ((mid : Housed _) × ReadOthers told entry mid new)
+EndedSo told Ending.NoMemory plans count new = count < length plans
+
+-- The boots of a campaign were run, as far as it went.
+pub record CampaignRan {K : Type 0} (told : K → Option (List Row)) (faults : K → ℕ) (ending : Ending) (wanting : Bool) (plans : List BootPlan) (scripts : List (List (List Item))) (old new : Housed K) : Type 0 where
+  pub count : ℕ
+  pub ran : RanSoFar faults wanting plans scripts count old new
+  pub ended : EndedSo told ending plans count new
+
+-- A boot began by its plan: it stands behind the log, and nothing was done in it yet. The rows before the
+-- log are as before, unless no boot before could read the history.
+pub record HasBegun {K : Type 0} (faults : K → ℕ) (plan : BootPlan) (old new : Housed K) : Type 0 where
+  pub facts : new.annals.facts ≡ old.annals.facts
+  pub first : new.annals.first ≡ old.annals.first
+  pub found : Found
+  pub listed : List BoardSeen
+  pub past_is : past new ≡ next_boot (past old) plan found listed ∷ past old
+  pub planned : IsPlanned plan plan.time plan.limit listed
+  pub before : (rows_before new.annals ≡ rows_before old.annals) ⊎ AllFaults (past old)
+  pub counted : FaultsCounted faults old new
+  pub counts : faults old.keeper ≤ faults new.keeper
+
+-- No boot began.
+pub record NoneBegan {K : Type 0} (faults : K → ℕ) (old new : Housed K) : Type 0 where
+  pub facts : new.annals.facts ≡ old.annals.facts
+  pub first : new.annals.first ≡ old.annals.first
+  pub past_is : past new ≡ past old
+  pub before : rows_before new.annals ≡ rows_before old.annals
+  pub counted : FaultsCounted faults old new
+  pub counts : faults old.keeper ≤ faults new.keeper
+
+-- Why none began.
+abbrev pub StoppedBy : {K : Type 0} → (K → Option (List Row)) → Ending → Housed K → Housed K → Type 0
+StoppedBy told Ending.Whole old new = ⊥
+StoppedBy told (Ending.BadHistory entry) old new = ReadOthers told entry old new
+StoppedBy told Ending.NoMemory old new = Unit {0}
+
+-- Whether a boot ends the campaign: a history that couldn't be read doesn't.
+abbrev pub ended_by : Result (Unit {0}) BootStop → Option Ending
+ended_by (Ok unit) = None
+ended_by (Err BootStop.KeeperFault) = None
+ended_by (Err (BootStop.BadHistory entry)) = Some (Ending.BadHistory entry)
+ended_by (Err BootStop.NoMemory) = Some Ending.NoMemory
+
+-- What became of the start of a boot: it began, or why the campaign ends.
+abbrev pub StartedSo : {K : Type 0} → (K → Option (List Row)) → (K → ℕ) → Option Ending → BootPlan → Housed K → Housed K → Type 0
+StartedSo told faults None plan old new = HasBegun faults plan old new
+StartedSo told faults (Some ending) plan old new = NoneBegan faults old new × StoppedBy told ending old new
+
+-- A boot was played, after others; `before` says that memory was wanting before.
+pub record BootMore {K : Type 0} (faults : K → ℕ) (wanting before : Bool) (of_boot : List (List Item)) (old new : Housed K) : Type 0 where
+  pub played : HouseBootPlayed faults wanting of_boot old new
+  pub told : before ≡ true → wanting ≡ true

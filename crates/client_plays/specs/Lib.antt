@@ -1,0 +1,4 @@
+pub mod Moments
+pub mod Plays
+pub mod Scripts
+pub mod Endings

@@ -1,0 +1,178 @@
+-- Of which events a play is.
+--
+-- A play is all that one item of a client's script does, or one thing that the daemon does by itself
+-- as a boot begins. It is told of the client's own events, the oldest first, each with the past before
+-- it; what other clients do between them is no part of it.
+use Rattle.std.specs.Prelude.{◌≡◌, ◌⊎◌, ℕ, Bool, true, false, ◌&&◌, ◌==◌, MatchBool, List, [], ◌∷◌, ◌++◌, Option, Some, None, Result}
+use Rattle.std.specs.List.{list_any}
+use Rattle.std.specs.Str.{bytes_eq}
+use Rattle.fw_facts.specs.declared.seen.Seen.{Seen}
+use Rattle.fw_facts.specs.declared.view.DeviceView.{DeviceView}
+use Rattle.emulated_boards.specs.declared.fault.BoardFault.{BoardFault}
+use Rattle.emulated_boards.specs.declared.mark.Mark.{Mark}
+use Rattle.device_list.specs.declared.selector.Selector.{Selector}
+use Rattle.history_keeper.specs.declared.row.Row.{Row}
+use Rattle.history_keeper.specs.declared.row.RowState.{RowState}
+use Rattle.update_log.specs.declared.event.Event.{Event}
+use Rattle.update_log.specs.declared.event.Op.{Op}
+use Rattle.update_log.specs.declared.event.Back.{Back}
+use Rattle.update_log.specs.declared.event.Query.{Query}
+use Rattle.update_log.specs.declared.event.Stored.{Stored}
+use Rattle.update_log.specs.declared.answer.AskAnswer.{AskAnswer}
+use Rattle.update_log.specs.declared.answer.ClaimAnswer.{ClaimAnswer}
+use Rattle.update_log.specs.declared.answer.PlugAnswer.{PlugAnswer}
+use Rattle.update_log.specs.declared.answer.ResumeAnswer.{ResumeAnswer}
+use Rattle.update_log.specs.declared.refusal.FetchNote.{FetchNote}
+use Rattle.update_log.specs.declared.request.Request.{Request}
+use Rattle.update_log.specs.declared.facts.Facts.{Facts}
+use Rattle.update_log.specs.Known.{rows, views}
+use Rattle.update_log.specs.Legal.{found_view}
+use Rattle.client_scripts.specs.declared.item.Item.{Item}
+use Rattle.client_plays.specs.Moments.{Moment}
+
+-- There is one event, of which this holds.
+abbrev pub Alone : (Moment → Type 0) → List Moment → Type 0
+Alone Fact [] = ⊥
+Alone Fact (m ∷ []) = Fact m
+Alone Fact (m ∷ n ∷ moments) = ⊥
+
+-- What an entry's update does.
+
+-- A step of an entry was started, and ended next.
+pub record StepPlays (client entry : ℕ) (started ended : Event) : Type 0 where
+  pub op : Op
+  pub outcome : Result (Unit {0}) BoardFault
+  pub told : List Mark
+  pub seen : Seen
+  pub started_is : started ≡ Event.Start client entry op
+  pub ended_is : ended ≡ Event.End client entry op outcome told seen
+
+-- The entry was finished.
+abbrev pub FinishPlays : ℕ → ℕ → Event → Type 0
+FinishPlays client entry event = (state : RowState) × (stored : Stored) × (event ≡ Event.Finish client entry state stored)
+
+-- The steps of an entry, one after the other, and its finish.
+abbrev pub UpdatePlays : ℕ → ℕ → List Moment → Type 0
+UpdatePlays client entry [] = ⊥
+UpdatePlays client entry (m ∷ []) = FinishPlays client entry m.event
+UpdatePlays client entry (m ∷ n ∷ moments) = StepPlays client entry m.event n.event × UpdatePlays client entry moments
+
+-- An install.
+
+-- What follows on the claim: the update, where the claim took an entry.
+abbrev pub AfterClaim : ℕ → ClaimAnswer → List Moment → Type 0
+AfterClaim client (ClaimAnswer.Entry entry) moments = UpdatePlays client entry moments
+AfterClaim client (ClaimAnswer.Kept entry state) moments = moments ≡ []
+AfterClaim client (ClaimAnswer.Refused refusal) moments = moments ≡ []
+
+-- The claim, and what follows on it.
+abbrev pub ClaimPlays : ℕ → Request → List Moment → Type 0
+ClaimPlays client request [] = ⊥
+ClaimPlays client request (m ∷ moments) =
+    (note : FetchNote) × (answer : ClaimAnswer) × (m.event ≡ Event.Claim client request note answer)
+    × AfterClaim client answer moments
+
+-- What follows on the ask: the claim, where the ask was answered with a hold.
+abbrev pub AfterAsk : ℕ → Request → AskAnswer → List Moment → Type 0
+AfterAsk client request (AskAnswer.Hold blocks release) moments = ClaimPlays client request moments
+AfterAsk client request (AskAnswer.Kept entry state) moments = moments ≡ []
+AfterAsk client request (AskAnswer.Refused refusal) moments = moments ≡ []
+
+-- The ask, and what follows on it.
+abbrev pub InstallPlays : ℕ → Request → List Moment → Type 0
+InstallPlays client request [] = ⊥
+InstallPlays client request (m ∷ moments) =
+    (answer : AskAnswer) × (m.event ≡ Event.Ask client request None answer) × AfterAsk client request answer moments
+
+-- An install that is put off.
+abbrev pub SchedulePlays : ℕ → Request → Moment → Type 0
+SchedulePlays client request m = (answer : ClaimAnswer) × (m.event ≡ Event.Schedule client request answer)
+
+-- The other items.
+
+-- The row is of that device, and is the entry's.
+abbrev pub is_row_of : List ℕ → ℕ → Row → Bool
+is_row_of device entry row = (row.entry == entry) && bytes_eq row.device device
+
+-- A row was judged: one of the device that the selector finds in the past before.
+pub record JudgesFound (facts : Facts) (opening : List Row) (client : ℕ) (selector : Selector) (m : Moment) : Type 0 where
+  pub entry : ℕ
+  pub version : List ℕ
+  pub state : RowState
+  pub stored : Stored
+  pub view : DeviceView
+  pub event_is : m.event ≡ Event.Judge client entry version state stored
+  pub found : found_view (views facts opening m.before) selector ≡ Some view
+  pub row : list_any (is_row_of view.sheet.device entry) (rows facts opening m.before) ≡ true
+
+-- A device is settled by the judgement of a row of it, or else by the question alone.
+abbrev pub SettlePlays : Facts → List Row → ℕ → Selector → Moment → Type 0
+SettlePlays facts opening client selector m =
+    JudgesFound facts opening client selector m ⊎ (m.event ≡ Event.Query client (Query.Settle selector))
+
+abbrev pub UnplugPlays : ℕ → Selector → Moment → Type 0
+UnplugPlays client selector m = (answer : PlugAnswer) × (m.event ≡ Event.Unplug client selector answer)
+
+abbrev pub PlugPlays : ℕ → Selector → Moment → Type 0
+PlugPlays client selector m = (answer : PlugAnswer) × (m.event ≡ Event.Plug client selector answer)
+
+-- The events are the play of an item of that client.
+abbrev pub Plays : Facts → List Row → ℕ → Item → List Moment → Type 0
+Plays facts opening client (Item.Ask query) moments = Alone (λ m. m.event ≡ Event.Query client query) moments
+Plays facts opening client (Item.Install request) moments =
+    MatchBool request.flags.offline (Alone (SchedulePlays client request) moments) (InstallPlays client request moments)
+Plays facts opening client (Item.Settle selector) moments = Alone (SettlePlays facts opening client selector) moments
+Plays facts opening client (Item.Unplug selector) moments = Alone (UnplugPlays client selector) moments
+Plays facts opening client (Item.Plug selector) moments = Alone (PlugPlays client selector) moments
+
+-- What the daemon does by itself.
+
+-- It judges the row of an entry, or resumes an entry that was put off.
+pub data Task : Type 0 where
+  ToJudge : ℕ → Task
+  ToResume : ℕ → Task
+
+abbrev pub JudgePlays : ℕ → Moment → Type 0
+JudgePlays entry m =
+    (version : List ℕ) × (state : RowState) × (stored : Stored) × (m.event ≡ Event.Judge 0 entry version state stored)
+
+-- What follows on the resumption: the update, where it was begun.
+abbrev pub AfterResume : ℕ → ResumeAnswer → List Moment → Type 0
+AfterResume entry ResumeAnswer.Begun moments = UpdatePlays 0 entry moments
+AfterResume entry (ResumeAnswer.Refused refusal) moments = moments ≡ []
+
+-- The resumption, and what follows on it.
+abbrev pub ResumePlays : ℕ → List Moment → Type 0
+ResumePlays entry [] = ⊥
+ResumePlays entry (m ∷ moments) =
+    (note : Option FetchNote) × (answer : ResumeAnswer) × (stored : Stored)
+    × (m.event ≡ Event.Resume 0 entry note answer stored) × AfterResume entry answer moments
+
+-- The ask for an entry that was put off, and what follows on it.
+abbrev pub PendingPlays : ℕ → List Moment → Type 0
+PendingPlays entry [] = ⊥
+PendingPlays entry (m ∷ moments) =
+    (request : Request) × (answer : AskAnswer) × (m.event ≡ Event.Ask 0 request (Some entry) answer)
+    × ResumePlays entry moments
+
+-- The events are the play of a task.
+abbrev pub TaskPlays : Task → List Moment → Type 0
+TaskPlays (ToJudge entry) moments = Alone (JudgePlays entry) moments
+TaskPlays (ToResume entry) moments = PendingPlays entry moments
+
+-- What is left of a play.
+
+-- At most one event, which gives something back. In a legal log that is what the client had out.
+abbrev pub GivesBack : ℕ → List Moment → Type 0
+GivesBack client [] = Unit {0}
+GivesBack client (m ∷ []) = (what : Back) × (m.event ≡ Event.GiveBack client what)
+GivesBack client (m ∷ n ∷ moments) = ⊥
+
+-- A play that was left before its end: a front of it, and what was given back then.
+pub record Leaves (client : ℕ) (Play : List Moment → Type 0) (moments : List Moment) : Type 0 where
+  pub front : List Moment
+  pub rest : List Moment
+  pub back : List Moment
+  pub play : Play (front ++ rest)
+  pub gave : GivesBack client back
+  pub are : moments ≡ front ++ back

@@ -1,0 +1,17 @@
+//! What the commands print that run no campaign: `check` and `ids`.
+//!
+//! What each prints is a definition of bytes (`specs/Printed.antt`). A writer gives them to a sink: whole,
+//! or a front of them where the sink failed, and nothing where there was no memory.
+#![tactic(auto)]
+
+pub mod check;
+pub mod ids;
+mod line;
+pub mod stop;
+
+pub use check::{Sections, write_check};
+pub use ids::write_ids;
+pub use stop::OutputStop;
+
+#[cfg(test)]
+mod tests;

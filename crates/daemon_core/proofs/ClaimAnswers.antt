@@ -1,0 +1,93 @@
+-- What a claim is answered.
+use Rattle.std.proofs.Common.{◌≡◌, ℕ, ◌<◌, ◌≤◌, ◌+◌, ◌^◌, ◌-◌, Bool, true, false, List, [], ◌∷◌, ◌++◌, length, refl, ap, sym, ◌∙◌, subst, arith, ◌⊎◌, inl, inr}
+use Rattle.std.specs.Prelude.{Option, Some, None, IfSome, unwrap_or, Result, Ok, Err}
+use Rattle.block_pool.specs.Views.{PoolCounts, SealedBytes}
+use Rattle.emulated_boards.specs.Boards.{BoardState}
+use Rattle.history_keeper.specs.declared.change.Change.{Change}
+use Rattle.history_keeper.specs.declared.row.Row.{Row}
+use Rattle.update_log.specs.Holding.{hold}
+use Rattle.update_log.specs.Pasts.{boots, off}
+use Rattle.update_log.specs.Steps.{trace}
+use Rattle.update_log.specs.declared.event.Event.{Event}
+use Rattle.daemon_core.specs.declared.claimed.Claimed.{Claimed}
+use Rattle.daemon_core.specs.declared.claimed.ClaimStop.{ClaimStop}
+use Rattle.daemon_core.specs.declared.claimed.Taken.{Taken}
+use Rattle.daemon_core.specs.declared.fetched.Fetched.{Fetched}
+use Rattle.daemon_core.specs.declared.hold.Ticket.{Ticket}
+use Rattle.daemon_core.specs.declared.stop.Stop.{Stop}
+use Rattle.daemon_core.specs.Annals.{Appended, IsAnnals, Ready, Runs, Unchanged, roomier}
+use Rattle.daemon_core.specs.Boards.{BoardStands}
+use Rattle.daemon_core.specs.Claims.{ClaimGave, IsToStore, MayClaim, RoomierBoard, RoomierPlaces, place_given, places_without, plugin_at}
+use Rattle.daemon_core.specs.Fetches.{IsPayloadOf, block_count}
+use Rattle.daemon_core.specs.Holds.{held_by}
+use Rattle.daemon_core.specs.House.{IsHouse}
+use Rattle.daemon_core.specs.Housed.{Annalled, Housed, Place, past, past_in, rows_before}
+use Rattle.daemon_core.specs.Keeping.{keeper_faults}
+use Rattle.daemon_core.specs.Returns.{place_at}
+use Rattle.daemon_core.specs.Turns.{FaultsCounted, Turned}
+use Rattle.daemon_core.proofs.Answered.{roomier-same, unchanged-appended}
+use Rattle.daemon_core.proofs.ClaimRoom.{board-itself, board-on, places-same, room-at, room-on, room-out}
+use Rattle.daemon_core.proofs.ClaimTurns.{claim-board, claim-taken, takes_event}
+
+-- ---- after a turn began
+
+-- The client may claim.
+pub entered-may : (old mid : Annalled) (client blocks : ℕ) (ticket : Ticket) → Ready 16 old mid → 0 < boots (past_in old) → hold (past_in old) client ≡ Some (held_by ticket blocks) → ticket.pending ≡ None → MayClaim mid client ticket blocks
+entered-may old mid client blocks ticket r n h p =
+    let m : MayClaim (roomier old mid) client ticket blocks =
+    record { loaded = r.loaded; runs = record { on = r.runs.on; below = r.runs.below }; booted = n; held_is = h; asked = p; room = r.room; row_room = r.row_room } in
+    subst (λ (a : Annalled). MayClaim a client ticket blocks) (sym r.same) m
+
+unchanged-on : (old mid new : Annalled) → Unchanged old mid → Unchanged mid new → Unchanged old new
+unchanged-on old mid new u v =
+    record {
+      same = record {
+        facts = v.same.facts ∙ u.same.facts;
+        first = v.same.first ∙ u.same.first;
+        opening = v.same.opening ∙ u.same.opening;
+        loaded = v.same.loaded ∙ u.same.loaded;
+      };
+      log = v.log ∙ u.log;
+      makers = v.makers ∙ u.makers;
+    }
+
+-- What came of the turn since, came of all of it.
+pub turned-after : {A : Type 0} (client events : ℕ) (event : A → Event) (result : Result A Stop) (old mid new : Annalled) → Ready events old mid → Turned client event result mid new → Turned client event result old new
+turned-after client events event (Ok answer) old mid new r t = (r.runs, unchanged-appended client (event answer) old mid new (roomier-same old mid r.same) t.1)
+turned-after client events event (Err Stop.Off) old mid new r (inl t) =
+    let same : off (past_in mid) ≡ off (past_in old) = ap (λ (a : Annalled). off (past_in a)) r.same in
+    let bad : true ≡ false = sym t.0 ∙ same ∙ r.runs.on in cc
+turned-after client events event (Err Stop.Off) old mid new r (inr t) = inr (r.runs.on, unchanged-appended client Event.Cut old mid new (roomier-same old mid r.same) t.1)
+turned-after client events event (Err Stop.NoMemory) old mid new r t = (r.runs.on, unchanged-on old mid new (roomier-same old mid r.same) t.1)
+
+-- ---- what became of the boards and the blocks
+
+pub gave-after : {K : Type 0} (client : ℕ) (ticket : Ticket) (fetched : Fetched) (result : Result Claimed ClaimStop) (old mid new : Housed K) → RoomierPlaces old.places mid.places → mid.pool ≡ old.pool → ClaimGave client ticket fetched result mid new → ClaimGave client ticket fetched result old new
+gave-after client ticket fetched (Ok (Claimed.Taken taken)) old mid new r p g =
+    let n = g.2.0 in (
+      g.0,
+      g.1 ∙ p,
+      (n, g.2.1, room-on (places_without old.places n) (places_without mid.places n) new.places (room-out old.places mid.places n r) g.2.2, board-on (place_at old.places n).board (place_at mid.places n).board (Some taken.board) (room-at old.places mid.places n r) g.2.3),
+    )
+gave-after client ticket fetched (Ok (Claimed.Kept entry state)) old mid new r p g = (g.0 ∙ ap (λ (x : PoolCounts). x.free + block_count fetched) p, room-on old.places mid.places new.places r g.1)
+gave-after client ticket fetched (Ok (Claimed.Refused refusal)) old mid new r p g = (g.0 ∙ ap (λ (x : PoolCounts). x.free + block_count fetched) p, room-on old.places mid.places new.places r g.1)
+gave-after client ticket fetched (Err stopped) old mid new r p g = (g.0 ∙ p, room-on old.places mid.places new.places r g.1, g.2, g.3)
+
+pub faults-after : {K : Type 0} (faults : K → ℕ) (old mid new : Housed K) → keeper_faults (past mid) ≡ keeper_faults (past old) → mid.keeper ≡ old.keeper → FaultsCounted faults mid new → FaultsCounted faults old new
+faults-after faults old mid new e k (inl h) = let f = ap faults k in inl (omega (arith, e, f, h))
+faults-after faults old mid new e k (inr h) = inr h
+
+-- What became of a claim that took its entry.
+pub gave-taken : {K : Type 0} (told : K → Option (List Row)) (doubted : K → Option Change) (client : ℕ) (ticket : Ticket) (payload : SealedBytes) (row : Row) (number : ℕ) (taken : Taken) (old new : Housed K) → IsHouse told doubted old → IsAnnals old.annals → MayClaim old.annals client ticket payload.count → IsPayloadOf old.annals.facts ticket.release payload → IsToStore old.annals client ticket row number → number < length old.places
+    → IfSome (place_at old.places number).board (λ b. 8 ≤ b.room) → Appended client (takes_event client ticket payload row) old.annals new.annals → new.pool ≡ old.pool → new.places ≡ places_without old.places number → (place_at old.places number).board ≡ Some taken.board → taken.entry ≡ row.entry → taken.payload ≡ payload
+    → taken.plugin ≡ place_given (unwrap_or (plugin_at new.annals.facts number) 0) → trace new.annals.facts (rows_before new.annals) row.entry (past new) ≡ Some taken.trace
+    → ClaimGave client ticket (Fetched.Whole payload) (Ok (Claimed.Taken taken)) old new
+gave-taken told doubted client ticket payload row number taken old new h k m p s within marks a pool places board entry same plugin traced =
+    let b = claim-board told doubted client payload.count ticket row number old h k m s within in
+    let e : Some b.0 ≡ Some taken.board = sym b.1 ∙ board in
+    let is : b.0 ≡ taken.board = cc in
+    let room : 8 ≤ taken.board.room = subst (λ (o : Option BoardState). IfSome o (λ x. 8 ≤ x.room)) board marks in (
+      ap Fetched.Whole (sym same),
+      pool,
+      (number, claim-taken old.annals new.annals client ticket payload row number taken k m p s a (subst (λ (x : BoardState). BoardStands old.annals.facts old.annals.first (rows_before old.annals) (past old) number x []) is b.2) room entry same plugin traced, places-same (places_without old.places number) new.places places, subst (λ (o : Option BoardState). RoomierBoard o (Some taken.board)) (sym board) (board-itself (Some taken.board))),
+    )

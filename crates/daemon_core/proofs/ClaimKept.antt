@@ -1,0 +1,245 @@
+-- A house after a claim.
+use Rattle.std.proofs.Common.{◌≡◌, ◌≢◌, ℕ, ◌<◌, ◌≤◌, ◌+◌, Bool, true, false, not, List, [], ◌∷◌, ◌++◌, length, refl, ap, sym, ◌∙◌, subst, arith, ◌⊎◌, inl, inr}
+use Rattle.std.proofs.lemmas.List.{length_push}
+use Rattle.std.specs.Prelude.{Option, Some, None, IfSome, MatchBool, find, slice_get, option_map, ◌==◌}
+use Rattle.std.specs.List.{AllByRecursion}
+use Rattle.block_pool.specs.Views.{PoolCounts, SealedBytes}
+use Rattle.fw_facts.specs.declared.release.Release.{Release}
+use Rattle.fw_facts.specs.declared.seen.Seen.{Seen}
+use Rattle.history_keeper.specs.Changes.{changed}
+use Rattle.history_keeper.specs.declared.change.Change.{Change}
+use Rattle.history_keeper.specs.declared.row.Row.{Row}
+use Rattle.history_keeper.specs.declared.row.RowState.{RowState}
+use Rattle.release_catalogue.specs.declared.reference.ReleaseRef.{ReleaseRef}
+use Rattle.update_log.proofs.Lists.{All-filter, All-find, All-push}
+use Rattle.update_log.specs.CoreSteps.{is_taken}
+use Rattle.update_log.specs.Holding.{blocks_of, held, hold, holds, live, open_steps, without_client}
+use Rattle.update_log.specs.Known.{Fate, Target, addition, doubt, fate, known, new_row, rows, rows_by, target, views}
+use Rattle.update_log.specs.Legal.{Allowed, BootTakes, ClaimAllowed, ClaimAnswered, IsLegal, ask_answer, ask_stage, is_fetched, next_entry}
+use Rattle.update_log.specs.Pasts.{boots, is_keeper_fault, off, time_of}
+use Rattle.update_log.specs.Shows.{Campaign}
+use Rattle.update_log.specs.declared.answer.AskAnswer.{AskAnswer}
+use Rattle.update_log.specs.declared.answer.ClaimAnswer.{ClaimAnswer}
+use Rattle.update_log.specs.declared.decision.Decision.{Decision}
+use Rattle.update_log.specs.declared.event.Event.{Event}
+use Rattle.update_log.specs.declared.facts.Facts.{Facts}
+use Rattle.update_log.specs.declared.live.Held.{Held}
+use Rattle.update_log.specs.declared.refusal.FetchNote.{FetchNote}
+use Rattle.update_log.specs.declared.refusal.Refusal.{Refusal}
+use Rattle.update_log.specs.declared.request.Request.{Request}
+use Rattle.daemon_core.specs.declared.hold.Ticket.{Ticket}
+use Rattle.daemon_core.specs.Annals.{Appended, IsAllowedSo, IsAnnals, IsLegalSo}
+use Rattle.daemon_core.specs.Claims.{MayAnswer, MayClaim, places_without}
+use Rattle.daemon_core.specs.Holds.{IsReleaseAt, held_by}
+use Rattle.daemon_core.specs.House.{IsHouse}
+use Rattle.daemon_core.specs.Housed.{Annalled, Housed, Place, past, past_in, rows_before}
+use Rattle.daemon_core.specs.Keeping.{HasRows, Keeps}
+use Rattle.daemon_core.specs.Owed.{owed}
+use Rattle.daemon_core.specs.Returns.{place_at}
+use Rattle.daemon_core.proofs.AnnalsKept.{legal-next}
+use Rattle.daemon_core.proofs.Asking.{ask-found}
+use Rattle.daemon_core.proofs.BoardsQuiet.{quiet-board}
+use Rattle.daemon_core.proofs.ClaimEnds.{length-set}
+use Rattle.daemon_core.proofs.ClaimHouse.{IsReady, runs-takes}
+use Rattle.daemon_core.proofs.ClaimTaking.{Takes, takes-places}
+use Rattle.daemon_core.proofs.Held.{held-kept, held-refused, held-taken}
+use Rattle.daemon_core.proofs.HeldOnce.{out-once}
+use Rattle.daemon_core.proofs.HouseKept.{house-next}
+use Rattle.daemon_core.proofs.Owed.{adds, adds-legal}
+use Rattle.daemon_core.proofs.PlacesKept.{place-same}
+use Rattle.daemon_core.proofs.PuttingOff.{no-doubt}
+
+-- ---- the blocks of a hold
+
+-- They are those of its release's size.
+abbrev pub IsSized : Facts → Held → Type 0
+IsSized facts h = (release : Release) × IsReleaseAt facts.catalogue h.release release × (h.blocks ≡ blocks_of release.size)
+
+hold-accept : (d : Decision) (blocks : ℕ) (release : ReleaseRef) → AskAnswer.Hold blocks release ≡ ask_answer d → (device : ℕ) × (d ≡ Decision.Accept device release blocks)
+hold-accept (Decision.Accept device release' blocks') blocks release e = (device, cc)
+hold-accept (Decision.Kept entry state) blocks release e = cc
+hold-accept (Decision.Refused refusal) blocks release e = cc
+
+fewer-sized : (facts : Facts) (client : ℕ) (hs : List Held) → AllByRecursion (IsSized facts) hs → AllByRecursion (IsSized facts) (without_client client hs)
+fewer-sized facts client hs k = All-filter (IsSized facts) (IsSized facts) (λ (h : Held). not (h.client == client)) hs k (λ h s _. s)
+
+sized-step : (c : Campaign) (opening : List Row) (past : List Event) (event : Event) → Allowed c opening past event → AllByRecursion (IsSized c.facts) (holds past) → AllByRecursion (IsSized c.facts) (holds (event ∷ past))
+sized-step c opening past (Event.Boot number time limit found boards) a k = tt
+sized-step c opening past (Event.Query client query) a k = k
+sized-step c opening past (Event.Ask client request pending (AskAnswer.Hold blocks release)) a k =
+    let h : Held = record { client = client; request = request; pending = pending; blocks = blocks; release = release } in
+    let d = hold-accept _ blocks release a.answer_is in
+    let f = ask-found c.facts opening past client request pending d.0 blocks release d.1 in
+    All-push (IsSized c.facts) (without_client client (holds past)) h (fewer-sized c.facts client (holds past) k) (f.release, f.there, f.blocks_are)
+sized-step c opening past (Event.Ask client request pending (AskAnswer.Kept entry state)) a k = k
+sized-step c opening past (Event.Ask client request pending (AskAnswer.Refused refusal)) a k = k
+sized-step c opening past (Event.Claim client request fetched answer) a k = fewer-sized c.facts client (holds past) k
+sized-step c opening past (Event.Schedule client request answer) a k = k
+sized-step c opening past (Event.Resume client entry fetched answer stored) a k = fewer-sized c.facts client (holds past) k
+sized-step c opening past (Event.Start client entry op) a k = k
+sized-step c opening past (Event.End client entry op outcome told seen) a k = k
+sized-step c opening past (Event.Finish client entry state stored) a k = k
+sized-step c opening past (Event.Judge client entry version state stored) a k = k
+sized-step c opening past (Event.Unplug client device answer) a k = k
+sized-step c opening past (Event.Plug client device answer) a k = k
+sized-step c opening past (Event.GiveBack client what) a k = fewer-sized c.facts client (holds past) k
+sized-step c opening past Event.Cut a k = k
+
+pub holds-sized : (c : Campaign) (opening : List Row) (past : List Event) → IsLegal c opening past → AllByRecursion (IsSized c.facts) (holds past)
+holds-sized c opening [] l = tt
+holds-sized c opening (event ∷ past) l = sized-step c opening past event l.2 (holds-sized c opening past l.0)
+
+pub hold-sized : (facts : Facts) (first : List Seen) (opening : List Row) (past : List Event) (client : ℕ) (h : Held) → IsLegalSo facts first opening past → hold past client ≡ Some h → IsSized facts h
+hold-sized facts first opening past client h l e =
+    subst (λ (x : Facts). IsSized x h) l.1 (All-find (IsSized l.0.facts) (λ (x : Held). x.client == client) (holds past) h (holds-sized l.0 opening past l.3) e)
+
+-- ---- what may be put behind the log
+
+abbrev pub claims : ℕ → Ticket → FetchNote → ClaimAnswer → Event
+claims client ticket note answer = Event.Claim client ticket.request note answer
+
+pub claim-takes : (a : Annalled) (client blocks : ℕ) (ticket : Ticket) (note : FetchNote) (answer : ClaimAnswer) → MayClaim a client ticket blocks → BootTakes (past_in a) (claims client ticket note answer)
+claim-takes a client blocks ticket note answer m = runs-takes a (claims client ticket note answer) m.runs m.booted refl
+
+pub claim-allowed : (a : Annalled) (client blocks : ℕ) (ticket : Ticket) (note : FetchNote) (answer : ClaimAnswer) → MayClaim a client ticket blocks → MayAnswer a client ticket note answer → IsAllowedSo a.facts a.first (rows_before a) (past_in a) (claims client ticket note answer)
+claim-allowed a client blocks ticket note answer m w =
+    let k : ClaimAllowed a.facts (rows_before a) (past_in a) client ticket.request note answer (held_by ticket blocks) =
+    record { held_is = m.held_is; request_is = refl; pending = m.asked; answer_is = w } in
+    λ c f i. (held_by ticket blocks, subst (λ (x : Facts). ClaimAllowed x (rows_before a) (past_in a) client ticket.request note answer (held_by ticket blocks)) (sym f) k)
+
+pub claim-legal : (a : Annalled) (client blocks : ℕ) (ticket : Ticket) (note : FetchNote) (answer : ClaimAnswer) → IsAnnals a → MayClaim a client ticket blocks → MayAnswer a client ticket note answer → IsLegalSo a.facts a.first (rows_before a) (claims client ticket note answer ∷ past_in a)
+claim-legal a client blocks ticket note answer k m w =
+    legal-next a.facts a.first (rows_before a) (past_in a) (claims client ticket note answer) k.legal (claim-takes a client blocks ticket note answer m) (claim-allowed a client blocks ticket note answer m w)
+
+adds-few : (client : ℕ) (ticket : Ticket) (note : FetchNote) (answer : ClaimAnswer) → adds (claims client ticket note answer) ≤ 15
+adds-few client ticket note (ClaimAnswer.Entry entry) = omega arith
+adds-few client ticket note (ClaimAnswer.Kept entry state) = omega arith
+adds-few client ticket note (ClaimAnswer.Refused refusal) = omega arith
+
+made-few : {X : Type 0} (fate : Fate) (f : X → Row) (o : Option X) (all : List Row) → length (rows_by fate (option_map (λ x. Change.Add (f x)) o) all) ≤ length all + 1
+made-few Fate.Made f (Some x) all = let e = length_push all (f x) in omega (arith, e)
+made-few Fate.Made f None all = omega arith
+made-few Fate.Doubtful f o all = omega arith
+made-few Fate.Dropped f o all = omega arith
+
+pub claim-ready : (a : Annalled) (client blocks : ℕ) (ticket : Ticket) (note : FetchNote) (answer : ClaimAnswer) → IsAnnals a → MayClaim a client ticket blocks → MayAnswer a client ticket note answer → IsReady a (claims client ticket note answer)
+claim-ready a client blocks ticket note answer k m w =
+    let l = claim-legal a client blocks ticket note answer k m w in
+    let more = adds-legal l.0 (rows_before a) (past_in a) (claims client ticket note answer) l.3 refl in
+    let few = adds-few client ticket note answer in
+    let room = m.room in
+    let grows : length (rows a.facts (rows_before a) (claims client ticket note answer ∷ past_in a)) ≤ length (rows a.facts (rows_before a) (past_in a)) + 1 =
+    made-few (fate (claims client ticket note answer)) (λ (t : Target). new_row (length (rows a.facts (rows_before a) (past_in a)) + 1) (time_of (past_in a)) client ticket.request RowState.Begun t) (target a.facts (views a.facts (rows_before a) (past_in a)) ticket.request) (rows a.facts (rows_before a) (past_in a)) in
+    let same = ap length k.stands.rows in
+    let row = m.row_room in
+    record {
+      takes = claim-takes a client blocks ticket note answer m;
+      allowed = claim-allowed a client blocks ticket note answer m w;
+      room = omega (arith, more, few, room);
+      row = omega (arith, grows, same, row);
+    }
+
+-- ---- a claim that took no entry
+
+-- It leaves the rows, and no new change is in doubt.
+pub claim-rows_same : (facts : Facts) (opening : List Row) (past : List Event) (client : ℕ) (request : Request) (note : FetchNote) (answer : ClaimAnswer) → is_taken answer ≡ false
+    → (rows facts opening (Event.Claim client request note answer ∷ past) ≡ rows facts opening past) × (doubt facts opening (Event.Claim client request note answer ∷ past) ≡ doubt facts opening past)
+claim-rows_same facts opening past client request note (ClaimAnswer.Entry entry) h = cc
+claim-rows_same facts opening past client request note (ClaimAnswer.Kept entry state) h = (refl, refl)
+claim-rows_same facts opening past client request note (ClaimAnswer.Refused refusal) h = let f : is_keeper_fault refusal ≡ false = h in (rw f refl, rw f refl)
+
+-- The answer gives no entry.
+abbrev pub gives_entry : ClaimAnswer → Bool
+gives_entry (ClaimAnswer.Entry entry) = true
+gives_entry (ClaimAnswer.Kept entry state) = false
+gives_entry (ClaimAnswer.Refused refusal) = false
+
+pub not-taken : (answer : ClaimAnswer) → is_taken answer ≡ false → gives_entry answer ≡ false
+not-taken (ClaimAnswer.Entry entry) h = cc
+not-taken (ClaimAnswer.Kept entry state) h = refl
+not-taken (ClaimAnswer.Refused refusal) h = refl
+
+claim-live_same : (past : List Event) (client : ℕ) (request : Request) (note : FetchNote) (answer : ClaimAnswer) → gives_entry answer ≡ false → live (Event.Claim client request note answer ∷ past) ≡ live past
+claim-live_same past client request note (ClaimAnswer.Entry entry) h = cc
+claim-live_same past client request note (ClaimAnswer.Kept entry state) h = refl
+claim-live_same past client request note (ClaimAnswer.Refused refusal) h = refl
+
+claim-held : (a : Annalled) (client blocks : ℕ) (ticket : Ticket) (note : FetchNote) (answer : ClaimAnswer) → IsAnnals a → MayClaim a client ticket blocks → gives_entry answer ≡ false → held (claims client ticket note answer ∷ past_in a) + blocks ≡ held (past_in a)
+claim-held a client blocks ticket note (ClaimAnswer.Entry entry) k m h = cc
+claim-held a client blocks ticket note (ClaimAnswer.Kept entry state) k m h =
+    let w = k.legal in held-kept (past_in a) client ticket.request note entry state (held_by ticket blocks) (out-once w.0 (rows_before a) (past_in a) k.stands.history w.3) m.held_is
+claim-held a client blocks ticket note (ClaimAnswer.Refused refusal) k m h =
+    let w = k.legal in held-refused (past_in a) client ticket.request note refusal (held_by ticket blocks) (out-once w.0 (rows_before a) (past_in a) k.stands.history w.3) m.held_is
+
+-- The blocks fit into the pool.
+pub claim-fits : {K : Type 0} (told : K → Option (List Row)) (doubted : K → Option Change) (client blocks : ℕ) (ticket : Ticket) (h : Housed K) → IsHouse told doubted h → IsAnnals h.annals → MayClaim h.annals client ticket blocks → h.pool.free + blocks ≤ h.pool.capacity
+claim-fits told doubted client blocks ticket h w k m =
+    let e = claim-held h.annals client blocks ticket FetchNote.Missing (ClaimAnswer.Refused Refusal.KeeperFault) k m refl in
+    let f = w.free in let c = w.capacity in omega (arith, e, f, c)
+
+-- The keeper, where nothing was asked of it.
+pub claim-keeps : {K : Type 0} (told : K → Option (List Row)) (doubted : K → Option Change) (client : ℕ) (ticket : Ticket) (note : FetchNote) (answer : ClaimAnswer) (h : Housed K) → IsHouse told doubted h → IsAnnals h.annals → h.annals.loaded ≡ true → is_taken answer ≡ false
+    → Keeps told doubted h.keeper (rows h.annals.facts (rows_before h.annals) (claims client ticket note answer ∷ past h)) (doubt h.annals.facts (rows_before h.annals) (claims client ticket note answer ∷ past h))
+claim-keeps told doubted client ticket note answer h w k l n =
+    let s = claim-rows_same h.annals.facts (rows_before h.annals) (past h) client ticket.request note answer n in
+    subst (λ (x : List Row). Keeps told doubted h.keeper x (doubt h.annals.facts (rows_before h.annals) (claims client ticket note answer ∷ past h))) (sym (s.0 ∙ sym k.stands.rows))
+    (subst (λ (x : Option Change). Keeps told doubted h.keeper h.annals.core.rows x) (sym (s.1 ∙ sym k.stands.doubt)) (w.kept l))
+
+pub house-unclaimed : {K : Type 0} (told : K → Option (List Row)) (doubted : K → Option Change) (client blocks : ℕ) (ticket : Ticket) (note : FetchNote) (answer : ClaimAnswer) (old : Housed K) (new : Annalled) (pool : PoolCounts) (keeper : K) → IsHouse told doubted old → IsAnnals old.annals → IsAnnals new
+    → Appended client (claims client ticket note answer) old.annals new → MayClaim old.annals client ticket blocks → MayAnswer old.annals client ticket note answer → gives_entry answer ≡ false
+    → Keeps told doubted keeper (rows old.annals.facts (rows_before old.annals) (claims client ticket note answer ∷ past old)) (doubt old.annals.facts (rows_before old.annals) (claims client ticket note answer ∷ past old))
+    → pool.capacity ≡ old.pool.capacity → pool.free ≡ old.pool.free + blocks → IsHouse told doubted (record { annals = new; places = old.places; pool = pool; keeper = keeper })
+house-unclaimed told doubted client blocks ticket note answer old new pool keeper h o k a m w n kept cap free =
+    let l = claim-legal old.annals client blocks ticket note answer o m w in
+    let out = claim-held old.annals client blocks ticket note answer o m n in
+    let was = h.free in
+    house-next told doubted client (claims client ticket note answer) old (record { annals = new; places = old.places; pool = pool; keeper = keeper }) h a k
+    (record {
+      count = refl;
+      places = λ number place e.
+          place-same old.annals.facts old.annals.first (rows_before old.annals) (past old) (claims client ticket note answer ∷ past old) number place
+          (quiet-board old.annals.facts old.annals.first (rows_before old.annals) (past old) (claims client ticket note answer) o.stands.history l number refl refl refl refl (claim-live_same (past old) client ticket.request note answer n) refl) (h.places number place e);
+      loaded = m.loaded;
+      kept = kept;
+      capacity = cap;
+      free = omega (arith, out, was, free);
+    })
+
+-- ---- the keeper, after it was asked
+
+-- The row that is added.
+abbrev pub AddsRow : Annalled → ℕ → Ticket → Row → Type 0
+AddsRow a client ticket row = addition a.facts (time_of (past_in a)) (live (past_in a)) (known a.facts (rows_before a) (past_in a)) client ticket.request RowState.Begun ≡ Some (Change.Add row)
+
+pub claim-made : {K : Type 0} (told : K → Option (List Row)) (doubted : K → Option Change) (a : Annalled) (client : ℕ) (ticket : Ticket) (note : FetchNote) (entry : ℕ) (row : Row) (keeper : K) → IsAnnals a → off (past_in a) ≡ false → AddsRow a client ticket row → HasRows told doubted keeper (changed (Change.Add row) a.core.rows) None
+    → Keeps told doubted keeper (rows a.facts (rows_before a) (claims client ticket note (ClaimAnswer.Entry entry) ∷ past_in a)) (doubt a.facts (rows_before a) (claims client ticket note (ClaimAnswer.Entry entry) ∷ past_in a))
+claim-made told doubted a client ticket note entry row keeper k o e h =
+    let all : List Row = rows a.facts (rows_before a) (past_in a) in
+    let r : changed (Change.Add row) a.core.rows ≡ rows a.facts (rows_before a) (claims client ticket note (ClaimAnswer.Entry entry) ∷ past_in a) =
+    ap (λ (x : List Row). changed (Change.Add row) x) k.stands.rows ∙ sym (ap (λ (x : Option Change). rows_by Fate.Made x all) e) in
+    inl (record { rows_are = subst (λ (x : List Row). IfSome (told keeper) (λ y. y ≡ x)) r h.rows_are; doubt_is = h.doubt_is ∙ sym (no-doubt a k o) })
+
+pub claim-doubted : {K : Type 0} (told : K → Option (List Row)) (doubted : K → Option Change) (a : Annalled) (client : ℕ) (ticket : Ticket) (note : FetchNote) (row : Row) (keeper : K) → IsAnnals a → AddsRow a client ticket row → HasRows told doubted keeper a.core.rows (Some (Change.Add row))
+    → Keeps told doubted keeper (rows a.facts (rows_before a) (claims client ticket note (ClaimAnswer.Refused Refusal.KeeperFault) ∷ past_in a)) (doubt a.facts (rows_before a) (claims client ticket note (ClaimAnswer.Refused Refusal.KeeperFault) ∷ past_in a))
+claim-doubted told doubted a client ticket note row keeper k e h =
+    inl (record { rows_are = subst (λ (x : List Row). IfSome (told keeper) (λ y. y ≡ x)) k.stands.rows h.rows_are; doubt_is = h.doubt_is ∙ sym e })
+
+-- ---- a claim that took an entry
+
+pub house-claimed : {K : Type 0} (told : K → Option (List Row)) (doubted : K → Option Change) (client blocks : ℕ) (ticket : Ticket) (note : FetchNote) (entry number : ℕ) (old : Housed K) (new : Annalled) (keeper : K) → IsHouse told doubted old → IsAnnals old.annals → IsAnnals new
+    → Appended client (claims client ticket note (ClaimAnswer.Entry entry)) old.annals new → MayClaim old.annals client ticket blocks → MayAnswer old.annals client ticket note (ClaimAnswer.Entry entry)
+    → Keeps told doubted keeper (rows old.annals.facts (rows_before old.annals) (claims client ticket note (ClaimAnswer.Entry entry) ∷ past old)) (doubt old.annals.facts (rows_before old.annals) (claims client ticket note (ClaimAnswer.Entry entry) ∷ past old))
+    → Takes old.annals.facts (rows_before old.annals) (past old) (claims client ticket note (ClaimAnswer.Entry entry)) entry number → number < length old.places → held (claims client ticket note (ClaimAnswer.Entry entry) ∷ past old) ≡ held (past old)
+    → IsHouse told doubted (record { annals = new; places = places_without old.places number; pool = old.pool; keeper = keeper })
+house-claimed told doubted client blocks ticket note entry number old new keeper h o k a m w kept t within same =
+    let l = claim-legal old.annals client blocks ticket note (ClaimAnswer.Entry entry) o m w in
+    let was = h.free in
+    house-next told doubted client (claims client ticket note (ClaimAnswer.Entry entry)) old (record { annals = new; places = places_without old.places number; pool = old.pool; keeper = keeper }) h a k
+    (record {
+      count = length-set old.places number (record (place_at old.places number) { board = None });
+      places = takes-places old.annals.facts old.annals.first (rows_before old.annals) (past old) (claims client ticket note (ClaimAnswer.Entry entry)) o.stands.history l entry number t old.places within h.places;
+      loaded = m.loaded;
+      kept = kept;
+      capacity = refl;
+      free = omega (arith, same, was);
+    })

@@ -1,0 +1,103 @@
+-- What a claim reads of the log.
+use Rattle.std.proofs.Common.{◌≡◌, ◌<◌, ◌≤◌, ◌+◌, ℕ, suc, true, false, cond, List, [], ◌∷◌, map, length, refl, ap, sym, ◌∙◌, subst, arith}
+use Rattle.std.specs.Prelude.{Option, Some, None, find, nat_lt, option_map, option_and_then, slice_get}
+use Rattle.std.specs.Str.{bytes_eq}
+use Rattle.std.specs.List.{position_or_len}
+use Rattle.std.proofs.lemmas.Option.{slice_get_past}
+use Rattle.std.proofs.lemmas.Bool.{ltb-false}
+use Rattle.device_list.specs.Lists.{names, place}
+use Rattle.device_list.specs.declared.selector.Selector.{Selector}
+use Rattle.fw_facts.specs.declared.view.DeviceView.{DeviceView}
+use Rattle.history_keeper.specs.Changes.{Suits}
+use Rattle.history_keeper.specs.declared.change.Change.{Change}
+use Rattle.history_keeper.specs.declared.row.Row.{Row}
+use Rattle.history_keeper.specs.declared.row.RowState.{RowState}
+use Rattle.release_catalogue.specs.declared.reference.ReleaseRef.{ReleaseRef}
+use Rattle.update_log.proofs.Lists.{by_test}
+use Rattle.update_log.proofs.Openings.{bytes-same}
+use Rattle.update_log.proofs.Rows.{length-map}
+use Rattle.update_log.specs.Boards.{Board, board_with, devices}
+use Rattle.update_log.specs.Core.{Core, Stands}
+use Rattle.update_log.specs.CoreSteps.{addition_on, board_on}
+use Rattle.update_log.specs.Holding.{live}
+use Rattle.update_log.specs.Known.{Known, Target, addition, known, new_row, rows, target, view_of, views}
+use Rattle.update_log.specs.Pasts.{past_of, time_of}
+use Rattle.update_log.specs.Verdicts.{verdict}
+use Rattle.update_log.specs.declared.decision.Stage.{Stage}
+use Rattle.update_log.specs.declared.facts.Facts.{Facts}
+use Rattle.update_log.specs.declared.live.LiveEntry.{LiveEntry}
+use Rattle.update_log.specs.declared.request.Request.{Request}
+use Rattle.daemon_core.specs.Annals.{IsAnnals}
+use Rattle.daemon_core.specs.Housed.{Annalled, past_in, rows_before}
+use Rattle.daemon_core.specs.PutOff.{IsAccept}
+use Rattle.daemon_core.proofs.ClaimAccepted.{claimable}
+
+-- ---- the board of a device's ID
+
+bytes-turned : (a b : List ℕ) → bytes_eq a b ≡ bytes_eq b a
+bytes-turned a b =
+    by_test (bytes_eq a b) _
+    (λ t. let e : a ≡ b = bytes-same a b t in rw e refl)
+    (λ f. by_test (bytes_eq b a) _
+    (λ t. let e : b ≡ a = bytes-same b a t in rw e refl)
+    (λ g. f ∙ sym g))
+
+abbrev numbers : List Board → List ℕ
+numbers boards = map (λ b. b.number) boards
+
+-- the place of the first view of a device is that of the first board with its ID
+at-place : (entries : List LiveEntry) (known : Known) (device : List ℕ) (boards : List Board)
+    → slice_get (numbers boards) (position_or_len (names (Selector.Id device)) (map (view_of entries known) boards))
+    ≡ option_map (λ b. b.number) (find (λ b. bytes_eq b.sheet.device device) boards)
+at-place entries known device [] = refl
+at-place entries known device (b ∷ boards) =
+    by_test (bytes_eq device b.sheet.device) _
+    (λ t. let u : bytes_eq b.sheet.device device ≡ true = bytes-turned b.sheet.device device ∙ t in rw (t, u) refl)
+    (λ t. let u : bytes_eq b.sheet.device device ≡ false = bytes-turned b.sheet.device device ∙ t in
+    let n : ℕ = position_or_len (names (Selector.Id device)) (map (view_of entries known) boards) in
+    let e : 1 + n ≡ suc n = omega arith in
+    rw (t, u) (ap (λ (k : ℕ). slice_get (numbers (b ∷ boards)) k) e ∙ at-place entries known device boards))
+
+looked-up : (all : List ℕ) (n len : ℕ) → length all ≡ len → option_and_then (slice_get all) (cond (nat_lt n len) (Some n) None) ≡ slice_get all n
+looked-up all n len h =
+    by_test (nat_lt n len) _
+    (λ t. rw t refl)
+    (λ t. let le : len ≤ n = ltb-false n len t in rw t (sym (slice_get_past all n (omega (arith, h, le)))))
+
+pub board-found : (facts : Facts) (opening : List Row) (core : Core) (device : List ℕ) → Stands facts opening core → board_on core.boards core.views (Selector.Id device) ≡ board_with facts device
+board-found facts opening core device s =
+    let past = past_of core.log in
+    ap (λ (bs : List ℕ). board_on bs core.views (Selector.Id device)) s.boards
+    ∙ ap (λ (vs : List DeviceView). board_on (map (λ b. b.number) (devices facts)) vs (Selector.Id device)) s.views
+    ∙ looked-up (numbers (devices facts)) (position_or_len (names (Selector.Id device)) (map (view_of (live past) (known facts opening past)) (devices facts))) (length (map (view_of (live past) (known facts opening past)) (devices facts)))
+    (length-map (λ (b : Board). b.number) (devices facts) ∙ sym (length-map (view_of (live past) (known facts opening past)) (devices facts)))
+    ∙ at-place (live past) (known facts opening past) device (devices facts)
+
+-- ---- the row of a claim
+
+abbrev pub accept_in : Annalled → ℕ → Request → ReleaseRef → Type 0
+accept_in a client request release = IsAccept (verdict a.facts (rows_before a) (past_in a) client request (Stage.Claim release))
+
+pub accept-over_claim : (a b : Annalled) (client : ℕ) (request : Request) (release : ReleaseRef) → a ≡ b → accept_in b client request release → accept_in a client request release
+accept-over_claim a b client request release e h = subst (λ (x : Annalled). accept_in x client request release) (sym e) h
+
+pub few-begun : (a : Annalled) (client : ℕ) (request : Request) (release : ReleaseRef) → IsAnnals a → accept_in a client request release → length a.core.rows < 65536
+few-begun a client request release k h =
+    let f = (claimable a.facts (rows_before a) (past_in a) client request release h).1.few in
+    let e = ap length k.stands.rows in
+    omega (arith, f, e)
+
+same-begun : (facts : Facts) (core : Core) (time : ℕ) (all : List Row) (seen : List DeviceView) (client : ℕ) (request : Request) (t : Target) → core.rows ≡ all → core.views ≡ seen → target facts seen request ≡ Some t
+    → addition_on facts time core.views core.rows client request RowState.Begun ≡ Some (Change.Add (new_row (length all + 1) time client request RowState.Begun t))
+same-begun facts core time all seen client request t r v e = rw (r, v, e) refl
+
+pub suits-begun : (a : Annalled) (client : ℕ) (request : Request) (release : ReleaseRef) (row : Row) → IsAnnals a → accept_in a client request release
+    → addition_on a.facts (time_of (past_in a)) a.core.views a.core.rows client request RowState.Begun ≡ Some (Change.Add row) → Suits (Change.Add row) a.core.rows
+suits-begun a client request release row k h e =
+    let o = claimable a.facts (rows_before a) (past_in a) client request release h in
+    let t : Target = o.0 in
+    let new : Row = new_row (length (rows a.facts (rows_before a) (past_in a)) + 1) (time_of (past_in a)) client request RowState.Begun t in
+    let s : Some (Change.Add new) ≡ Some (Change.Add row) =
+    sym (same-begun a.facts a.core (time_of (past_in a)) (rows a.facts (rows_before a) (past_in a)) (views a.facts (rows_before a) (past_in a)) client request t k.stands.rows k.stands.views o.1.found) ∙ e in
+    let r : new ≡ row = cc in
+    subst (λ (x : List Row). Suits (Change.Add row) x) (sym k.stands.rows) (subst (λ (x : Row). Suits (Change.Add x) (rows a.facts (rows_before a) (past_in a))) r o.1.suits)

@@ -1,0 +1,56 @@
+use Rattle.std.proofs.Common.{◌≡◌, ◌≤◌, ap, sym, subst, refl}
+use Rattle.update_log.specs.declared.facts.Facts.{Facts}
+use Rattle.daemon_core.specs.Claims.{claim_event, stopped_by}
+use Rattle.daemon_core.specs.Fetches.{IsFetchOf, block_count}
+use Rattle.daemon_core.specs.Housed.{Annalled, past_in}
+use Rattle.daemon_core.specs.Keeping.{keeper_faults}
+use Rattle.daemon_core.proofs.Answered.{stopped}
+use Rattle.daemon_core.proofs.ClaimAnswers.{entered-may, faults-after, gave-after, turned-after}
+use Rattle.daemon_core.proofs.ClaimExits.{same-faults, stopped-faults}
+use Rattle.daemon_core.proofs.ClaimRoom.{places-same}
+use Rattle.daemon_core.proofs.PuttingOff.{counted-same}
+use Rattle.daemon_core.proofs.house.House.claim.Goals as goal
+
+pub claim_in-requires-clause-may : goal.claim_in-requires-clause-may
+claim_in-requires-clause-may g c =
+    entered-may c.args.self.now.annals c.enter.new.self.annals c.args.client (block_count c.args.fetched) c.args.ticket c.in-Ok.ensures.entered c.requires.booted c.requires.held c.requires.asked
+
+pub claim_in-requires-clause-whole : goal.claim_in-requires-clause-whole
+claim_in-requires-clause-whole g c =
+    subst (λ (f : Facts). IsFetchOf f c.args.ticket.release c.args.fetched) (sym (ap (λ (a : Annalled). a.facts) c.in-Ok.ensures.entered.same)) c.requires.whole
+
+pub returns-in-Ok-clause-turn : goal.returns-in-Ok-clause-turn
+returns-in-Ok-clause-turn g c =
+    turned-after c.args.client 16 (claim_event c.args.client c.args.ticket.request c.args.fetched) (stopped_by c.claim_in.result) c.args.self.now.annals c.enter.new.self.annals c.claim_in.new.self.annals c.in-Ok.ensures.entered c.claim_in.ensures.turn
+
+pub returns-in-Ok-clause-gave : goal.returns-in-Ok-clause-gave
+returns-in-Ok-clause-gave g c =
+    gave-after c.args.client c.args.ticket c.args.fetched c.claim_in.result c.args.self.now c.enter.new.self c.claim_in.new.self
+    (places-same c.args.self.now.places c.enter.new.self.places c.in-Ok.ensures.elsewhere.places) c.in-Ok.ensures.elsewhere.pool c.claim_in.ensures.gave
+
+pub returns-in-Ok-clause-faults : goal.returns-in-Ok-clause-faults
+returns-in-Ok-clause-faults g c =
+    faults-after g.K.Keeper.faults c.args.self.now c.enter.new.self c.claim_in.new.self
+    (ap (λ (a : Annalled). keeper_faults (past_in a)) c.in-Ok.ensures.entered.same) c.in-Ok.ensures.elsewhere.keeper c.claim_in.ensures.faults
+
+pub returns-in-Ok-clause-counts : goal.returns-in-Ok-clause-counts
+returns-in-Ok-clause-counts g c =
+    subst (λ (k : g.row.K.Denot). g.K.Keeper.faults k ≤ g.K.Keeper.faults c.claim_in.new.self.keeper) c.in-Ok.ensures.elsewhere.keeper c.claim_in.ensures.counts
+
+pub returns-in-Err-clause-turn : goal.returns-in-Err-clause-turn
+returns-in-Err-clause-turn g c =
+    stopped (Unit {0}) c.args.client 16 (claim_event c.args.client c.args.ticket.request c.args.fetched) c.in-Err.stop c.args.self.now.annals c.enter.new.self.annals c.in-Err.ensures.entered
+
+pub returns-in-Err-clause-gave : goal.returns-in-Err-clause-gave
+returns-in-Err-clause-gave g c =
+    (c.in-Err.ensures.elsewhere.pool, places-same c.args.self.now.places c.enter.new.self.places c.in-Err.ensures.elsewhere.places, refl, refl)
+
+pub returns-in-Err-clause-faults : goal.returns-in-Err-clause-faults
+returns-in-Err-clause-faults g c =
+    counted-same g.K.Keeper.faults c.args.self.now c.enter.new.self
+    (stopped-faults (Unit {0}) c.args.client 16 c.in-Err.stop c.args.self.now.annals c.enter.new.self.annals c.in-Err.ensures.entered)
+    (same-faults g.K.Keeper.faults c.args.self.now c.enter.new.self c.in-Err.ensures.elsewhere.keeper)
+
+pub returns-in-Err-clause-counts : goal.returns-in-Err-clause-counts
+returns-in-Err-clause-counts g c =
+    same-faults g.K.Keeper.faults c.args.self.now c.enter.new.self c.in-Err.ensures.elsewhere.keeper

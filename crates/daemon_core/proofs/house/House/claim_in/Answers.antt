@@ -1,0 +1,57 @@
+use Rattle.std.proofs.Common.{◌≡◌, ◌≤◌, ◌∙◌, ap, sym, subst, refl}
+use Rattle.update_log.specs.declared.answer.ClaimAnswer.{ClaimAnswer}
+use Rattle.update_log.specs.declared.event.Event.{Event}
+use Rattle.daemon_core.specs.Annals.{Appended}
+use Rattle.daemon_core.specs.Fetches.{note_of}
+use Rattle.daemon_core.proofs.ClaimExits.{faults-unclaimed, refused-answers, refused-none, same-faults}
+use Rattle.daemon_core.proofs.ClaimRoom.{places-same}
+use Rattle.daemon_core.proofs.ClaimTurns.{answers-kept}
+use Rattle.daemon_core.proofs.house.House.claim_in.Goals as goal
+
+pub accept-requires-clause-accepted : goal.accept-requires-clause-accepted
+accept-requires-clause-accepted g c =
+    (c.in-Accept.device, c.in-Accept.release, c.in-Accept.blocks, sym c.in-Accept.ensures)
+
+pub end_claim-requires-clause-answered : goal.end_claim-requires-clause-answered
+end_claim-requires-clause-answered g c =
+    answers-kept c.args.self.now.annals c.args.client c.args.ticket (note_of c.args.fetched) c.in-Kept.entry c.in-Kept.state (sym c.in-Kept.ensures)
+
+pub end_claim-requires-in-Refused-clause-answered : goal.end_claim-requires-in-Refused-clause-answered
+end_claim-requires-in-Refused-clause-answered g c =
+    refused-answers c.args.self.now.annals c.args.client c.args.ticket (note_of c.args.fetched) c.in-Refused.refusal c.refused.result c.refused.ensures (sym c.in-Refused.ensures)
+
+pub end_claim-requires-in-Refused-clause-none : goal.end_claim-requires-in-Refused-clause-none
+end_claim-requires-in-Refused-clause-none g c =
+    (refused-none c.args.self.now.annals c.args.client c.args.ticket c.in-Refused.refusal c.refused.result c.refused.ensures (sym c.in-Refused.ensures))
+
+pub returns-in-Kept-clause-turn : goal.returns-in-Kept-clause-turn
+returns-in-Kept-clause-turn g c =
+    (c.requires.may.runs, c.end_claim.ensures.appended)
+
+pub returns-in-Kept-clause-gave : goal.returns-in-Kept-clause-gave
+returns-in-Kept-clause-gave g c =
+    (c.end_claim.ensures.pool, places-same c.args.self.now.places c.end_claim.new.self.places c.end_claim.ensures.places)
+
+pub returns-in-Kept-clause-faults : goal.returns-in-Kept-clause-faults
+returns-in-Kept-clause-faults g c =
+    faults-unclaimed g.K.Keeper.faults c.args.client c.args.ticket (note_of c.args.fetched) (ClaimAnswer.Kept c.in-Kept.entry c.in-Kept.state) c.args.self.now c.end_claim.new.self c.end_claim.ensures.appended refl c.end_claim.ensures.keeper
+
+pub returns-in-Kept-clause-counts : goal.returns-in-Kept-clause-counts
+returns-in-Kept-clause-counts g c =
+    same-faults g.K.Keeper.faults c.args.self.now c.end_claim.new.self c.end_claim.ensures.keeper
+
+pub returns-in-Refused-clause-turn : goal.returns-in-Refused-clause-turn
+returns-in-Refused-clause-turn g c =
+    (c.requires.may.runs, subst (λ (x : ClaimAnswer). Appended c.args.client (Event.Claim c.args.client c.args.ticket.request (note_of c.args.fetched) x) c.args.self.now.annals c.end_claim-in-Refused.new.self.annals) c.refused.ensures c.end_claim-in-Refused.ensures.appended)
+
+pub returns-in-Refused-clause-gave : goal.returns-in-Refused-clause-gave
+returns-in-Refused-clause-gave g c =
+    (c.end_claim-in-Refused.ensures.pool, places-same c.args.self.now.places c.end_claim-in-Refused.new.self.places c.end_claim-in-Refused.ensures.places)
+
+pub returns-in-Refused-clause-faults : goal.returns-in-Refused-clause-faults
+returns-in-Refused-clause-faults g c =
+    faults-unclaimed g.K.Keeper.faults c.args.client c.args.ticket (note_of c.args.fetched) c.refused.result c.args.self.now c.end_claim-in-Refused.new.self c.end_claim-in-Refused.ensures.appended (refused-none c.args.self.now.annals c.args.client c.args.ticket c.in-Refused.refusal c.refused.result c.refused.ensures (sym c.in-Refused.ensures)) c.end_claim-in-Refused.ensures.keeper
+
+pub returns-in-Refused-clause-counts : goal.returns-in-Refused-clause-counts
+returns-in-Refused-clause-counts g c =
+    same-faults g.K.Keeper.faults c.args.self.now c.end_claim-in-Refused.new.self c.end_claim-in-Refused.ensures.keeper

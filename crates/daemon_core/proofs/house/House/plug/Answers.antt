@@ -1,0 +1,30 @@
+use Rattle.std.proofs.Common.{ap, ◌∙◌}
+use Rattle.emulated_boards.specs.Conditions.{plugged}
+use Rattle.daemon_core.specs.Housed.{Housed}
+use Rattle.daemon_core.specs.Quiet.{is_quiet}
+use Rattle.daemon_core.proofs.Moves.{moved-none, moved-over}
+use Rattle.daemon_core.proofs.MovesBack.{plug-free_over, plug-refused_over}
+use Rattle.daemon_core.proofs.house.House.plug.Goals as goal
+
+pub note-requires-clause-quiet : goal.note-requires-clause-quiet
+note-requires-clause-quiet g c = ap is_quiet c.plug_refused_so.ensures ∙ c.in-Some.ensures.stays
+
+pub note-requires-clause-allowed : goal.note-requires-clause-allowed
+note-requires-clause-allowed g c =
+    plug-refused_over c.self.inside.annals c.enter.new.self.annals c.core.result.now c.args.client c.args.device.now c.in-Some.refused c.plug_refused_so.result
+    (ap (λ (h : Housed g.row.K.Denot). h.annals) c.self.view_is) c.core.ensures c.known.ensures c.in-Some.ensures.why c.plug_refused_so.ensures
+
+pub put_back-seen-requires-clause-free : goal.put_back-seen-requires-clause-free
+put_back-seen-requires-clause-free g c =
+    plug-free_over c.self.inside.annals c.enter.new.self.annals c.core.result.now c.args.device.now
+    (ap (λ (h : Housed g.row.K.Denot). h.annals) c.self.view_is) c.core.ensures c.in-None.ensures.why
+
+pub returns-in-Some-clause-places : goal.returns-in-Some-clause-places
+returns-in-Some-clause-places g c =
+    moved-none plugged c.args.self.now.annals c.args.device.now c.in-Some.refused c.args.self.now.places c.enter.new.self.places c.note.new.self.places
+    c.in-Some.ensures.stays c.note.ensures.elsewhere.places c.in_ok-enter.ensures.elsewhere.places
+
+pub returns-in-None-clause-places : goal.returns-in-None-clause-places
+returns-in-None-clause-places g c =
+    moved-over plugged c.args.self.now.annals c.enter.new.self.annals c.args.device.now c.args.self.now.places c.enter.new.self.places c.put_back-seen.new.self.places
+    c.in_ok-enter.ensures.entered.same c.in_ok-enter.ensures.elsewhere.places c.put_back-seen.ensures.moved

@@ -1,0 +1,54 @@
+use Rattle.std.proofs.Common.{◌≤◌, ap, subst, refl}
+use Rattle.daemon_core.specs.Housed.{Annalled, past_in}
+use Rattle.daemon_core.specs.Keeping.{keeper_faults}
+use Rattle.daemon_core.specs.Resumes.{note_in}
+use Rattle.daemon_core.proofs.ClaimAnswers.{faults-after}
+use Rattle.daemon_core.proofs.ClaimExits.{same-faults, stopped-faults}
+use Rattle.daemon_core.proofs.ClaimRoom.{places-same}
+use Rattle.daemon_core.proofs.PuttingOff.{counted-same}
+use Rattle.daemon_core.proofs.ResumeExits.{entered-in, entered-may, entered-stopped, gave-after, resumed-after}
+use Rattle.daemon_core.proofs.house.House.resume.Goals as goal
+
+pub resume_in-requires-clause-may : goal.resume_in-requires-clause-may
+resume_in-requires-clause-may g c =
+    entered-may c.args.self.now.annals c.enter.new.self.annals c.args.entry c.in-Ok.ensures.entered c.requires.booted c.requires.put_off
+
+pub resume_in-requires-clause-held : goal.resume_in-requires-clause-held
+resume_in-requires-clause-held g c =
+    entered-in c.args.self.now.annals c.enter.new.self.annals c.args.entry c.args.held c.in-Ok.ensures.entered c.requires.held
+
+pub returns-in-Ok-clause-turn : goal.returns-in-Ok-clause-turn
+returns-in-Ok-clause-turn g c =
+    resumed-after c.args.entry (note_in c.args.held) c.resume_in.result c.args.self.now.annals c.enter.new.self.annals c.resume_in.new.self.annals c.in-Ok.ensures.entered c.resume_in.ensures.turn
+
+pub returns-in-Ok-clause-gave : goal.returns-in-Ok-clause-gave
+returns-in-Ok-clause-gave g c =
+    gave-after c.args.entry c.args.held c.resume_in.result c.args.self.now c.enter.new.self c.resume_in.new.self
+    (places-same c.args.self.now.places c.enter.new.self.places c.in-Ok.ensures.elsewhere.places) c.in-Ok.ensures.elsewhere.pool c.resume_in.ensures.gave
+
+pub returns-in-Ok-clause-faults : goal.returns-in-Ok-clause-faults
+returns-in-Ok-clause-faults g c =
+    faults-after g.K.Keeper.faults c.args.self.now c.enter.new.self c.resume_in.new.self
+    (ap (λ (a : Annalled). keeper_faults (past_in a)) c.in-Ok.ensures.entered.same) c.in-Ok.ensures.elsewhere.keeper c.resume_in.ensures.faults
+
+pub returns-in-Ok-clause-counts : goal.returns-in-Ok-clause-counts
+returns-in-Ok-clause-counts g c =
+    subst (λ (k : g.row.K.Denot). g.K.Keeper.faults k ≤ g.K.Keeper.faults c.resume_in.new.self.keeper) c.in-Ok.ensures.elsewhere.keeper c.resume_in.ensures.counts
+
+pub returns-in-Err-clause-turn : goal.returns-in-Err-clause-turn
+returns-in-Err-clause-turn g c =
+    entered-stopped c.in-Err.stop c.args.self.now.annals c.enter.new.self.annals c.in-Err.ensures.entered
+
+pub returns-in-Err-clause-gave : goal.returns-in-Err-clause-gave
+returns-in-Err-clause-gave g c =
+    (c.in-Err.ensures.elsewhere.pool, places-same c.args.self.now.places c.enter.new.self.places c.in-Err.ensures.elsewhere.places, refl)
+
+pub returns-in-Err-clause-faults : goal.returns-in-Err-clause-faults
+returns-in-Err-clause-faults g c =
+    counted-same g.K.Keeper.faults c.args.self.now c.enter.new.self
+    (stopped-faults (Unit {0}) 0 16 c.in-Err.stop c.args.self.now.annals c.enter.new.self.annals c.in-Err.ensures.entered)
+    (same-faults g.K.Keeper.faults c.args.self.now c.enter.new.self c.in-Err.ensures.elsewhere.keeper)
+
+pub returns-in-Err-clause-counts : goal.returns-in-Err-clause-counts
+returns-in-Err-clause-counts g c =
+    same-faults g.K.Keeper.faults c.args.self.now c.enter.new.self c.in-Err.ensures.elsewhere.keeper

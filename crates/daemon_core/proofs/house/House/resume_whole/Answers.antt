@@ -1,0 +1,55 @@
+use Rattle.std.proofs.Common.{◌≤◌, ◌∙◌, ℕ, ap, subst, refl}
+use Rattle.std.specs.Prelude.{Option, Some, unwrap_or}
+use Rattle.daemon_core.specs.declared.fetched.Fetched.{Fetched}
+use Rattle.daemon_core.specs.Fetches.{whole_note}
+use Rattle.daemon_core.specs.Housed.{Annalled, past_in}
+use Rattle.daemon_core.specs.Keeping.{keeper_faults}
+use Rattle.daemon_core.proofs.ClaimAnswers.{faults-after}
+use Rattle.daemon_core.proofs.ClaimExits.{same-faults}
+use Rattle.daemon_core.proofs.PuttingOff.{counted-same}
+use Rattle.daemon_core.proofs.ResumeExits.{gave-after, resume-plan, resumed-over, resuming, turn-left}
+use Rattle.daemon_core.proofs.house.House.resume_whole.Goals as goal
+
+pub reserve_marks-requires-clause-within : goal.reserve_marks-requires-clause-within
+reserve_marks-requires-clause-within g c =
+    (resume-plan g.K.Keeper.rows g.K.Keeper.doubt c.args.entry c.args.ticket c.args.payload c.unwrap_or-number.result (record { annals = c.self.inside.annals; places = c.self.inside.places.items; pool = c.self.inside.pool; keeper = c.self.inside.keeper }) c.args.self.now c.self.view_is c.self.invariant c.known.ensures (record { may = c.requires.may; held = c.requires.held; accepted = c.requires.accepted }) (c.unwrap_or-number.ensures ∙ ap (λ (o : Option ℕ). unwrap_or o 0) c.board_of.ensures)).within
+
+pub reserve_marks-requires-clause-home : goal.reserve_marks-requires-clause-home
+reserve_marks-requires-clause-home g c =
+    (resume-plan g.K.Keeper.rows g.K.Keeper.doubt c.args.entry c.args.ticket c.args.payload c.unwrap_or-number.result (record { annals = c.self.inside.annals; places = c.self.inside.places.items; pool = c.self.inside.pool; keeper = c.self.inside.keeper }) c.args.self.now c.self.view_is c.self.invariant c.known.ensures (record { may = c.requires.may; held = c.requires.held; accepted = c.requires.accepted }) (c.unwrap_or-number.ensures ∙ ap (λ (o : Option ℕ). unwrap_or o 0) c.board_of.ensures)).home
+
+pub store_begin-requires-clause-begins : goal.store_begin-requires-clause-begins
+store_begin-requires-clause-begins g c =
+    resuming c.reserve_marks.new.self.annals c.args.self.now.annals c.args.entry c.args.ticket c.args.payload c.unwrap_or-number.result c.in-Ok.ensures.annals (resume-plan g.K.Keeper.rows g.K.Keeper.doubt c.args.entry c.args.ticket c.args.payload c.unwrap_or-number.result (record { annals = c.self.inside.annals; places = c.self.inside.places.items; pool = c.self.inside.pool; keeper = c.self.inside.keeper }) c.args.self.now c.self.view_is c.self.invariant c.known.ensures (record { may = c.requires.may; held = c.requires.held; accepted = c.requires.accepted }) (c.unwrap_or-number.ensures ∙ ap (λ (o : Option ℕ). unwrap_or o 0) c.board_of.ensures)).begins_so
+
+pub returns-in-Err-clause-turn : goal.returns-in-Err-clause-turn
+returns-in-Err-clause-turn g c =
+    turn-left c.reserve_marks.new.self.annals c.args.self.now.annals c.args.entry (Some (whole_note c.args.payload)) (Some (c.args.ticket, (Fetched.Whole c.args.payload))) c.in-Err.ensures.annals c.requires.may
+
+pub returns-in-Err-clause-gave : goal.returns-in-Err-clause-gave
+returns-in-Err-clause-gave g c =
+    (c.in-Err.ensures.pool, c.in-Err.ensures.roomier, refl)
+
+pub returns-in-Err-clause-faults : goal.returns-in-Err-clause-faults
+returns-in-Err-clause-faults g c =
+    counted-same g.K.Keeper.faults c.args.self.now c.reserve_marks.new.self (ap (λ (a : Annalled). keeper_faults (past_in a)) c.in-Err.ensures.annals) (same-faults g.K.Keeper.faults c.args.self.now c.reserve_marks.new.self c.in-Err.ensures.keeper)
+
+pub returns-in-Err-clause-counts : goal.returns-in-Err-clause-counts
+returns-in-Err-clause-counts g c =
+    same-faults g.K.Keeper.faults c.args.self.now c.reserve_marks.new.self c.in-Err.ensures.keeper
+
+pub returns-in-Ok-clause-turn : goal.returns-in-Ok-clause-turn
+returns-in-Ok-clause-turn g c =
+    resumed-over c.args.entry (Some (whole_note c.args.payload)) c.store_begin.result c.reserve_marks.new.self.annals c.args.self.now.annals c.store_begin.new.self.annals c.in-Ok.ensures.annals c.store_begin.ensures.turn
+
+pub returns-in-Ok-clause-gave : goal.returns-in-Ok-clause-gave
+returns-in-Ok-clause-gave g c =
+    gave-after c.args.entry (Some (c.args.ticket, (Fetched.Whole c.args.payload))) c.store_begin.result c.args.self.now c.reserve_marks.new.self c.store_begin.new.self c.in-Ok.ensures.roomier c.in-Ok.ensures.pool c.store_begin.ensures.gave
+
+pub returns-in-Ok-clause-faults : goal.returns-in-Ok-clause-faults
+returns-in-Ok-clause-faults g c =
+    faults-after g.K.Keeper.faults c.args.self.now c.reserve_marks.new.self c.store_begin.new.self (ap (λ (a : Annalled). keeper_faults (past_in a)) c.in-Ok.ensures.annals) c.in-Ok.ensures.keeper c.store_begin.ensures.faults
+
+pub returns-in-Ok-clause-counts : goal.returns-in-Ok-clause-counts
+returns-in-Ok-clause-counts g c =
+    subst (λ (k : g.row.K.Denot). g.K.Keeper.faults k ≤ g.K.Keeper.faults c.store_begin.new.self.keeper) c.in-Ok.ensures.keeper c.store_begin.ensures.counts

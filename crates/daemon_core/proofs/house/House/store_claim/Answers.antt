@@ -1,0 +1,179 @@
+use Rattle.std.proofs.Common.{◌≡◌, ◌≤◌, ◌∙◌, ◌+◌, ℕ, ap, sym, subst, refl}
+use Rattle.std.specs.Prelude.{Err, IfSome, Some, Ok, is_some}
+use Rattle.history_keeper.specs.declared.change.Change.{Change}
+use Rattle.update_log.specs.declared.event.Event.{Event}
+use Rattle.update_log.specs.declared.refusal.Refusal.{Refusal}
+use Rattle.daemon_core.specs.declared.claimed.Claimed.{Claimed}
+use Rattle.daemon_core.specs.declared.fetched.Fetched.{Fetched}
+use Rattle.daemon_core.specs.Annals.{Appended, IsMadeBy}
+use Rattle.update_log.specs.Pasts.{is_boot}
+use Rattle.daemon_core.specs.Claims.{ClaimGave, claim_event}
+use Rattle.daemon_core.specs.Housed.{Housed, past}
+use Rattle.daemon_core.specs.Keeping.{keeper_faults}
+use Rattle.daemon_core.specs.Returns.{place_at}
+use Rattle.daemon_core.specs.Turns.{FaultsCounted}
+use Rattle.daemon_core.proofs.ClaimAnswers.{gave-taken}
+use Rattle.daemon_core.proofs.ClaimExits.{end-fits, fault-event, fault-ready, faults-failed, faults-took, house-failed, house-left, house-took, made-event, store-plain, store-suits, storing, take-ready, took-live, took-within, turn-failed, turn-left, turn-took}
+use Rattle.daemon_core.proofs.ClaimRoom.{places-same, places-themselves}
+use Rattle.daemon_core.proofs.ClaimTurns.{claim-board, store-within}
+use Rattle.daemon_core.proofs.PuttingOff.{counted-same, keeps-left, keeps-made}
+use Rattle.daemon_core.proofs.house.House.store_claim.Goals as goal
+
+pub commit-requires-clause-no_doubt : goal.commit-requires-clause-no_doubt
+commit-requires-clause-no_doubt g c =
+    (store-plain g.K.Keeper.rows g.K.Keeper.doubt c.args.client c.args.ticket c.args.payload c.args.row c.args.number (record { annals = c.self.inside.annals; places = c.self.inside.places.items; pool = c.self.inside.pool; keeper = c.self.inside.keeper }) c.self.invariant c.known.ensures (storing c.self.inside.annals c.args.self.now.annals c.args.client c.args.ticket c.args.payload c.args.row c.args.number (ap (λ (h : Housed g.row.K.Denot). h.annals) c.self.view_is) c.requires.may c.requires.whole c.requires.store)).doubt_is
+
+pub commit-requires-clause-suits : goal.commit-requires-clause-suits
+commit-requires-clause-suits g c =
+    store-suits g.K.Keeper.rows g.K.Keeper.doubt c.args.client c.args.ticket c.args.payload c.args.row c.args.number (record { annals = c.self.inside.annals; places = c.self.inside.places.items; pool = c.self.inside.pool; keeper = c.self.inside.keeper }) c.self.invariant c.known.ensures (storing c.self.inside.annals c.args.self.now.annals c.args.client c.args.ticket c.args.payload c.args.row c.args.number (ap (λ (h : Housed g.row.K.Denot). h.annals) c.self.view_is) c.requires.may c.requires.whole c.requires.store)
+
+pub note-requires-clause-takes : goal.note-requires-clause-takes
+note-requires-clause-takes g c =
+    (take-ready c.self.inside.annals c.args.client c.args.ticket c.args.payload c.args.row c.args.number c.claimed.result c.known.ensures (storing c.self.inside.annals c.args.self.now.annals c.args.client c.args.ticket c.args.payload c.args.row c.args.number (ap (λ (h : Housed g.row.K.Denot). h.annals) c.self.view_is) c.requires.may c.requires.whole c.requires.store) (made-event c.args.client c.args.row.entry c.args.ticket c.args.payload c.args.row c.whole_note-note.result c.claimed.result c.claimed.ensures c.whole_note-note.ensures refl)).takes
+
+pub note-requires-clause-allowed : goal.note-requires-clause-allowed
+note-requires-clause-allowed g c =
+    (take-ready c.self.inside.annals c.args.client c.args.ticket c.args.payload c.args.row c.args.number c.claimed.result c.known.ensures (storing c.self.inside.annals c.args.self.now.annals c.args.client c.args.ticket c.args.payload c.args.row c.args.number (ap (λ (h : Housed g.row.K.Denot). h.annals) c.self.view_is) c.requires.may c.requires.whole c.requires.store) (made-event c.args.client c.args.row.entry c.args.ticket c.args.payload c.args.row c.whole_note-note.result c.claimed.result c.claimed.ensures c.whole_note-note.ensures refl)).allowed
+
+pub note-requires-clause-room : goal.note-requires-clause-room
+note-requires-clause-room g c =
+    (take-ready c.self.inside.annals c.args.client c.args.ticket c.args.payload c.args.row c.args.number c.claimed.result c.known.ensures (storing c.self.inside.annals c.args.self.now.annals c.args.client c.args.ticket c.args.payload c.args.row c.args.number (ap (λ (h : Housed g.row.K.Denot). h.annals) c.self.view_is) c.requires.may c.requires.whole c.requires.store) (made-event c.args.client c.args.row.entry c.args.ticket c.args.payload c.args.row c.whole_note-note.result c.claimed.result c.claimed.ensures c.whole_note-note.ensures refl)).room
+
+pub note-requires-clause-row : goal.note-requires-clause-row
+note-requires-clause-row g c =
+    (take-ready c.self.inside.annals c.args.client c.args.ticket c.args.payload c.args.row c.args.number c.claimed.result c.known.ensures (storing c.self.inside.annals c.args.self.now.annals c.args.client c.args.ticket c.args.payload c.args.row c.args.number (ap (λ (h : Housed g.row.K.Denot). h.annals) c.self.view_is) c.requires.may c.requires.whole c.requires.store) (made-event c.args.client c.args.row.entry c.args.ticket c.args.payload c.args.row c.whole_note-note.result c.claimed.result c.claimed.ensures c.whole_note-note.ensures refl)).row
+
+pub note-requires-clause-loaded : goal.note-requires-clause-loaded
+note-requires-clause-loaded g c =
+    (storing c.self.inside.annals c.args.self.now.annals c.args.client c.args.ticket c.args.payload c.args.row c.args.number (ap (λ (h : Housed g.row.K.Denot). h.annals) c.self.view_is) c.requires.may c.requires.whole c.requires.store).may.loaded
+
+pub note-requires-in-Err-Fault-clause-takes : goal.note-requires-in-Err-Fault-clause-takes
+note-requires-in-Err-Fault-clause-takes g c =
+    (fault-ready c.self.inside.annals c.args.client c.args.ticket c.args.payload c.args.row c.args.number c.claimed-in-Err-Fault.result c.known.ensures (storing c.self.inside.annals c.args.self.now.annals c.args.client c.args.ticket c.args.payload c.args.row c.args.number (ap (λ (h : Housed g.row.K.Denot). h.annals) c.self.view_is) c.requires.may c.requires.whole c.requires.store) (fault-event c.args.client c.args.ticket c.args.payload c.whole_note-note.result c.claimed-in-Err-Fault.result c.claimed-in-Err-Fault.ensures c.whole_note-note.ensures)).takes
+
+pub note-requires-in-Err-Fault-clause-allowed : goal.note-requires-in-Err-Fault-clause-allowed
+note-requires-in-Err-Fault-clause-allowed g c =
+    (fault-ready c.self.inside.annals c.args.client c.args.ticket c.args.payload c.args.row c.args.number c.claimed-in-Err-Fault.result c.known.ensures (storing c.self.inside.annals c.args.self.now.annals c.args.client c.args.ticket c.args.payload c.args.row c.args.number (ap (λ (h : Housed g.row.K.Denot). h.annals) c.self.view_is) c.requires.may c.requires.whole c.requires.store) (fault-event c.args.client c.args.ticket c.args.payload c.whole_note-note.result c.claimed-in-Err-Fault.result c.claimed-in-Err-Fault.ensures c.whole_note-note.ensures)).allowed
+
+pub note-requires-in-Err-Fault-clause-room : goal.note-requires-in-Err-Fault-clause-room
+note-requires-in-Err-Fault-clause-room g c =
+    (fault-ready c.self.inside.annals c.args.client c.args.ticket c.args.payload c.args.row c.args.number c.claimed-in-Err-Fault.result c.known.ensures (storing c.self.inside.annals c.args.self.now.annals c.args.client c.args.ticket c.args.payload c.args.row c.args.number (ap (λ (h : Housed g.row.K.Denot). h.annals) c.self.view_is) c.requires.may c.requires.whole c.requires.store) (fault-event c.args.client c.args.ticket c.args.payload c.whole_note-note.result c.claimed-in-Err-Fault.result c.claimed-in-Err-Fault.ensures c.whole_note-note.ensures)).room
+
+pub note-requires-in-Err-Fault-clause-row : goal.note-requires-in-Err-Fault-clause-row
+note-requires-in-Err-Fault-clause-row g c =
+    (fault-ready c.self.inside.annals c.args.client c.args.ticket c.args.payload c.args.row c.args.number c.claimed-in-Err-Fault.result c.known.ensures (storing c.self.inside.annals c.args.self.now.annals c.args.client c.args.ticket c.args.payload c.args.row c.args.number (ap (λ (h : Housed g.row.K.Denot). h.annals) c.self.view_is) c.requires.may c.requires.whole c.requires.store) (fault-event c.args.client c.args.ticket c.args.payload c.whole_note-note.result c.claimed-in-Err-Fault.result c.claimed-in-Err-Fault.ensures c.whole_note-note.ensures)).row
+
+pub note-requires-in-Err-Fault-clause-loaded : goal.note-requires-in-Err-Fault-clause-loaded
+note-requires-in-Err-Fault-clause-loaded g c =
+    (storing c.self.inside.annals c.args.self.now.annals c.args.client c.args.ticket c.args.payload c.args.row c.args.number (ap (λ (h : Housed g.row.K.Denot). h.annals) c.self.view_is) c.requires.may c.requires.whole c.requires.store).may.loaded
+
+pub take_out-board-requires-clause-within : goal.take_out-board-requires-clause-within
+take_out-board-requires-clause-within g c =
+    (store-within g.K.Keeper.rows g.K.Keeper.doubt c.args.client c.args.ticket c.args.row c.args.number (record { annals = c.self.inside.annals; places = c.self.inside.places.items; pool = c.self.inside.pool; keeper = c.self.inside.keeper }) c.self.invariant (storing c.self.inside.annals c.args.self.now.annals c.args.client c.args.ticket c.args.payload c.args.row c.args.number (ap (λ (h : Housed g.row.K.Denot). h.annals) c.self.view_is) c.requires.may c.requires.whole c.requires.store).store)
+
+pub take_out-board-requires-clause-home : goal.take_out-board-requires-clause-home
+take_out-board-requires-clause-home g c =
+    ap is_some (claim-board g.K.Keeper.rows g.K.Keeper.doubt c.args.client c.args.payload.count c.args.ticket c.args.row c.args.number (record { annals = c.self.inside.annals; places = c.self.inside.places.items; pool = c.self.inside.pool; keeper = c.self.inside.keeper }) c.self.invariant c.known.ensures (storing c.self.inside.annals c.args.self.now.annals c.args.client c.args.ticket c.args.payload c.args.row c.args.number (ap (λ (h : Housed g.row.K.Denot). h.annals) c.self.view_is) c.requires.may c.requires.whole c.requires.store).may (storing c.self.inside.annals c.args.self.now.annals c.args.client c.args.ticket c.args.payload c.args.row c.args.number (ap (λ (h : Housed g.row.K.Denot). h.annals) c.self.view_is) c.requires.may c.requires.whole c.requires.store).store (store-within g.K.Keeper.rows g.K.Keeper.doubt c.args.client c.args.ticket c.args.row c.args.number (record { annals = c.self.inside.annals; places = c.self.inside.places.items; pool = c.self.inside.pool; keeper = c.self.inside.keeper }) c.self.invariant (storing c.self.inside.annals c.args.self.now.annals c.args.client c.args.ticket c.args.payload c.args.row c.args.number (ap (λ (h : Housed g.row.K.Denot). h.annals) c.self.view_is) c.requires.may c.requires.whole c.requires.store).store)).1
+
+pub taken-requires-clause-live : goal.taken-requires-clause-live
+taken-requires-clause-live g c =
+    took-live c.self.inside.annals c.note.new.self c.args.client c.args.row.entry c.args.ticket c.args.payload c.args.row c.args.number c.claimed.result c.known.ensures (storing c.self.inside.annals c.args.self.now.annals c.args.client c.args.ticket c.args.payload c.args.row c.args.number (ap (λ (h : Housed g.row.K.Denot). h.annals) c.self.view_is) c.requires.may c.requires.whole c.requires.store) (made-event c.args.client c.args.row.entry c.args.ticket c.args.payload c.args.row c.whole_note-note.result c.claimed.result c.claimed.ensures c.whole_note-note.ensures refl) c.note.ensures.appended refl
+
+pub taken-requires-clause-within : goal.taken-requires-clause-within
+taken-requires-clause-within g c =
+    took-within c.self.inside.annals c.note.new.self c.args.client c.args.ticket c.args.payload c.args.row c.args.number c.claimed.result (storing c.self.inside.annals c.args.self.now.annals c.args.client c.args.ticket c.args.payload c.args.row c.args.number (ap (λ (h : Housed g.row.K.Denot). h.annals) c.self.view_is) c.requires.may c.requires.whole c.requires.store) c.note.ensures.appended
+
+pub give-requires : goal.give-requires
+give-requires g c =
+    end-fits g.K.Keeper.rows g.K.Keeper.doubt c.args.client c.args.payload.count _ c.args.ticket (record { annals = c.self.inside.annals; places = c.self.inside.places.items; pool = c.self.inside.pool; keeper = c.self.inside.keeper }) c.args.self.now.annals (ap (λ (h : Housed g.row.K.Denot). h.annals) c.self.view_is) c.self.invariant c.known.ensures c.requires.may c.into_blocks.ensures.count
+
+pub invariant_of-self : goal.invariant_of-self
+invariant_of-self g c =
+    house-took g.K.Keeper.rows g.K.Keeper.doubt c.args.client c.args.ticket c.args.payload c.args.row c.args.number c.claimed.result (record { annals = c.self.inside.annals; places = c.self.inside.places.items; pool = c.self.inside.pool; keeper = c.self.inside.keeper }) c.note.new.self c.commit.new.self c.take_out-board.new.places.items c.self.invariant c.known.ensures c.note.ensures.known (storing c.self.inside.annals c.args.self.now.annals c.args.client c.args.ticket c.args.payload c.args.row c.args.number (ap (λ (h : Housed g.row.K.Denot). h.annals) c.self.view_is) c.requires.may c.requires.whole c.requires.store)
+    (made-event c.args.client c.args.row.entry c.args.ticket c.args.payload c.args.row c.whole_note-note.result c.claimed.result c.claimed.ensures c.whole_note-note.ensures refl) c.note.ensures.appended
+    (keeps-made g.K.Keeper.rows g.K.Keeper.doubt c.self.inside.keeper c.commit.new.self c.self.inside.annals.core.rows (Change.Add c.args.row) (store-plain g.K.Keeper.rows g.K.Keeper.doubt c.args.client c.args.ticket c.args.payload c.args.row c.args.number (record { annals = c.self.inside.annals; places = c.self.inside.places.items; pool = c.self.inside.pool; keeper = c.self.inside.keeper }) c.self.invariant c.known.ensures (storing c.self.inside.annals c.args.self.now.annals c.args.client c.args.ticket c.args.payload c.args.row c.args.number (ap (λ (h : Housed g.row.K.Denot). h.annals) c.self.view_is) c.requires.may c.requires.whole c.requires.store)) c.in-Ok.ensures.committed)
+    c.take_out-board.ensures.places
+
+pub invariant_of-self-in-Err-Fault : goal.invariant_of-self-in-Err-Fault
+invariant_of-self-in-Err-Fault g c =
+    house-failed g.K.Keeper.rows g.K.Keeper.doubt c.args.client c.args.ticket c.args.payload c.args.row c.args.number c.claimed-in-Err-Fault.result (record { annals = c.self.inside.annals; places = c.self.inside.places.items; pool = c.self.inside.pool; keeper = c.self.inside.keeper }) c.note-in-Err-Fault.new.self c.commit.new.self c.give.new.self c.self.invariant c.known.ensures c.note-in-Err-Fault.ensures.known (storing c.self.inside.annals c.args.self.now.annals c.args.client c.args.ticket c.args.payload c.args.row c.args.number (ap (λ (h : Housed g.row.K.Denot). h.annals) c.self.view_is) c.requires.may c.requires.whole c.requires.store)
+    (fault-event c.args.client c.args.ticket c.args.payload c.whole_note-note.result c.claimed-in-Err-Fault.result c.claimed-in-Err-Fault.ensures c.whole_note-note.ensures) c.note-in-Err-Fault.ensures.appended
+    (keeps-left g.K.Keeper.rows g.K.Keeper.doubt c.self.inside.keeper c.commit.new.self c.self.inside.annals.core.rows (Some (Change.Add c.args.row)) (store-plain g.K.Keeper.rows g.K.Keeper.doubt c.args.client c.args.ticket c.args.payload c.args.row c.args.number (record { annals = c.self.inside.annals; places = c.self.inside.places.items; pool = c.self.inside.pool; keeper = c.self.inside.keeper }) c.self.invariant c.known.ensures (storing c.self.inside.annals c.args.self.now.annals c.args.client c.args.ticket c.args.payload c.args.row c.args.number (ap (λ (h : Housed g.row.K.Denot). h.annals) c.self.view_is) c.requires.may c.requires.whole c.requires.store)) (rw c.in-Err-Fault.field-0-is at c.in-Err-Fault.ensures.committed))
+    c.give.ensures.capacity (c.give.ensures.conserved ∙ ap (λ (n : ℕ). c.self.inside.pool.free + n) c.into_blocks.ensures.count)
+
+pub returns-in-Ok-clause-turn : goal.returns-in-Ok-clause-turn
+returns-in-Ok-clause-turn g c =
+    turn-took c.self.inside.annals c.args.self.now.annals c.note.new.self c.args.client c.args.ticket c.args.payload c.args.row c.args.number c.taken.result c.claimed.result (ap (λ (h : Housed g.row.K.Denot). h.annals) c.self.view_is) (storing c.self.inside.annals c.args.self.now.annals c.args.client c.args.ticket c.args.payload c.args.row c.args.number (ap (λ (h : Housed g.row.K.Denot). h.annals) c.self.view_is) c.requires.may c.requires.whole c.requires.store) (made-event c.args.client c.args.row.entry c.args.ticket c.args.payload c.args.row c.whole_note-note.result c.claimed.result c.claimed.ensures c.whole_note-note.ensures refl) c.note.ensures.appended c.taken.ensures.entry
+
+pub returns-in-Ok-clause-gave : goal.returns-in-Ok-clause-gave
+returns-in-Ok-clause-gave g c =
+    subst (λ (h : Housed g.row.K.Denot). ClaimGave c.args.client c.args.ticket (Fetched.Whole c.args.payload) (Ok (Claimed.Taken c.taken.result)) h (record { annals = c.note.new.self; places = c.take_out-board.new.places.items; pool = c.self.inside.pool; keeper = c.commit.new.self })) c.self.view_is
+    (gave-taken g.K.Keeper.rows g.K.Keeper.doubt c.args.client c.args.ticket c.args.payload c.args.row c.args.number c.taken.result (record { annals = c.self.inside.annals; places = c.self.inside.places.items; pool = c.self.inside.pool; keeper = c.self.inside.keeper }) (record { annals = c.note.new.self; places = c.take_out-board.new.places.items; pool = c.self.inside.pool; keeper = c.commit.new.self }) c.self.invariant c.known.ensures (storing c.self.inside.annals c.args.self.now.annals c.args.client c.args.ticket c.args.payload c.args.row c.args.number (ap (λ (h : Housed g.row.K.Denot). h.annals) c.self.view_is) c.requires.may c.requires.whole c.requires.store).may (storing c.self.inside.annals c.args.self.now.annals c.args.client c.args.ticket c.args.payload c.args.row c.args.number (ap (λ (h : Housed g.row.K.Denot). h.annals) c.self.view_is) c.requires.may c.requires.whole c.requires.store).whole (storing c.self.inside.annals c.args.self.now.annals c.args.client c.args.ticket c.args.payload c.args.row c.args.number (ap (λ (h : Housed g.row.K.Denot). h.annals) c.self.view_is) c.requires.may c.requires.whole c.requires.store).store (store-within g.K.Keeper.rows g.K.Keeper.doubt c.args.client c.args.ticket c.args.row c.args.number (record { annals = c.self.inside.annals; places = c.self.inside.places.items; pool = c.self.inside.pool; keeper = c.self.inside.keeper }) c.self.invariant (storing c.self.inside.annals c.args.self.now.annals c.args.client c.args.ticket c.args.payload c.args.row c.args.number (ap (λ (h : Housed g.row.K.Denot). h.annals) c.self.view_is) c.requires.may c.requires.whole c.requires.store).store) (subst (λ (h : Housed g.row.K.Denot). IfSome (place_at h.places c.args.number).board (λ b. 8 ≤ b.room)) (sym c.self.view_is) c.requires.marks) (subst (λ (x : Event). Appended c.args.client x c.self.inside.annals c.note.new.self) (sym (made-event c.args.client c.args.row.entry c.args.ticket c.args.payload c.args.row c.whole_note-note.result c.claimed.result c.claimed.ensures c.whole_note-note.ensures refl)) c.note.ensures.appended) refl
+    c.take_out-board.ensures.places (c.take_out-board.ensures.board ∙ ap Some (sym c.taken.ensures.board)) c.taken.ensures.entry c.taken.ensures.payload c.taken.ensures.plugin c.taken.ensures.traced)
+
+pub returns-in-Ok-clause-faults : goal.returns-in-Ok-clause-faults
+returns-in-Ok-clause-faults g c =
+    subst (λ (h : Housed g.row.K.Denot). FaultsCounted g.K.Keeper.faults h (record { annals = c.note.new.self; places = c.take_out-board.new.places.items; pool = c.self.inside.pool; keeper = c.commit.new.self })) c.self.view_is
+    (faults-took g.K.Keeper.faults c.args.client c.args.ticket c.args.payload c.args.row c.claimed.result (record { annals = c.self.inside.annals; places = c.self.inside.places.items; pool = c.self.inside.pool; keeper = c.self.inside.keeper }) (record { annals = c.note.new.self; places = c.take_out-board.new.places.items; pool = c.self.inside.pool; keeper = c.commit.new.self }) (made-event c.args.client c.args.row.entry c.args.ticket c.args.payload c.args.row c.whole_note-note.result c.claimed.result c.claimed.ensures c.whole_note-note.ensures refl) c.note.ensures.appended c.in-Ok.ensures.counts)
+
+pub returns-in-Ok-clause-counts : goal.returns-in-Ok-clause-counts
+returns-in-Ok-clause-counts g c =
+    subst (λ (h : Housed g.row.K.Denot). g.K.Keeper.faults h.keeper ≤ g.K.Keeper.faults c.commit.new.self) c.self.view_is c.in-Ok.ensures.counts
+
+pub returns-in-Err-Fault-clause-counts : goal.returns-in-Err-Fault-clause-counts
+returns-in-Err-Fault-clause-counts g c =
+    subst (λ (h : Housed g.row.K.Denot). g.K.Keeper.faults h.keeper ≤ g.K.Keeper.faults c.commit.new.self) c.self.view_is c.in-Err-Fault.ensures.counts
+
+pub returns-in-Err-NoMemory-clause-counts : goal.returns-in-Err-NoMemory-clause-counts
+returns-in-Err-NoMemory-clause-counts g c =
+    subst (λ (h : Housed g.row.K.Denot). g.K.Keeper.faults h.keeper ≤ g.K.Keeper.faults c.commit.new.self) c.self.view_is c.in-Err-NoMemory.ensures.counts
+
+pub commit-requires-clause-timely : goal.commit-requires-clause-timely
+commit-requires-clause-timely g c =
+    c.requires.store.timely
+
+pub note-requires-clause-no_boot : goal.note-requires-clause-no_boot
+note-requires-clause-no_boot g c =
+    ap is_boot c.claimed.ensures
+
+pub note-requires-in-Err-Fault-clause-no_boot : goal.note-requires-in-Err-Fault-clause-no_boot
+note-requires-in-Err-Fault-clause-no_boot g c =
+    ap is_boot c.claimed-in-Err-Fault.ensures
+
+pub note-requires-clause-made : goal.note-requires-clause-made
+note-requires-clause-made g c =
+    subst (λ (x : Event). IsMadeBy x c.args.client) (sym c.claimed.ensures) refl
+
+pub note-requires-in-Err-Fault-clause-made : goal.note-requires-in-Err-Fault-clause-made
+note-requires-in-Err-Fault-clause-made g c =
+    subst (λ (x : Event). IsMadeBy x c.args.client) (sym c.claimed-in-Err-Fault.ensures) refl
+
+pub returns-in-Err-Fault-clause-turn : goal.returns-in-Err-Fault-clause-turn
+returns-in-Err-Fault-clause-turn g c =
+    turn-failed c.self.inside.annals c.args.self.now.annals c.note-in-Err-Fault.new.self c.args.client c.args.ticket c.args.payload c.args.row c.args.number c.claimed-in-Err-Fault.result (ap (λ (h : Housed g.row.K.Denot). h.annals) c.self.view_is) (storing c.self.inside.annals c.args.self.now.annals c.args.client c.args.ticket c.args.payload c.args.row c.args.number (ap (λ (h : Housed g.row.K.Denot). h.annals) c.self.view_is) c.requires.may c.requires.whole c.requires.store) (fault-event c.args.client c.args.ticket c.args.payload c.whole_note-note.result c.claimed-in-Err-Fault.result c.claimed-in-Err-Fault.ensures c.whole_note-note.ensures) c.note-in-Err-Fault.ensures.appended
+
+pub returns-in-Err-Fault-clause-gave : goal.returns-in-Err-Fault-clause-gave
+returns-in-Err-Fault-clause-gave g c =
+    subst (λ (h : Housed g.row.K.Denot). ClaimGave c.args.client c.args.ticket (Fetched.Whole c.args.payload) (Ok (Claimed.Refused Refusal.KeeperFault)) h (record { annals = c.note-in-Err-Fault.new.self; places = c.self.inside.places.items; pool = c.give.new.self; keeper = c.commit.new.self })) c.self.view_is
+    (c.give.ensures.conserved ∙ ap (λ (n : ℕ). c.self.inside.pool.free + n) c.into_blocks.ensures.count, places-themselves c.self.inside.places.items)
+
+pub returns-in-Err-Fault-clause-faults : goal.returns-in-Err-Fault-clause-faults
+returns-in-Err-Fault-clause-faults g c =
+    subst (λ (h : Housed g.row.K.Denot). FaultsCounted g.K.Keeper.faults h (record { annals = c.note-in-Err-Fault.new.self; places = c.self.inside.places.items; pool = c.give.new.self; keeper = c.commit.new.self })) c.self.view_is
+    (faults-failed g.K.Keeper.faults c.args.client c.args.ticket c.args.payload c.claimed-in-Err-Fault.result (record { annals = c.self.inside.annals; places = c.self.inside.places.items; pool = c.self.inside.pool; keeper = c.self.inside.keeper }) (record { annals = c.note-in-Err-Fault.new.self; places = c.self.inside.places.items; pool = c.give.new.self; keeper = c.commit.new.self }) (fault-event c.args.client c.args.ticket c.args.payload c.whole_note-note.result c.claimed-in-Err-Fault.result c.claimed-in-Err-Fault.ensures c.whole_note-note.ensures) c.note-in-Err-Fault.ensures.appended (c.in-Err-Fault.ensures.cause (ap Err c.in-Err-Fault.field-0-is)))
+
+pub invariant_of-self-in-Err-NoMemory : goal.invariant_of-self-in-Err-NoMemory
+invariant_of-self-in-Err-NoMemory g c =
+    house-left g.K.Keeper.rows g.K.Keeper.doubt c.args.client c.args.ticket c.args.payload c.args.row c.args.number (record { annals = c.self.inside.annals; places = c.self.inside.places.items; pool = c.self.inside.pool; keeper = c.self.inside.keeper }) c.commit.new.self c.self.invariant c.known.ensures (storing c.self.inside.annals c.args.self.now.annals c.args.client c.args.ticket c.args.payload c.args.row c.args.number (ap (λ (h : Housed g.row.K.Denot). h.annals) c.self.view_is) c.requires.may c.requires.whole c.requires.store) (rw c.in-Err-NoMemory.field-0-is at c.in-Err-NoMemory.ensures.committed)
+
+pub returns-in-Err-NoMemory-clause-turn : goal.returns-in-Err-NoMemory-clause-turn
+returns-in-Err-NoMemory-clause-turn g c =
+    turn-left c.self.inside.annals c.args.self.now.annals c.args.client c.args.payload.count c.args.ticket (claim_event c.args.client c.args.ticket.request (Fetched.Whole c.args.payload)) (ap (λ (h : Housed g.row.K.Denot). h.annals) c.self.view_is) c.requires.may
+
+pub returns-in-Err-NoMemory-clause-gave : goal.returns-in-Err-NoMemory-clause-gave
+returns-in-Err-NoMemory-clause-gave g c =
+    (ap (λ (h : Housed g.row.K.Denot). h.pool) c.self.view_is, places-same c.args.self.now.places c.self.inside.places.items (ap (λ (h : Housed g.row.K.Denot). h.places) c.self.view_is), refl, refl)
+
+pub returns-in-Err-NoMemory-clause-faults : goal.returns-in-Err-NoMemory-clause-faults
+returns-in-Err-NoMemory-clause-faults g c =
+    counted-same g.K.Keeper.faults c.args.self.now (record { annals = c.self.inside.annals; places = c.self.inside.places.items; pool = c.self.inside.pool; keeper = c.commit.new.self }) (ap (λ (h : Housed g.row.K.Denot). keeper_faults (past h)) c.self.view_is) (subst (λ (h : Housed g.row.K.Denot). g.K.Keeper.faults h.keeper ≤ g.K.Keeper.faults c.commit.new.self) c.self.view_is c.in-Err-NoMemory.ensures.counts)

@@ -1,0 +1,55 @@
+use Rattle.std.proofs.Common.{ℕ, ap, ◌∙◌, subst}
+use Rattle.std.specs.Prelude.{Option, unwrap_or}
+use Rattle.emulated_boards.specs.Conditions.{unplugged}
+use Rattle.daemon_core.specs.Housed.{Housed}
+use Rattle.daemon_core.specs.Plugging.{BoardMoved}
+use Rattle.daemon_core.proofs.Moves.{board-moved, house-unplugged, unplug-plan, unplug-ready}
+use Rattle.daemon_core.proofs.house.House.take_out.Goals as goal
+
+pub move_out-requires-clause-within : goal.move_out-requires-clause-within
+move_out-requires-clause-within g c =
+    (unplug-plan _ _ (record { annals = c.self.inside.annals; places = c.self.inside.places.items; pool = c.self.inside.pool; keeper = c.self.inside.keeper })
+    c.args.self.now.annals c.args.device.now c.unwrap_or-number.result (ap (λ (h : Housed g.row.K.Denot). h.annals) c.self.view_is) c.self.invariant c.known.ensures c.requires.free
+    (c.unwrap_or-number.ensures ∙ ap (λ (o : Option ℕ). unwrap_or o 0) c.board_found.ensures)).within
+
+pub move_out-requires-clause-home : goal.move_out-requires-clause-home
+move_out-requires-clause-home g c =
+    (unplug-plan _ _ (record { annals = c.self.inside.annals; places = c.self.inside.places.items; pool = c.self.inside.pool; keeper = c.self.inside.keeper })
+    c.args.self.now.annals c.args.device.now c.unwrap_or-number.result (ap (λ (h : Housed g.row.K.Denot). h.annals) c.self.view_is) c.self.invariant c.known.ensures c.requires.free
+    (c.unwrap_or-number.ensures ∙ ap (λ (o : Option ℕ). unwrap_or o 0) c.board_found.ensures)).home
+
+pub note-requires-clause-takes : goal.note-requires-clause-takes
+note-requires-clause-takes g c =
+    (unplug-ready c.self.inside.annals c.args.self.now.annals c.args.client c.args.device.now (ap (λ (h : Housed g.row.K.Denot). h.annals) c.self.view_is) c.known.ensures c.requires.runs c.requires.booted c.requires.room c.requires.free).takes
+
+pub note-requires-clause-allowed : goal.note-requires-clause-allowed
+note-requires-clause-allowed g c =
+    (unplug-ready c.self.inside.annals c.args.self.now.annals c.args.client c.args.device.now (ap (λ (h : Housed g.row.K.Denot). h.annals) c.self.view_is) c.known.ensures c.requires.runs c.requires.booted c.requires.room c.requires.free).allowed
+
+pub note-requires-clause-room : goal.note-requires-clause-room
+note-requires-clause-room g c =
+    (unplug-ready c.self.inside.annals c.args.self.now.annals c.args.client c.args.device.now (ap (λ (h : Housed g.row.K.Denot). h.annals) c.self.view_is) c.known.ensures c.requires.runs c.requires.booted c.requires.room c.requires.free).room
+
+pub note-requires-clause-row : goal.note-requires-clause-row
+note-requires-clause-row g c =
+    (unplug-ready c.self.inside.annals c.args.self.now.annals c.args.client c.args.device.now (ap (λ (h : Housed g.row.K.Denot). h.annals) c.self.view_is) c.known.ensures c.requires.runs c.requires.booted c.requires.room c.requires.free).row
+
+pub invariant_of-self : goal.invariant_of-self
+invariant_of-self g c =
+    house-unplugged _ _ c.args.client c.args.device.now c.unwrap_or-number.result
+    (record { annals = c.self.inside.annals; places = c.self.inside.places.items; pool = c.self.inside.pool; keeper = c.self.inside.keeper })
+    c.args.self.now.annals c.note.new.self c.move_out.new.places.items
+    (ap (λ (h : Housed g.row.K.Denot). h.annals) c.self.view_is) c.self.invariant c.known.ensures c.note.ensures.known c.note.ensures.appended c.requires.loaded
+    (unplug-plan _ _ (record { annals = c.self.inside.annals; places = c.self.inside.places.items; pool = c.self.inside.pool; keeper = c.self.inside.keeper })
+    c.args.self.now.annals c.args.device.now c.unwrap_or-number.result (ap (λ (h : Housed g.row.K.Denot). h.annals) c.self.view_is) c.self.invariant c.known.ensures c.requires.free
+    (c.unwrap_or-number.ensures ∙ ap (λ (o : Option ℕ). unwrap_or o 0) c.board_found.ensures))
+    c.move_out.ensures
+
+pub returns-clause-moved : goal.returns-clause-moved
+returns-clause-moved g c =
+    subst (λ (h : Housed g.row.K.Denot). BoardMoved unplugged h.annals c.args.device.now h.places c.move_out.new.places.items) c.self.view_is
+    (board-moved unplugged c.self.inside.annals c.args.device.now c.unwrap_or-number.result c.self.inside.places.items c.move_out.new.places.items
+    (unplug-plan _ _ (record { annals = c.self.inside.annals; places = c.self.inside.places.items; pool = c.self.inside.pool; keeper = c.self.inside.keeper })
+    c.args.self.now.annals c.args.device.now c.unwrap_or-number.result (ap (λ (h : Housed g.row.K.Denot). h.annals) c.self.view_is) c.self.invariant c.known.ensures c.requires.free
+    (c.unwrap_or-number.ensures ∙ ap (λ (o : Option ℕ). unwrap_or o 0) c.board_found.ensures))
+    c.move_out.ensures)

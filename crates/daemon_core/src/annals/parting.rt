@@ -1,0 +1,25 @@
+//! The end of annals.
+ghost use Rattle.std.specs.Prelude.{◌≡◌};
+
+use super::Annals;
+use history_keeper::Row;
+use update_log::{Facts, Log};
+
+impl Annals {
+    /// The facts, the log, and the rows that the last boot loaded.
+    pub fn into_parts(self) -> (Facts, Log, Vec<Row>)
+        ensures facts { result.0 ≡ self.facts }
+        ensures log { result.1 ≡ self.core.log }
+        ensures opening { result.2.items ≡ self.opening }
+    {
+        let Annals {
+            facts,
+            first: _,
+            opening,
+            loaded: _,
+            core,
+            makers: _,
+        } = self;
+        (facts, core.into_log(), opening)
+    }
+}

@@ -1,0 +1,5 @@
+use Rattle.plain_runs.proofs.Logs.{made-none}
+use Rattle.plain_runs.proofs.running.flash.Goals as goal
+
+pub returns-else-may_write-clause-made : goal.returns-else-may_write-clause-made
+returns-else-may_write-clause-made g c = made-none c.args.client c.args.entry c.args.house.now.annals

@@ -1,0 +1,17 @@
+use Rattle.plain_runs.proofs.Logs.{came-back}
+use Rattle.plain_runs.proofs.Turns.{start-home, start-runs}
+use Rattle.plain_runs.proofs.steps.begin.Goals as goal
+
+-- src/steps.rt
+pub give_back-requires-clause-home : goal.give_back-requires-clause-home
+give_back-requires-clause-home g c =
+    start-home c.args.house.now.annals c.start.new.self.annals c.args.client c.args.entry c.args.claim c.requires.entry c.requires.runs c.in-Err.ensures.turn
+
+pub returns-in-Ok-clause-runs : goal.returns-in-Ok-clause-runs
+returns-in-Ok-clause-runs g c =
+    let t = c.in-Ok.ensures.turn in
+    start-runs c.args.house.now.annals c.start.new.self.annals c.args.client c.args.entry c.args.claim c.args.op c.requires.entry c.requires.runs t.0 t.1
+
+pub returns-in-Err-clause-gone : goal.returns-in-Err-clause-gone
+returns-in-Err-clause-gone g c =
+    came-back c.args.client c.args.entry c.args.house.now.annals c.start.new.self.annals c.give_back.new.house.annals c.in-Err.ensures.turn c.give_back.ensures

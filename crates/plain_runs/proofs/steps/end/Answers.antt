@@ -1,0 +1,29 @@
+use Rattle.install_engine.proofs.RunHouse.{booted-off, is-off}
+use Rattle.plain_runs.proofs.Logs.{came-back}
+use Rattle.plain_runs.proofs.Turns.{end-home, end-number, end-runs}
+use Rattle.plain_runs.proofs.steps.end.Goals as goal
+
+-- src/steps.rt
+pub end-requires-clause-ends : goal.end-requires-clause-ends
+end-requires-clause-ends g c =
+    end-number c.args.house.now.annals c.args.client c.args.entry c.args.op c.args.answer c.args.claim c.requires c.board.result.now c.board.ensures
+
+pub give_back-requires-clause-booted : goal.give_back-requires-clause-booted
+give_back-requires-clause-booted g c =
+    booted-off c.args.client c.args.house.now.annals c.end.new.self.annals c.in-Err.ensures.turn c.requires.runs.booted
+
+pub give_back-requires-clause-off : goal.give_back-requires-clause-off
+give_back-requires-clause-off g c = is-off c.args.client c.args.house.now.annals c.end.new.self.annals c.in-Err.ensures.turn
+
+pub give_back-requires-clause-home : goal.give_back-requires-clause-home
+give_back-requires-clause-home g c =
+    end-home c.args.house.now.annals c.args.client c.args.entry c.args.op c.args.answer c.args.claim c.requires c.end.new.self.annals c.in-Err.ensures.turn
+
+pub returns-in-Ok-clause-runs : goal.returns-in-Ok-clause-runs
+returns-in-Ok-clause-runs g c =
+    let t = c.in-Ok.ensures.turn in
+    end-runs c.args.house.now.annals c.args.client c.args.entry c.args.op c.args.answer c.args.claim c.requires c.board.result.now c.end.new.self.annals c.board.ensures t.0 t.1
+
+pub returns-in-Err-clause-gone : goal.returns-in-Err-clause-gone
+returns-in-Err-clause-gone g c =
+    came-back c.args.client c.args.entry c.args.house.now.annals c.end.new.self.annals c.give_back.new.house.annals c.in-Err.ensures.turn c.give_back.ensures

@@ -1,0 +1,31 @@
+use Rattle.std.proofs.Common.{ap, ◌∙◌}
+use Rattle.emulated_boards.specs.Conditions.{view_of}
+use Rattle.update_log.specs.declared.event.Op.{Op}
+use Rattle.device_claims.specs.declared.claim.Parts.{Parts}
+use Rattle.plain_runs.proofs.Logs.{back-none, gone-end, made-end, on-err}
+use Rattle.plain_runs.specs.Ran.{GaveBack}
+use Rattle.plain_runs.proofs.steps.prepare.Goals as goal
+
+-- src/steps.rt
+pub returns-in_err-claim-clause-gone : goal.returns-in_err-claim-clause-gone
+returns-in_err-claim-clause-gone g c =
+    on-err c.from_residual.result (GaveBack c.args.client c.args.entry c.args.house.now.annals c.begin.new.house.annals)
+    (back-none c.args.client c.args.entry c.args.house.now.annals c.begin.new.house.annals c.in_err-claim.ensures.gone)
+
+pub end-requires : goal.end-requires
+end-requires g c =
+    record {
+      before = c.in_ok-claim.claim;
+      entry_is = ap (λ (p : Parts). p.entry) c.in_ok-claim.ensures.same ∙ c.requires.entry;
+      runs = c.in_ok-claim.ensures.runs;
+      left = c.prepare-claim.ensures.board;
+      noted = c.prepare-claim.ensures.noted;
+    }
+
+pub returns-clause-made : goal.returns-clause-made
+returns-clause-made g c =
+    made-end c.end.result c.args.client c.args.entry Op.Prepare c.prepare-claim.result.1 (view_of c.prepare-claim.result.0.board.condition) c.args.house.now.annals c.begin.new.house.annals c.end.new.house.annals c.in_ok-claim.ensures.gained c.end.ensures.gained
+
+pub returns-clause-gone : goal.returns-clause-gone
+returns-clause-gone g c =
+    gone-end c.end.result c.args.client c.args.entry Op.Prepare c.args.house.now.annals c.begin.new.house.annals c.end.new.house.annals c.in_ok-claim.ensures.gained c.end.ensures.gone

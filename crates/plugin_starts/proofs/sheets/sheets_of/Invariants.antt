@@ -1,0 +1,6 @@
+use Rattle.std.proofs.Common.{◌≡◌, map, take}
+use Rattle.plugin_starts.proofs.sheets.sheets_of.Given as goal
+
+abbrev pub invariant-loop-plugin : goal.invariant-loop-plugin
+invariant-loop-plugin g l =
+    l.sheets.items ≡ map (λ b. (goal.Plugin-dyn g (b.vtable, b.value)).own_sheet b.value) (take l.plugin-index l.plugins)

@@ -1,0 +1,15 @@
+pub mod OthersLists
+pub mod OthersEntries
+pub mod OthersRows
+pub mod OthersBoards
+pub mod Others
+pub mod Logs
+pub mod Seeing
+pub mod Keeping
+pub mod Turning
+pub mod Stayed
+pub mod Answered
+pub mod Closed
+pub mod Taken
+pub mod Resumptions
+pub mod Gains

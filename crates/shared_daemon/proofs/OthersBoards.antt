@@ -1,0 +1,172 @@
+-- What an event of another client leaves of the board of a live entry.
+use Rattle.std.proofs.Common.{◌≡◌, ◌≢◌, ℕ, true, false, List, [], ◌∷◌, refl, ap, sym, ◌∙◌}
+use Rattle.std.proofs.lemmas.List.{append-nil}
+use Rattle.std.proofs.lemmas.Bool.{eq-eqb}
+use Rattle.std.specs.Prelude.{Option, Some, None, ◌==◌, if◌then◌else◌, option_map, unwrap_or}
+use Rattle.device_list.specs.declared.selector.Selector.{Selector}
+use Rattle.fw_facts.specs.Views.{is_home}
+use Rattle.fw_facts.specs.declared.seen.Seen.{Seen}
+use Rattle.fw_facts.specs.declared.view.DeviceView.{DeviceView}
+use Rattle.history_keeper.specs.Histories.{IsHistory}
+use Rattle.history_keeper.specs.declared.row.Row.{Row}
+use Rattle.update_log.proofs.Lists.{by_test, find-push_other}
+use Rattle.update_log.specs.Holding.{live, live_entry, open_steps}
+use Rattle.update_log.specs.Known.{board_found, board_of, for_board, is_board_of, known, rows, tells, views}
+use Rattle.update_log.specs.Legal.{IsLegal, PlugAnswered, PlugShows, found_view, open_on, plug_refused, unplug_refused}
+use Rattle.update_log.specs.Pasts.{off}
+use Rattle.update_log.specs.Shows.{Campaign, told_by}
+use Rattle.update_log.specs.declared.answer.PlugAnswer.{PlugAnswer}
+use Rattle.update_log.specs.declared.event.Event.{Event}
+use Rattle.update_log.specs.declared.facts.Facts.{Facts}
+use Rattle.update_log.specs.declared.live.LiveEntry.{LiveEntry}
+use Rattle.daemon_core.proofs.BoardsQuiet.{open-kept, open-marks-kept, raws-stay}
+use Rattle.daemon_core.proofs.ClaimAlone.{alone-on}
+use Rattle.daemon_core.proofs.ClaimBoards.{end-passes}
+use Rattle.daemon_core.proofs.ClaimEnds.{any-found, own-board}
+use Rattle.daemon_core.proofs.ClaimOpen.{open-entry_live}
+use Rattle.daemon_core.proofs.Moves.{for-other, found-board, free-home}
+use Rattle.daemon_core.proofs.PlacesKept.{SameOfBoard}
+use Rattle.daemon_core.specs.Annals.{IsLegalSo}
+use Rattle.daemon_core.specs.Boards.{is_faulty_end, is_out}
+use Rattle.shared_daemon.proofs.OthersEntries.{concerns, live-is}
+use Rattle.shared_daemon.proofs.OthersLists.{boots-other}
+use Rattle.update_log.specs.Pasts.{is_boot}
+
+-- Of a board nothing is told, and the same step is open on it.
+record TellsNone (facts : Facts) (opening : List Row) (past : List Event) (event : Event) (number : ℕ) : Type 0 where
+  told : told_by facts (rows facts opening past) event number ≡ []
+  same_tells : tells facts (live past) (known facts opening past) event number ≡ None
+  faulty : is_faulty_end facts (rows facts opening past) number event ≡ false
+  opened : open_on facts opening (event ∷ past) number ≡ open_on facts opening past number
+
+-- The board of a live entry is out.
+pub own-out : (facts : Facts) (opening : List Row) (past : List Event) (entry number : ℕ) (l : LiveEntry) → live_entry past entry ≡ Some l → l.entry ≡ entry → board_of facts (rows facts opening past) entry ≡ Some number → is_out facts opening past number ≡ true
+own-out facts opening past entry number l h s b =
+    any-found (λ x. is_board_of facts (rows facts opening past) x.entry number) (live past) entry l h
+    (ap (λ (e : ℕ). is_board_of facts (rows facts opening past) e number) s ∙ own-board facts (rows facts opening past) entry number b)
+
+-- A device that was unplugged or plugged has no live entry.
+busy-not : (o : Option ℕ) (rest : Option PlugAnswer) (shown : Seen) (Shows : Seen → Type 0) → PlugAnswered (unwrap_or (option_map (λ entry. Some (PlugAnswer.Busy entry)) o) rest) Shows (PlugAnswer.Done shown) → o ≡ None
+busy-not None rest shown Shows a = refl
+busy-not (Some entry) rest shown Shows a = cc
+
+unplugged-free : (o : Option DeviceView) (shown : Seen) (Shows : Seen → Type 0) → PlugAnswered (unplug_refused o) Shows (PlugAnswer.Done shown) → (view : DeviceView) × (o ≡ Some view) × (view.claim ≡ None)
+unplugged-free None shown Shows a = cc
+unplugged-free (Some view) shown Shows a = (view, refl, busy-not view.claim (if is_home view.seen then None else Some PlugAnswer.NotThere) shown Shows a)
+
+plugged-free : (o : Option DeviceView) (shown : Seen) (Shows : Seen → Type 0) → PlugAnswered (plug_refused o) Shows (PlugAnswer.Done shown) → (view : DeviceView) × (o ≡ Some view) × (view.claim ≡ None)
+plugged-free None shown Shows a = cc
+plugged-free (Some view) shown Shows a = (view, refl, busy-not view.claim (if is_home view.seen then Some PlugAnswer.AlreadyThere else None) shown Shows a)
+
+-- So its board is none that is out.
+moved-other : (facts : Facts) (opening : List Row) (past : List Event) (device : Selector) (number : ℕ) (view : DeviceView) (shown : Seen) → found_view (views facts opening past) device ≡ Some view → view.claim ≡ None → is_out facts opening past number ≡ true
+    → for_board (board_found facts (live past) (known facts opening past) device) number shown ≡ None
+moved-other facts opening past device number view shown f free out =
+    let g = found-board facts (live past) (known facts opening past) device view f in
+    let home : is_out facts opening past g.board.number ≡ false = free-home facts opening past g.board g.sheet (ap (λ (v : DeviceView). v.claim) g.view_is ∙ free) in
+    let apart : number ≢ g.board.number = (λ s. let bad : true ≡ false = sym out ∙ ap (is_out facts opening past) s ∙ home in cc) in
+    ap (λ (o : Option ℕ). for_board o number shown) g.number_is ∙ for-other g.board.number number shown apart
+
+module _ (c : Campaign) (opening : List Row) (past : List Event) (event : Event) (entry number : ℕ) (l : LiveEntry)
+    (valid : IsHistory opening) (legal : IsLegal c opening (event ∷ past)) (no_boot : is_boot event ≡ false) (none : concerns entry event ≡ false)
+    (found : live_entry past entry ≡ Some l) (same : l.entry ≡ entry) (board : board_of c.facts (rows c.facts opening past) entry ≡ Some number) where
+  legal-so : IsLegalSo c.facts c.first opening (event ∷ past)
+  legal-so = (c, refl, refl, legal)
+
+  out : is_out c.facts opening past number ≡ true
+  out = own-out c.facts opening past entry number l found same board
+
+  -- another live entry is on another board
+  off-board : (e : ℕ) (m : LiveEntry) → live_entry past e ≡ Some m → (e == entry) ≡ false → is_board_of c.facts (rows c.facts opening past) e number ≡ false
+  off-board e m f n =
+      by_test (is_board_of c.facts (rows c.facts opening past) e number) _
+      (λ t. absurd (alone-on c opening past number e entry valid legal.0 (live-is (live past) e m f) (live-is (live past) entry l found) t (own-board c.facts (rows c.facts opening past) entry number board)
+      (λ s. let yes : (e == entry) ≡ true = eq-eqb e entry s in let bad : true ≡ false = sym yes ∙ n in cc)))
+      (λ f. f)
+
+  same-steps : open_steps (event ∷ past) ≡ open_steps past → open_on c.facts opening (event ∷ past) number ≡ open_on c.facts opening past number
+  same-steps = open-kept c.facts c.first opening past event valid legal-so number
+
+tells-none : (c : Campaign) (opening : List Row) (past : List Event) (event : Event) (entry number : ℕ) (l : LiveEntry)
+    → IsHistory opening → IsLegal c opening (event ∷ past) → is_boot event ≡ false → concerns entry event ≡ false
+    → live_entry past entry ≡ Some l → l.entry ≡ entry → board_of c.facts (rows c.facts opening past) entry ≡ Some number → TellsNone c.facts opening past event number
+tells-none c opening past (Event.Boot round time limit found boards) entry number l v legal b n f s bd = cc
+tells-none c opening past (Event.Query client query) entry number l v legal b n f s bd =
+    record { told = refl; same_tells = refl; faulty = refl; opened = same-steps c opening past (Event.Query client query) entry number l v legal b n f s bd refl }
+tells-none c opening past (Event.Ask client request pending answer) entry number l v legal b n f s bd =
+    record { told = refl; same_tells = refl; faulty = refl; opened = same-steps c opening past (Event.Ask client request pending answer) entry number l v legal b n f s bd refl }
+tells-none c opening past (Event.Claim client request fetched answer) entry number l v legal b n f s bd =
+    record { told = refl; same_tells = refl; faulty = refl; opened = same-steps c opening past (Event.Claim client request fetched answer) entry number l v legal b n f s bd refl }
+tells-none c opening past (Event.Schedule client request answer) entry number l v legal b n f s bd =
+    record { told = refl; same_tells = refl; faulty = refl; opened = same-steps c opening past (Event.Schedule client request answer) entry number l v legal b n f s bd refl }
+tells-none c opening past (Event.Resume client e fetched answer stored) entry number l v legal b n f s bd =
+    record { told = refl; same_tells = refl; faulty = refl; opened = same-steps c opening past (Event.Resume client e fetched answer stored) entry number l v legal b n f s bd refl }
+tells-none c opening past (Event.Start client e op) entry number l v legal b n f s bd =
+    let a = legal.2.1 in
+    record {
+      told = refl;
+      same_tells = refl;
+      faulty = refl;
+      opened = find-push_other (λ x. is_board_of c.facts (rows c.facts opening past) x.entry number) (open_steps past) (record { client = client; entry = e; op = op })
+          (off-board c opening past (Event.Start client e op) entry number l v legal b n f s bd e legal.2.0 a.live n);
+    }
+tells-none c opening past (Event.End client e op outcome told seen) entry number l v legal b n f s bd =
+    let a = legal.2 in
+    let on : off past ≡ false = legal.1.on refl in
+    let m = open-entry_live c opening past e (record { client = client; entry = e; op = op }) legal.0 on a.open_is in
+    let k = end-passes c.facts opening past client e op outcome told seen number (off-board c opening past (Event.End client e op outcome told seen) entry number l v legal b n f s bd e m.0 m.1 n) in
+    record { told = k.told; same_tells = k.same_tells; faulty = k.faulty; opened = k.opened }
+tells-none c opening past (Event.Finish client e state stored) entry number l v legal b n f s bd =
+    record { told = refl; same_tells = refl; faulty = refl; opened = same-steps c opening past (Event.Finish client e state stored) entry number l v legal b n f s bd refl }
+tells-none c opening past (Event.Judge client e version state stored) entry number l v legal b n f s bd =
+    record { told = refl; same_tells = refl; faulty = refl; opened = same-steps c opening past (Event.Judge client e version state stored) entry number l v legal b n f s bd refl }
+tells-none c opening past (Event.Unplug client device (PlugAnswer.Done shown)) entry number l v legal b n f s bd =
+    let w = unplugged-free (found_view (views c.facts opening past) device) shown (λ x. x ≡ Seen.Gone) legal.2 in
+    record {
+      told = refl;
+      same_tells = moved-other c.facts opening past device number w.0 shown w.1 w.2 (own-out c.facts opening past entry number l f s bd);
+      faulty = refl;
+      opened = refl;
+    }
+tells-none c opening past (Event.Unplug client device PlugAnswer.NoDevice) entry number l v legal b n f s bd = record { told = refl; same_tells = refl; faulty = refl; opened = refl }
+tells-none c opening past (Event.Unplug client device (PlugAnswer.Busy e)) entry number l v legal b n f s bd = record { told = refl; same_tells = refl; faulty = refl; opened = refl }
+tells-none c opening past (Event.Unplug client device PlugAnswer.NotThere) entry number l v legal b n f s bd = record { told = refl; same_tells = refl; faulty = refl; opened = refl }
+tells-none c opening past (Event.Unplug client device PlugAnswer.AlreadyThere) entry number l v legal b n f s bd = record { told = refl; same_tells = refl; faulty = refl; opened = refl }
+tells-none c opening past (Event.Plug client device (PlugAnswer.Done shown)) entry number l v legal b n f s bd =
+    let w = plugged-free (found_view (views c.facts opening past) device) shown (PlugShows c.facts c.first opening past device) legal.2 in
+    record {
+      told = refl;
+      same_tells = moved-other c.facts opening past device number w.0 shown w.1 w.2 (own-out c.facts opening past entry number l f s bd);
+      faulty = refl;
+      opened = refl;
+    }
+tells-none c opening past (Event.Plug client device PlugAnswer.NoDevice) entry number l v legal b n f s bd = record { told = refl; same_tells = refl; faulty = refl; opened = refl }
+tells-none c opening past (Event.Plug client device (PlugAnswer.Busy e)) entry number l v legal b n f s bd = record { told = refl; same_tells = refl; faulty = refl; opened = refl }
+tells-none c opening past (Event.Plug client device PlugAnswer.NotThere) entry number l v legal b n f s bd = record { told = refl; same_tells = refl; faulty = refl; opened = refl }
+tells-none c opening past (Event.Plug client device PlugAnswer.AlreadyThere) entry number l v legal b n f s bd = record { told = refl; same_tells = refl; faulty = refl; opened = refl }
+tells-none c opening past (Event.GiveBack client what) entry number l v legal b n f s bd =
+    record { told = refl; same_tells = refl; faulty = refl; opened = same-steps c opening past (Event.GiveBack client what) entry number l v legal b n f s bd refl }
+tells-none c opening past Event.Cut entry number l v legal b n f s bd =
+    record { told = refl; same_tells = refl; faulty = refl; opened = same-steps c opening past Event.Cut entry number l v legal b n f s bd refl }
+
+-- So the log says the same of its board.
+pub own-board_same : (c : Campaign) (opening : List Row) (past : List Event) (event : Event) (entry number : ℕ) (l : LiveEntry)
+    → IsHistory opening → IsLegal c opening (event ∷ past) → is_boot event ≡ false → concerns entry event ≡ false
+    → live_entry past entry ≡ Some l → l.entry ≡ entry → board_of c.facts (rows c.facts opening past) entry ≡ Some number
+    → live_entry (event ∷ past) entry ≡ Some l → board_of c.facts (rows c.facts opening (event ∷ past)) entry ≡ Some number
+    → SameOfBoard c.facts c.first opening past (event ∷ past) number
+own-board_same c opening past event entry number l v legal b n f s bd f' bd' =
+    let t = tells-none c opening past event entry number l v legal b n f s bd in
+    let so : IsLegalSo c.facts c.first opening (event ∷ past) = (c, refl, refl, legal) in
+    record {
+      told = rw t.told (append-nil _);
+      out = own-out c.facts opening (event ∷ past) entry number l f' s bd' ∙ sym (own-out c.facts opening past entry number l f s bd);
+      opened = t.opened;
+      marks = open-marks-kept c.facts c.first opening past event v so number t.opened;
+      booted = λ h. rw (boots-other past event b) at h;
+      seen = rw t.same_tells refl;
+      before = rw t.same_tells refl;
+      began = rw (t.same_tells, t.told) refl;
+      raws = raws-stay c.facts c.first opening past event v so;
+      faults = rw t.faulty refl;
+    }

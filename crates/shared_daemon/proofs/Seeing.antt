@@ -1,0 +1,82 @@
+-- What a house, a pass and a turn of one name know of each other.
+use Rattle.std.proofs.Common.{◌≡◌, ℕ, ◌<◌, Bool, List, [], ◌++◌, map, ap, sym, ◌∙◌, subst, arith}
+use Rattle.fw_facts.specs.declared.seen.Seen.{Seen}
+use Rattle.history_keeper.specs.declared.row.Row.{Row}
+use Rattle.history_keeper.specs.Histories.{IsHistory}
+use Rattle.update_log.specs.declared.event.Event.{Event}
+use Rattle.update_log.specs.declared.facts.Facts.{Facts}
+use Rattle.update_log.specs.Pasts.{boots, past_of}
+use Rattle.daemon_core.specs.Annals.{IsAnnals, IsLegalSo}
+use Rattle.daemon_core.specs.Housed.{Housed, past, rows_before, rows_taken}
+use Rattle.turn_lock.specs.Lists.{BeginsWith, beyond, made_by}
+use Rattle.shared_daemon.specs.declared.entry.Entry.{Entry}
+use Rattle.shared_daemon.specs.Calls.{Meets}
+use Rattle.shared_daemon.specs.Entries.{AllMade, chronicle, events, maker_of, past_seen}
+use Rattle.shared_daemon.specs.Names.{IsLogOf, KeepsName, Name}
+use Rattle.shared_daemon.specs.Others.{Others}
+use Rattle.shared_daemon.proofs.Others.{Stays, others-stay}
+use Rattle.shared_daemon.proofs.Logs.{all-made, append-none, begins-all, beyond-longer, events-append, made-back, made_by-append, makers-made, none-others, past-entries}
+
+module _ {K : Type 0} (faults : K → ℕ) (name : Name) (h : Housed K) where
+  -- The rows before the log are those of the name.
+  pub before-named : KeepsName faults name h → rows_before h.annals ≡ name.opening
+  before-named n = ap (λ (b : Bool). rows_taken b h.annals.opening) n.loaded ∙ n.opening_is
+
+  pub booted-named : KeepsName faults name h → 0 < boots (past h)
+  booted-named n = let e = n.boots_are in let b = n.booted in omega (arith, e, b)
+
+  -- What is said of a house's log may be said of its name's, and the other way round.
+  pub to-name : KeepsName faults name h → IsAnnals h.annals → (P : Facts → List Seen → List Row → List Event → Type 0) → P h.annals.facts h.annals.first (rows_before h.annals) (past h) → P name.facts name.first name.opening (past_seen (chronicle h))
+  to-name n k P p =
+      subst (λ (es : List Event). P name.facts name.first name.opening es) (sym (past-entries h.annals k))
+      (subst (λ (o : List Row). P name.facts name.first o (past h)) (before-named n)
+      (subst (λ (s : List Seen). P name.facts s (rows_before h.annals) (past h)) n.first_are
+      (subst (λ (f : Facts). P f h.annals.first (rows_before h.annals) (past h)) n.facts_are p)))
+
+  pub from-name : KeepsName faults name h → IsAnnals h.annals → (P : Facts → List Seen → List Row → List Event → Type 0) → P name.facts name.first name.opening (past_seen (chronicle h)) → P h.annals.facts h.annals.first (rows_before h.annals) (past h)
+  from-name n k P p =
+      subst (λ (f : Facts). P f h.annals.first (rows_before h.annals) (past h)) (sym n.facts_are)
+      (subst (λ (s : List Seen). P name.facts s (rows_before h.annals) (past h)) (sym n.first_are)
+      (subst (λ (o : List Row). P name.facts name.first o (past h)) (sym (before-named n))
+      (subst (λ (es : List Event). P name.facts name.first name.opening es) (past-entries h.annals k) p)))
+
+  pub history-named : KeepsName faults name h → IsAnnals h.annals → IsHistory name.opening
+  history-named n k = subst IsHistory (before-named n) k.stands.history
+
+  -- Its log is one of the name, if it begins with the name's.
+  pub log-named : KeepsName faults name h → IsAnnals h.annals → BeginsWith (chronicle h) name.start → IsLogOf name (chronicle h)
+  log-named n k b =
+      record {
+        history = history-named n k;
+        begins = b;
+        legal = to-name n k IsLegalSo k.legal;
+        made = all-made h.annals.core.log h.annals.makers k.makers;
+        boots_are = ap boots (past-entries h.annals k) ∙ n.boots_are;
+      }
+
+-- What a pass saw begins what its turn meets, and others alone made the rest.
+pub others-since : (name : Name) (client : ℕ) (seen met : List Entry) → IsLogOf name seen → BeginsWith met seen → made_by maker_of client (beyond name.start seen) ≡ made_by maker_of client (beyond name.start met) → made_by maker_of client (beyond seen met) ≡ []
+others-since name client seen met l b e =
+    let more : List Entry = beyond seen met in
+    let whole : met ≡ seen ++ more = begins-all met seen b in
+    let longer : beyond name.start met ≡ beyond name.start seen ++ more = beyond-longer met seen name.start l.begins whole in
+    append-none (made_by maker_of client (beyond name.start seen)) (made_by maker_of client more)
+    (sym (made_by-append client (beyond name.start seen) more) ∙ ap (λ (x : List Entry). made_by maker_of client x) (sym longer) ∙ sym e)
+
+-- So what it saw stays.
+pub stays : (name : Name) (client : ℕ) (seen met : List Entry) → IsLogOf name seen → Meets name client seen met → Stays name.facts name.first name.opening client (past_seen seen) (past_seen met)
+stays name client seen met l m =
+    let more : List Entry = beyond seen met in
+    let whole : met ≡ seen ++ more = begins-all met seen m.begins in
+    let es : events met ≡ events seen ++ events more = ap events whole ∙ events-append seen more in
+    let o : Others name.facts name.first name.opening client (events seen) (events more) =
+    record {
+      history = l.history;
+      after = subst (λ (x : List Event). IsLegalSo name.facts name.first name.opening (past_of x)) es m.log.legal;
+      booted = ap (λ (x : List Event). boots (past_of x)) (sym es) ∙ m.log.boots_are ∙ sym l.boots_are;
+      makers = map maker_of more;
+      made = makers-made more (made-back seen more (subst AllMade whole m.log.made));
+      others = none-others client more m.others;
+    } in
+    subst (λ (x : List Event). Stays name.facts name.first name.opening client (past_seen seen) (past_of x)) (sym es)
+    (others-stay name.facts name.first name.opening client (events seen) (events more) o)

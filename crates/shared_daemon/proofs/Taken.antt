@@ -1,0 +1,24 @@
+-- What a claim gave, on the log of a house.
+use Rattle.std.proofs.Common.{ℕ}
+use Rattle.std.specs.Prelude.{Result, Ok, Err}
+use Rattle.daemon_core.specs.declared.claimed.Claimed.{Claimed}
+use Rattle.daemon_core.specs.declared.claimed.ClaimStop.{ClaimStop}
+use Rattle.daemon_core.specs.declared.fetched.Fetched.{Fetched}
+use Rattle.daemon_core.specs.declared.hold.Ticket.{Ticket}
+use Rattle.daemon_core.specs.Annals.{IsAnnals}
+use Rattle.daemon_core.specs.Claims.{ClaimGave, IsTaken}
+use Rattle.daemon_core.specs.Housed.{Housed}
+use Rattle.shared_daemon.specs.Entries.{chronicle}
+use Rattle.shared_daemon.specs.Names.{KeepsName, Name}
+use Rattle.shared_daemon.specs.Taking.{Gave}
+use Rattle.shared_daemon.proofs.Seeing.{to-name}
+
+pub gave-named : {K : Type 0} (faults : K → ℕ) (name : Name) (client : ℕ) (ticket : Ticket) (fetched : Fetched) (result : Result Claimed ClaimStop) (old new : Housed K) → KeepsName faults name new → IsAnnals new.annals → ClaimGave client ticket fetched result old new
+    → Gave name client ticket fetched result (chronicle new)
+gave-named faults name client ticket fetched (Ok (Claimed.Taken taken)) old new n k g = (
+  g.0,
+  (g.2.0, to-name faults name new n k (λ f s o p. IsTaken f s o p client taken g.2.0) g.2.1),
+)
+gave-named faults name client ticket fetched (Ok (Claimed.Kept entry state)) old new n k g = tt
+gave-named faults name client ticket fetched (Ok (Claimed.Refused refusal)) old new n k g = tt
+gave-named faults name client ticket fetched (Err stopped) old new n k g = (g.2, g.3)

@@ -1,0 +1,35 @@
+use Rattle.std.proofs.Common.{All, ◌<◌, List, [], ap, sym, ◌∙◌, subst}
+use Rattle.daemon_core.specs.Housed.{Housed}
+use Rattle.turn_lock.specs.Lists.{BeginsWith, beyond}
+use Rattle.turn_lock.specs.Shown.{HasItsEntries, LockView, PassView}
+use Rattle.shared_daemon.specs.declared.entry.Entry.{Entry}
+use Rattle.shared_daemon.specs.Entries.{chronicle, maker_of}
+use Rattle.shared_daemon.specs.Names.{HasNothing, IsLogOf}
+use Rattle.shared_daemon.proofs.Closed.{nothing-left, passes-count}
+use Rattle.shared_daemon.proofs.Seeing.{log-named}
+use Rattle.shared_daemon.proofs.daemon.Daemon.close.Goals as goal
+
+pub close-named-requires-clause-all : goal.close-named-requires-clause-all
+close-named-requires-clause-all g c = passes-count g.N.Naming.name [] c.args.passes.items c.args.self.seats c.requires.numbers ∙ ap (λ (l : LockView Entry). l.seats) (sym c.self.view_is)
+
+pub returns-clause-log : goal.returns-clause-log
+returns-clause-log g c =
+    subst (λ (h : Housed g.row.K.Denot). IsLogOf g.N.Naming.name (chronicle h)) (sym c.into_house.ensures.same)
+    (log-named g.K.Keeper.faults g.N.Naming.name c.close-named.result c.known.ensures.name c.known.ensures.annals
+    (subst (λ (l : List Entry). BeginsWith (chronicle c.close-named.result) l) c.self.invariant.start c.close-named.ensures.begins))
+
+pub returns-clause-seen : goal.returns-clause-seen
+returns-clause-seen g c =
+    subst (λ (h : Housed g.row.K.Denot). All (λ (p : PassView Entry). BeginsWith (chronicle h) p.seen) c.args.passes.items) (sym c.into_house.ensures.same) c.close-named.ensures.seen
+
+pub returns-clause-nothing : goal.returns-clause-nothing
+returns-clause-nothing g c =
+    let log : List Entry = chronicle c.close-named.result in
+    let begins : BeginsWith log g.N.Naming.name.start = subst (λ (l : List Entry). BeginsWith log l) c.self.invariant.start c.close-named.ensures.begins in
+    subst (λ (h : Housed g.row.K.Denot). HasNothing (chronicle h)) (sym c.into_house.ensures.same)
+    (nothing-left g.N.Naming.name log c.args.self.id c.args.passes.items c.args.self.seats
+    (log-named g.K.Keeper.faults g.N.Naming.name c.close-named.result c.known.ensures.name c.known.ensures.annals begins)
+    c.self.invariant.log c.self.invariant.nothing c.requires.numbers c.requires.passes c.requires.free c.close-named.ensures.seen
+    (subst (λ (l : List Entry). All (HasItsEntries maker_of l log) c.args.passes.items) c.self.invariant.start c.close-named.ensures.mine)
+    (subst (λ (k : LockView Entry). All (λ (e : Entry). maker_of e < k.seats) (beyond g.N.Naming.name.start log)) c.self.view_is
+    (subst (λ (l : List Entry). All (λ (e : Entry). maker_of e < c.self.inside.lock.seats) (beyond l log)) c.self.invariant.start c.close-named.ensures.makers)))

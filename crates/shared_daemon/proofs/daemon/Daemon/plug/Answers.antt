@@ -1,0 +1,18 @@
+use Rattle.std.proofs.Common.{ℕ, List, ap, sym, ◌∙◌}
+use Rattle.update_log.specs.declared.event.Event.{Event}
+use Rattle.daemon_core.specs.Housed.{Housed}
+use Rattle.shared_daemon.specs.declared.entry.Entry.{Entry}
+use Rattle.shared_daemon.specs.Entries.{chronicle}
+use Rattle.shared_daemon.specs.Calls.{TurnedIn}
+use Rattle.shared_daemon.proofs.Turning.{adds, begins-still, took, turned-adds}
+use Rattle.shared_daemon.proofs.daemon.Daemon.plug.Goals as goal
+use Rattle.update_log.specs.declared.answer.PlugAnswer.{PlugAnswer}
+
+pub leave-requires-clause-begun : goal.leave-requires-clause-begun
+leave-requires-clause-begun g c = (c.args.pass.now, begins-still g.N.Naming.name c.args.pass.now c.enter-turn.result c.plug-answer.new.self c.enter-turn.ensures.begins)
+
+pub leave-requires-clause-adds : goal.leave-requires-clause-adds
+leave-requires-clause-adds g c = adds g.N.Naming.name c.args.pass.now c.enter-turn.result c.number.result (chronicle c.state.result.now) (chronicle c.plug-answer.new.self) c.enter-turn.ensures.begins (c.number.ensures ∙ c.enter-turn.ensures.same) (c.enter-turn.ensures.list ∙ ap (λ (h : Housed g.row.K.Denot). chronicle h) (sym c.state.ensures.value)) (turned-adds c.number.result (λ (a : PlugAnswer). Event.Plug c.number.result c.args.device.now a) c.plug-answer.result (chronicle c.state.result.now) (chronicle c.plug-answer.new.self) (c.plug-answer.ensures))
+
+pub returns-clause-turn : goal.returns-clause-turn
+returns-clause-turn g c = took g.N.Naming.name c.args.pass.now c.enter-turn.result (λ (i : ℕ) (met log : List Entry). TurnedIn i (λ (a : PlugAnswer). Event.Plug i c.args.device.now a) c.plug-answer.result met log) c.leave.new.pass c.number.result (chronicle c.state.result.now) (chronicle c.plug-answer.new.self) c.enter-turn.ensures.begins (c.number.ensures ∙ c.enter-turn.ensures.same) (c.enter-turn.ensures.list ∙ ap (λ (h : Housed g.row.K.Denot). chronicle h) (sym c.state.ensures.value)) (c.plug-answer.ensures) c.leave.ensures.seen c.leave.ensures.mine

@@ -1,0 +1,9 @@
+pub mod Entries
+pub mod Names
+pub mod Calls
+pub mod Questions
+pub mod Closings
+pub mod Others
+pub mod Steps
+pub mod Taking
+pub mod Resumed

@@ -1,0 +1,91 @@
+-- What no turn changes, and what is always true of a log, of a house and of a pass that have a name.
+use Rattle.std.specs.Prelude.{◌≡◌, ◌⊎◌, ◌<◌, ◌≤◌, ◌+◌, ◌-◌, ◌^◌, ℕ, true, false, List, [], length, Option, None, IfSome}
+use Rattle.fw_facts.specs.declared.seen.Seen.{Seen}
+use Rattle.history_keeper.specs.Histories.{IsHistory}
+use Rattle.history_keeper.specs.declared.row.Row.{Row}
+use Rattle.update_log.specs.declared.facts.Facts.{Facts}
+use Rattle.update_log.specs.Holding.{holds, live}
+use Rattle.update_log.specs.Pasts.{boots}
+use Rattle.daemon_core.specs.Annals.{IsLegalSo}
+use Rattle.daemon_core.specs.Housed.{Housed, past}
+use Rattle.daemon_core.specs.Keeping.{keeper_faults}
+use Rattle.turn_lock.specs.Lists.{BeginsWith, beyond, made_by}
+use Rattle.turn_lock.specs.Shown.{LockId, LockView, PassView, IsReady}
+use Rattle.shared_daemon.specs.declared.entry.Entry.{Entry}
+use Rattle.shared_daemon.specs.Entries.{AllMade, maker_of, past_seen}
+
+-- What no turn changes: the facts, what each first image shows, the rows before the log, how many boots
+-- there were, and the log as the daemon began; and of the keeper, as the first house met it, how many
+-- faults it had counted, and the rows that it told, if it told them.
+pub record Name : Type 0 where
+  pub facts : Facts
+  pub first : List Seen
+  pub opening : List Row
+  pub boots : ℕ
+  pub start : List Entry
+  pub first_faults : ℕ
+  pub told : Option (List Row)
+
+-- A name of nothing.
+abbrev pub no_facts : Facts
+no_facts =
+    record {
+      machine = record { ids = []; hardware = []; on_ac = false; power_low = false; lid_closed = false };
+      catalogue = [];
+      features = [];
+      vetoes = [];
+      sheets = [];
+      pool = 0;
+    }
+
+abbrev pub no_name : Name
+no_name =
+    record {
+      facts = no_facts;
+      first = [];
+      opening = [];
+      boots = 0;
+      start = [];
+      first_faults = 0;
+      told = None;
+    }
+
+-- A log of this name: it begins with the log as the daemon began, and had no boot since; it is legal, over
+-- rows that are a valid history; and each event was made by its client.
+pub record IsLogOf (name : Name) (log : List Entry) : Type 0 where
+  pub history : IsHistory name.opening
+  pub begins : BeginsWith log name.start
+  pub legal : IsLegalSo name.facts name.first name.opening (past_seen log)
+  pub made : AllMade log
+  pub boots_are : boots (past_seen log) ≡ name.boots
+
+-- A house of this name, which was booted. Each fault of the keeper that the log tells was counted by
+-- the keeper, or its count stands at its end; and the rows that it told at first are those before the
+-- log.
+pub record KeepsName {K : Type 0} (faults : K → ℕ) (name : Name) (h : Housed K) : Type 0 where
+  pub facts_are : h.annals.facts ≡ name.facts
+  pub first_are : h.annals.first ≡ name.first
+  pub opening_is : h.annals.opening ≡ name.opening
+  pub loaded : h.annals.loaded ≡ true
+  pub booted : 0 < name.boots
+  pub boots_are : boots (past h) ≡ name.boots
+  pub counted : (keeper_faults (past h) + name.first_faults ≤ faults h.keeper) ⊎ (2 ^ 64 - 1 ≤ faults h.keeper)
+  pub told : IfSome name.told (λ rows. rows ≡ name.opening)
+
+-- A pass of this lock that has no turn: what it saw is a log of the name, and its own entries are those
+-- that it made since the daemon began.
+pub record IsPass (lock : LockId) (name : Name) (pass : PassView Entry) : Type 0 where
+  pub ready : IsReady lock pass
+  pub base : pass.base ≡ length name.start
+  pub log : IsLogOf name pass.seen
+  pub mine : pass.mine ≡ made_by maker_of pass.number (beyond name.start pass.seen)
+
+-- The client has nothing out in what was seen.
+abbrev pub HasNothing : List Entry → Type 0
+HasNothing log = (holds (past_seen log) ≡ []) × (live (past_seen log) ≡ [])
+
+-- The lock of a daemon of this name: it began with the name's log, in which nothing was out.
+pub record IsDaemon (name : Name) (lock : LockView Entry) : Type 0 where
+  pub start : lock.start ≡ name.start
+  pub log : IsLogOf name name.start
+  pub nothing : HasNothing name.start

@@ -1,0 +1,30 @@
+-- What other clients put behind a log.
+--
+-- Between two turns of a client others take theirs. What they put behind the log that the client saw last
+-- are events of others, and no boot, and the log is legal with them.
+use Rattle.std.specs.Prelude.{◌≡◌, ◌≢◌, ℕ, List, ◌++◌, Some}
+use Rattle.std.specs.List.{AllByRecursion}
+use Rattle.fw_facts.specs.declared.seen.Seen.{Seen}
+use Rattle.history_keeper.specs.declared.row.Row.{Row}
+use Rattle.history_keeper.specs.Histories.{IsHistory}
+use Rattle.update_log.specs.declared.event.Event.{Event}
+use Rattle.update_log.specs.declared.facts.Facts.{Facts}
+use Rattle.update_log.specs.declared.live.LiveEntry.{LiveEntry}
+use Rattle.update_log.specs.Holding.{live_entry}
+use Rattle.update_log.specs.Pasts.{boots, past_of}
+use Rattle.daemon_core.specs.Annals.{IsLegalSo, MadeBy}
+
+-- The log that a client saw, and behind it what others made: the whole is legal and has no boot more, and
+-- the client is none of the makers of what stands behind.
+pub record Others (facts : Facts) (first : List Seen) (opening : List Row) (client : ℕ) (seen more : List Event) : Type 0 where
+  pub history : IsHistory opening
+  pub after : IsLegalSo facts first opening (past_of (seen ++ more))
+  pub booted : boots (past_of (seen ++ more)) ≡ boots (past_of seen)
+  pub makers : List ℕ
+  pub made : MadeBy more makers
+  pub others : AllByRecursion (λ maker. maker ≢ client) makers
+
+-- The entry is live, and is the client's.
+pub record IsOwn (past : List Event) (client entry : ℕ) (l : LiveEntry) : Type 0 where
+  pub live : live_entry past entry ≡ Some l
+  pub client_is : l.client ≡ client
