@@ -10,8 +10,6 @@ mod chain;
 mod payload;
 mod pool;
 mod stack;
-#[cfg(test)]
-mod tests;
 
 pub use blocks::Blocks;
 pub use payload::{BadBlocks, HEAD_BYTES, Payload};

@@ -7,8 +7,6 @@ pub mod devices;
 pub mod fault;
 mod guid_index;
 pub mod selector;
-#[cfg(test)]
-mod tests;
 
 pub use devices::{DEVICES_MAX, Devices};
 pub use fault::ListFault;

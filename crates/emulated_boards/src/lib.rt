@@ -11,8 +11,6 @@ pub mod fault;
 pub mod image;
 mod journal;
 pub mod mark;
-#[cfg(test)]
-mod tests;
 
 pub use board::Board;
 pub use condition::{Condition, Presence};

@@ -17,6 +17,3 @@ pub use line::{Line, LineFault};
 pub use listed::Listed;
 pub use memory::NoMemory;
 pub use name::{Name, NameFault};
-
-#[cfg(test)]
-mod tests;

@@ -21,6 +21,3 @@ pub use requirement::{Requirement, Test, VendorTest};
 pub use seen::{Mode, Seen};
 pub use sheet::Sheet;
 pub use view::DeviceView;
-
-#[cfg(test)]
-mod tests;

@@ -19,6 +19,3 @@ pub mod syntax;
 pub use fault::PatternFault;
 pub use pattern::Pattern;
 pub use syntax::{Atom, Branch, ByteRange, Piece, Repeat};
-
-#[cfg(test)]
-mod tests;

@@ -13,6 +13,3 @@ pub use device::{DeviceId, device_id};
 pub use guid::{Guid, guid_of};
 pub use hardware::{HardwareIds, SmbiosFields, hardware_ids};
 pub use smbios::SmbiosText;
-
-#[cfg(test)]
-mod tests;

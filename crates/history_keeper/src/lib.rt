@@ -10,8 +10,6 @@ pub mod memory_keeper;
 pub mod plan;
 pub mod refusal;
 pub mod row;
-#[cfg(test)]
-mod tests;
 
 pub use change::Change;
 pub use history::first_faulty;

@@ -16,8 +16,6 @@ pub mod read_source;
 pub mod shelf;
 pub mod sink;
 pub mod source;
-#[cfg(test)]
-mod tests;
 pub mod write_sink;
 
 pub use failed::Failed;

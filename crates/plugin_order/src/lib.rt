@@ -17,6 +17,3 @@ pub mod sheet;
 pub use arrangement::{Arrangement, OrderFault};
 pub use arranging::arrange;
 pub use sheet::PluginSheet;
-
-#[cfg(test)]
-mod tests;

@@ -20,6 +20,3 @@ pub use book::QuirkBook;
 pub use fault::QuirkFault;
 pub use key::Key;
 pub use quirk::Quirk;
-
-#[cfg(test)]
-mod tests;

@@ -31,6 +31,3 @@ pub use reason::Reason;
 pub use reference::ReleaseRef;
 pub use spot::{Fault, Level, ReadStop, Spot};
 pub use word::Word;
-
-#[cfg(test)]
-mod tests;

@@ -14,6 +14,3 @@ pub mod unmet;
 
 pub use first::first_unmet;
 pub use unmet::{Unmet, UnmetCause};
-
-#[cfg(test)]
-mod tests;

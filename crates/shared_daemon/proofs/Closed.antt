@@ -1,16 +1,22 @@
 -- How a daemon begins, and what is left as it ends.
-use Rattle.std.proofs.Common.{All, ◌≡◌, ℕ, ◌<◌, ◌≤◌, suc, eqb, true, false, List, [], ◌∷◌, length, map, get_or, refl, ap, sym, ◌∙◌, subst, ⊎_elim, append-nil, zero-add, arith}
-use Rattle.std.specs.Prelude.{None, Some}
+use Rattle.std.proofs.Common.{All, ◌≡◌, ℕ, ◌<◌, ◌≤◌, ◌+◌, suc, eqb, true, false, List, [], ◌∷◌, length, map, get_or, refl, ap, sym, ◌∙◌, subst, ⊎_elim, append-nil, zero-add, arith}
+use Rattle.std.specs.Prelude.{Option, None, Some}
 use Rattle.std.specs.List.{list_any, range_with_len}
 use Rattle.std.proofs.lemmas.Bool.{cases_lt}
 use Rattle.std.proofs.lemmas.List.{get_or-map}
 use Rattle.std.proofs.lemmas.List.FromFn.{get_or-range_with_len, length-range_with_len}
 use Rattle.update_log.specs.declared.live.Held.{Held}
 use Rattle.update_log.specs.declared.live.LiveEntry.{LiveEntry}
-use Rattle.update_log.specs.Holding.{hold_of, holds, live}
+use Rattle.history_keeper.specs.declared.change.Change.{Change}
+use Rattle.history_keeper.specs.declared.row.Row.{Row}
+use Rattle.update_log.specs.declared.event.Event.{Event}
+use Rattle.update_log.specs.Holding.{blocks_out, held, hold_of, holds, live}
 use Rattle.update_log.specs.Legal.{IsFree}
 use Rattle.daemon_core.specs.Annals.{IsAnnals}
-use Rattle.daemon_core.specs.Housed.{Housed}
+use Rattle.daemon_core.specs.House.{IsHouse}
+use Rattle.daemon_core.specs.Housed.{Housed, past}
+use Rattle.daemon_core.specs.Parts.{AllHome}
+use Rattle.daemon_core.proofs.PartsKept.{house-home}
 use Rattle.turn_lock.specs.Lists.{BeginsWith, beyond, made_by}
 use Rattle.turn_lock.specs.Shown.{HasItsEntries, IsFresh, IsReady, LockId, PassView, new_pass}
 use Rattle.turn_lock.proofs.Counting.{beyond_append, made_by-past}
@@ -19,7 +25,7 @@ use Rattle.shared_daemon.specs.Calls.{Meets}
 use Rattle.shared_daemon.specs.Closings.{IsFreePass}
 use Rattle.shared_daemon.specs.Entries.{chronicle, maker_of, past_seen}
 use Rattle.shared_daemon.specs.Names.{HasNothing, IsLogOf, IsPass, KeepsName, Name}
-use Rattle.shared_daemon.proofs.Logs.{eqb-own}
+use Rattle.shared_daemon.proofs.Logs.{eqb-own, past-entries}
 use Rattle.shared_daemon.proofs.Others.{free-stays}
 use Rattle.shared_daemon.proofs.Seeing.{log-named, others-since, stays}
 
@@ -108,3 +114,20 @@ module _ (name : Name) (log : List Entry) where
         none-held (holds (past_seen log)) (λ client. (each client).hold),
         none-live (live (past_seen log)) (λ client. (each client).live),
       )
+
+-- Where nothing is out, all boards are at home and all blocks are free.
+pub home-left : {K : Type 0} (told : K → Option (List Row)) (doubted : K → Option Change) (h : Housed K) → IsAnnals h.annals → IsHouse told doubted h → HasNothing (chronicle h) → AllHome h.places
+home-left told doubted h k w n =
+    house-home told doubted h w (ap live (sym (past-entries h.annals k)) ∙ n.1)
+
+nothing-held : {K : Type 0} (h : Housed K) → IsAnnals h.annals → HasNothing (chronicle h) → held (past h) ≡ 0
+nothing-held h k n =
+    ap held (sym (past-entries h.annals k))
+    ∙ ap (λ (hs : List Held). blocks_out hs (live (past_seen (chronicle h)))) n.0
+    ∙ ap (λ (ls : List LiveEntry). blocks_out [] ls) n.1
+
+pub free-left : {K : Type 0} (told : K → Option (List Row)) (doubted : K → Option Change) (h : Housed K) → IsAnnals h.annals → IsHouse told doubted h → HasNothing (chronicle h) → h.pool.free ≡ h.annals.facts.pool
+free-left told doubted h k w n =
+    let none : held (past h) ≡ 0 = nothing-held h k n in
+    let all : h.pool.free + held (past h) ≡ h.annals.facts.pool = w.free in
+    omega (arith, none, all)

@@ -1,6 +1,7 @@
 //! A house under a name, which lies behind the lock.
 ghost use Rattle.std.specs.Prelude.{◌≡◌};
 ghost use Rattle.daemon_core.specs.Annals.{IsAnnals};
+ghost use Rattle.daemon_core.specs.House.{IsHouse};
 ghost use Rattle.shared_daemon.specs.Entries.{chronicle, maker_of};
 ghost use Rattle.shared_daemon.specs.Names.{KeepsName};
 
@@ -59,6 +60,7 @@ impl<K: Keeper, N: Naming> Named<K, N> {
     pub(crate) fn known(&self)
         ensures annals { IsAnnals self.now.annals }
         ensures name { KeepsName K.faults N.name self.now }
+        ensures house { IsHouse K.rows K.doubt self.now }
     {
         self.house.known();
     }

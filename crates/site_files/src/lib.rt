@@ -18,6 +18,3 @@ pub mod text;
 
 pub use document::read_site;
 pub use fault::SiteFault;
-
-#[cfg(test)]
-mod tests;

@@ -15,6 +15,3 @@ mod words;
 
 pub use making::make_site;
 pub use settling::settle_site;
-
-#[cfg(test)]
-mod tests;

@@ -10,6 +10,3 @@ pub mod spots;
 
 pub use ports::Ports;
 pub use spots::{needed_here, spot_in, whole_spot};
-
-#[cfg(test)]
-mod tests;

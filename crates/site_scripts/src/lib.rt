@@ -16,6 +16,3 @@ pub mod verb;
 
 pub use boots::{Boot, Parted, part, read_boots};
 pub use clients::read_clients;
-
-#[cfg(test)]
-mod tests;

@@ -32,14 +32,10 @@ mod row_changes;
 mod row_lookup;
 mod showing;
 pub mod state;
-#[cfg(test)]
-mod state_tests;
 mod stepping;
 mod taking;
 mod target;
 mod telling;
-#[cfg(test)]
-mod tests;
 pub mod told;
 pub mod trace;
 mod tracing;

@@ -15,6 +15,3 @@ pub use comparing::compare;
 pub use format::Format;
 pub use rendering::render;
 pub use version::{Version, VersionFault};
-
-#[cfg(test)]
-mod tests;

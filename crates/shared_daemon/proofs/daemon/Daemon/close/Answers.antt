@@ -1,11 +1,13 @@
 use Rattle.std.proofs.Common.{All, ◌<◌, List, [], ap, sym, ◌∙◌, subst}
+use Rattle.daemon_core.specs.Annals.{IsAnnals}
+use Rattle.daemon_core.specs.House.{IsHouse}
 use Rattle.daemon_core.specs.Housed.{Housed}
 use Rattle.turn_lock.specs.Lists.{BeginsWith, beyond}
 use Rattle.turn_lock.specs.Shown.{HasItsEntries, LockView, PassView}
 use Rattle.shared_daemon.specs.declared.entry.Entry.{Entry}
 use Rattle.shared_daemon.specs.Entries.{chronicle, maker_of}
 use Rattle.shared_daemon.specs.Names.{HasNothing, IsLogOf}
-use Rattle.shared_daemon.proofs.Closed.{nothing-left, passes-count}
+use Rattle.shared_daemon.proofs.Closed.{free-left, home-left, nothing-left, passes-count}
 use Rattle.shared_daemon.proofs.Seeing.{log-named}
 use Rattle.shared_daemon.proofs.daemon.Daemon.close.Goals as goal
 
@@ -33,3 +35,17 @@ returns-clause-nothing g c =
     (subst (λ (l : List Entry). All (HasItsEntries maker_of l log) c.args.passes.items) c.self.invariant.start c.close-named.ensures.mine)
     (subst (λ (k : LockView Entry). All (λ (e : Entry). maker_of e < k.seats) (beyond g.N.Naming.name.start log)) c.self.view_is
     (subst (λ (l : List Entry). All (λ (e : Entry). maker_of e < c.self.inside.lock.seats) (beyond l log)) c.self.invariant.start c.close-named.ensures.makers)))
+
+pub returns-clause-home : goal.returns-clause-home
+returns-clause-home g c =
+    home-left g.K.Keeper.rows g.K.Keeper.doubt c.into_house.result
+    (subst (λ (h : Housed g.row.K.Denot). IsAnnals h.annals) (sym c.into_house.ensures.same) c.known.ensures.annals)
+    (subst (λ (h : Housed g.row.K.Denot). IsHouse g.K.Keeper.rows g.K.Keeper.doubt h) (sym c.into_house.ensures.same) c.known.ensures.house)
+    (returns-clause-nothing g c)
+
+pub returns-clause-blocks : goal.returns-clause-blocks
+returns-clause-blocks g c =
+    free-left g.K.Keeper.rows g.K.Keeper.doubt c.into_house.result
+    (subst (λ (h : Housed g.row.K.Denot). IsAnnals h.annals) (sym c.into_house.ensures.same) c.known.ensures.annals)
+    (subst (λ (h : Housed g.row.K.Denot). IsHouse g.K.Keeper.rows g.K.Keeper.doubt h) (sym c.into_house.ensures.same) c.known.ensures.house)
+    (returns-clause-nothing g c)

@@ -1,5 +1,0 @@
-use Rattle.std.proofs.Common.{◌≡◌}
-use Rattle.block_pool.proofs.tests.the_largest_pool_is_made_filled_and_dropped.Given as goal
-
-abbrev pub invariant-loop-k : goal.invariant-loop-k
-invariant-loop-k l = l.blocks.count ≡ 16384

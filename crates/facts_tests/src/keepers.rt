@@ -1,0 +1,161 @@
+//! What no clause says: that calls succeed, and that the rules are the ones that were meant.
+ghost use Rattle.std.specs.Prelude.{◌≡◌, IfOk, None};
+ghost use Rattle.history_keeper.specs.Memories.{doubtful};
+
+use fw_base::Name;
+use guid_ids::device_id;
+use history_keeper::{
+    Change, Keeper, KeeperPlan, KeeperRefusal, MemoryKeeper, Row, RowState, first_faulty,
+};
+use std::alloc::Global;
+use std::test::Fail;
+use version_formats::Version;
+
+fn row(entry: u32, tag: &[u8], device: &[u8], state: RowState) -> Result<Row, Fail> {
+    Ok(Row {
+        entry,
+        tag: Name::read(tag)?,
+        client: 1,
+        device: device_id(device, None),
+        component: Name::read(b"org.example.board")?,
+        version_old: Version::read(b"1.0.0")?,
+        version_new: Version::read(b"1.1.0")?,
+        digest: [7; 32],
+        flags: 0,
+        state,
+        reason: 0,
+        time_added: 1000,
+        time_changed: 1000,
+    })
+}
+
+fn keeper(alloc: Global, call: u32, keep: bool) -> Result<MemoryKeeper, Fail>
+    ensures { IfOk result (λ keeper. doubtful keeper ≡ None) }
+{
+    let mut rows = Vec::new(alloc);
+    rows.push(row(1, b"t1", b"usb1", RowState::Begun)?)?;
+    let mut plan = Vec::new(alloc);
+    plan.push(KeeperPlan { call, keep })?;
+    Ok(MemoryKeeper::new(rows, plan))
+}
+
+#[test]
+fn the_first_row_that_breaks_a_rule(rt: HostRuntime) -> Result<(), Fail> {
+    let cases = [
+        ([1, 2, 3], ["a", "b", "c"], ["x", "y", "z"], None),
+        ([0, 1, 2], ["a", "b", "c"], ["x", "y", "z"], Some(0)),
+        ([1, 2, 4], ["a", "b", "c"], ["x", "y", "z"], Some(2)),
+        ([1, 2, 3], ["a", "a", "c"], ["x", "y", "z"], Some(1)),
+        ([1, 2, 3], ["a", "b", "a"], ["x", "y", "z"], Some(2)),
+        ([1, 2, 3], ["a", "b", "c"], ["x", "y", "x"], Some(2)),
+        ([1, 3, 3], ["a", "b", "a"], ["x", "x", "x"], Some(1)),
+    ];
+    for (entries, tags, devices, want) in cases {
+        let rows = [
+            row(
+                entries[0],
+                tags[0].as_bytes(),
+                devices[0].as_bytes(),
+                RowState::Begun,
+            )?,
+            row(
+                entries[1],
+                tags[1].as_bytes(),
+                devices[1].as_bytes(),
+                RowState::Pending,
+            )?,
+            row(
+                entries[2],
+                tags[2].as_bytes(),
+                devices[2].as_bytes(),
+                RowState::NeedsReboot,
+            )?,
+        ];
+        assert_eq!(rt; first_faulty(rt.alloc(), &rows)?, want);
+    }
+    Ok(())
+}
+
+#[test]
+fn settled_rows_of_one_device_are_many(rt: HostRuntime) -> Result<(), Fail> {
+    let rows = [
+        row(1, b"a", b"x", RowState::Success)?,
+        row(2, b"b", b"x", RowState::Begun)?,
+        row(3, b"c", b"x", RowState::Failed)?,
+    ];
+    assert_eq!(rt; first_faulty(rt.alloc(), &rows)?, None);
+    assert_eq!(rt; first_faulty(rt.alloc(), &[])?, None);
+    Ok(())
+}
+
+#[test]
+fn a_failed_commit_is_kept_or_lost(rt: HostRuntime) -> Result<(), Fail> {
+    let alloc = rt.alloc();
+    for (keep, count) in [(false, 1), (true, 2)] {
+        let mut keeper = keeper(alloc, 2, keep)?;
+        let loaded = keeper.load(alloc)?;
+        assert_eq!(rt; loaded.len(), 1);
+        let stored = keeper.commit(&Change::Add(row(2, b"t2", b"usb2", RowState::Begun)?));
+        assert!(rt; stored == Err(KeeperRefusal::Fault));
+        assert_eq!(rt; keeper.rows().len(), 1);
+        keeper.reopen()?;
+        let again = keeper.load(alloc)?;
+        assert_eq!(rt; again.len(), count);
+        assert_eq!(rt; keeper.calls(), 4);
+    }
+    Ok(())
+}
+
+#[test]
+fn a_failed_load_or_reopening_changes_nothing(rt: HostRuntime) -> Result<(), Fail> {
+    let alloc = rt.alloc();
+    let mut first = keeper(alloc, 1, false)?;
+    assert!(rt; first.load(alloc).err() == Some(KeeperRefusal::Fault));
+    let mut second = keeper(alloc, 1, true)?;
+    assert!(rt; second.reopen() == Err(KeeperRefusal::Fault));
+    second.reopen()?;
+    let loaded = second.load(alloc)?;
+    assert_eq!(rt; loaded.len(), 1);
+    Ok(())
+}
+
+#[test]
+fn an_advance_changes_one_row(rt: HostRuntime) -> Result<(), Fail> {
+    let alloc = rt.alloc();
+    let mut keeper = keeper(alloc, 9, false)?;
+    keeper.commit(&Change::Add(row(2, b"t2", b"usb2", RowState::Begun)?))?;
+    keeper.commit(&Change::Advance {
+        entry: 2,
+        state: RowState::Failed,
+        reason: 10,
+        time: 2000,
+    })?;
+    let rows = keeper.rows();
+    assert_eq!(rt; rows.len(), 2);
+    assert_eq!(rt; rows[0].state, RowState::Begun);
+    assert_eq!(rt; rows[0].time_changed, 1000);
+    assert_eq!(rt; rows[1].state, RowState::Failed);
+    assert_eq!(rt; rows[1].reason, 10);
+    assert_eq!(rt; rows[1].time_added, 1000);
+    assert_eq!(rt; rows[1].time_changed, 2000);
+    Ok(())
+}
+
+#[test]
+fn as_many_rows_as_a_history_has(rt: HostRuntime) -> Result<(), Fail> {
+    let alloc = rt.alloc();
+    let mut rows = Vec::new(alloc);
+    for number in 0..65_536u32 {
+        let tag = [
+            b'a' + (number % 16) as u8,
+            b'a' + (number / 16 % 16) as u8,
+            b'a' + (number / 256 % 16) as u8,
+            b'a' + (number / 4096 % 16) as u8,
+        ];
+        rows.push(row(number + 1, &tag, &tag, RowState::Begun)?)?;
+    }
+    assert_eq!(rt; first_faulty(alloc, &rows)?, None);
+    rows.push(row(65_537, b"pppp", b"usb1", RowState::Success)?)?;
+    assert_eq!(rt; first_faulty(alloc, &rows)?, Some(65_536));
+    Ok(())
+}
