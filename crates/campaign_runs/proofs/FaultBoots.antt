@@ -1,5 +1,5 @@
 -- Boots that couldn't read the history are played by doing nothing, whatever rows are read later.
-use Rattle.std.proofs.Common.{◌≡◌, ℕ, ◌<◌, Bool, true, false, List, [], ◌∷◌, refl, ap, sym, ◌∙◌, subst}
+use Rattle.std.proofs.Common.{◌≡◌, ℕ, Bool, true, false, List, [], ◌∷◌, refl, sym, subst}
 use Rattle.history_keeper.specs.declared.row.Row.{Row}
 use Rattle.update_log.specs.declared.event.Event.{Event}
 use Rattle.update_log.specs.declared.facts.Facts.{Facts}
@@ -11,7 +11,7 @@ use Rattle.client_plays.specs.Plays.{Leaves, Plays, TaskPlays}
 use Rattle.client_plays.specs.Scripts.{BootPlayed, EarlierPlayed, PlayedSo, items_of, scripts_in, tasks}
 use Rattle.client_plays.proofs.BootLaws.{items-none}
 use Rattle.client_plays.proofs.PlayLaws.{item-unplayed, task-unplayed}
-use Rattle.client_plays.proofs.ScriptLaws.{so-all, until-nothing}
+use Rattle.client_plays.proofs.ScriptLaws.{until-nothing}
 
 -- Such a boot is off, and nobody did anything in it.
 fault-boot : (event : Event) (past : List Event) → is_fault_boot event ≡ true → (is_boot event ≡ true) × (off (event ∷ past) ≡ true)

@@ -1,13 +1,13 @@
 -- A boot that started each board lists it as planned.
 use Rattle.std.proofs.Common.{◌≡◌, ℕ, Bool, true, false, List, refl, ap, ◌∙◌, sym, subst}
-use Rattle.std.specs.Prelude.{IsTrue, Option, Some, None, if◌then◌else◌, slice_get}
+use Rattle.std.specs.Prelude.{IsTrue, Some, if◌then◌else◌, slice_get}
 use Rattle.fw_facts.specs.Views.{is_home}
 use Rattle.emulated_boards.specs.Conditions.{booted, view_of}
 use Rattle.emulated_boards.specs.declared.condition.Condition.{Condition}
 use Rattle.update_log.specs.declared.event.BoardSeen.{BoardSeen}
 use Rattle.update_log.specs.declared.facts.BootPlan.{BootPlan}
 use Rattle.update_log.specs.Legal.{is_absent, is_gone}
-use Rattle.daemon_core.specs.Booting.{AllStarted, StartedAt, WasStarted}
+use Rattle.daemon_core.specs.Booting.{StartedAt}
 use Rattle.daemon_core.specs.Housed.{Place}
 
 -- A board that is started is gone or home, as planned.

@@ -1,13 +1,12 @@
 -- One boot more.
-use Rattle.std.proofs.Common.{◌≡◌, ◌⊎◌, ℕ, ◌<◌, ◌≤◌, ◌+◌, Bool, true, false, ◌||◌, List, [], ◌∷◌, ◌++◌, length, get_or, refl, ap, sym, ◌∙◌, subst, inl, inr, arith, add-one}
+use Rattle.std.proofs.Common.{◌≡◌, ℕ, ◌<◌, ◌≤◌, ◌+◌, Bool, true, false, ◌||◌, List, [], ◌∷◌, length, get_or, refl, ap, sym, ◌∙◌, subst, inl, inr, arith, add-one}
 use Rattle.std.proofs.lemmas.List.Elements.{All-get_or}
 use Rattle.std.proofs.lemmas.Option.{slice_get_cases, slice_get-get_or}
-use Rattle.std.specs.Prelude.{All, Option, Some, None, slice_get, unwrap_or}
+use Rattle.std.specs.Prelude.{All, Option, Some, slice_get, unwrap_or}
 use Rattle.history_keeper.specs.declared.row.Row.{Row}
 use Rattle.update_log.specs.declared.event.Event.{Event}
 use Rattle.update_log.specs.declared.facts.BootPlan.{BootPlan}
 use Rattle.update_log.specs.declared.facts.Facts.{Facts}
-use Rattle.update_log.specs.CoreFolds.{AllFaults}
 use Rattle.update_log.specs.Crashes.{next_boot}
 use Rattle.update_log.specs.Pasts.{boots, is_boot, off}
 use Rattle.daemon_core.specs.Housed.{Housed, past, rows_before}
@@ -163,7 +162,7 @@ scripts-all P scripts n a none = rw add-one (at-place P scripts n a none)
 -- The campaign ended before all boots were run.
 stopped-so : {K : Type 0} (told : K → Option (List Row)) (ending : Ending) (plans : List BootPlan) (count : ℕ) (mid new : Housed K) → count < length plans → StoppedBy told ending mid new → EndedSo told ending plans count new
 stopped-so told Ending.Whole plans count mid new lt s = absurd s
-stopped-so told (Ending.BadHistory entry) plans count mid new lt s = (lt, (mid, s))
+stopped-so told (Ending.BadHistory entry) plans count mid new lt s = (lt, (mid, s.0, s.1))
 stopped-so told Ending.NoMemory plans count mid new lt s = lt
 
 pub ran-stopped : {K : Type 0} (told : K → Option (List Row)) (faults : K → ℕ) (ending : Ending) (wanting : Bool) (plans : List BootPlan) (scripts : List (List (List Item))) (count : ℕ) (old mid new : Housed K) → count < length plans → RanSoFar faults wanting plans scripts count old mid → NoneBegan faults mid new → StoppedBy told ending mid new → CampaignRan told faults ending wanting plans scripts old new

@@ -1,7 +1,6 @@
 -- The start of a boot.
 use Rattle.std.proofs.Common.{◌≡◌, ◌⊎◌, ℕ, ◌≤◌, Bool, true, false, List, [], ◌∷◌, length, zero, suc, refl, ap, sym, ◌∙◌, subst, inl, inr, arith}
-use Rattle.std.specs.Prelude.{IsTrue, MatchBool, Option, Some, None, Result, Ok, Err, if◌then◌else◌, slice_get}
-use Rattle.fw_facts.specs.Views.{is_home}
+use Rattle.std.specs.Prelude.{MatchBool, Option, Some, Result, Ok, Err, slice_get}
 use Rattle.history_keeper.specs.declared.change.Change.{Change}
 use Rattle.history_keeper.specs.declared.row.Row.{Row}
 use Rattle.history_keeper.specs.Histories.{IsHistory}
@@ -11,13 +10,12 @@ use Rattle.update_log.specs.declared.event.Found.{Found}
 use Rattle.update_log.specs.declared.facts.BootPlan.{BootPlan}
 use Rattle.update_log.specs.CoreFolds.{AllFaults}
 use Rattle.update_log.specs.Crashes.{next_boot}
-use Rattle.update_log.specs.Legal.{is_absent, is_gone}
 use Rattle.update_log.specs.Pasts.{past_of}
 use Rattle.daemon_core.specs.declared.booting.BootStop.{BootStop}
 use Rattle.daemon_core.specs.Annals.{IsAnnals}
 use Rattle.daemon_core.specs.Booting.{AllStarted}
-use Rattle.daemon_core.specs.Boots.{BootNoted, BootTurned, CouldntRead, NoBoot, ReadOthers, WentWell}
-use Rattle.daemon_core.specs.Housed.{Housed, Place, past, rows_before, rows_taken}
+use Rattle.daemon_core.specs.Boots.{BootTurned, CouldntRead, NoBoot, WentWell}
+use Rattle.daemon_core.specs.Housed.{Housed, Place, past, rows_taken}
 use Rattle.daemon_core.specs.Reading.{AreTold}
 use Rattle.daemon_core.specs.Turns.{FaultsCounted}
 use Rattle.campaign_runs.specs.declared.ending.Ending.{Ending}
@@ -98,5 +96,5 @@ started-so told doubted faults plan outcome ending old new e k counted counts t 
     so : (outcome : Result (Unit {0}) BootStop) → BootTurned told doubted plan outcome old new → StartedSo told faults (ended_by outcome) plan old new
     so (Ok unit) t = begun-well told doubted faults plan t.0 t.1 old new k counted counts t.2
     so (Err BootStop.KeeperFault) t = begun-fault faults plan t.0 old new counted counts t.1
-    so (Err (BootStop.BadHistory entry)) t = (none-began faults old new counted counts t.none (λ l. (t.later l).0), t)
+    so (Err (BootStop.BadHistory entry)) t = (none-began faults old new counted counts t.none (λ l. (t.later l).0), (k, t))
     so (Err BootStop.NoMemory) t = (none-began faults old new counted counts t.0 (λ l. t.1), tt)

@@ -8,6 +8,7 @@ use Rattle.update_log.specs.CoreFolds.{AllFaults}
 use Rattle.update_log.specs.Crashes.{next_boot}
 use Rattle.update_log.specs.Pasts.{boots}
 use Rattle.daemon_core.specs.declared.booting.BootStop.{BootStop}
+use Rattle.daemon_core.specs.Annals.{IsAnnals}
 use Rattle.daemon_core.specs.Boots.{ReadOthers}
 use Rattle.daemon_core.specs.Housed.{Housed, past, rows_before}
 use Rattle.daemon_core.specs.Turns.{FaultsCounted}
@@ -34,7 +35,7 @@ pub record RanSoFar {K : Type 0} (faults : K → ℕ) (wanting : Bool) (plans : 
 -- was wanting for a boot. In the last two the boots before were run.
 abbrev pub EndedSo : {K : Type 0} → (K → Option (List Row)) → Ending → List BootPlan → ℕ → Housed K → Type 0
 EndedSo told Ending.Whole plans count new = count ≡ length plans
-EndedSo told (Ending.BadHistory entry) plans count new = (count < length plans) × ((mid : Housed _) × ReadOthers told entry mid new)
+EndedSo told (Ending.BadHistory entry) plans count new = (count < length plans) × ((mid : Housed _) × IsAnnals mid.annals × ReadOthers told entry mid new)
 EndedSo told Ending.NoMemory plans count new = count < length plans
 
 -- The boots of a campaign were run, as far as it went.
@@ -68,7 +69,7 @@ pub record NoneBegan {K : Type 0} (faults : K → ℕ) (old new : Housed K) : Ty
 -- Why none began.
 abbrev pub StoppedBy : {K : Type 0} → (K → Option (List Row)) → Ending → Housed K → Housed K → Type 0
 StoppedBy told Ending.Whole old new = ⊥
-StoppedBy told (Ending.BadHistory entry) old new = ReadOthers told entry old new
+StoppedBy told (Ending.BadHistory entry) old new = IsAnnals old.annals × ReadOthers told entry old new
 StoppedBy told Ending.NoMemory old new = Unit {0}
 
 -- Whether a boot ends the campaign: a history that couldn't be read doesn't.

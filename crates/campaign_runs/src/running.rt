@@ -4,6 +4,7 @@ ghost use Rattle.update_log.specs.Pasts.{boots};
 ghost use Rattle.daemon_core.specs.Housed.{past};
 ghost use Rattle.client_plays.specs.Endings.{IsFresh, IsIdle, IsScriptItem};
 ghost use Rattle.client_plays.specs.Scripts.{scripts_in};
+ghost use Rattle.client_plays.specs.Tools.{Serves, ToolsStay};
 ghost use Rattle.campaign_runs.specs.Runs.{BootMore, CampaignRan};
 
 use crate::ending::{Ending, Ran};
@@ -29,7 +30,9 @@ fn play_next<K: Keeper, W: Worker<K>>(
     requires fresh { IsFresh (past house.old) }
     requires proper { All (All IsScriptItem) of_boot.now }
     requires few { length of_boot.now < 2 ^ 32 - 1 }
-    ensures { BootMore K.faults result wanting of_boot.now house.old house.new }
+    requires serves { Serves (W.tools worker.old) house.old.annals.facts (length of_boot.now) }
+    ensures more { BootMore K.faults result wanting of_boot.now house.old house.new }
+    ensures kept { ToolsStay (W.tools worker.old) (W.tools worker.new) }
 {
     let now = play_boot(house, worker, of_boot);
     either(wanting, now)
@@ -52,7 +55,8 @@ fn scripts_of(scripts: &[Listed<Listed<Item>>], number: usize) -> &[Listed<Item>
 }
 
 /// Runs the boots of a campaign on a new house: each is started by its plan and played. It ends early
-/// where a boot reads a history that can't be the log's, and where memory is wanting for a boot.
+/// where a boot reads a history that can't be the log's, and where memory is wanting for a boot. The worker
+/// has a plugin for each of those that the facts name, and a shelf for each client, and at least one.
 pub fn run_boots<K: Keeper, W: Worker<K>>(
     alloc: Global,
     house: &mut House<K>,
@@ -65,7 +69,10 @@ pub fn run_boots<K: Keeper, W: Worker<K>>(
     requires timely { All (λ plan. plan.time ≤ 2 ^ 63 - 1) plans.now }
     requires proper { All (All (All IsScriptItem)) scripts.now }
     requires clients { All (λ of_boot. length of_boot < 2 ^ 32 - 1) scripts.now }
-    ensures { CampaignRan K.rows K.faults result.ending result.wanting plans.now scripts.now house.old house.new }
+    requires serves { Serves (W.tools worker.old) house.old.annals.facts 0 }
+    requires shelves { All (λ of_boot. length of_boot ≤ length (W.tools worker.old).shelves) scripts.now }
+    ensures ran { CampaignRan K.rows K.faults result.ending result.wanting plans.now scripts.now house.old house.new }
+    ensures kept { ToolsStay (W.tools worker.old) (W.tools worker.new) }
 {
     let mut wanting = false;
     for (number, plan) in plans.iter().enumerate() {

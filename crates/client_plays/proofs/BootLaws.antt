@@ -1,22 +1,22 @@
 -- A boot, one client after the other.
-use Rattle.std.proofs.Common.{◌≡◌, ◌≢◌, ◌⊎◌, ℕ, ◌<◌, ◌≤◌, ◌+◌, Bool, true, false, ◌||◌, length-append, length-take, List, [], ◌∷◌, ◌++◌, length, take, get_or, refl, ap, sym, ◌∙◌, subst, inl, inr, arith, zero, suc}
+use Rattle.std.proofs.Common.{◌≡◌, ◌≢◌, ℕ, ◌<◌, ◌+◌, Bool, true, false, ◌||◌, length-append, length-take, List, [], ◌∷◌, ◌++◌, length, take, get_or, refl, ap, sym, ◌∙◌, subst, inl, inr, arith, zero, suc}
 use Rattle.std.proofs.lemmas.Bool.Decides.{eqb_tells}
-use Rattle.std.specs.Prelude.{Option, Some, None, MatchBool, slice_get, unwrap_or}
+use Rattle.std.specs.Prelude.{Some, slice_get}
 use Rattle.history_keeper.specs.declared.row.Row.{Row}
 use Rattle.update_log.specs.declared.event.Event.{Event}
 use Rattle.update_log.specs.declared.facts.Facts.{Facts}
-use Rattle.update_log.specs.Pasts.{boots, is_boot, off}
+use Rattle.update_log.specs.Pasts.{boots, off}
 use Rattle.daemon_core.specs.Annals.{SameFacts}
-use Rattle.daemon_core.specs.Housed.{Annalled, Housed, past, rows_before}
+use Rattle.daemon_core.specs.Housed.{Housed, past, rows_before}
 use Rattle.client_scripts.specs.declared.item.Item.{Item}
-use Rattle.client_plays.specs.Moments.{Did, Grew, Moment, began, mine}
-use Rattle.client_plays.specs.Plays.{Leaves, Plays, Task, TaskPlays}
-use Rattle.client_plays.specs.Scripts.{BootPlayed, PlayedSo, PlaysAll, PlaysUntil, items_of, numbered, tasks}
-use Rattle.client_plays.specs.Endings.{AtRest, HouseBootPlayed, HouseMore, HouseWent, IsFresh, IsIdle, WentThrough}
-use Rattle.client_plays.proofs.MomentLaws.{did-nothing, grew-began, grew-boots, grew-both, grew-off, mine-boot}
+use Rattle.client_plays.specs.Moments.{Grew, Moment, began, mine}
+use Rattle.client_plays.specs.Plays.{Plays, TaskPlays}
+use Rattle.client_plays.specs.Scripts.{BootPlayed, PlayedSo, items_of, tasks}
+use Rattle.client_plays.specs.Endings.{AtRest, HouseBootPlayed, HouseMore, HouseWent, IsFresh}
+use Rattle.client_plays.proofs.MomentLaws.{grew-began, grew-boots, grew-both, grew-off, mine-boot}
 use Rattle.client_plays.proofs.ListLaws.{taken-more}
-use Rattle.client_plays.proofs.RestLaws.{before-same, rest-both, rest-here, so-left}
-use Rattle.client_plays.proofs.ScriptLaws.{all-more, so-all, so-more, until-end, until-nothing}
+use Rattle.client_plays.proofs.RestLaws.{before-same, rest-both, so-left}
+use Rattle.client_plays.proofs.ScriptLaws.{so-all, so-more}
 
 -- Nobody did anything in a boot that has just begun.
 pub fresh-mine : (past : List Event) (client : ℕ) → IsFresh past → mine client past ≡ []

@@ -1,5 +1,5 @@
 -- Items that are one turn each.
-use Rattle.std.proofs.Common.{◌≡◌, ℕ, ◌≤◌, Bool, true, false, ◌&&◌, List, [], ◌∷◌, refl, ap, sym, ◌∙◌, subst, inl, inr}
+use Rattle.std.proofs.Common.{◌≡◌, ℕ, ◌≤◌, Bool, true, false, List, [], ◌∷◌, refl}
 use Rattle.std.specs.Prelude.{Result, MatchBool}
 use Rattle.device_list.specs.declared.selector.Selector.{Selector}
 use Rattle.update_log.specs.declared.event.Event.{Event}
@@ -8,15 +8,15 @@ use Rattle.update_log.specs.declared.answer.ClaimAnswer.{ClaimAnswer}
 use Rattle.update_log.specs.declared.answer.PlugAnswer.{PlugAnswer}
 use Rattle.update_log.specs.declared.request.Request.{Request}
 use Rattle.daemon_core.specs.declared.stop.Stop.{Stop}
-use Rattle.daemon_core.specs.Housed.{Annalled, Housed, past, past_in, rows_before}
+use Rattle.daemon_core.specs.Housed.{Housed, past, rows_before}
 use Rattle.daemon_core.specs.Turns.{FaultsCounted, Turned}
 use Rattle.client_scripts.specs.declared.item.Item.{Item}
 use Rattle.client_plays.specs.declared.played.Played.{Played}
-use Rattle.client_plays.specs.Moments.{Moment, at}
-use Rattle.client_plays.specs.Plays.{Alone, JudgesFound, Leaves, Plays, SchedulePlays, InstallPlays, is_row_of}
+use Rattle.client_plays.specs.Moments.{at}
+use Rattle.client_plays.specs.Plays.{Alone, Plays, SchedulePlays, InstallPlays}
 use Rattle.client_plays.specs.Endings.{HousePlayed, IsIdle, played_of}
 use Rattle.client_plays.proofs.PlayLaws.{item-unplayed}
-use Rattle.client_plays.proofs.TurnLaws.{IsQuiet, Turn, counted-same, counts-same, faults-any, turn-any, turn-done, turn-off, turn-played, turn-wanting}
+use Rattle.client_plays.proofs.TurnLaws.{IsQuiet, counted-same, counts-same, faults-any, turn-any, turn-played}
 
 -- The events of these items are quiet.
 pub quiet-query : (client : ℕ) (query : Query) → IsQuiet client (Event.Query client query)

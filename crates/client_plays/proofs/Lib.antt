@@ -1,3 +1,4 @@
+pub mod ToolLaws
 pub mod MomentLaws
 pub mod PlayLaws
 pub mod ScriptLaws
@@ -7,4 +8,3 @@ pub mod SettleLaws
 pub mod RestLaws
 pub mod ListLaws
 pub mod BootLaws
-pub mod InstallLaws

@@ -1,5 +1,5 @@
 -- Plays that were left, and that every play can be begun.
-use Rattle.std.proofs.Common.{◌≡◌, ℕ, Bool, true, false, List, [], ◌∷◌, ◌++◌, append-nil, refl, sym, inr, subst}
+use Rattle.std.proofs.Common.{ℕ, Bool, true, false, List, [], ◌∷◌, append-nil, refl, sym, inr, subst}
 use Rattle.std.specs.Prelude.{Some, None, MatchBool}
 use Rattle.history_keeper.specs.declared.row.Row.{Row}
 use Rattle.history_keeper.specs.declared.row.RowState.{RowState}
@@ -12,12 +12,11 @@ use Rattle.update_log.specs.declared.answer.PlugAnswer.{PlugAnswer}
 use Rattle.update_log.specs.declared.answer.ResumeAnswer.{ResumeAnswer}
 use Rattle.update_log.specs.declared.refusal.Refusal.{Refusal}
 use Rattle.update_log.specs.declared.request.Request.{Request}
-use Rattle.update_log.specs.declared.request.InstallFlags.{InstallFlags}
 use Rattle.update_log.specs.declared.facts.Facts.{Facts}
 use Rattle.device_list.specs.declared.selector.Selector.{Selector}
 use Rattle.client_scripts.specs.declared.item.Item.{Item}
 use Rattle.client_plays.specs.Moments.{Moment, at}
-use Rattle.client_plays.specs.Plays.{Alone, GivesBack, Leaves, Plays, SchedulePlays, InstallPlays, Task, TaskPlays, ToJudge, ToResume}
+use Rattle.client_plays.specs.Plays.{Alone, Leaves, Plays, SchedulePlays, InstallPlays, Task, TaskPlays, ToJudge, ToResume}
 
 -- A play that ended is one that was left at its end.
 pub leaves-whole : (client : ℕ) (Play : List Moment → Type 0) (moments : List Moment) → Play moments → Leaves client Play moments

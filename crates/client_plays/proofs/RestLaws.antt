@@ -1,20 +1,18 @@
 -- Going through a list of things, over a house.
-use Rattle.std.proofs.Common.{◌≡◌, ◌⊎◌, ℕ, ◌<◌, ◌≤◌, ◌+◌, ◌-◌, ◌^◌, Bool, true, false, List, [], ◌∷◌, ◌++◌, refl, ap, sym, ◌∙◌, subst, inl, inr, arith}
-use Rattle.std.specs.Prelude.{Option, Some, None, MatchBool}
+use Rattle.std.proofs.Common.{◌≡◌, ◌⊎◌, ℕ, ◌<◌, ◌≤◌, Bool, true, false, List, [], ◌∷◌, ◌++◌, refl, ap, sym, ◌∙◌, subst, inl, inr, arith}
+use Rattle.std.specs.Prelude.{Option, Some, None}
 use Rattle.history_keeper.specs.declared.row.Row.{Row}
-use Rattle.update_log.specs.declared.event.Event.{Event}
 use Rattle.update_log.specs.declared.facts.Facts.{Facts}
 use Rattle.update_log.specs.Pasts.{boots, off}
 use Rattle.daemon_core.specs.Annals.{SameFacts}
 use Rattle.daemon_core.specs.Housed.{Annalled, Housed, past, rows_before, rows_taken}
-use Rattle.daemon_core.specs.Keeping.{keeper_faults}
 use Rattle.daemon_core.specs.Turns.{FaultsCounted}
 use Rattle.client_scripts.specs.declared.item.Item.{Item}
 use Rattle.client_plays.specs.declared.played.Played.{Played}
-use Rattle.client_plays.specs.Moments.{Did, Moment}
-use Rattle.client_plays.specs.Plays.{Leaves, Plays}
-use Rattle.client_plays.specs.Scripts.{PlayedSo, PlaysAll, PlaysOne, PlaysUntil}
-use Rattle.client_plays.specs.Endings.{AtRest, HouseOnceMore, HousePlayed, HouseWent, IsIdle, OnceMore, SoFar}
+use Rattle.client_plays.specs.Moments.{Moment}
+use Rattle.client_plays.specs.Plays.{Plays}
+use Rattle.client_plays.specs.Scripts.{PlayedSo, PlaysAll, PlaysUntil}
+use Rattle.client_plays.specs.Endings.{AtRest, HouseOnceMore, HousePlayed, HouseWent, IsIdle, SoFar}
 use Rattle.client_plays.proofs.MomentLaws.{did-both, did-nothing, grew-boots}
 use Rattle.client_plays.proofs.PlayLaws.{leaves-whole}
 use Rattle.client_plays.proofs.ScriptLaws.{all-more, all-push, so-all, until-left}

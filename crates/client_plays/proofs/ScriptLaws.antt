@@ -1,9 +1,8 @@
 -- Things played one after the other.
 use Rattle.std.proofs.Common.{◌≡◌, ℕ, Bool, true, false, List, [], ◌∷◌, ◌++◌, append_assoc, append-nil, refl, ap, sym, ◌∙◌, inl, inr, subst}
-use Rattle.std.specs.Prelude.{MatchBool, ◌⊎◌}
 use Rattle.client_plays.specs.Moments.{Moment}
 use Rattle.client_plays.specs.Plays.{Leaves}
-use Rattle.client_plays.specs.Scripts.{PlayedSo, PlaysAll, PlaysOne, PlaysUntil, Then}
+use Rattle.client_plays.specs.Scripts.{PlayedSo, PlaysAll, PlaysOne, PlaysUntil}
 use Rattle.client_plays.proofs.PlayLaws.{leaves-whole}
 
 -- What was left is less than what was played.

@@ -1,5 +1,5 @@
 -- The item that settles a device.
-use Rattle.std.proofs.Common.{◌≡◌, ℕ, ◌≤◌, Bool, true, false, ◌&&◌, ◌||◌, ◌==◌, List, [], ◌∷◌, refl, ap, sym, ◌∙◌, subst, inl, inr, eq-eqb}
+use Rattle.std.proofs.Common.{◌≡◌, ℕ, ◌≤◌, Bool, true, false, ◌&&◌, ◌==◌, List, [], ◌∷◌, refl, ap, ◌∙◌, subst, inl, inr, eq-eqb}
 use Rattle.std.specs.Prelude.{Option, Some, None, Result, Ok, Err, find}
 use Rattle.std.specs.List.{list_any}
 use Rattle.std.specs.Str.{bytes_eq}
@@ -12,7 +12,7 @@ use Rattle.history_keeper.specs.Histories.{is_unsettled}
 use Rattle.update_log.specs.declared.event.Event.{Event}
 use Rattle.update_log.specs.declared.event.Query.{Query}
 use Rattle.update_log.specs.declared.event.Stored.{Stored}
-use Rattle.update_log.specs.Known.{rows, views}
+use Rattle.update_log.specs.Known.{rows}
 use Rattle.update_log.specs.Legal.{found_view}
 use Rattle.daemon_core.specs.declared.judged.DeviceRow.{DeviceRow}
 use Rattle.daemon_core.specs.declared.judged.Settling.{Settling}
@@ -23,8 +23,8 @@ use Rattle.daemon_core.specs.Settling.{SettleTurned, row_found, row_on, row_to_s
 use Rattle.daemon_core.specs.Turns.{FaultsCounted}
 use Rattle.client_scripts.specs.declared.item.Item.{Item}
 use Rattle.client_plays.specs.declared.played.Played.{Played}
-use Rattle.client_plays.specs.Moments.{Moment, at}
-use Rattle.client_plays.specs.Plays.{JudgesFound, Leaves, Plays, SettlePlays, is_row_of}
+use Rattle.client_plays.specs.Moments.{at}
+use Rattle.client_plays.specs.Plays.{JudgesFound, Plays, is_row_of}
 use Rattle.client_plays.specs.Endings.{HousePlayed, IsIdle, played_of}
 use Rattle.client_plays.proofs.ItemLaws.{quiet-query}
 use Rattle.client_plays.proofs.PlayLaws.{item-unplayed}

@@ -1,12 +1,12 @@
 -- What one turn of a client is in its play.
-use Rattle.std.proofs.Common.{◌≡◌, ◌⊎◌, ℕ, ◌≤◌, ◌+◌, Bool, true, false, List, [], ◌∷◌, ◌++◌, refl, ap, sym, ◌∙◌, subst, inl, inr, arith}
+use Rattle.std.proofs.Common.{◌≡◌, ℕ, ◌≤◌, false, List, [], ◌∷◌, refl, ap, sym, ◌∙◌, subst, inl, inr, arith}
 use Rattle.std.proofs.lemmas.List.{reverse-append}
-use Rattle.std.specs.Prelude.{Option, Some, None, Result, Ok, Err}
+use Rattle.std.specs.Prelude.{Some, Result, Ok, Err}
 use Rattle.update_log.specs.declared.event.Event.{Event}
 use Rattle.update_log.specs.declared.live.Held.{Held}
 use Rattle.update_log.specs.declared.live.LiveEntry.{LiveEntry}
 use Rattle.update_log.specs.Holding.{holds_after, live_after}
-use Rattle.update_log.specs.Pasts.{client_of, is_boot, off, past_of}
+use Rattle.update_log.specs.Pasts.{client_of, is_boot, past_of}
 use Rattle.daemon_core.specs.declared.stop.Stop.{Stop}
 use Rattle.daemon_core.specs.Annals.{Appended, SameFacts, Unchanged}
 use Rattle.daemon_core.specs.Housed.{Annalled, Housed, past, past_in}

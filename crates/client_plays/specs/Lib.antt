@@ -1,4 +1,5 @@
 pub mod Moments
 pub mod Plays
+pub mod Tools
 pub mod Scripts
 pub mod Endings

@@ -3,7 +3,7 @@
 -- A play is all that one item of a client's script does, or one thing that the daemon does by itself
 -- as a boot begins. It is told of the client's own events, the oldest first, each with the past before
 -- it; what other clients do between them is no part of it.
-use Rattle.std.specs.Prelude.{◌≡◌, ◌⊎◌, ℕ, Bool, true, false, ◌&&◌, ◌==◌, MatchBool, List, [], ◌∷◌, ◌++◌, Option, Some, None, Result}
+use Rattle.std.specs.Prelude.{◌≡◌, ◌⊎◌, ℕ, Bool, true, ◌&&◌, ◌==◌, MatchBool, List, [], ◌∷◌, ◌++◌, Option, Some, None, Result}
 use Rattle.std.specs.List.{list_any}
 use Rattle.std.specs.Str.{bytes_eq}
 use Rattle.fw_facts.specs.declared.seen.Seen.{Seen}

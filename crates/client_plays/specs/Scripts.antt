@@ -1,5 +1,5 @@
 -- When the scripts of a campaign were played.
-use Rattle.std.specs.Prelude.{◌≡◌, ◌⊎◌, ◌<◌, ℕ, Bool, true, false, ◌&&◌, MatchBool, List, [], ◌∷◌, ◌++◌, Option, None, map, filter, slice_get, unwrap_or, option_map, option_and_then, zero, suc}
+use Rattle.std.specs.Prelude.{◌≡◌, ◌⊎◌, ◌<◌, ℕ, Bool, false, ◌&&◌, MatchBool, List, [], ◌∷◌, ◌++◌, Option, None, map, filter, slice_get, unwrap_or, option_map, zero, suc}
 use Rattle.fw_facts.specs.declared.view.DeviceView.{DeviceView}
 use Rattle.fw_facts.specs.Views.{is_home}
 use Rattle.history_keeper.specs.declared.row.Row.{Row}

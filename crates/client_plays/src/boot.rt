@@ -4,6 +4,7 @@ ghost use Rattle.update_log.specs.Pasts.{boots};
 ghost use Rattle.daemon_core.specs.Housed.{past, rows_before};
 ghost use Rattle.client_plays.specs.Endings.{HouseBootPlayed, HouseMore, IsFresh, IsIdle, IsScriptItem};
 ghost use Rattle.client_plays.specs.Plays.{Plays};
+ghost use Rattle.client_plays.specs.Tools.{Serves, ToolsStay};
 
 use crate::scripting::play_script;
 use crate::worker::Worker;
@@ -23,7 +24,9 @@ fn play_client<K: Keeper, W: Worker<K>>(
     requires booted { 0 < boots (past house.old) }
     requires idle { IsIdle (past house.old) }
     requires proper { All IsScriptItem script.now }
-    ensures { HouseMore K.faults result wanting client (Plays house.old.annals.facts (rows_before house.old.annals) client) script.now house.old house.new }
+    requires serves { Serves (W.tools worker.old) house.old.annals.facts client }
+    ensures more { HouseMore K.faults result wanting client (Plays house.old.annals.facts (rows_before house.old.annals) client) script.now house.old house.new }
+    ensures kept { ToolsStay (W.tools worker.old) (W.tools worker.new) }
 {
     let now = play_script(house, worker, client, script.items());
     either(wanting, now)
@@ -47,7 +50,9 @@ pub fn play_boot<K: Keeper, W: Worker<K>>(
     requires fresh { IsFresh (past house.old) }
     requires proper { All (All IsScriptItem) of_boot.now }
     requires few { length of_boot.now < 2 ^ 32 - 1 }
-    ensures { HouseBootPlayed K.faults result of_boot.now house.old house.new }
+    requires serves { Serves (W.tools worker.old) house.old.annals.facts (length of_boot.now) }
+    ensures played { HouseBootPlayed K.faults result of_boot.now house.old house.new }
+    ensures kept { ToolsStay (W.tools worker.old) (W.tools worker.new) }
 {
     let mut wanting = worker.tasks(house);
     for (number, script) in of_boot.iter().enumerate() {

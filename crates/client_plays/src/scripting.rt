@@ -4,6 +4,7 @@ ghost use Rattle.update_log.specs.Pasts.{boots};
 ghost use Rattle.daemon_core.specs.Housed.{past, rows_before};
 ghost use Rattle.client_plays.specs.Endings.{HouseOnceMore, HousePlayed, HouseWent, IsIdle, IsScriptItem};
 ghost use Rattle.client_plays.specs.Plays.{Plays};
+ghost use Rattle.client_plays.specs.Tools.{Serves, ToolsStay};
 
 use crate::played::Played;
 use crate::playing::{play_plug, play_question, play_schedule, play_settle, play_unplug};
@@ -13,6 +14,7 @@ use daemon_core::House;
 use history_keeper::Keeper;
 
 /// Plays an item of a client. Nobody has anything out before, nor afterwards.
+#[tactic(auto, using(crate::proofs::ToolLaws::tools_here))]
 pub fn play_item<K: Keeper, W: Worker<K>>(
     house: &mut House<K>,
     worker: &mut W,
@@ -22,7 +24,9 @@ pub fn play_item<K: Keeper, W: Worker<K>>(
     requires booted { 0 < boots (past house.old) }
     requires idle { IsIdle (past house.old) }
     requires proper { IsScriptItem item.now }
-    ensures { HousePlayed K.faults result client (Plays house.old.annals.facts (rows_before house.old.annals) client item.now) house.old house.new }
+    requires serves { Serves (W.tools worker.old) house.old.annals.facts client }
+    ensures played { HousePlayed K.faults result client (Plays house.old.annals.facts (rows_before house.old.annals) client item.now) house.old house.new }
+    ensures kept { ToolsStay (W.tools worker.old) (W.tools worker.new) }
 {
     match item {
         Item::Ask(query) => play_question(house, client, query),
@@ -50,7 +54,9 @@ fn play_next<K: Keeper, W: Worker<K>>(
     requires booted { 0 < boots (past house.old) }
     requires idle { IsIdle (past house.old) }
     requires proper { IsScriptItem item.now }
-    ensures { HouseOnceMore K.faults result wanting client (Plays house.old.annals.facts (rows_before house.old.annals) client item.now) house.old house.new }
+    requires serves { Serves (W.tools worker.old) house.old.annals.facts client }
+    ensures more { HouseOnceMore K.faults result wanting client (Plays house.old.annals.facts (rows_before house.old.annals) client item.now) house.old house.new }
+    ensures kept { ToolsStay (W.tools worker.old) (W.tools worker.new) }
 {
     match play_item(house, worker, client, item) {
         Played::Done => Some(wanting),
@@ -70,7 +76,9 @@ pub fn play_script<K: Keeper, W: Worker<K>>(
     requires booted { 0 < boots (past house.old) }
     requires idle { IsIdle (past house.old) }
     requires proper { All IsScriptItem items.now }
-    ensures { HouseWent K.faults result client (Plays house.old.annals.facts (rows_before house.old.annals) client) items.now house.old house.new }
+    requires serves { Serves (W.tools worker.old) house.old.annals.facts client }
+    ensures went { HouseWent K.faults result client (Plays house.old.annals.facts (rows_before house.old.annals) client) items.now house.old house.new }
+    ensures kept { ToolsStay (W.tools worker.old) (W.tools worker.new) }
 {
     let mut wanting = false;
     for item in items {

@@ -1,4 +1,5 @@
 pub mod Logs
+pub mod Pasts
 pub mod Turns
 pub mod Same
 pub mod Ends

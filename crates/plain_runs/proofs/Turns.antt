@@ -1,9 +1,10 @@
 -- The turns of a step: what its start and its end want, and what they leave.
-use Rattle.std.proofs.Common.{◌≡◌, ℕ, sym, subst}
+use Rattle.std.proofs.Common.{◌≡◌, ℕ, List, [], ◌∷◌, sym, subst}
 use Rattle.std.specs.Prelude.{Some, None, Result, ⊤}
 use Rattle.block_pool.specs.Views.{SealedBytes}
 use Rattle.emulated_boards.specs.Boards.{BoardState}
 use Rattle.emulated_boards.specs.Conditions.{view_of}
+use Rattle.emulated_boards.specs.declared.mark.Mark.{Mark}
 use Rattle.emulated_boards.specs.declared.fault.BoardFault.{BoardFault}
 use Rattle.update_log.specs.declared.event.Event.{Event}
 use Rattle.update_log.specs.declared.event.Op.{Op}
@@ -17,7 +18,8 @@ use Rattle.device_claims.specs.States.{IsNext}
 use Rattle.device_claims.specs.declared.claim.Parts.{Parts}
 use Rattle.install_engine.specs.RunsIn.{HomeIn, RunsIn}
 use Rattle.install_engine.proofs.RunHouse.{ended-in, ends-in, home-between, home-off, home-within, start-in, started-in}
-use Rattle.plain_runs.specs.Ran.{StepToEnd}
+use Rattle.plain_runs.proofs.Logs.{gained-one}
+use Rattle.plain_runs.specs.Ran.{Gained, StepToEnd}
 
 -- ---- the start
 
@@ -34,6 +36,16 @@ start-home a b client entry parts e k w =
     (home-off client a b parts.entry parts.board parts.payload.count w (home-between a client parts k))
 
 -- ---- the end
+
+-- The board is the claim's.
+pub end-gained : (a after : Annalled) (client entry : ℕ) (op : Op) (answer : Result ⊤ BoardFault) (b now : BoardState) → b ≡ now
+    → Appended client (Event.End client entry op answer (new_marks a.facts (rows_before a) (past_in a) entry b.journal) (view_of b.condition)) a after → (told : List Mark) × Gained (Event.End client entry op answer told (view_of now.condition) ∷ []) a after
+end-gained a after client entry op answer b now e p =
+    let told = new_marks a.facts (rows_before a) (past_in a) entry b.journal in (
+      told,
+      subst (λ (x : BoardState). Gained (Event.End client entry op answer told (view_of x.condition) ∷ []) a after) e
+          (gained-one client (Event.End client entry op answer told (view_of b.condition)) a after p),
+    )
 
 module _ (a : Annalled) (client entry : ℕ) (op : Op) (answer : Result ⊤ BoardFault) (now : Parts) (s : StepToEnd a client entry op answer now) where
   pub end-number : (b : BoardState) → b ≡ now.board → (number : ℕ) × StepEnds a.facts a.first (rows_before a) (past_in a) client entry op answer number b

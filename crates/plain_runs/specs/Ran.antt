@@ -7,7 +7,9 @@ use Rattle.emulated_boards.specs.Images.{payload_image}
 use Rattle.update_log.specs.declared.event.Back.{Back}
 use Rattle.update_log.specs.declared.event.Event.{Event}
 use Rattle.update_log.specs.declared.event.Op.{Op}
-use Rattle.daemon_core.specs.Housed.{Annalled}
+use Rattle.update_log.specs.Pasts.{off}
+use Rattle.daemon_core.specs.Annals.{SameFacts}
+use Rattle.daemon_core.specs.Housed.{Annalled, past_in}
 use Rattle.daemon_core.specs.declared.finished.Finished.{Finished}
 use Rattle.device_claims.specs.Claims.{Noted}
 use Rattle.device_claims.specs.declared.claim.Parts.{Parts}
@@ -47,20 +49,24 @@ pub record StepToEnd (a : Annalled) (client entry : ℕ) (op : Op) (answer : Res
   pub left : StepLeft op before.entry (payload_image before.payload) before.board answer now.board
   pub noted : Noted op before answer now
 
--- The log gained these events.
-abbrev pub Gained : List Event → Annalled → Annalled → Type 0
-Gained more old new = new.core.log ≡ old.core.log ++ more
+-- The log gained these events, and what no event but a boot changes is as before.
+pub record Gained (more : List Event) (old new : Annalled) : Type 0 where
+  pub same : SameFacts old new
+  pub log : new.core.log ≡ old.core.log ++ more
 
 -- The client made steps of the entry, and nothing else.
 abbrev pub MadeSteps : ℕ → ℕ → Annalled → Annalled → Type 0
 MadeSteps client entry old new = (steps : List StepMade) × Gained (step_events client entry steps) old new
 
--- The boot went off, and the entry was given back.
-abbrev pub CameBack : ℕ → ℕ → Annalled → Annalled → Type 0
-CameBack client entry old new = (cut : Bool) × Gained (cut_events cut ++ Event.GiveBack client (Back.Entry entry) ∷ []) old new
+-- The boot is off, and the entry was given back.
+pub record CameBack (client entry : ℕ) (old new : Annalled) : Type 0 where
+  pub is_off : off (past_in new) ≡ true
+  pub cut : Bool
+  pub gained : Gained (cut_events cut ++ Event.GiveBack client (Back.Entry entry) ∷ []) old new
 
--- The boot went off: behind such steps, and the start of one more perhaps, the entry was given back.
+-- The boot is off: behind such steps, and the start of one more perhaps, the entry was given back.
 pub record GaveBack (client entry : ℕ) (old new : Annalled) : Type 0 where
+  pub is_off : off (past_in new) ≡ true
   pub steps : List StepMade
   pub started : Option Op
   pub cut : Bool

@@ -2,6 +2,7 @@
 ghost use Rattle.std.specs.Prelude.{◌≡◌, ◌≤◌, ◌<◌, length, None, Some, IfOk, OnErr, OnOk, [], slice_get};
 ghost use Rattle.update_log.specs.Steps.{next_step};
 ghost use Rattle.update_log.specs.declared.event.Op.{Op};
+ghost use Rattle.daemon_core.specs.Turns.{FaultsCounted};
 ghost use Rattle.device_claims.specs.States.{IsNext};
 ghost use Rattle.install_engine.specs.RunsIn.{RunsIn, parts_taken};
 ghost use Rattle.plain_runs.specs.Ran.{GaveBack, MadeSteps, Ran};
@@ -27,6 +28,7 @@ fn loosen<K: Keeper>(
     ensures runs { IfOk result (λ next. RunsIn house.new.annals client next None) }
     ensures made { OnOk result (MadeSteps client entry house.old.annals house.new.annals) }
     ensures gone { OnErr result (GaveBack client entry house.old.annals house.new.annals) }
+    ensures keeper { house.new.keeper ≡ house.old.keeper }
 {
     if claim.may_detach() {
         detach(house, client, entry, claim, plugin)
@@ -49,6 +51,7 @@ fn flash<K: Keeper>(
     ensures runs { IfOk result (λ next. RunsIn house.new.annals client next None) }
     ensures made { OnOk result (MadeSteps client entry house.old.annals house.new.annals) }
     ensures gone { OnErr result (GaveBack client entry house.old.annals house.new.annals) }
+    ensures keeper { house.new.keeper ≡ house.old.keeper }
 {
     if claim.may_write() {
         write(house, client, entry, claim, plugin)
@@ -72,6 +75,7 @@ fn join<K: Keeper>(
     ensures next { IfOk result (λ next. IsNext Op.Reload next.trace) }
     ensures made { OnOk result (MadeSteps client entry house.old.annals house.new.annals) }
     ensures gone { OnErr result (GaveBack client entry house.old.annals house.new.annals) }
+    ensures keeper { house.new.keeper ≡ house.old.keeper }
 {
     if claim.may_attach() {
         attach(house, client, entry, claim, plugin)
@@ -95,6 +99,7 @@ fn make_ready<K: Keeper>(
     ensures runs { IfOk result (λ next. RunsIn house.new.annals client next None) }
     ensures made { OnOk result (MadeSteps client entry house.old.annals house.new.annals) }
     ensures gone { OnErr result (GaveBack client entry house.old.annals house.new.annals) }
+    ensures keeper { house.new.keeper ≡ house.old.keeper }
 {
     let next = prepare(house, client, entry, claim, plugin)?;
     loosen(house, client, entry, next, plugin)
@@ -115,6 +120,7 @@ fn update<K: Keeper>(
     ensures next { IfOk result (λ next. IsNext Op.Reload next.trace) }
     ensures made { OnOk result (MadeSteps client entry house.old.annals house.new.annals) }
     ensures gone { OnErr result (GaveBack client entry house.old.annals house.new.annals) }
+    ensures keeper { house.new.keeper ≡ house.old.keeper }
 {
     let next = flash(house, client, entry, claim, plugin)?;
     join(house, client, entry, next, plugin)
@@ -136,6 +142,7 @@ fn look_and_end<K: Keeper>(
     ensures done { IfOk result (λ next. next_step next.trace ≡ None) }
     ensures made { OnOk result (MadeSteps client entry house.old.annals house.new.annals) }
     ensures gone { OnErr result (GaveBack client entry house.old.annals house.new.annals) }
+    ensures keeper { house.new.keeper ≡ house.old.keeper }
 {
     let next = reload(house, client, entry, claim, plugin)?;
     cleanup(house, client, entry, next, plugin)
@@ -157,6 +164,7 @@ fn advance<K: Keeper>(
     ensures next { IfOk result (λ next. IsNext Op.Reload next.trace) }
     ensures made { OnOk result (MadeSteps client entry house.old.annals house.new.annals) }
     ensures gone { OnErr result (GaveBack client entry house.old.annals house.new.annals) }
+    ensures keeper { house.new.keeper ≡ house.old.keeper }
 {
     let next = make_ready(house, client, entry, claim, plugin)?;
     update(house, client, entry, next, plugin)
@@ -178,6 +186,7 @@ fn make_steps<K: Keeper>(
     ensures done { IfOk result (λ next. next_step next.trace ≡ None) }
     ensures made { OnOk result (MadeSteps client entry house.old.annals house.new.annals) }
     ensures gone { OnErr result (GaveBack client entry house.old.annals house.new.annals) }
+    ensures keeper { house.new.keeper ≡ house.old.keeper }
 {
     let next = advance(house, client, entry, claim, plugin)?;
     look_and_end(house, client, entry, next, plugin)
@@ -188,7 +197,9 @@ fn finish<K: Keeper>(house: &mut House<K>, client: u32, entry: u32, claim: Close
     requires entry { claim.entry ≡ entry }
     requires runs { RunsIn house.old.annals client claim None }
     requires done { next_step claim.trace ≡ None }
-    ensures { Ran client entry result house.old.annals house.new.annals }
+    ensures ran { Ran client entry result house.old.annals house.new.annals }
+    ensures faults { FaultsCounted K.faults house.old house.new }
+    ensures counts { K.faults house.old.keeper ≤ K.faults house.new.keeper }
 {
     let (board, payload) = claim.into_parts();
     match house.finish(client, entry, board, payload) {
@@ -214,7 +225,9 @@ pub fn run_claim<K: Keeper>(
     requires no_steps { taken.trace.steps ≡ [] }
     requires marks { 8 ≤ taken.board.room }
     requires served { taken.plugin < length plugins.now }
-    ensures { Ran client taken.entry result house.old.annals house.new.annals }
+    ensures ran { Ran client taken.entry result house.old.annals house.new.annals }
+    ensures faults { FaultsCounted K.faults house.old house.new }
+    ensures counts { K.faults house.old.keeper ≤ K.faults house.new.keeper }
 {
     let Taken {
         entry,

@@ -29,7 +29,8 @@ fn give_back<K: Keeper, S: State>(
     requires booted { 0 < boots (past_in house.old.annals) }
     requires off { off (past_in house.old.annals) ≡ true }
     requires home { HomeIn house.old.annals client entry claim.board claim.payload.count }
-    ensures { Appended client (Event.GiveBack client (Back.Entry entry)) house.old.annals house.new.annals }
+    ensures appended { Appended client (Event.GiveBack client (Back.Entry entry)) house.old.annals house.new.annals }
+    ensures keeper { house.new.keeper ≡ house.old.keeper }
 {
     let (board, payload) = claim.into_parts();
     house.give_back(client, entry, board, payload);
@@ -51,6 +52,7 @@ fn begin<K: Keeper, S: State>(
     ensures runs { IfOk result (λ next. RunsIn house.new.annals client next (Some op)) }
     ensures gained { OnOk result (Gained (Event.Start client entry op ∷ []) house.old.annals house.new.annals) }
     ensures gone { OnErr result (CameBack client entry house.old.annals house.new.annals) }
+    ensures keeper { house.new.keeper ≡ house.old.keeper }
 {
     match house.start(client, entry, op) {
         Ok(()) => Ok(claim),
@@ -72,6 +74,7 @@ fn end<K: Keeper, S: State>(
     ensures runs { IfOk result (λ next. RunsIn house.new.annals client next None) }
     ensures gained { OnOk result ((told : List Mark) × Gained (Event.End client entry op answer told (view_of claim.board.condition) ∷ []) house.old.annals house.new.annals) }
     ensures gone { OnErr result (CameBack client entry house.old.annals house.new.annals) }
+    ensures keeper { house.new.keeper ≡ house.old.keeper }
 {
     match house.end(client, entry, op, answer, claim.board()) {
         Ok(()) => Ok(claim),
@@ -94,6 +97,7 @@ pub(crate) fn prepare<K: Keeper>(
     ensures runs { IfOk result (λ next. RunsIn house.new.annals client next None) }
     ensures made { OnOk result (MadeSteps client entry house.old.annals house.new.annals) }
     ensures gone { OnErr result (GaveBack client entry house.old.annals house.new.annals) }
+    ensures keeper { house.new.keeper ≡ house.old.keeper }
 {
     let claim = begin(house, client, entry, Op::Prepare, claim)?;
     let (claim, answer) = claim.prepare(plugin);
@@ -115,6 +119,7 @@ pub(crate) fn detach<K: Keeper>(
     ensures runs { IfOk result (λ next. RunsIn house.new.annals client next None) }
     ensures made { OnOk result (MadeSteps client entry house.old.annals house.new.annals) }
     ensures gone { OnErr result (GaveBack client entry house.old.annals house.new.annals) }
+    ensures keeper { house.new.keeper ≡ house.old.keeper }
 {
     let claim = begin(house, client, entry, Op::Detach, claim)?;
     let (claim, answer) = claim.detach(plugin);
@@ -136,6 +141,7 @@ pub(crate) fn write<K: Keeper>(
     ensures runs { IfOk result (λ next. RunsIn house.new.annals client next None) }
     ensures made { OnOk result (MadeSteps client entry house.old.annals house.new.annals) }
     ensures gone { OnErr result (GaveBack client entry house.old.annals house.new.annals) }
+    ensures keeper { house.new.keeper ≡ house.old.keeper }
 {
     let claim = begin(house, client, entry, Op::Write, claim)?;
     let (claim, answer) = claim.write(plugin);
@@ -158,6 +164,7 @@ pub(crate) fn attach<K: Keeper>(
     ensures next { IfOk result (λ next. IsNext Op.Reload next.trace) }
     ensures made { OnOk result (MadeSteps client entry house.old.annals house.new.annals) }
     ensures gone { OnErr result (GaveBack client entry house.old.annals house.new.annals) }
+    ensures keeper { house.new.keeper ≡ house.old.keeper }
 {
     let claim = begin(house, client, entry, Op::Attach, claim)?;
     let (claim, answer) = claim.attach(plugin);
@@ -180,6 +187,7 @@ pub(crate) fn reload<K: Keeper>(
     ensures next { IfOk result (λ next. IsNext Op.Cleanup next.trace) }
     ensures made { OnOk result (MadeSteps client entry house.old.annals house.new.annals) }
     ensures gone { OnErr result (GaveBack client entry house.old.annals house.new.annals) }
+    ensures keeper { house.new.keeper ≡ house.old.keeper }
 {
     let claim = begin(house, client, entry, Op::Reload, claim)?;
     let (claim, answer) = claim.reload(plugin);
@@ -202,6 +210,7 @@ pub(crate) fn cleanup<K: Keeper>(
     ensures next { IfOk result (λ next. next_step next.trace ≡ None) }
     ensures made { OnOk result (MadeSteps client entry house.old.annals house.new.annals) }
     ensures gone { OnErr result (GaveBack client entry house.old.annals house.new.annals) }
+    ensures keeper { house.new.keeper ≡ house.old.keeper }
 {
     let claim = begin(house, client, entry, Op::Cleanup, claim)?;
     let (claim, answer) = claim.cleanup(plugin);

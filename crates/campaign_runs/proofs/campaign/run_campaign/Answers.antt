@@ -6,4 +6,4 @@ pub returns-clause-legal : goal.returns-clause-legal
 returns-clause-legal g c =
     let house = c.run_boots-ran.new.house in
     legal-in house.annals.facts house.annals.first c.args.plans.now (rows_before house.annals) (past house)
-    c.run_boots-ran.ensures.ran.planned c.known.ensures.annals.legal
+    c.run_boots-ran.ensures.ran.ran.planned c.known.ensures.annals.legal

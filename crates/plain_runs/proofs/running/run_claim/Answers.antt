@@ -1,6 +1,22 @@
 use Rattle.plain_runs.proofs.Logs.{ran-after}
+use Rattle.plain_runs.proofs.Pasts.{back-counted, counts-same, ran-counted, ran-counts}
 use Rattle.plain_runs.proofs.running.run_claim.Goals as goal
 
-pub returns-in-Ok : goal.returns-in-Ok
-returns-in-Ok g c =
-    ran-after c.args.client c.args.taken.entry c.finish.result c.args.house.now.annals c.make_steps.new.house.annals c.finish.new.house.annals c.in-Ok.ensures.made c.finish.ensures
+pub returns-in-Ok-clause-ran : goal.returns-in-Ok-clause-ran
+returns-in-Ok-clause-ran g c =
+    ran-after c.args.client c.args.taken.entry c.finish.result c.args.house.now.annals c.make_steps.new.house.annals c.finish.new.house.annals c.in-Ok.ensures.made c.finish.ensures.ran
+
+pub returns-in-Ok-clause-faults : goal.returns-in-Ok-clause-faults
+returns-in-Ok-clause-faults g c =
+    ran-counted g.K.Keeper.faults c.args.client c.args.taken.entry c.args.house.now c.make_steps.new.house c.finish.new.house c.in-Ok.ensures.made c.in-Ok.ensures.keeper c.finish.ensures.faults c.finish.ensures.counts
+
+pub returns-in-Ok-clause-counts : goal.returns-in-Ok-clause-counts
+returns-in-Ok-clause-counts g c =
+    ran-counts g.K.Keeper.faults c.args.house.now c.make_steps.new.house c.finish.new.house c.in-Ok.ensures.keeper c.finish.ensures.counts
+
+pub returns-in-Err-clause-faults : goal.returns-in-Err-clause-faults
+returns-in-Err-clause-faults g c =
+    back-counted g.K.Keeper.faults c.args.client c.args.taken.entry c.args.house.now c.make_steps.new.house c.in-Err.ensures.gone c.in-Err.ensures.keeper
+
+pub returns-in-Err-clause-counts : goal.returns-in-Err-clause-counts
+returns-in-Err-clause-counts g c = counts-same g.K.Keeper.faults c.args.house.now c.make_steps.new.house c.in-Err.ensures.keeper

@@ -1,4 +1,5 @@
-use Rattle.plain_runs.proofs.Logs.{came-back}
+use Rattle.update_log.specs.declared.event.Event.{Event}
+use Rattle.plain_runs.proofs.Logs.{came-back, gained-one}
 use Rattle.plain_runs.proofs.Turns.{start-home, start-runs}
 use Rattle.plain_runs.proofs.steps.begin.Goals as goal
 
@@ -12,6 +13,10 @@ returns-in-Ok-clause-runs g c =
     let t = c.in-Ok.ensures.turn in
     start-runs c.args.house.now.annals c.start.new.self.annals c.args.client c.args.entry c.args.claim c.args.op c.requires.entry c.requires.runs t.0 t.1
 
+pub returns-in-Ok-clause-gained : goal.returns-in-Ok-clause-gained
+returns-in-Ok-clause-gained g c =
+    gained-one c.args.client (Event.Start c.args.client c.args.entry c.args.op) c.args.house.now.annals c.start.new.self.annals c.in-Ok.ensures.turn.1
+
 pub returns-in-Err-clause-gone : goal.returns-in-Err-clause-gone
 returns-in-Err-clause-gone g c =
-    came-back c.args.client c.args.entry c.args.house.now.annals c.start.new.self.annals c.give_back.new.house.annals c.in-Err.ensures.turn c.give_back.ensures
+    came-back c.args.client c.args.entry c.args.house.now.annals c.start.new.self.annals c.give_back.new.house.annals c.in-Err.ensures.turn c.give_back.ensures.appended

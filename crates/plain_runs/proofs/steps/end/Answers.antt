@@ -1,6 +1,6 @@
 use Rattle.install_engine.proofs.RunHouse.{booted-off, is-off}
 use Rattle.plain_runs.proofs.Logs.{came-back}
-use Rattle.plain_runs.proofs.Turns.{end-home, end-number, end-runs}
+use Rattle.plain_runs.proofs.Turns.{end-gained, end-home, end-number, end-runs}
 use Rattle.plain_runs.proofs.steps.end.Goals as goal
 
 -- src/steps.rt
@@ -24,6 +24,10 @@ returns-in-Ok-clause-runs g c =
     let t = c.in-Ok.ensures.turn in
     end-runs c.args.house.now.annals c.args.client c.args.entry c.args.op c.args.answer c.args.claim c.requires c.board.result.now c.end.new.self.annals c.board.ensures t.0 t.1
 
+pub returns-in-Ok-clause-gained : goal.returns-in-Ok-clause-gained
+returns-in-Ok-clause-gained g c =
+    end-gained c.args.house.now.annals c.end.new.self.annals c.args.client c.args.entry c.args.op c.args.answer c.board.result.now c.args.claim.board c.board.ensures c.in-Ok.ensures.turn.1
+
 pub returns-in-Err-clause-gone : goal.returns-in-Err-clause-gone
 returns-in-Err-clause-gone g c =
-    came-back c.args.client c.args.entry c.args.house.now.annals c.end.new.self.annals c.give_back.new.house.annals c.in-Err.ensures.turn c.give_back.ensures
+    came-back c.args.client c.args.entry c.args.house.now.annals c.end.new.self.annals c.give_back.new.house.annals c.in-Err.ensures.turn c.give_back.ensures.appended

@@ -1,0 +1,57 @@
+-- What the run of a claim put behind the log: which entries its pass gained as its own.
+--
+-- What other clients put between them is theirs, and is told by their passes.
+use Rattle.std.specs.Prelude.{◌≡◌, ℕ, Bool, true, List, [], ◌∷◌, ◌++◌, Option, map}
+use Rattle.update_log.specs.declared.event.Back.{Back}
+use Rattle.update_log.specs.declared.event.Event.{Event}
+use Rattle.update_log.specs.declared.event.Op.{Op}
+use Rattle.update_log.specs.Legal.{IsFree}
+use Rattle.update_log.specs.Pasts.{off}
+use Rattle.daemon_core.specs.declared.finished.Finished.{Finished}
+use Rattle.plain_runs.specs.declared.outcome.Outcome.{Outcome}
+use Rattle.plain_runs.specs.Ran.{StepMade, cut_events, start_events, step_events}
+use Rattle.turn_lock.specs.Shown.{PassView}
+use Rattle.shared_daemon.specs.declared.entry.Entry.{Entry}
+use Rattle.shared_daemon.specs.Entries.{entry_of, past_seen}
+
+-- The pass gained these events as its own.
+pub record Gained (more : List Event) (old new : PassView Entry) : Type 0 where
+  pub same : new.number ≡ old.number
+  pub mine_are : new.mine ≡ old.mine ++ map (entry_of old.number) more
+
+-- The client made steps of the entry, and nothing else.
+abbrev pub MadeSteps : ℕ → PassView Entry → PassView Entry → Type 0
+MadeSteps entry old new = (steps : List StepMade) × Gained (step_events old.number entry steps) old new
+
+-- The event that gives the entry back.
+abbrev pub back_event : ℕ → ℕ → Event
+back_event client entry = Event.GiveBack client (Back.Entry entry)
+
+-- The boot is off, and the client has nothing out.
+pub record IsOver (pass : PassView Entry) : Type 0 where
+  pub off_is : off (past_seen pass.seen) ≡ true
+  pub free_is : IsFree (past_seen pass.seen) pass.number
+
+-- The boot went off, perhaps by a cut that the client met, and the entry was given back.
+pub record CameBack (entry : ℕ) (old new : PassView Entry) : Type 0 where
+  pub cut : Bool
+  pub gained : Gained (cut_events cut ++ back_event old.number entry ∷ []) old new
+  pub over : IsOver new
+
+-- The boot went off: behind such steps, and the start of one more perhaps, the entry was given back.
+pub record GaveBack (entry : ℕ) (old new : PassView Entry) : Type 0 where
+  pub steps : List StepMade
+  pub started : Option Op
+  pub cut : Bool
+  pub gained : Gained (step_events old.number entry steps ++ (start_events old.number entry started ++ (cut_events cut ++ back_event old.number entry ∷ []))) old new
+  pub over : IsOver new
+
+-- Behind such steps the entry was finished, in that state, and the client has nothing out.
+pub record Finishes (entry : ℕ) (finished : Finished) (old new : PassView Entry) : Type 0 where
+  pub steps : List StepMade
+  pub gained : Gained (step_events old.number entry steps ++ Event.Finish old.number entry finished.state finished.stored ∷ []) old new
+  pub free_is : IsFree (past_seen new.seen) new.number
+
+abbrev pub Ran : ℕ → Outcome → PassView Entry → PassView Entry → Type 0
+Ran entry (Outcome.Finished finished) old new = Finishes entry finished old new
+Ran entry Outcome.Off old new = GaveBack entry old new

@@ -1,0 +1,10 @@
+use Rattle.std.proofs.Common.{List, ap, ◌∙◌}
+use Rattle.update_log.specs.declared.event.Event.{Event}
+use Rattle.update_log.specs.Holding.{holds, live}
+use Rattle.shared_daemon.proofs.Logs.{past-entries}
+use Rattle.daemon_tests.proofs.scenes.named_day.Goals as goal
+
+pub day-requires-clause-nothing : goal.day-requires-clause-nothing
+day-requires-clause-nothing g c =
+    let e = past-entries c.args.house.annals c.known.ensures.annals in
+    (ap (λ (p : List Event). holds p) e ∙ c.requires.no_holds, ap (λ (p : List Event). live p) e ∙ c.requires.no_live)

@@ -1,0 +1,99 @@
+-- The past behind events in a row, and the keeper's faults among them.
+use Rattle.std.proofs.Common.{◌≡◌, ℕ, ◌≤◌, true, false, Bool, List, [], ◌∷◌, ◌++◌, refl, ap, sym, ◌∙◌, append_assoc, inl, inr, arith}
+use Rattle.std.proofs.lemmas.List.{append-nil}
+use Rattle.std.specs.Prelude.{Option, Some, None}
+use Rattle.update_log.proofs.Pasts.{past-push}
+use Rattle.update_log.specs.declared.event.Back.{Back}
+use Rattle.update_log.specs.declared.event.Event.{Event}
+use Rattle.update_log.specs.declared.event.Op.{Op}
+use Rattle.update_log.specs.Pasts.{past_of}
+use Rattle.daemon_core.specs.Housed.{Annalled, Housed, past, past_in}
+use Rattle.daemon_core.specs.Keeping.{keeper_faults, met_fault}
+use Rattle.daemon_core.specs.Turns.{FaultsCounted}
+use Rattle.plain_runs.specs.Ran.{Gained, GaveBack, MadeSteps, StepMade, cut_events, start_events, step_events}
+
+-- The past behind these events.
+abbrev pub grown : List Event → List Event → List Event
+grown past [] = past
+grown past (event ∷ events) = grown (event ∷ past) events
+
+pub grown-append : (past xs ys : List Event) → grown past (xs ++ ys) ≡ grown (grown past xs) ys
+grown-append past [] ys = refl
+grown-append past (x ∷ xs) ys = grown-append (x ∷ past) xs ys
+
+past-of_grown : (log events : List Event) → past_of (log ++ events) ≡ grown (past_of log) events
+past-of_grown log [] = ap past_of (append-nil log)
+past-of_grown log (event ∷ events) =
+    ap past_of (sym (append_assoc log (event ∷ []) events))
+    ∙ past-of_grown (log ++ event ∷ []) events
+    ∙ ap (λ (p : List Event). grown p events) (past-push log event)
+
+-- The log gained these events, so its past did.
+pub past-gained : (events : List Event) (old new : Annalled) → Gained events old new → past_in new ≡ grown (past_in old) events
+past-gained events old new g = ap past_of g.log ∙ past-of_grown old.core.log events
+
+-- None of these events met a fault of the keeper.
+abbrev pub MetNone : List Event → Type 0
+MetNone [] = Unit {0}
+MetNone (event ∷ events) = (met_fault event ≡ false) × MetNone events
+
+met-none : (past events : List Event) → MetNone events → keeper_faults (grown past events) ≡ keeper_faults past
+met-none past [] m = refl
+met-none past (event ∷ events) m = met-none (event ∷ past) events m.1 ∙ rw m.0 refl
+
+none-append : (xs ys : List Event) → MetNone xs → MetNone ys → MetNone (xs ++ ys)
+none-append [] ys m n = n
+none-append (x ∷ xs) ys m n = (m.0, none-append xs ys m.1 n)
+
+none-steps : (client entry : ℕ) (steps : List StepMade) → MetNone (step_events client entry steps)
+none-steps client entry [] = tt
+none-steps client entry (s ∷ steps) = (refl, (refl, none-steps client entry steps))
+
+none-start : (client entry : ℕ) (started : Option Op) → MetNone (start_events client entry started)
+none-start client entry None = tt
+none-start client entry (Some op) = (refl, tt)
+
+none-back : (client entry : ℕ) (cut : Bool) → MetNone (cut_events cut ++ Event.GiveBack client (Back.Entry entry) ∷ [])
+none-back client entry true = (refl, (refl, tt))
+none-back client entry false = (refl, tt)
+
+faults-same : (events : List Event) (old new : Annalled) → MetNone events → Gained events old new → keeper_faults (past_in new) ≡ keeper_faults (past_in old)
+faults-same events old new m g = ap keeper_faults (past-gained events old new g) ∙ met-none (past_in old) events m
+
+made-faults : (client entry : ℕ) (old new : Annalled) → MadeSteps client entry old new → keeper_faults (past_in new) ≡ keeper_faults (past_in old)
+made-faults client entry old new m = faults-same (step_events client entry m.0) old new (none-steps client entry m.0) m.1
+
+back-faults : (client entry : ℕ) (old new : Annalled) → GaveBack client entry old new → keeper_faults (past_in new) ≡ keeper_faults (past_in old)
+back-faults client entry old new k =
+    let last = cut_events k.cut ++ Event.GiveBack client (Back.Entry entry) ∷ [] in
+    faults-same (step_events client entry k.steps ++ (start_events client entry k.started ++ last)) old new
+    (none-append (step_events client entry k.steps) (start_events client entry k.started ++ last) (none-steps client entry k.steps)
+    (none-append (start_events client entry k.started) last (none-start client entry k.started) (none-back client entry k.cut)))
+    k.gained
+
+-- ---- over a house
+
+counted-same : {K : Type 0} (faults : K → ℕ) (old new : Housed K) → keeper_faults (past new) ≡ keeper_faults (past old) → new.keeper ≡ old.keeper → FaultsCounted faults old new
+counted-same faults old new e k = let same : faults new.keeper ≡ faults old.keeper = ap faults k in inl (omega arith)
+
+pub counts-same : {K : Type 0} (faults : K → ℕ) (old new : Housed K) → new.keeper ≡ old.keeper → faults old.keeper ≤ faults new.keeper
+counts-same faults old new k = let same : faults new.keeper ≡ faults old.keeper = ap faults k in omega arith
+
+counted-both : {K : Type 0} (faults : K → ℕ) (old mid new : Housed K) → FaultsCounted faults old mid → FaultsCounted faults mid new → faults mid.keeper ≤ faults new.keeper → FaultsCounted faults old new
+counted-both faults old mid new a b c =
+    elim a [
+      | inl x ↦ elim b [ inl y ↦ inl (omega arith) | inr y ↦ inr y ]
+      | inr x ↦ inr (omega arith)
+    ]
+
+-- A claim that was given back.
+pub back-counted : {K : Type 0} (faults : K → ℕ) (client entry : ℕ) (old new : Housed K) → GaveBack client entry old.annals new.annals → new.keeper ≡ old.keeper → FaultsCounted faults old new
+back-counted faults client entry old new g k = counted-same faults old new (back-faults client entry old.annals new.annals g) k
+
+-- A finish behind steps.
+pub ran-counted : {K : Type 0} (faults : K → ℕ) (client entry : ℕ) (old mid new : Housed K) → MadeSteps client entry old.annals mid.annals → mid.keeper ≡ old.keeper → FaultsCounted faults mid new → faults mid.keeper ≤ faults new.keeper → FaultsCounted faults old new
+ran-counted faults client entry old mid new m k c l =
+    counted-both faults old mid new (counted-same faults old mid (made-faults client entry old.annals mid.annals m) k) c l
+
+pub ran-counts : {K : Type 0} (faults : K → ℕ) (old mid new : Housed K) → mid.keeper ≡ old.keeper → faults mid.keeper ≤ faults new.keeper → faults old.keeper ≤ faults new.keeper
+ran-counts faults old mid new k l = let same : faults mid.keeper ≡ faults old.keeper = ap faults k in omega arith

@@ -1,0 +1,5 @@
+pub mod Has
+pub mod Ends
+pub mod Stays
+pub mod Judged
+pub mod Resumed
