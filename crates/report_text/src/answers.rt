@@ -17,7 +17,8 @@ use update_log::{
     AskAnswer, Back, ClaimAnswer, FetchNote, PlugAnswer, Query, Refusal, ResumeAnswer,
 };
 
-fn put_cause(out: &mut Vec<u8>, cause: UnmetCause) -> Result<(), AllocError>
+/// Puts why a requirement does not hold behind the text: its number and its word.
+pub fn put_cause(out: &mut Vec<u8>, cause: UnmetCause) -> Result<(), AllocError>
     ensures { OnOk result (out.new.items ≡ out.old.items ++ cause_text cause) }
 {
     out.extend_from_slice(cause_words(cause).as_bytes())?;
@@ -106,14 +107,16 @@ fn put_refusal(out: &mut Vec<u8>, refusal: &Refusal) -> Result<(), AllocError>
     put_details(out, refusal)
 }
 
-fn put_refused(out: &mut Vec<u8>, refusal: &Refusal) -> Result<(), AllocError>
+/// Puts a refusal behind the text.
+pub fn put_refused(out: &mut Vec<u8>, refusal: &Refusal) -> Result<(), AllocError>
     ensures { OnOk result (out.new.items ≡ out.old.items ++ refused_text refusal.now) }
 {
     out.extend_from_slice(b"refused ")?;
     put_refusal(out, refusal)
 }
 
-fn put_kept(out: &mut Vec<u8>, entry: u32, state: RowState) -> Result<(), AllocError>
+/// Puts behind the text that a tag was taken before, by this entry.
+pub fn put_kept(out: &mut Vec<u8>, entry: u32, state: RowState) -> Result<(), AllocError>
     ensures { OnOk result (out.new.items ≡ out.old.items ++ kept_text entry state) }
 {
     out.extend_from_slice(b"kept ")?;

@@ -4,7 +4,7 @@
 //! not be written is a front of them.
 #![tactic(auto)]
 
-mod answers;
+pub mod answers;
 mod by_sheets;
 mod ends;
 mod lines;

@@ -1,0 +1,5 @@
+pub mod HeardSo
+pub mod ReadSites
+pub mod Beginnings
+pub mod MadeSites
+pub mod CampaignsSo

@@ -1,0 +1,5 @@
+pub mod Inputs
+pub mod Limits
+pub mod Settled
+pub mod Begin
+pub mod Opened

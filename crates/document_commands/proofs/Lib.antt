@@ -1,0 +1,2 @@
+pub mod EndsSo
+pub mod ExplainsSo

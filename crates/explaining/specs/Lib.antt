@@ -1,0 +1,2 @@
+pub mod FirstBoot
+pub mod Explained

@@ -1,0 +1,13 @@
+//! What `explain` prints: whether an install would be accepted, and why.
+//!
+//! What is printed is a definition over the facts and a log (`specs/Explained.antt`), by the daemon's own
+//! verdict and the requirements' own causes. The writer is given the state that stands for that log.
+#![tactic(auto)]
+
+pub mod explain;
+pub mod first_boot;
+mod lines;
+mod requirements_met;
+
+pub use explain::write_explain;
+pub use first_boot::state_at_first_boot;
