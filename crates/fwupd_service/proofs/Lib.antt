@@ -1,1 +1,5 @@
-pub mod JsonTexts
+pub mod HouseLaws
+pub mod EndLaws
+pub mod StartLaws
+pub mod TopLaws
+pub mod MakeWords

@@ -1,4 +1,7 @@
-pub mod Statuses
+pub mod Telling
+pub mod Begins
+pub mod Campaigns
+pub mod Ends
+pub mod Tops
+pub mod Makes
 pub mod Commands
-pub mod Inputs
-pub mod Outputs

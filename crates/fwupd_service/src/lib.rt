@@ -1,22 +1,18 @@
 //! The top call: all that the program does.
 //!
-//! Its contract says of every run when each status comes, and that what was written is the report of
-//! the log that is returned. The program's `main` makes the real input, output and shelf, and calls it.
+//! Its contract says of every run when each status comes, what is true of the log that is returned, and what
+//! was written (`specs/`: Telling, Begins, Campaigns, Ends, Tops, Makes, Commands). The program's `main` makes
+//! the real input, output, shelves, keeper and plugins, and calls it.
 #![tactic(auto)]
 
-mod campaign;
-mod document;
-mod first_form;
-mod install;
-mod json;
+mod make;
+mod playing;
 pub mod ran;
-pub mod run;
-pub mod status;
-mod words;
+pub mod reporting;
+mod run;
+mod telling;
+pub mod top;
 
 pub use ran::Ran;
-pub use run::run_campaign;
-pub use status::Status;
-
-#[cfg(test)]
-mod tests;
+pub use run_status::Status;
+pub use top::run_campaign;

@@ -1,104 +1,86 @@
-//! The top call.
-ghost use Rattle.std.specs.Prelude.{◌≡◌, ◌↔◌, ◌≤◌, map, false, OnOk};
+//! The command `run`: the campaign of a document.
+ghost use Rattle.std.specs.Prelude.{◌≡◌, ◌≤◌, length, map, None, Some};
 ghost use Rattle.outer_traits.specs.Faults.{Rose};
-ghost use Rattle.fwupd_service.specs.Commands.{is_run};
-ghost use Rattle.fwupd_service.specs.Inputs.{HeardInput};
-ghost use Rattle.fwupd_service.specs.Outputs.{Told, Began, IsCampaignEnd};
+ghost use Rattle.site_making.specs.Settled.{vetoes_of};
+ghost use Rattle.client_plays.specs.Tools.{ShelvesStay};
+ghost use Rattle.plain_workers.specs.Has.{shelves_told};
+ghost use Rattle.report_text.specs.Report.{report};
+ghost use Rattle.fwupd_service.specs.Begins.{CanBePlayed, IsReadyFor};
+ghost use Rattle.fwupd_service.specs.Tops.{RunEnds, Went, stop_status};
 
-use crate::campaign::Campaign;
-use crate::document::{InputStop, read_document, text_place};
-use crate::first_form::{FormStop, campaign};
-use crate::install::{Played, play};
+use crate::playing::play;
 use crate::ran::Ran;
-use crate::status::Status;
-use crate::words::is_run;
-use fw_base::{Listed, NoMemory};
-use fw_facts::Sheet;
+use crate::reporting::reported;
+use campaign_inputs::{ClientLimit, OpenStop, Ready, open_campaign};
+use history_keeper::Keeper;
 use outer_traits::{Shelf, Sink, Source};
-use release_catalogue::Reason;
-use report_text::{ReportStop, write_report_by_sheets};
+use plugin_trait::Plugin;
+use run_status::Status;
 use std::alloc::Global;
 
-/// Does all that the program does: reads the words, runs the command, and says how it ended.
-///
-/// `run` reads a document from the source, installs the release that it asks for on its board, with
-/// the payload from the shelf, and writes the report of what happened to the sink. What was written
-/// is the report of the log that is returned; where the sink failed or memory ran out, a front of it;
-/// under every other status nothing.
-pub fn run_campaign<S: Source, P: Shelf, T: Sink>(
+/// Reads the document, plays its campaign, and reports it.
+pub(crate) fn run<S: Source, P: Shelf, K: Keeper, T: Sink>(
     alloc: Global,
-    words: &[&[u8]],
     source: &mut S,
-    shelf: &mut P,
+    shelves: Vec<P>,
+    keeper: K,
+    plugins: Vec<Box<dyn Plugin>>,
     out: &mut T,
-) -> Ran
-    // The words decide, before anything is read.
-    ensures usage { (result.status ≡ Status.Usage) ↔ (is_run (map (λ word. word.now) words.now) ≡ false) }
-    // What came, and whether it was all, too long, or no JSON text.
-    ensures input { HeardInput result.status (S.left source.old) (S.left source.new) }
+) -> Ran<P, K>
+    requires few_plugins { length plugins.items ≤ 64 }
+    requires no_doubt { K.doubt keeper ≡ None }
+    ensures ends { RunEnds K.rows K.doubt K.faults (length shelves.items) (map (λ p. own_sheet p) plugins.items)
+        (λ machine. map (λ p. vetoes_of (own_sheet p) (vetoes_on p machine)) plugins.items) result.status keeper
+        (record { log = result.log; opening = result.opening; boards = result.boards; keeper = result.keeper })
+        (S.left source.old) (S.left source.new) (T.taken out.old) (T.taken out.new) }
     ensures source_fault { result.status ≡ Status.SourceFault → Rose (S.faults source.old) (S.faults source.new) }
-    // What was written is the report of the log, a front of it, or nothing.
-    ensures output { Told result.status result.log (T.taken out.old) (T.taken out.new) }
     ensures sink_fault { result.status ≡ Status.SinkFault → Rose (T.faults out.old) (T.faults out.new) }
-    ensures began { Began result.status result.log }
     ensures source_counts { S.faults source.old ≤ S.faults source.new }
     ensures sink_counts { T.faults out.old ≤ T.faults out.new }
-    ensures shelf { P.files shelf.new ≡ P.files shelf.old }
+    ensures shelves { ShelvesStay (shelves_told P.files P.faults shelves.items) (shelves_told P.files P.faults result.shelves.items) }
 {
-    if !is_run(words) {
-        return Ran::nothing(alloc, Status::Usage);
-    }
-    match read_document(alloc, source) {
-        Ok(document) => match campaign(alloc, &document) {
-            Ok(campaign) => run(alloc, campaign, shelf, out),
-            Err(FormStop::Other) => Ran::nothing(alloc, Status::NotBuilt),
-            Err(FormStop::NoMemory) => Ran::nothing(alloc, Status::NoMemory),
-        },
-        Err(InputStop::SourceFault) => Ran::nothing(alloc, Status::SourceFault),
-        Err(InputStop::TooLong) => Ran::nothing(alloc, Status::TooLong),
-        Err(InputStop::NotJson) => {
-            let status = Status::Document {
-                place: text_place(),
-                reason: Reason::NotJson,
-            };
-            Ran::nothing(alloc, status)
-        }
-        Err(InputStop::NoMemory) => Ran::nothing(alloc, Status::NoMemory),
+    let limit = ClientLimit::Shelves(shelves.len());
+    match open_campaign(alloc, source, limit, plugins) {
+        Ok(ready) => run_ready(alloc, ready, shelves, keeper, out),
+        Err(stop) => Ran::nothing(alloc, stop_status(stop), shelves, keeper),
     }
 }
 
-/// Plays the campaign, and reports its log.
-fn run<P: Shelf, T: Sink>(alloc: Global, campaign: Campaign, shelf: &mut P, out: &mut T) -> Ran
-    ensures status { IsCampaignEnd result.status }
-    ensures output { Told result.status result.log (T.taken out.old) (T.taken out.new) }
-    ensures sink_fault { result.status ≡ Status.SinkFault → Rose (T.faults out.old) (T.faults out.new) }
-    ensures sink_counts { T.faults out.old ≤ T.faults out.new }
-    ensures shelf { P.files shelf.new ≡ P.files shelf.old }
+/// How a status tells that there is no campaign.
+pub(crate) fn stop_status(stop: OpenStop) -> Status
+    ensures { result ≡ stop_status stop }
 {
-    match play(alloc, &campaign, shelf) {
-        Ok(played) => report(alloc, campaign.sheet, played, out),
-        Err(NoMemory) => Ran::nothing(alloc, Status::NoMemory),
+    match stop {
+        OpenStop::SourceFault => Status::SourceFault,
+        OpenStop::TooLong => Status::TooLong,
+        OpenStop::Document { place, reason } => Status::Document { place, reason },
+        OpenStop::TooManyClients { asked, shelves } => Status::TooManyClients { asked, shelves },
+        OpenStop::Plugins(fault) => Status::Plugins(fault),
+        OpenStop::NoMemory => Status::NoMemory,
     }
 }
 
-/// Reports what was played.
-fn report<T: Sink>(alloc: Global, sheet: Sheet, played: Played, out: &mut T) -> Ran
-    ensures status { IsCampaignEnd result.status }
-    ensures output { Told result.status result.log (T.taken out.old) (T.taken out.new) }
+/// Plays a campaign, and reports it.
+fn run_ready<P: Shelf, K: Keeper, T: Sink>(
+    alloc: Global,
+    ready: Ready,
+    shelves: Vec<P>,
+    keeper: K,
+    out: &mut T,
+) -> Ran<P, K>
+    requires ready { CanBePlayed ready.campaign }
+    requires shelves { IsReadyFor (length shelves.items) (length ready.plugins.items) ready.campaign }
+    requires no_doubt { K.doubt keeper ≡ None }
+    ensures went { Went K.rows K.doubt K.faults result.status ready.campaign keeper
+        (record { log = result.log; opening = result.opening; boards = result.boards; keeper = result.keeper })
+        (report ready.campaign.facts result.opening result.log) (T.taken out.old) (T.taken out.new) }
     ensures sink_fault { result.status ≡ Status.SinkFault → Rose (T.faults out.old) (T.faults out.new) }
     ensures sink_counts { T.faults out.old ≤ T.faults out.new }
+    ensures shelves { ShelvesStay (shelves_told P.files P.faults shelves.items) (shelves_told P.files P.faults result.shelves.items) }
 {
-    let Played { log, boards } = played;
-    let sheets = [sheet];
-    let written = write_report_by_sheets(alloc, &sheets, &log, out);
-    let status = match written {
-        Ok(()) => Status::Done,
-        Err(ReportStop::SinkFault) => Status::SinkFault,
-        Err(ReportStop::NoMemory) => Status::NoMemory,
-    };
-    Ran {
-        status,
-        log: Listed::of(log),
-        boards,
+    let (outcome, shelves) = play(alloc, ready, shelves, keeper);
+    match outcome {
+        Ok(played) => reported(alloc, played, shelves, out),
+        Err(keeper) => Ran::nothing(alloc, Status::NoMemory, shelves, keeper),
     }
 }

@@ -1,0 +1,208 @@
+-- What is true of a house whose campaign was run.
+use Rattle.std.proofs.Common.{◌≡◌, ◌⊎◌, ℕ, zero, suc, ◌≤◌, ◌+◌, Bool, true, false, List, [], ◌∷◌, map, Option, Some, None, refl, sym, ap, subst, ◌∙◌, inl, inr, arith}
+use Rattle.std.specs.Prelude.{slice_get, ◌-◌, ◌^◌}
+use Rattle.std.proofs.lemmas.List.{length-map}
+use Rattle.emulated_boards.specs.Boards.{BoardState}
+use Rattle.fw_facts.specs.declared.seen.Seen.{Seen}
+use Rattle.history_keeper.specs.declared.change.Change.{Change}
+use Rattle.history_keeper.specs.declared.row.Row.{Row}
+use Rattle.history_keeper.specs.Histories.{IsHistory}
+use Rattle.update_log.specs.declared.event.Event.{Event}
+use Rattle.update_log.specs.declared.facts.BootPlan.{BootPlan}
+use Rattle.update_log.specs.declared.facts.Facts.{Facts}
+use Rattle.update_log.specs.CoreFolds.{AllFaults}
+use Rattle.update_log.specs.Known.{doubt, rows}
+use Rattle.update_log.specs.Laws.{AtMostOnce, HistoryStays, TakenOnce}
+use Rattle.update_log.specs.Legal.{IsLegal}
+use Rattle.update_log.specs.Once as once
+use Rattle.update_log.specs.Once.{Fits}
+use Rattle.update_log.specs.Pasts.{boots, past_of}
+use Rattle.update_log.specs.Shows.{Campaign}
+use Rattle.daemon_core.specs.Annals.{IsAnnals}
+use Rattle.daemon_core.specs.Boards.{BoardIsHome, BoardStands, PlaceStands, journal_and_view}
+use Rattle.daemon_core.specs.Boots.{NoBoot, ReadOthers}
+use Rattle.daemon_core.specs.House.{IsHouse}
+use Rattle.daemon_core.specs.Housed.{Annalled, Housed, Place, past, rows_before, rows_taken}
+use Rattle.daemon_core.specs.Keeping.{Keeps, keeper_faults}
+use Rattle.daemon_core.specs.Parts.{BoardsOf, IsBoardOf}
+use Rattle.daemon_core.specs.Reading.{AreOthers}
+use Rattle.daemon_core.specs.Turns.{FaultsCounted}
+use Rattle.daemon_core.proofs.BootOpenings.{legal-over, place-over, said-over}
+use Rattle.client_scripts.specs.declared.item.Item.{Item}
+use Rattle.client_plays.specs.Scripts.{BootPlayed, EarlierPlayed, scripts_in}
+use Rattle.campaign_runs.specs.declared.ending.Ending.{Ending}
+use Rattle.campaign_runs.specs.declared.ending.Ran.{Ran}
+use Rattle.campaign_runs.specs.Planned.{with_plans}
+use Rattle.campaign_runs.specs.Promises.{PlayedBoots}
+use Rattle.campaign_runs.specs.Runs.{CampaignRan, EndedSo}
+use Rattle.campaign_runs.proofs.FaultBoots.{faults-earlier, faults-played}
+use Rattle.campaign_runs.proofs.LegalLaws.{legal-in}
+use Rattle.fwupd_service.specs.Campaigns.{EndsAt, IsBadHistory, IsTrueLog, KeeperStands, WasPlayed}
+
+by_test : (b : Bool) (G : Type 0) → (b ≡ true → G) → (b ≡ false → G) → G
+by_test true G f g = f refl
+by_test false G f g = g refl
+
+-- The rows that a boot took are the opening.
+before-is : (a : Annalled) → a.loaded ≡ true → rows_before a ≡ a.opening
+before-is a t = ap (λ (b : Bool). rows_taken b a.opening) t
+
+-- What holds over the rows before the log holds over the opening, if it does so of boots that read nothing.
+lift : (a : Annalled) (P : List Row → Type 0) → (a.loaded ≡ false → P a.opening) → P (rows_before a) → P a.opening
+lift a P unread p = by_test a.loaded (P a.opening) (λ t. subst P (before-is a t) p) unread
+
+-- The element of a list that was mapped.
+record MapsTo {X Y : Type 0} (f : X → Y) (xs : List X) (n : ℕ) (y : Y) : Type 0 where
+  x : X
+  there : slice_get xs n ≡ Some x
+  is : f x ≡ y
+
+map-get : {X Y : Type 0} (f : X → Y) (xs : List X) (n : ℕ) (y : Y) → slice_get (map f xs) n ≡ Some y → MapsTo f xs n y
+map-get f [] n y e = cc
+map-get f (x ∷ xs) zero y e = record { x = x; there = refl; is = cc }
+map-get f (x ∷ xs) (suc n) y e = let m = map-get f xs n y e in record { x = m.x; there = m.there; is = m.is }
+
+module _ {K : Type 0} (told : K → Option (List Row)) (doubted : K → Option Change) (faults : K → ℕ) (ran : Ran) (plans : List BootPlan) (scripts : List (List (List Item))) (old h : Housed K)
+    (r : CampaignRan told faults ran.ending ran.wanting plans scripts old h)
+    (a : IsAnnals h.annals) (k : IsHouse told doubted h) where
+  abbrev facts : Facts
+  facts = h.annals.facts
+
+  abbrev first : List Seen
+  first = h.annals.first
+
+  abbrev opening : List Row
+  opening = h.annals.opening
+
+  abbrev c : Campaign
+  c = with_plans facts first plans
+
+  all-faults : h.annals.loaded ≡ false → AllFaults (past h)
+  all-faults f = a.unloaded f
+
+  legal-opening : IsLegal c opening (past h)
+  legal-opening =
+      lift h.annals (λ (o : List Row). IsLegal c o (past h))
+      (λ f. legal-in facts first plans opening (past h) r.ran.planned (legal-over facts first (rows_before h.annals) opening (past h) (all-faults f) a.legal))
+      (legal-in facts first plans (rows_before h.annals) (past h) r.ran.planned a.legal)
+
+  history-opening : IsHistory opening ⊎ AllFaults (past h)
+  history-opening =
+      by_test h.annals.loaded (IsHistory opening ⊎ AllFaults (past h))
+      (λ t. inl (subst IsHistory (before-is h.annals t) a.stands.history))
+      (λ f. inr (all-faults f))
+
+  -- ---- boards
+
+  place-opening : (number : ℕ) (place : Place) → slice_get h.places number ≡ Some place → PlaceStands facts first opening (past h) number place
+  place-opening number place e =
+      lift h.annals (λ (o : List Row). PlaceStands facts first o (past h) number place)
+      (λ f. place-over facts first (rows_before h.annals) opening (past h) number (said-over facts first (rows_before h.annals) opening (past h) number (all-faults f)) place (k.places number place e))
+      (k.places number place e)
+
+  home-stands : (number : ℕ) (o : Option BoardState) (b : BoardState) → o ≡ Some b → BoardIsHome facts first opening (past h) number o → (tail : List _) × BoardStands facts first opening (past h) number b tail
+  home-stands number o b e s = let t : BoardIsHome facts first opening (past h) number (Some b) = subst (BoardIsHome facts first opening (past h) number) e s in t.1
+
+  board-stands : (boards : List BoardState) → BoardsOf h boards → (number : ℕ) (b : BoardState) → slice_get boards number ≡ Some b → (tail : List _) × BoardStands facts first opening (past h) number b tail
+  board-stands boards of number b e =
+      let i : IsBoardOf h number b = of.each number b e in
+      home-stands number i.place.board b i.board_is (place-opening number i.place i.place_is).home
+
+  fits-opening : (boards : List BoardState) → BoardsOf h boards → Fits c opening h.annals.core.log (map journal_and_view boards)
+  fits-opening boards of = record {
+    count = rw length-map of.count;
+    each = λ number s e.
+        let m = map-get journal_and_view boards number s e in
+        let stands = board-stands boards of number m.x m.there in
+        (stands.0, subst (λ (v : once.BoardState). once.BoardFits facts first opening (past h) number v stands.0) m.is stands.1.fits);
+  }
+
+  true-log : AtMostOnce → TakenOnce → HistoryStays → (boards : List BoardState) → BoardsOf h boards → IsTrueLog c opening h.annals.core.log boards
+  true-log law_once law_taken law_stays boards of = record {
+    legal = legal-opening;
+    fits = fits-opening boards of;
+    history = history-opening;
+    once = λ valid. law_once c opening h.annals.core.log (map journal_and_view boards) valid legal-opening (fits-opening boards of);
+    taken = λ valid. law_taken c opening h.annals.core.log valid legal-opening;
+    stays = λ valid. law_stays c opening h.annals.core.log valid legal-opening;
+    board_faults = λ number b e. (board-stands boards of number b e).1.faults;
+  }
+
+  -- ---- the keeper
+
+  keeps-opening : (AllFaults (past h) × (doubted h.keeper ≡ None)) ⊎ Keeps told doubted h.keeper (rows facts opening (past h)) (doubt facts opening (past h))
+  keeps-opening =
+      by_test h.annals.loaded _
+      (λ t.
+      let o = before-is h.annals t in
+      inr (subst (λ (x : List Row). Keeps told doubted h.keeper (rows facts x (past h)) (doubt facts x (past h))) o
+      (subst (λ (x : List Row). Keeps told doubted h.keeper x (doubt facts (rows_before h.annals) (past h))) a.stands.rows
+      (subst (λ (x : Option Change). Keeps told doubted h.keeper h.annals.core.rows x) a.stands.doubt (k.kept t)))))
+      (λ f. inl (all-faults f, k.unloaded f))
+
+  counted-from : old.annals.core.log ≡ [] → FaultsCounted faults old h → (keeper_faults (past h) + faults old.keeper ≤ faults h.keeper) ⊎ (2 ^ 64 - 1 ≤ faults h.keeper)
+  counted-from n (inl l) =
+      let z : keeper_faults (past old) ≡ 0 = ap (λ (log : List Event). keeper_faults (past_of log)) n in
+      inl (omega (arith, z, l))
+  counted-from n (inr l) = inr l
+
+  keeper-stands : old.annals.core.log ≡ [] → KeeperStands told doubted faults facts opening h.annals.core.log old.keeper h.keeper
+  keeper-stands n = record { keeps = keeps-opening; counted = counted-from n r.ran.counted; counts = r.ran.counts }
+
+  -- ---- what was played
+
+  played-opening : PlayedBoots ran.wanting c opening scripts r.count h.annals.core.log
+  played-opening = record {
+    boots_are = r.ran.count_is;
+    played =
+        let B = λ (o : List Row). BootPlayed ran.wanting facts o (scripts_in scripts (boots (past h))) (past h) in (
+          lift h.annals B (λ f. faults-played ran.wanting facts opening scripts (past h) (all-faults f))
+              (subst (λ (n : ℕ). BootPlayed ran.wanting facts (rows_before h.annals) (scripts_in scripts n) (past h)) (sym r.ran.count_is) r.ran.played),
+          lift h.annals (λ (o : List Row). EarlierPlayed ran.wanting facts o scripts (past h)) (λ f. faults-earlier ran.wanting facts opening scripts (past h) (all-faults f)) r.ran.earlier,
+        );
+  }
+
+  -- the rows and the change in doubt before the boot that read others
+  others-opening : (entry : ℕ) (loaded : List Row) (mid : Housed K) → IsAnnals mid.annals → NoBoot mid h → h.annals.loaded ≡ true → h.annals.opening ≡ mid.annals.opening → AreOthers entry loaded mid.annals.core.rows mid.annals.core.doubt
+      → AreOthers entry loaded (rows facts opening (past h)) (doubt facts opening (past h))
+  others-opening entry loaded mid m n t o others =
+      let before : rows_before mid.annals ≡ opening = before-is mid.annals (sym n.loaded ∙ t) ∙ sym o in
+      let p : past mid ≡ past h = ap past_of (sym n.log) in
+      let f : mid.annals.facts ≡ facts = sym n.grounds.facts in
+      let R = λ (x : Facts) (y : List Row) (z : List Event). AreOthers entry loaded (rows x y z) (doubt x y z) in
+      subst (λ (x : Facts). R x opening (past h)) f
+      (subst (λ (y : List Row). R mid.annals.facts y (past h)) before
+      (subst (λ (z : List Event). R mid.annals.facts (rows_before mid.annals) z) p
+      (subst (λ (x : Option Change). AreOthers entry loaded (rows mid.annals.facts (rows_before mid.annals) (past mid)) x) m.stands.doubt
+      (subst (λ (x : List Row). AreOthers entry loaded x mid.annals.core.doubt) m.stands.rows others))))
+
+  bad-history : (entry : ℕ) (mid : Housed K) → IsAnnals mid.annals → ReadOthers told entry mid h → IsBadHistory told entry facts opening h.annals.core.log h.keeper
+  bad-history entry mid m o =
+      by_test h.annals.loaded _
+      (λ t.
+      let l = o.later (sym o.none.loaded ∙ t) in
+      inr (subst IsHistory (before-is h.annals t) a.stands.history, l.1, (l.2.0, others-opening entry l.2.0 mid m o.none t l.0 l.2.1)))
+      (λ f. inl (all-faults f, (o.first (sym o.none.loaded ∙ f)).0))
+
+  ends-so : (ending : Ending) → EndedSo told ending plans r.count h → EndsAt told ending c opening h.annals.core.log h.keeper r.count
+  ends-so Ending.Whole e = e
+  ends-so (Ending.BadHistory entry) e = (e.0, bad-history entry e.1.0 e.1.1 e.1.2)
+  ends-so Ending.NoMemory e = e
+
+  played-here : AtMostOnce → TakenOnce → HistoryStays → old.annals.core.log ≡ [] → (boards : List BoardState) → BoardsOf h boards
+      → WasPlayed told doubted faults ran c scripts opening h.annals.core.log boards old.keeper h.keeper
+  played-here law_once law_taken law_stays n boards of = record {
+    true_log = true-log law_once law_taken law_stays boards of;
+    keeper = keeper-stands n;
+    count = r.count;
+    played = played-opening;
+    ends = ends-so ran.ending r.ended;
+  }
+
+  pub was-played : AtMostOnce → TakenOnce → HistoryStays → old.annals.core.log ≡ [] → (boards : List BoardState) → BoardsOf h boards
+      → WasPlayed told doubted faults ran (with_plans old.annals.facts old.annals.first plans) scripts opening h.annals.core.log boards old.keeper h.keeper
+  was-played law_once law_taken law_stays n boards of =
+      let W = λ (x : Campaign). WasPlayed told doubted faults ran x scripts opening h.annals.core.log boards old.keeper h.keeper in
+      let e : with_plans h.annals.facts h.annals.first plans ≡ with_plans old.annals.facts old.annals.first plans =
+      ap (λ (x : Facts). with_plans x h.annals.first plans) r.ran.facts ∙ ap (λ (x : List Seen). with_plans old.annals.facts x plans) r.ran.first in
+      subst W e (played-here law_once law_taken law_stays n boards of)

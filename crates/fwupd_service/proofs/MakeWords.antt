@@ -1,0 +1,121 @@
+-- The numbers of `make` are within their limits.
+use Rattle.std.proofs.Common.{◌≡◌, ℕ, ◌≤◌, List, [], ◌∷◌, Bool, true, false, ◌&&◌, Option, Some, None, if◌then◌else◌, refl, subst, arith, nat_le, drop}
+use Rattle.std.specs.Prelude.{codes, option_and_then, option_map}
+use Rattle.std.specs.List.{before_first, after_first, position_or_len}
+use Rattle.std.specs.Result.{result_ok}
+use Rattle.std.specs.Str.{bytes_eq}
+use Rattle.std.proofs.lemmas.Bool.{leb-true}
+use Rattle.fw_base.specs.Names.{name_read}
+use Rattle.version_formats.specs.Versions.{version_read}
+use Rattle.fw_base.specs.Decimals.{number_read}
+use Rattle.command_words.specs.declared.command.Command.{Command}
+use Rattle.command_words.specs.declared.command.Command.TheVariants as commands
+use Rattle.command_words.specs.Commands.{Clients, by_values, clients_by, clients_from, clients_next, clients_of, command_by, command_of, explain_of, explained, ids_of, is_joined, is_none, is_option, make_by, make_of, number_within, sole_of}
+use Rattle.command_words.specs.Parts.{is_end, values_of}
+
+pub record IsWithin (least most n : ℕ) : Type 0 where
+  pub low : least ≤ n
+  pub high : n ≤ most
+
+-- What holds of the value that is there.
+abbrev Holds : {A : Type 0} → (A → Type 0) → Option A → Type 0
+Holds P None = Unit {0}
+Holds P (Some x) = P x
+
+holds-then : {A B : Type 0} (P : A → Type 0) (Q : B → Type 0) (f : A → Option B) (o : Option A) → Holds P o → ((x : A) → P x → Holds Q (f x)) → Holds Q (option_and_then f o)
+holds-then P Q f None h k = tt
+holds-then P Q f (Some x) h k = k x h
+
+holds-map : {A B : Type 0} (P : A → Type 0) (Q : B → Type 0) (f : A → B) (o : Option A) → Holds P o → ((x : A) → P x → Q (f x)) → Holds Q (option_map f o)
+holds-map P Q f None h k = tt
+holds-map P Q f (Some x) h k = k x h
+
+holds-any : {A : Type 0} (o : Option A) → Holds (λ (x : A). Unit {0}) o
+holds-any None = tt
+holds-any (Some x) = tt
+
+holds-if : {A : Type 0} (P : A → Type 0) (b : Bool) (x y : Option A) → Holds P x → Holds P y → Holds P (if b then x else y)
+holds-if P true x y h k = h
+holds-if P false x y h k = k
+
+both : (a b : Bool) → (a && b) ≡ true → (a ≡ true) × (b ≡ true)
+both true b e = (refl, e)
+both false b e = cc
+
+tested : (least most n : ℕ) (b : Bool) → (nat_le least n && nat_le n most) ≡ b → Holds (IsWithin least most) (if b then Some n else None)
+tested least most n true e = let h = both (nat_le least n) (nat_le n most) e in record { low = leb-true least n h.0; high = leb-true n most h.1 }
+tested least most n false e = tt
+
+within : (least most : ℕ) (word : List ℕ) → Holds (IsWithin least most) (number_within least most word)
+within least most word =
+    holds-then (λ (n : ℕ). Unit {0}) (IsWithin least most) (λ n. if nat_le least n && nat_le n most then Some n else None) (result_ok (number_read word)) (holds-any _)
+    (λ n u. tested least most n (nat_le least n && nat_le n most) refl)
+
+-- How many clients the words say.
+abbrev Few : Clients → Type 0
+Few clients = IsWithin 1 16 clients.count
+
+by-few : (front : List (List ℕ)) (number : List ℕ) (more : List (List ℕ)) → Holds Few (clients_by front number more)
+by-few front number more = holds-map (IsWithin 1 16) Few _ (number_within 1 16 number) (within 1 16 number) (λ n w. w)
+
+next-few : (front more : List (List ℕ)) → Holds Few (clients_next front more)
+next-few front [] = tt
+next-few front (number ∷ more) = by-few front number more
+
+from-few : (front words : List (List ℕ)) → Holds Few (clients_from front words)
+from-few front [] = record { low = omega arith; high = omega arith }
+from-few front (option ∷ more) = holds-if Few (is_joined option) _ _ (by-few front (drop 10 option) more) (next-few front more)
+
+-- The command fits.
+pub record MakeFits (boards clients : ℕ) : Type 0 where
+  pub boards_fit : IsWithin 1 256 boards
+  pub clients_fit : IsWithin 1 16 clients
+
+abbrev pub Fits : Command → Type 0
+Fits (commands.Make boards clients) = MakeFits boards clients
+Fits commands.Run = Unit {0}
+Fits commands.Check = Unit {0}
+Fits (commands.Explain port version) = Unit {0}
+Fits (commands.Ids texts) = Unit {0}
+
+sole-any : (values : List (List ℕ)) → Holds (λ (word : List ℕ). Unit {0}) (sole_of values)
+sole-any values = holds-any (sole_of values)
+
+make-fits : (behind : List (List ℕ)) (clients : Clients) → Few clients → Holds Fits (make_by behind clients)
+make-fits behind clients few =
+    holds-then (λ (values : List (List ℕ)). Unit {0}) Fits (make_of clients.count) (values_of clients.others behind) (holds-any _) (λ values u.
+    holds-map (IsWithin 1 256) Fits (λ boards. commands.Make boards clients.count) (option_and_then (number_within 1 256) (sole_of values))
+    (holds-then (λ (word : List ℕ). Unit {0}) (IsWithin 1 256) (number_within 1 256) (sole_of values) (sole-any values) (λ word u. within 1 256 word))
+    (λ boards w. record { boards_fit = w; clients_fit = few }))
+
+explain-fits : (values : List (List ℕ)) → Holds Fits (explain_of values)
+explain-fits [] = tt
+explain-fits (port ∷ []) = tt
+explain-fits (port ∷ version ∷ more) =
+    holds-if Fits (is_none more) (explained port version) None
+    (holds-then (λ (p : List ℕ). Unit {0}) Fits (λ p. option_map (λ v. commands.Explain p v) (result_ok (version_read version))) (result_ok (name_read port)) (holds-any (result_ok (name_read port)))
+    (λ p u. holds-map (λ (v : List ℕ). Unit {0}) Fits (λ v. commands.Explain p v) (result_ok (version_read version)) (holds-any (result_ok (version_read version))) (λ v w. tt)))
+    tt
+
+values-fit : (name : List ℕ) (values : List (List ℕ)) → Holds Fits (by_values name values)
+values-fit name values =
+    holds-if Fits (bytes_eq name (codes "run")) _ _ (holds-if Fits (is_none values) (Some commands.Run) None tt tt)
+    (holds-if Fits (bytes_eq name (codes "check")) _ _ (holds-if Fits (is_none values) (Some commands.Check) None tt tt)
+    (holds-if Fits (bytes_eq name (codes "explain")) _ None (explain-fits values) tt))
+
+ids-fit : (texts : List (List ℕ)) → Holds Fits (ids_of texts)
+ids-fit texts = holds-if Fits _ (Some (commands.Ids texts)) None tt tt
+
+by-fits : (name : List ℕ) (before behind : List (List ℕ)) → Holds Fits (command_by name before behind)
+by-fits name before behind =
+    holds-if Fits (bytes_eq name (codes "make")) _ _ (holds-then Few Fits (make_by behind) (clients_of before) (from-few (before_first is_option before) (drop (position_or_len is_option before) before)) (λ clients few. make-fits behind clients few))
+    (holds-if Fits (bytes_eq name (codes "ids")) _ _
+    (holds-then (λ (v : List (List ℕ)). Unit {0}) Fits ids_of (values_of before behind) (holds-any _) (λ v u. ids-fit v))
+    (holds-then (λ (v : List (List ℕ)). Unit {0}) Fits (by_values name) (values_of before behind) (holds-any _) (λ v u. values-fit name v)))
+
+command-fits : (words : List (List ℕ)) → Holds Fits (command_of words)
+command-fits [] = tt
+command-fits (name ∷ words) = by-fits name (before_first is_end words) (after_first is_end words)
+
+pub words-fit : (words : List (List ℕ)) (command : Command) → command_of words ≡ Some command → Fits command
+words-fit words command e = subst (λ (o : Option Command). Holds Fits o) e (command-fits words)

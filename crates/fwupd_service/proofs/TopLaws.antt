@@ -1,0 +1,41 @@
+-- What a run comes to.
+use Rattle.std.proofs.Common.{◌≡◌, ℕ, List, [], ◌∷◌, map, Option, Some, refl, subst, arith}
+use Rattle.std.specs.Prelude.{Result, Ok, Err, IfOk, IfErr}
+use Rattle.emulated_boards.specs.Boards.{BoardState}
+use Rattle.history_keeper.specs.declared.change.Change.{Change}
+use Rattle.history_keeper.specs.declared.row.Row.{Row}
+use Rattle.update_log.specs.declared.event.Event.{Event}
+use Rattle.daemon_core.specs.House.{shown_by}
+use Rattle.client_plays.specs.Tools.{ShelfTold, ShelvesStay}
+use Rattle.campaign_runs.specs.declared.ending.Ran.{Ran}
+use Rattle.campaign_runs.specs.Planned.{with_plans}
+use Rattle.site_types.specs.declared.campaign.Campaign.{Campaign}
+use Rattle.run_status.specs.declared.status.Status.{Status}
+use Rattle.fwupd_service.specs.Campaigns.{WasPlayed}
+use Rattle.fwupd_service.specs.Ends.{IsReported}
+use Rattle.fwupd_service.specs.Tops.{CampaignTold}
+use Rattle.fwupd_service.proofs.EndLaws.{campaign-ends}
+
+-- What holds of a result that is `Ok`, or `Err`.
+pub if-ok : {A E : Type 0} (P : A → Type 0) (r : Result A E) (x : A) → IfOk r P → r ≡ Ok x → P x
+if-ok {A = A} {E = E} P r x h e = subst (λ (r : Result A E). IfOk r P) e h
+
+pub if-err : {A E : Type 0} (P : E → Type 0) (r : Result A E) (x : E) → IfErr r P → r ≡ Err x → P x
+if-err {A = A} {E = E} P r x h e = subst (λ (r : Result A E). IfErr r P) e h
+
+-- Shelves that nobody used stay.
+pub stay-same : (shelves : List ShelfTold) → ShelvesStay shelves shelves
+stay-same [] = tt
+stay-same (shelf ∷ shelves) = (record { files = refl; counts = omega arith }, stay-same shelves)
+
+module _ {K : Type 0} (told : K → Option (List Row)) (doubted : K → Option Change) (faults : K → ℕ) (ran : Ran) (campaign : Campaign) (opening : List Row) (log : List Event) (boards : List BoardState) (old new : K) (text : List ℕ) (before after : Option (List ℕ)) where
+  pub campaign-told : (status : Status) → WasPlayed told doubted faults ran (with_plans campaign.facts (map shown_by campaign.boards.items) campaign.boots) campaign.scripts opening log boards old new
+      → IsReported status ran.ending ran.wanting log text before after
+      → CampaignTold told doubted faults status campaign old (record { log = log; opening = opening; boards = Some boards; keeper = new }) text before after
+  campaign-told status p r = record {
+    boards = boards;
+    boards_are = refl;
+    true_log = p.true_log;
+    keeper_stands = p.keeper;
+    ends = campaign-ends told doubted faults (with_plans campaign.facts (map shown_by campaign.boards.items) campaign.boots) campaign.scripts opening log boards old new text before after status ran p r;
+  }

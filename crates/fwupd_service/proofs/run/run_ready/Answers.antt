@@ -1,0 +1,23 @@
+use Rattle.std.proofs.Common.{◌≡◌, inl, sym}
+use Rattle.campaign_runs.specs.Planned.{with_plans}
+use Rattle.fwupd_service.proofs.TopLaws.{campaign-told, if-err, if-ok, stay-same}
+use Rattle.fwupd_service.proofs.run.run_ready.Goals as goal
+
+pub reported-requires-clause-legal : goal.reported-requires-clause-legal
+reported-requires-clause-legal g c =
+    let campaign = c.args.ready.campaign in
+    let played = if-ok _ _ _ c.play-outcome.ensures.played c.in-Ok.is in
+    let facts : c.in-Ok.played.facts ≡ campaign.facts = if-ok _ _ _ c.play-outcome.ensures.facts c.in-Ok.is in
+    (with_plans campaign.facts _ campaign.boots, sym facts, played.true_log.legal)
+
+pub returns-in-Ok-clause-went : goal.returns-in-Ok-clause-went
+returns-in-Ok-clause-went g c =
+    let campaign = c.args.ready.campaign in
+    let played = if-ok _ _ _ c.play-outcome.ensures.played c.in-Ok.is in
+    let facts : c.in-Ok.played.facts ≡ campaign.facts = if-ok _ _ _ c.play-outcome.ensures.facts c.in-Ok.is in
+    let left = c.reported.ensures.left in
+    rw (left.log_is, left.opening_is, left.boards_are, left.keeper_is) (inl (campaign-told g.K.Keeper.rows g.K.Keeper.doubt g.K.Keeper.faults c.in-Ok.played.ran campaign c.in-Ok.played.opening c.in-Ok.played.log c.in-Ok.played.boards
+    c.args.keeper c.in-Ok.played.keeper _ _ _ c.reported.result.status played (rw facts at c.reported.ensures.reported)))
+
+pub returns-in-Err-clause-shelves : goal.returns-in-Err-clause-shelves
+returns-in-Err-clause-shelves g c = rw (c.nothing.ensures.shelves, if-err _ _ _ c.play-outcome.ensures.unused c.in-Err.is) (stay-same _)

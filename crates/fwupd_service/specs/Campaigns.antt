@@ -1,0 +1,65 @@
+-- What is true of a campaign that was played, however it ended.
+use Rattle.std.specs.Prelude.{◌≡◌, ◌⊎◌, ◌≤◌, ◌<◌, ◌+◌, ◌-◌, ◌^◌, ℕ, List, length, map, Option, Some, None, slice_get}
+use Rattle.emulated_boards.specs.Boards.{BoardState}
+use Rattle.history_keeper.specs.declared.change.Change.{Change}
+use Rattle.history_keeper.specs.declared.row.Row.{Row}
+use Rattle.history_keeper.specs.Histories.{IsHistory}
+use Rattle.update_log.specs.declared.event.Event.{Event}
+use Rattle.update_log.specs.declared.facts.Facts.{Facts}
+use Rattle.update_log.specs.CoreFolds.{AllFaults}
+use Rattle.update_log.specs.Known.{doubt, rows}
+use Rattle.update_log.specs.Legal.{Legal}
+use Rattle.update_log.specs.Once.{Fits, IsTakenOnce, Once}
+use Rattle.update_log.specs.Pasts.{past_of}
+use Rattle.update_log.specs.Shows.{Campaign}
+use Rattle.daemon_core.specs.Boards.{faulty_ends, journal_and_view}
+use Rattle.daemon_core.specs.Boots.{BreaksAt}
+use Rattle.daemon_core.specs.Keeping.{Keeps, keeper_faults}
+use Rattle.daemon_core.specs.Reading.{AreOthers}
+use Rattle.client_scripts.specs.declared.item.Item.{Item}
+use Rattle.campaign_runs.specs.declared.ending.Ending.{Ending}
+use Rattle.campaign_runs.specs.declared.ending.Ran.{Ran}
+use Rattle.campaign_runs.specs.Promises.{PlayedBoots}
+
+-- The log is legal over the rows before it, so each answer is the one that the log before it calls for: a
+-- refusal names the first condition that isn't met, and an entry is judged by the version that its device
+-- shows. The boards fit the log. The rows before it are a valid history, unless no boot could read them; and
+-- where they are one, each write that a board lived through belongs to one accepted request, no tag has two
+-- rows, no entry was taken twice, and the rows are a valid history still. A board met at least the faults
+-- that the log tells of its steps.
+pub record IsTrueLog (c : Campaign) (opening : List Row) (log : List Event) (boards : List BoardState) : Type 0 where
+  pub legal : Legal c opening log
+  pub fits : Fits c opening log (map journal_and_view boards)
+  pub history : IsHistory opening ⊎ AllFaults (past_of log)
+  pub once : IsHistory opening → Once c opening log (map journal_and_view boards)
+  pub taken : IsHistory opening → IsTakenOnce c.facts opening (past_of log)
+  pub stays : IsHistory opening → IsHistory (rows c.facts opening (past_of log))
+  pub board_faults : (number : ℕ) (b : BoardState) → slice_get boards number ≡ Some b → faulty_ends c.facts opening (past_of log) number ≤ b.faults
+
+-- The keeper has the rows of the log, and its doubt is the log's, or it was opened again since; while no boot
+-- could read the history it has no doubt. Each fault of the keeper that the log tells was counted by it.
+pub record KeeperStands {K : Type 0} (told : K → Option (List Row)) (doubted : K → Option Change) (faults : K → ℕ) (facts : Facts) (opening : List Row) (log : List Event) (old new : K) : Type 0 where
+  pub keeps : (AllFaults (past_of log) × (doubted new ≡ None)) ⊎ Keeps told doubted new (rows facts opening (past_of log)) (doubt facts opening (past_of log))
+  pub counted : (keeper_faults (past_of log) + faults old ≤ faults new) ⊎ (2 ^ 64 - 1 ≤ faults new)
+  pub counts : faults old ≤ faults new
+
+-- The rows that a boot read are no valid history from this row on, and no boot before could read any; or,
+-- with a keeper that doesn't tell its rows, a later boot read other rows.
+abbrev pub IsBadHistory : {K : Type 0} → (K → Option (List Row)) → ℕ → Facts → List Row → List Event → K → Type 0
+IsBadHistory told entry facts opening log keeper =
+    (AllFaults (past_of log) × BreaksAt entry opening)
+    ⊎ (IsHistory opening × (told keeper ≡ None) × ((loaded : List Row) × AreOthers entry loaded (rows facts opening (past_of log)) (doubt facts opening (past_of log))))
+
+-- How many of the boots were run, by how the campaign ended: all, or fewer.
+abbrev pub EndsAt : {K : Type 0} → (K → Option (List Row)) → Ending → Campaign → List Row → List Event → K → ℕ → Type 0
+EndsAt told Ending.Whole c opening log keeper count = count ≡ length c.plans
+EndsAt told (Ending.BadHistory entry) c opening log keeper count = (count < length c.plans) × IsBadHistory told entry c.facts opening log keeper
+EndsAt told Ending.NoMemory c opening log keeper count = count < length c.plans
+
+-- A campaign was played: so many of its boots, each by its plan, with the scripts.
+pub record WasPlayed {K : Type 0} (told : K → Option (List Row)) (doubted : K → Option Change) (faults : K → ℕ) (ran : Ran) (c : Campaign) (scripts : List (List (List Item))) (opening : List Row) (log : List Event) (boards : List BoardState) (old new : K) : Type 0 where
+  pub true_log : IsTrueLog c opening log boards
+  pub keeper : KeeperStands told doubted faults c.facts opening log old new
+  pub count : ℕ
+  pub played : PlayedBoots ran.wanting c opening scripts count log
+  pub ends : EndsAt told ran.ending c opening log new count

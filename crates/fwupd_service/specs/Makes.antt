@@ -1,0 +1,53 @@
+-- What `make` comes to.
+use Rattle.std.specs.Prelude.{◌≡◌, ◌⊎◌, ℕ, List, [], Option, Some}
+use Rattle.fw_facts.specs.declared.machine.MachineFacts.{MachineFacts}
+use Rattle.history_keeper.specs.Memories.{Memory, doubtful, unused}
+use Rattle.plugin_order.specs.declared.sheet.PluginSheet.{PluginSheet}
+use Rattle.plugin_order.specs.declared.arrangement.OrderFault.{OrderFault}
+use Rattle.plugin_order.specs.declared.arrangement.OrderFault.TheVariants as faults
+use Rattle.plugin_order.specs.Arranged.{HasCause}
+use Rattle.update_log.specs.declared.facts.PluginVetoes.{PluginVetoes}
+use Rattle.site_types.specs.declared.campaign.Campaign.{Campaign}
+use Rattle.site_making.specs.Made.{made_site}
+use Rattle.campaign_inputs.specs.Settled.{IsCampaignOf}
+use Rattle.made_outputs.specs.Summed.{summary}
+use Rattle.run_status.specs.declared.status.Status.{Status}
+use Rattle.run_status.specs.declared.status.Status.TheVariants as statuses
+use Rattle.fwupd_service.specs.Tops.{CampaignTold, Left, NothingBegan}
+
+-- How a status tells that plugins can't be arranged.
+abbrev pub order_status : OrderFault → Status
+order_status (faults.DuplicateName name) = statuses.Plugins (faults.DuplicateName name)
+order_status (faults.Cycle names) = statuses.Plugins (faults.Cycle names)
+order_status faults.NoMemory = statuses.NoMemory
+
+-- The generated campaign was played over a keeper of its own, without rows, and its output is the summary.
+-- The keeper that came is as it was.
+pub record MadeWent {K : Type 0} (boards clients : ℕ) (status : Status) (campaign : Campaign) (keeper : K) (left : Left K) (before after : Option (List ℕ)) : Type 0 where
+  pub own : Memory
+  pub keeper_is : left.keeper ≡ keeper
+  pub told : CampaignTold (λ (m : Memory). Some m.rows) doubtful (λ (m : Memory). m.faults) status campaign (unused [] [])
+      (record { log = left.log; opening = left.opening; boards = left.boards; keeper = own }) (summary boards clients left.log) before after
+
+abbrev pub MadeOrNothing : {K : Type 0} → ℕ → ℕ → Status → Campaign → K → Left K → Option (List ℕ) → Option (List ℕ) → Type 0
+MadeOrNothing boards clients status campaign keeper left before after =
+    MadeWent boards clients status campaign keeper left before after
+    ⊎ ((status ≡ statuses.NoMemory) × NothingBegan keeper left before after)
+
+-- The plugins can't be arranged, or there was no memory to do so.
+pub record MakeStopped {K : Type 0} (sheets : List PluginSheet) (status : Status) (keeper : K) (left : Left K) (before after : Option (List ℕ)) : Type 0 where
+  pub fault : OrderFault
+  pub status_is : status ≡ order_status fault
+  pub cause : HasCause sheets fault
+  pub nothing : NothingBegan keeper left before after
+
+-- The campaign is that of the generated site.
+pub record MakeBegan {K : Type 0} (boards clients : ℕ) (sheets : List PluginSheet) (vetoes : MachineFacts → List PluginVetoes) (status : Status) (keeper : K) (left : Left K) (before after : Option (List ℕ)) : Type 0 where
+  pub campaign : Campaign
+  pub settled : IsCampaignOf (made_site boards clients) sheets (vetoes (made_site boards clients).machine) campaign
+  pub went : MadeOrNothing boards clients status campaign keeper left before after
+
+abbrev pub MakeEnds : {K : Type 0} → ℕ → ℕ → List PluginSheet → (MachineFacts → List PluginVetoes) → Status → K → Left K → Option (List ℕ) → Option (List ℕ) → Type 0
+MakeEnds boards clients sheets vetoes status keeper left before after =
+    MakeStopped sheets status keeper left before after
+    ⊎ MakeBegan boards clients sheets vetoes status keeper left before after

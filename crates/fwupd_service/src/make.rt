@@ -1,0 +1,148 @@
+//! The command `make`: a campaign that is generated.
+ghost use Rattle.std.specs.Prelude.{◌≡◌, ◌≤◌, length, map, IfOk};
+ghost use Rattle.outer_traits.specs.Faults.{Rose};
+ghost use Rattle.site_making.specs.Settled.{vetoes_of};
+ghost use Rattle.fwupd_service.specs.Begins.{CanBePlayed, IsReadyFor};
+ghost use Rattle.made_outputs.specs.Summed.{summary};
+ghost use Rattle.fwupd_service.specs.Ends.{IsLeft, IsReported};
+ghost use Rattle.fwupd_service.specs.Makes.{MadeOrNothing, MakeEnds, order_status};
+
+use crate::playing::{Played, play};
+use crate::ran::Ran;
+use crate::reporting::{status_of, write_summed};
+use campaign_inputs::{Ready, make_campaign};
+use fw_base::NoMemory;
+use history_keeper::MemoryKeeper;
+use outer_traits::{MemoryShelf, Sink};
+use plugin_order::OrderFault;
+use plugin_trait::Plugin;
+use run_status::Status;
+use sha2::{Digest as _, Sha256};
+use std::alloc::Global;
+
+/// The payload of the release that is installed.
+const PAYLOAD: &[u8] = b"EMU1 01010000\n";
+
+/// Plays the generated campaign of so many boards and clients over a keeper and shelves of its own, and
+/// writes what its log counts. The keeper and the shelves that came stay as they are.
+pub(crate) fn make<P, K, T: Sink>(
+    alloc: Global,
+    boards: u32,
+    clients: u32,
+    shelves: Vec<P>,
+    keeper: K,
+    plugins: Vec<Box<dyn Plugin>>,
+    out: &mut T,
+) -> Ran<P, K>
+    requires some_boards { 1 ≤ boards }
+    requires few_boards { boards ≤ 256 }
+    requires some_clients { 1 ≤ clients }
+    requires few_clients { clients ≤ 16 }
+    requires few_plugins { length plugins.items ≤ 64 }
+    ensures ends { MakeEnds boards clients (map (λ p. own_sheet p) plugins.items)
+        (λ machine. map (λ p. vetoes_of (own_sheet p) (vetoes_on p machine)) plugins.items) result.status keeper
+        (record { log = result.log; opening = result.opening; boards = result.boards; keeper = result.keeper })
+        (T.taken out.old) (T.taken out.new) }
+    ensures sink_fault { result.status ≡ Status.SinkFault → Rose (T.faults out.old) (T.faults out.new) }
+    ensures sink_counts { T.faults out.old ≤ T.faults out.new }
+    ensures shelves { result.shelves.items ≡ shelves.items }
+{
+    match make_campaign(alloc, boards, clients, plugins) {
+        Ok(ready) => make_ready(alloc, boards, clients, ready, shelves, keeper, out),
+        Err(fault) => Ran::nothing(alloc, order_status(fault), shelves, keeper),
+    }
+}
+
+/// How a status tells that plugins can't be arranged.
+fn order_status(fault: OrderFault) -> Status
+    ensures { result ≡ order_status fault }
+{
+    match fault {
+        OrderFault::DuplicateName { name } => Status::Plugins(OrderFault::DuplicateName { name }),
+        OrderFault::Cycle { names } => Status::Plugins(OrderFault::Cycle { names }),
+        OrderFault::NoMemory => Status::NoMemory,
+    }
+}
+
+/// A shelf for each client, with the one payload.
+fn own_shelves(alloc: Global, clients: u32) -> Result<Vec<MemoryShelf>, NoMemory>
+    ensures { IfOk result (λ shelves. length shelves.items ≡ clients) }
+{
+    let mut shelves = Vec::new(alloc);
+    for _ in 0..clients {
+        shelves.push(own_shelf(alloc)?)?;
+    }
+    Ok(shelves)
+}
+
+fn own_shelf(alloc: Global) -> Result<MemoryShelf, NoMemory> {
+    let mut files = Vec::new(alloc);
+    files.push((Sha256::digest(PAYLOAD), Vec::from_slice(alloc, PAYLOAD)?))?;
+    Ok(MemoryShelf::new(files, Vec::new(alloc)))
+}
+
+/// Plays a generated campaign over shelves and a keeper of its own.
+fn make_ready<P, K, T: Sink>(
+    alloc: Global,
+    boards: u32,
+    clients: u32,
+    ready: Ready,
+    shelves: Vec<P>,
+    keeper: K,
+    out: &mut T,
+) -> Ran<P, K>
+    requires ready { CanBePlayed ready.campaign }
+    requires shelves { IsReadyFor clients (length ready.plugins.items) ready.campaign }
+    ensures went { MadeOrNothing boards clients result.status ready.campaign keeper
+        (record { log = result.log; opening = result.opening; boards = result.boards; keeper = result.keeper })
+        (T.taken out.old) (T.taken out.new) }
+    ensures sink_fault { result.status ≡ Status.SinkFault → Rose (T.faults out.old) (T.faults out.new) }
+    ensures sink_counts { T.faults out.old ≤ T.faults out.new }
+    ensures shelves { result.shelves.items ≡ shelves.items }
+{
+    let own = match own_shelves(alloc, clients) {
+        Ok(own) => own,
+        Err(NoMemory) => return Ran::nothing(alloc, Status::NoMemory, shelves, keeper),
+    };
+    let own_keeper = MemoryKeeper::new(Vec::new(alloc), Vec::new(alloc));
+    let (outcome, _own) = play(alloc, ready, own, own_keeper);
+    match outcome {
+        Ok(played) => summed(alloc, boards, clients, played, shelves, keeper, out),
+        Err(_own_keeper) => Ran::nothing(alloc, Status::NoMemory, shelves, keeper),
+    }
+}
+
+/// Writes what the log of a generated campaign counts.
+fn summed<P, K, T: Sink>(
+    alloc: Global,
+    boards: u32,
+    clients: u32,
+    played: Played<MemoryKeeper>,
+    shelves: Vec<P>,
+    keeper: K,
+    out: &mut T,
+) -> Ran<P, K>
+    ensures reported { IsReported result.status played.ran.ending played.ran.wanting played.log
+        (summary boards clients played.log) (T.taken out.old) (T.taken out.new) }
+    ensures left { IsLeft played.log played.opening played.boards keeper shelves.items result.log result.opening result.boards result.keeper result.shelves.items }
+    ensures sink_fault { result.status ≡ Status.SinkFault → Rose (T.faults out.old) (T.faults out.new) }
+    ensures sink_counts { T.faults out.old ≤ T.faults out.new }
+{
+    let Played {
+        ran,
+        facts: _,
+        log,
+        boards: made,
+        keeper: _,
+        opening,
+    } = played;
+    let written = write_summed(alloc, boards, clients, &log, out);
+    Ran {
+        status: status_of(written, &ran, &log),
+        log,
+        opening,
+        boards: Some(made),
+        keeper,
+        shelves,
+    }
+}

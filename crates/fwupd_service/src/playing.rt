@@ -1,0 +1,147 @@
+//! A campaign is played on a plain house.
+ghost use Rattle.std.specs.Prelude.{◌≡◌, ◌≤◌, ◌<◌, ◌-◌, ◌^◌, ℕ, [], None, Some, All, length, map, slice_get, IfOk, IfErr};
+ghost use Rattle.emulated_boards.specs.Boards.{BoardState};
+ghost use Rattle.daemon_core.specs.House.{IsNewBoard, shown_by};
+ghost use Rattle.client_plays.specs.Endings.{IsScriptItem};
+ghost use Rattle.client_plays.specs.Tools.{Serves, ShelvesStay};
+ghost use Rattle.plain_workers.specs.Has.{shelves_told, tools_of};
+ghost use Rattle.campaign_runs.specs.Planned.{with_plans};
+ghost use Rattle.fwupd_service.specs.Begins.{CanBePlayed, IsBegun, IsReadyFor};
+ghost use Rattle.fwupd_service.specs.Campaigns.{WasPlayed};
+
+use block_pool::Pool;
+use campaign_inputs::Ready;
+use campaign_runs::Ran;
+use client_scripts::Item;
+use daemon_core::{HomeBoards, House, HouseParts, RefusedHouse};
+use emulated_boards::Board;
+use fw_base::Listed;
+use history_keeper::{Keeper, Row};
+use outer_traits::Shelf;
+use plain_workers::run_plain;
+use plugin_trait::Plugin;
+use site_types::Campaign;
+use std::alloc::Global;
+use update_log::laws::{history_stays, legal_once, taken_once};
+use update_log::{BootPlan, Facts, Log};
+
+/// What a campaign leaves that was played, beside its shelves.
+pub(crate) struct Played<K> {
+    pub ran: Ran,
+    pub facts: Facts,
+    pub log: Log,
+    pub boards: HomeBoards,
+    pub keeper: K,
+    pub opening: Listed<Row>,
+}
+
+/// Plays a campaign on a new house: its boots one after the other, each with all scripts.
+fn play_house<P: Shelf, K: Keeper>(
+    alloc: Global,
+    mut house: House<K>,
+    shelves: Vec<P>,
+    plugins: Vec<Box<dyn Plugin>>,
+    plans: &[BootPlan],
+    scripts: &[Listed<Listed<Item>>],
+) -> (Played<K>, Vec<P>)
+    requires new { house.annals.core.log ≡ [] }
+    requires serves { Serves (tools_of P.files P.faults (length plugins.items) shelves.items) house.annals.facts 0 }
+    requires few { length plans.now < 2 ^ 32 - 1 }
+    requires timely { All (λ plan. plan.time ≤ 2 ^ 63 - 1) plans.now }
+    requires proper { All (All (All IsScriptItem)) scripts.now }
+    requires clients { All (λ of_boot. length of_boot < 2 ^ 32 - 1) scripts.now }
+    requires shelves { All (λ of_boot. length of_boot ≤ length (shelves_told P.files P.faults shelves.items)) scripts.now }
+    ensures played { WasPlayed K.rows K.doubt K.faults result.0.ran (with_plans house.annals.facts house.annals.first plans.now)
+        scripts.now result.0.opening result.0.log result.0.boards house.keeper result.0.keeper }
+    ensures facts { result.0.facts ≡ house.annals.facts }
+    ensures few { length result.0.facts.sheets ≤ 256 }
+    ensures kept { ShelvesStay (shelves_told P.files P.faults shelves.items) (shelves_told P.files P.faults result.1.items) }
+{
+    legal_once();
+    taken_once();
+    history_stays();
+    let (ran, shelves) = run_plain(alloc, &mut house, shelves, plugins, plans, scripts);
+    house.known();
+    let HouseParts {
+        facts,
+        log,
+        boards,
+        keeper,
+        opening,
+    } = house.into_parts();
+    let played = Played {
+        ran,
+        facts,
+        log,
+        boards,
+        keeper,
+        opening,
+    };
+    (played, shelves)
+}
+
+/// The house of a campaign before its first boot. Only memory may be wanting; then the keeper is handed back.
+fn new_house<K: Keeper>(
+    alloc: Global,
+    facts: Facts,
+    boards: Vec<Board>,
+    keeper: K,
+) -> Result<House<K>, K>
+    requires few { length facts.sheets ≤ 256 }
+    requires count { length boards.items ≡ length facts.sheets }
+    requires fresh { (number : ℕ) (b : BoardState) → slice_get boards.items number ≡ Some b → IsNewBoard b }
+    requires no_doubt { K.doubt keeper ≡ None }
+    requires pool { facts.pool ≤ 16384 }
+    ensures begun { IfOk result (λ house. IsBegun facts (map shown_by boards.items) keeper house) }
+    ensures refused { IfErr result (λ refused. refused ≡ keeper) }
+{
+    let Ok(pool) = Pool::new(alloc, facts.pool) else {
+        return Err(keeper);
+    };
+    match House::new(alloc, facts, boards, pool, keeper) {
+        Ok(house) => Ok(house),
+        Err(RefusedHouse { boards: _, keeper }) => Err(keeper),
+    }
+}
+
+/// Plays a campaign with these shelves and this keeper: on a plain house, where the clients of a boot play
+/// their scripts one after the other. Where memory is wanting for the house, no campaign begins.
+pub(crate) fn play<P: Shelf, K: Keeper>(
+    alloc: Global,
+    ready: Ready,
+    shelves: Vec<P>,
+    keeper: K,
+) -> (Result<Played<K>, K>, Vec<P>)
+    requires ready { CanBePlayed ready.campaign }
+    requires shelves { IsReadyFor (length shelves.items) (length ready.plugins.items) ready.campaign }
+    requires no_doubt { K.doubt keeper ≡ None }
+    ensures played { IfOk result.0 (λ played. WasPlayed K.rows K.doubt K.faults played.ran
+        (with_plans ready.campaign.facts (map shown_by ready.campaign.boards.items) ready.campaign.boots)
+        ready.campaign.scripts played.opening played.log played.boards keeper played.keeper) }
+    ensures facts { IfOk result.0 (λ played. played.facts ≡ ready.campaign.facts) }
+    ensures few { IfOk result.0 (λ played. length played.facts.sheets ≤ 256) }
+    ensures refused { IfErr result.0 (λ refused. refused ≡ keeper) }
+    ensures unused { IfErr result.0 (λ refused. result.1.items ≡ shelves.items) }
+    ensures shelves { IfOk result.0 (λ played. ShelvesStay (shelves_told P.files P.faults shelves.items) (shelves_told P.files P.faults result.1.items)) }
+{
+    let Ready { campaign, plugins } = ready;
+    let Campaign {
+        facts,
+        boards,
+        boots,
+        scripts,
+    } = campaign;
+    let house = match new_house(alloc, facts, boards, keeper) {
+        Ok(house) => house,
+        Err(keeper) => return (Err(keeper), shelves),
+    };
+    let (played, shelves) = play_house(
+        alloc,
+        house,
+        shelves,
+        plugins,
+        boots.items(),
+        scripts.items(),
+    );
+    (Ok(played), shelves)
+}
