@@ -16,6 +16,7 @@ use Rattle.shared_daemon.specs.Calls.{Adds, FoundOff, Took}
 use Rattle.shared_daemon.specs.Entries.{entry_of}
 use Rattle.shared_daemon.specs.Names.{Name}
 use Rattle.shared_daemon.proofs.Gains.{took-event, took-none}
+use Rattle.shared_daemon.proofs.Logs.{begins-trans}
 use Rattle.claim_runs.specs.Ran.{CameBack, Finishes, Gained, GaveBack, IsOver, MadeSteps, Ran, back_event}
 
 map-join : (n : ℕ) (xs ys : List Event) → map (entry_of n) (xs ++ ys) ≡ map (entry_of n) xs ++ map (entry_of n) ys
@@ -32,6 +33,7 @@ pub gained-on : (xs ys : List Event) (a b c : PassView Entry) → Gained xs a b 
 gained-on xs ys a b c g h =
     record {
       same = h.same ∙ g.same;
+      seen = begins-trans c.seen b.seen a.seen h.seen g.seen;
       mine_are = h.mine_are
           ∙ ap (λ (n : ℕ). b.mine ++ map (entry_of n) ys) g.same
           ∙ ap (λ (l : List Entry). l ++ map (entry_of a.number) ys) g.mine_are
@@ -40,17 +42,29 @@ gained-on xs ys a b c g h =
     }
 
 pub gained-none : (a : PassView Entry) → Gained [] a a
-gained-none a = record { same = refl; mine_are = sym (append-nil a.mine) }
+gained-none a = record { same = refl; seen = ([], sym (append-nil a.seen)); mine_are = sym (append-nil a.mine) }
 
 gained-as : (xs ys : List Event) (a b : PassView Entry) → xs ≡ ys → Gained xs a b → Gained ys a b
 gained-as xs ys a b e g = subst (λ (l : List Event). Gained l a b) e g
 
 -- A turn that put this event behind the log, and one that was answered off.
 pub gained-event : {did : List Entry → List Entry → Type 0} (name : Name) (event : Event) (old new : PassView Entry) → new.number ≡ old.number → (t : Took name did old new) → Adds old.number event t.met new.seen → Gained (event ∷ []) old new
-gained-event {did} name event old new same t a = record { same = same; mine_are = took-event name did old new old.number event t a }
+gained-event {did} name event old new same t a =
+    record {
+      same = same;
+      seen = begins-trans new.seen t.met old.seen (entry_of old.number event ∷ [], a) t.meets.begins;
+      mine_are = took-event name did old new old.number event t a;
+    }
 
 pub gained-off : {did : List Entry → List Entry → Type 0} (name : Name) (old new : PassView Entry) → new.number ≡ old.number → (t : Took name did old new) → FoundOff old.number t.met new.seen → (cut : Bool) × Gained (cut_events cut) old new
-gained-off {did} name old new same t (inl u) = (false, record { same = same; mine_are = took-none name did old new t u.1 ∙ sym (append-nil old.mine) })
+gained-off {did} name old new same t (inl u) = (
+  false,
+  record {
+    same = same;
+    seen = begins-trans new.seen t.met old.seen ([], u.1 ∙ sym (append-nil t.met)) t.meets.begins;
+    mine_are = took-none name did old new t u.1 ∙ sym (append-nil old.mine);
+  },
+)
 gained-off {did} name old new same t (inr c) = (true, gained-event {did = did} name Event.Cut old new same t c.1)
 
 -- A call that was answered off, and the giving back.

@@ -10,13 +10,15 @@ use Rattle.update_log.specs.Pasts.{off}
 use Rattle.daemon_core.specs.declared.finished.Finished.{Finished}
 use Rattle.plain_runs.specs.declared.outcome.Outcome.{Outcome}
 use Rattle.plain_runs.specs.Ran.{StepMade, cut_events, start_events, step_events}
+use Rattle.turn_lock.specs.Lists.{BeginsWith}
 use Rattle.turn_lock.specs.Shown.{PassView}
 use Rattle.shared_daemon.specs.declared.entry.Entry.{Entry}
 use Rattle.shared_daemon.specs.Entries.{entry_of, past_seen}
 
--- The pass gained these events as its own.
+-- The pass gained these events as its own. It sees what it saw before, and what came since.
 pub record Gained (more : List Event) (old new : PassView Entry) : Type 0 where
   pub same : new.number ≡ old.number
+  pub seen : BeginsWith new.seen old.seen
   pub mine_are : new.mine ≡ old.mine ++ map (entry_of old.number) more
 
 -- The client made steps of the entry, and nothing else.

@@ -48,13 +48,14 @@ abbrev pub standing_of : Annalled → ℕ → Option Standing
 standing_of a entry = option_map (standing (past_in a) a.core.views entry) (row_of a.core.rows entry)
 
 -- What a client that judges an entry's row is answered: how the row stood. Only a judgement that was
--- done is put behind the log.
+-- done is put behind the log, and only one that is to be done takes a turn: where there is nothing to
+-- judge, a boot whose limit is reached is not cut.
 abbrev pub JudgeTurned : ℕ → ℕ → Result Judged Stop → Annalled → Annalled → Type 0
 JudgeTurned client entry (Ok (Judged.Done state stored)) old new =
     Runs old
     × ((version : List ℕ) × (standing_of old entry ≡ Some (Standing.Judged version state)) × Appended client (Event.Judge client entry version state stored) old new)
-JudgeTurned client entry (Ok Judged.Absent) old new = Runs old × (standing_of old entry ≡ Some Standing.Absent) × Unchanged old new
-JudgeTurned client entry (Ok Judged.Waits) old new = Runs old × (standing_of old entry ≡ Some Standing.Waits) × Unchanged old new
-JudgeTurned client entry (Ok Judged.Settled) old new = Runs old × (standing_of old entry ≡ Some Standing.Settled) × Unchanged old new
+JudgeTurned client entry (Ok Judged.Absent) old new = (off (past_in old) ≡ false) × (standing_of old entry ≡ Some Standing.Absent) × Unchanged old new
+JudgeTurned client entry (Ok Judged.Waits) old new = (off (past_in old) ≡ false) × (standing_of old entry ≡ Some Standing.Waits) × Unchanged old new
+JudgeTurned client entry (Ok Judged.Settled) old new = (off (past_in old) ≡ false) × (standing_of old entry ≡ Some Standing.Settled) × Unchanged old new
 JudgeTurned client entry (Err Stop.Off) old new = WentOff client old new
 JudgeTurned client entry (Err Stop.NoMemory) old new = (off (past_in old) ≡ false) × Unchanged old new

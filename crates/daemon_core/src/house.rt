@@ -9,7 +9,7 @@ ghost use Rattle.update_log.specs.Legal.{BootTakes, IsFree, PendingAllowed, Quer
 ghost use Rattle.history_keeper.specs.declared.row.RowState.{RowState};
 ghost use Rattle.update_log.specs.Known.{row_of};
 ghost use Rattle.update_log.specs.Verdicts.{verdict};
-ghost use Rattle.update_log.specs.Pasts.{boots};
+ghost use Rattle.update_log.specs.Pasts.{boots, off};
 
 mod boot;
 mod claiming;
@@ -125,6 +125,13 @@ impl<K: Keeper> House<K> {
         ensures { result.now ≡ self.now.annals.core.rows }
     {
         self.annals.core().rows()
+    }
+
+    /// Whether the boot that runs is off: its power was cut, or the history couldn't be read or written.
+    pub fn is_off(&self) -> bool
+        ensures { result ≡ off (past self.now) }
+    {
+        self.annals.core().off()
     }
 
     // Enters a turn of a client, with room for so many events beside what is owed. Where the boot's limit

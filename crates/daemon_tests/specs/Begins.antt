@@ -24,6 +24,7 @@ name_of faults h =
       opening = h.annals.opening;
       boots = boots (past h);
       start = chronicle h;
+      start_faults = faults h.keeper;
       first_faults = faults h.keeper - keeper_faults (past h);
       told = None;
     }

@@ -71,9 +71,9 @@ judged-in faults name client entry (Ok (Judged.Done state stored)) old new n k j
   sym (standing-met faults name old entry n k) ∙ j.1.1,
   on-in client (Event.Judge client entry j.1.0 state stored) old.annals new.annals k j.0 j.1.2,
 )
-judged-in faults name client entry (Ok Judged.Absent) old new n k j = (sym (standing-met faults name old entry n k) ∙ j.1, none-in old.annals new.annals k j.0.on j.2)
-judged-in faults name client entry (Ok Judged.Waits) old new n k j = (sym (standing-met faults name old entry n k) ∙ j.1, none-in old.annals new.annals k j.0.on j.2)
-judged-in faults name client entry (Ok Judged.Settled) old new n k j = (sym (standing-met faults name old entry n k) ∙ j.1, none-in old.annals new.annals k j.0.on j.2)
+judged-in faults name client entry (Ok Judged.Absent) old new n k j = (sym (standing-met faults name old entry n k) ∙ j.1, none-in old.annals new.annals k j.0 j.2)
+judged-in faults name client entry (Ok Judged.Waits) old new n k j = (sym (standing-met faults name old entry n k) ∙ j.1, none-in old.annals new.annals k j.0 j.2)
+judged-in faults name client entry (Ok Judged.Settled) old new n k j = (sym (standing-met faults name old entry n k) ∙ j.1, none-in old.annals new.annals k j.0 j.2)
 judged-in faults name client entry (Err Stop.Off) old new n k j = found-off client old.annals new.annals k j
 judged-in faults name client entry (Err Stop.NoMemory) old new n k j = none-in old.annals new.annals k j.0 j.1
 

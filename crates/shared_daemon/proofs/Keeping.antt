@@ -60,6 +60,7 @@ module _ {K : Type 0} (faults : K → ℕ) (name : Name) (client : ℕ) (old new
         booted = n.booted;
         boots_are = grew-boots client old.annals new.annals g ∙ n.boots_are;
         counted = counted-still (2 ^ 64 - 1) (keeper_faults (past old)) (keeper_faults (past new)) (faults old.keeper) (faults new.keeper) name.first_faults n.counted f c;
+        counts = (let k = n.counts in omega (arith, k, c));
         told = n.told;
       }
 

@@ -15,14 +15,15 @@ use Rattle.shared_daemon.specs.declared.entry.Entry.{Entry}
 use Rattle.shared_daemon.specs.Entries.{AllMade, maker_of, past_seen}
 
 -- What no turn changes: the facts, what each first image shows, the rows before the log, how many boots
--- there were, and the log as the daemon began; and of the keeper, as the first house met it, how many
--- faults it had counted, and the rows that it told, if it told them.
+-- there were, and the log as the daemon began; of the keeper, how many faults it had counted then; and, as
+-- the first house met it, how many it had counted, and the rows that it told, if it told them.
 pub record Name : Type 0 where
   pub facts : Facts
   pub first : List Seen
   pub opening : List Row
   pub boots : ℕ
   pub start : List Entry
+  pub start_faults : ℕ
   pub first_faults : ℕ
   pub told : Option (List Row)
 
@@ -46,6 +47,7 @@ no_name =
       opening = [];
       boots = 0;
       start = [];
+      start_faults = 0;
       first_faults = 0;
       told = None;
     }
@@ -60,8 +62,8 @@ pub record IsLogOf (name : Name) (log : List Entry) : Type 0 where
   pub boots_are : boots (past_seen log) ≡ name.boots
 
 -- A house of this name, which was booted. Each fault of the keeper that the log tells was counted by
--- the keeper, or its count stands at its end; and the rows that it told at first are those before the
--- log.
+-- the keeper, or its count stands at its end; that count has not fallen since the daemon began; and the
+-- rows that it told at first are those before the log.
 pub record KeepsName {K : Type 0} (faults : K → ℕ) (name : Name) (h : Housed K) : Type 0 where
   pub facts_are : h.annals.facts ≡ name.facts
   pub first_are : h.annals.first ≡ name.first
@@ -70,6 +72,7 @@ pub record KeepsName {K : Type 0} (faults : K → ℕ) (name : Name) (h : Housed
   pub booted : 0 < name.boots
   pub boots_are : boots (past h) ≡ name.boots
   pub counted : (keeper_faults (past h) + name.first_faults ≤ faults h.keeper) ⊎ (2 ^ 64 - 1 ≤ faults h.keeper)
+  pub counts : name.start_faults ≤ faults h.keeper
   pub told : IfSome name.told (λ rows. rows ≡ name.opening)
 
 -- A pass of this lock that has no turn: what it saw is a log of the name, and its own entries are those

@@ -1,5 +1,5 @@
 //! The daemon: a turn lock round a house that has a name.
-ghost use Rattle.std.specs.Prelude.{◌≡◌, ◌++◌, ◌+◌, ◌≤◌, [], All, IfErr, IfOk, length, map};
+ghost use Rattle.std.specs.Prelude.{◌≡◌, ◌++◌, ◌+◌, ◌<◌, ◌≤◌, [], All, IfErr, IfOk, length, map};
 ghost use Rattle.std.specs.List.{range_with_len};
 ghost use Rattle.daemon_core.specs.Parts.{AllHome};
 ghost use Rattle.turn_lock.specs.Lists.{AddsAtMostOne, BeginsWith, beyond};
@@ -75,7 +75,8 @@ impl<K: Keeper, N: Naming> Daemon<K, N> {
     }
 
     /// Ends the daemon, and gives the house back. The passes are all, in the order of their numbers, and
-    /// none has anything out. All boards are at home then, and all blocks are free.
+    /// none has anything out. Nobody else put anything behind the log since the daemon began. All boards are
+    /// at home then, and all blocks are free.
     pub fn close(self, passes: Vec<Pass>) -> House<K>
         requires numbers { map (λ p. p.number) passes.items ≡ range_with_len 0 self.seats }
         requires passes { All (IsPass self.id N.name) passes.items }
@@ -85,6 +86,7 @@ impl<K: Keeper, N: Naming> Daemon<K, N> {
         ensures log { IsLogOf N.name (chronicle result) }
         ensures seen { All (λ p. BeginsWith (chronicle result) p.seen) passes.items }
         ensures mine { All (HasItsEntries maker_of N.name.start (chronicle result)) passes.items }
+        ensures makers { All (λ entry. maker_of entry < self.seats) (beyond N.name.start (chronicle result)) }
         ensures nothing { HasNothing (chronicle result) }
         ensures home { AllHome result.places }
         ensures blocks { result.pool.free ≡ result.annals.facts.pool }

@@ -59,8 +59,29 @@ impl<K: Keeper> House<K> {
         Ok(stored)
     }
 
+    // Enters a turn for a judgement, and does it.
+    fn judge_done(
+        &mut self,
+        client: u32,
+        entry: u32,
+        version: Version,
+        state: RowState,
+    ) -> Result<Judged, Stop>
+        requires booted { 0 < boots (past self.old) }
+        requires stands { standing_of self.old.annals entry ≡ Some (Standing.Judged version state) }
+        ensures turn { JudgeTurned client entry result self.old.annals self.new.annals }
+        ensures places { self.new.places ≡ self.old.places }
+        ensures pool { self.new.pool ≡ self.old.pool }
+        ensures faults { FaultsCounted K.faults self.old self.new }
+        ensures counts { K.faults self.old.keeper ≤ K.faults self.new.keeper }
+    {
+        self.enter(client, 1)?;
+        let stored = self.judge_so(client, entry, version, state)?;
+        Ok(Judged::Done { state, stored })
+    }
+
     /// Judges the row of an entry by the version that its device shows. The entry has a row. Only a
-    /// judgement that is done is put behind the log.
+    /// judgement that is done is put behind the log: any other answer ends no boot whose limit is reached.
     pub fn judge(&mut self, client: u32, entry: u32) -> Result<Judged, Stop>
         requires booted { 0 < boots (past self.old) }
         requires row { IsSome (row_of self.old.annals.core.rows entry) }
@@ -70,15 +91,14 @@ impl<K: Keeper> House<K> {
         ensures faults { FaultsCounted K.faults self.old self.new }
         ensures counts { K.faults self.old.keeper ≤ K.faults self.new.keeper }
     {
-        self.enter(client, 1)?;
+        if self.is_off() {
+            return Err(Stop::Off);
+        }
         match standing_of(self.annals.core(), entry) {
             Standing::Settled => Ok(Judged::Settled),
             Standing::Waits => Ok(Judged::Waits),
             Standing::Absent => Ok(Judged::Absent),
-            Standing::Judged { version, state } => {
-                let stored = self.judge_so(client, entry, version, state)?;
-                Ok(Judged::Done { state, stored })
-            }
+            Standing::Judged { version, state } => self.judge_done(client, entry, version, state),
         }
     }
 }

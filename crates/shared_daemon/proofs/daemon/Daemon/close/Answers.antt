@@ -24,6 +24,13 @@ pub returns-clause-seen : goal.returns-clause-seen
 returns-clause-seen g c =
     subst (λ (h : Housed g.row.K.Denot). All (λ (p : PassView Entry). BeginsWith (chronicle h) p.seen) c.args.passes.items) (sym c.into_house.ensures.same) c.close-named.ensures.seen
 
+pub returns-clause-makers : goal.returns-clause-makers
+returns-clause-makers g c =
+    let log : List Entry = chronicle c.close-named.result in
+    subst (λ (h : Housed g.row.K.Denot). All (λ (e : Entry). maker_of e < c.args.self.seats) (beyond g.N.Naming.name.start (chronicle h))) (sym c.into_house.ensures.same)
+    (subst (λ (k : LockView Entry). All (λ (e : Entry). maker_of e < k.seats) (beyond g.N.Naming.name.start log)) c.self.view_is
+    (subst (λ (l : List Entry). All (λ (e : Entry). maker_of e < c.self.inside.lock.seats) (beyond l log)) c.self.invariant.start c.close-named.ensures.makers))
+
 pub returns-clause-nothing : goal.returns-clause-nothing
 returns-clause-nothing g c =
     let log : List Entry = chronicle c.close-named.result in
