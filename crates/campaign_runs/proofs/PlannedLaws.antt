@@ -1,5 +1,5 @@
 -- Boots by their plans, and boots played, over events that start no boot.
-use Rattle.std.proofs.Common.{◌≡◌, Bool, true, false, ◌||◌, List, [], ◌∷◌, ◌++◌, refl, sym, subst}
+use Rattle.std.proofs.Common.{◌≡◌, ℕ, Bool, true, false, ◌||◌, List, [], ◌∷◌, ◌++◌, refl, sym, subst}
 use Rattle.std.specs.List.{list_any}
 use Rattle.history_keeper.specs.declared.row.Row.{Row}
 use Rattle.update_log.specs.declared.event.Event.{Event}
@@ -9,6 +9,7 @@ use Rattle.update_log.specs.Pasts.{is_boot}
 use Rattle.client_scripts.specs.declared.item.Item.{Item}
 use Rattle.client_plays.specs.Moments.{Grew}
 use Rattle.client_plays.specs.Scripts.{EarlierPlayed}
+use Rattle.client_plays.specs.Tools.{Files}
 use Rattle.campaign_runs.specs.Planned.{BootsPlanned}
 
 or-parts : (a b : Bool) → (a || b) ≡ false → (a ≡ false) × (b ≡ false)
@@ -39,13 +40,13 @@ planned-more plans (event ∷ more) past b p =
 pub planned-grown : (plans : List BootPlan) (old new : List Event) → Grew old new → BootsPlanned plans old → BootsPlanned plans new
 planned-grown plans old new g p = subst (BootsPlanned plans) (sym g.are) (planned-more plans g.more old g.no_boot p)
 
-earlier-more : (wanting : Bool) (facts : Facts) (opening : List Row) (scripts : List (List (List Item))) (more past : List Event) → list_any is_boot more ≡ false → EarlierPlayed wanting facts opening scripts past → EarlierPlayed wanting facts opening scripts (more ++ past)
-earlier-more wanting facts opening scripts [] past b p = p
-earlier-more wanting facts opening scripts (event ∷ more) past b p =
+earlier-more : (wanting : Bool) (facts : Facts) (opening : List Row) (files : ℕ → Files) (scripts : List (List (List Item))) (more past : List Event) → list_any is_boot more ≡ false → EarlierPlayed wanting facts opening files scripts past → EarlierPlayed wanting facts opening files scripts (more ++ past)
+earlier-more wanting facts opening files scripts [] past b p = p
+earlier-more wanting facts opening files scripts (event ∷ more) past b p =
     let q = or-parts (is_boot event) (list_any is_boot more) b in
-    let rest = earlier-more wanting facts opening scripts more past q.1 p in
+    let rest = earlier-more wanting facts opening files scripts more past q.1 p in
     (rw q.0 tt, rest)
 
-pub earlier-grown : (wanting : Bool) (facts : Facts) (opening : List Row) (scripts : List (List (List Item))) (old new : List Event) → Grew old new → EarlierPlayed wanting facts opening scripts old → EarlierPlayed wanting facts opening scripts new
-earlier-grown wanting facts opening scripts old new g p =
-    subst (EarlierPlayed wanting facts opening scripts) (sym g.are) (earlier-more wanting facts opening scripts g.more old g.no_boot p)
+pub earlier-grown : (wanting : Bool) (facts : Facts) (opening : List Row) (files : ℕ → Files) (scripts : List (List (List Item))) (old new : List Event) → Grew old new → EarlierPlayed wanting facts opening files scripts old → EarlierPlayed wanting facts opening files scripts new
+earlier-grown wanting facts opening files scripts old new g p =
+    subst (EarlierPlayed wanting facts opening files scripts) (sym g.are) (earlier-more wanting facts opening files scripts g.more old g.no_boot p)

@@ -10,11 +10,14 @@ use Rattle.update_log.specs.declared.facts.Facts.{Facts}
 use Rattle.update_log.specs.Crashes.{next_boot}
 use Rattle.update_log.specs.Pasts.{boots, is_boot, off}
 use Rattle.daemon_core.specs.Housed.{Housed, past, rows_before}
+use Rattle.daemon_core.specs.Keeping.{keeper_faults}
+use Rattle.daemon_core.specs.Turns.{FaultsCounted}
 use Rattle.client_scripts.specs.declared.item.Item.{Item}
 use Rattle.client_plays.specs.Moments.{began, mine}
 use Rattle.client_plays.specs.Plays.{Plays, TaskPlays}
-use Rattle.client_plays.specs.Scripts.{BootPlayed, EarlierPlayed, items_of, scripts_in, tasks}
-use Rattle.client_plays.specs.Endings.{HouseBootPlayed, IsFresh, IsIdle}
+use Rattle.client_plays.specs.Scripts.{BootPlayed, EarlierPlayed, PlayedSo, items_of, scripts_in, tasks}
+use Rattle.client_plays.specs.Endings.{HouseBootPlayed, IsCounted, IsFresh, IsIdle}
+use Rattle.client_plays.specs.Tools.{Files}
 use Rattle.client_plays.proofs.BootLaws.{so-told}
 use Rattle.client_plays.proofs.MomentLaws.{grew-boots}
 use Rattle.client_plays.proofs.RestLaws.{before-same, counted-both}
@@ -25,52 +28,52 @@ use Rattle.campaign_runs.proofs.FaultBoots.{faults-earlier, faults-played}
 use Rattle.campaign_runs.proofs.PlannedLaws.{earlier-grown, planned-grown}
 
 -- What was played stays played where memory is told to be wanting.
-played-told : (before now : Bool) (facts : Facts) (opening : List Row) (of_boot : List (List Item)) (past : List Event) → (before ≡ true → now ≡ true) → BootPlayed before facts opening of_boot past → BootPlayed now facts opening of_boot past
-played-told before now facts opening of_boot past h p =
+played-told : (before now : Bool) (facts : Facts) (opening : List Row) (files : ℕ → Files) (of_boot : List (List Item)) (past : List Event) → (before ≡ true → now ≡ true) → BootPlayed before facts opening files of_boot past → BootPlayed now facts opening files of_boot past
+played-told before now facts opening files of_boot past h p =
     record {
-      daemon = so-told (off past) before now 0 TaskPlays (tasks facts opening (began past)) (mine 0 past) h p.daemon;
-      clients = λ client c. so-told (off past) before now client (Plays facts opening client) (items_of of_boot client) (mine client past) h (p.clients client c);
+      daemon = so-told (off past) before now 0 (TaskPlays facts (files 0)) (tasks facts opening (began past)) (mine 0 past) h p.daemon;
+      clients = λ client c. so-told (off past) before now client (Plays facts opening (files client) client) (items_of of_boot client) (mine client past) h (p.clients client c);
     }
 
 by_test : (b : Bool) (G : Type 0) → (b ≡ true → G) → (b ≡ false → G) → G
 by_test true G f g = f refl
 by_test false G f g = g refl
 
-earlier-told : (before now : Bool) (facts : Facts) (opening : List Row) (scripts : List (List (List Item))) (past : List Event) → (before ≡ true → now ≡ true) → EarlierPlayed before facts opening scripts past → EarlierPlayed now facts opening scripts past
-earlier-told before now facts opening scripts [] h p = tt
-earlier-told before now facts opening scripts (event ∷ past) h p = (
+earlier-told : (before now : Bool) (facts : Facts) (opening : List Row) (files : ℕ → Files) (scripts : List (List (List Item))) (past : List Event) → (before ≡ true → now ≡ true) → EarlierPlayed before facts opening files scripts past → EarlierPlayed now facts opening files scripts past
+earlier-told before now facts opening files scripts [] h p = tt
+earlier-told before now facts opening files scripts (event ∷ past) h p = (
   by_test (is_boot event) _
-      (λ t. rw t (played-told before now facts opening (scripts_in scripts (boots past)) past h (rw t at p.0)))
+      (λ t. rw t (played-told before now facts opening files (scripts_in scripts (boots past)) past h (rw t at p.0)))
       (λ f. rw f tt),
-  earlier-told before now facts opening scripts past h p.1,
+  earlier-told before now facts opening files scripts past h p.1,
 )
 
 -- The boots before one that just began.
-earlier-begun : {K : Type 0} (faults : K → ℕ) (wanting : Bool) (plan : BootPlan) (scripts : List (List (List Item))) (count : ℕ) (mid begun : Housed K) → HasBegun faults plan mid begun → boots (past mid) ≡ count → BootPlayed wanting mid.annals.facts (rows_before mid.annals) (scripts_in scripts count) (past mid) → EarlierPlayed wanting mid.annals.facts (rows_before mid.annals) scripts (past mid) → EarlierPlayed wanting mid.annals.facts (rows_before begun.annals) scripts (past begun)
-earlier-begun faults wanting plan scripts count mid begun b n p e =
+earlier-begun : {K : Type 0} (faults : K → ℕ) (wanting : Bool) (files : ℕ → Files) (plan : BootPlan) (scripts : List (List (List Item))) (count : ℕ) (mid begun : Housed K) → HasBegun faults plan mid begun → boots (past mid) ≡ count → BootPlayed wanting mid.annals.facts (rows_before mid.annals) files (scripts_in scripts count) (past mid) → EarlierPlayed wanting mid.annals.facts (rows_before mid.annals) files scripts (past mid) → EarlierPlayed wanting mid.annals.facts (rows_before begun.annals) files scripts (past begun)
+earlier-begun faults wanting files plan scripts count mid begun b n p e =
     let facts = mid.annals.facts in
-    let P = λ (o : List Row). BootPlayed wanting facts o (scripts_in scripts (boots (past mid))) (past mid) × EarlierPlayed wanting facts o scripts (past mid) in
+    let P = λ (o : List Row). BootPlayed wanting facts o files (scripts_in scripts (boots (past mid))) (past mid) × EarlierPlayed wanting facts o files scripts (past mid) in
     let both : P (rows_before begun.annals) =
     elim b.before [
-      | inl same ↦ subst P (sym same) (subst (λ (k : ℕ). BootPlayed wanting facts (rows_before mid.annals) (scripts_in scripts k) (past mid)) (sym n) p, e)
-      | inr a ↦ (faults-played wanting facts (rows_before begun.annals) scripts (past mid) a, faults-earlier wanting facts (rows_before begun.annals) scripts (past mid) a)
+      | inl same ↦ subst P (sym same) (subst (λ (k : ℕ). BootPlayed wanting facts (rows_before mid.annals) files (scripts_in scripts k) (past mid)) (sym n) p, e)
+      | inr a ↦ (faults-played wanting facts (rows_before begun.annals) files scripts (past mid) a, faults-earlier wanting facts (rows_before begun.annals) files scripts (past mid) a)
     ]
     in
-    subst (EarlierPlayed wanting facts (rows_before begun.annals) scripts) (sym b.past_is) both
+    subst (EarlierPlayed wanting facts (rows_before begun.annals) files scripts) (sym b.past_is) both
 
 -- One boot more was started and played.
-pub run-more : {K : Type 0} (faults : K → ℕ) (before now : Bool) (plans : List BootPlan) (scripts : List (List (List Item))) (count : ℕ) (plan : BootPlan) (old mid begun new : Housed K) → slice_get plans count ≡ Some plan → RanSoFar faults before plans scripts count old mid → HasBegun faults plan mid begun → BootMore faults now before (scripts_in scripts (count + 1)) begun new → RanSoFar faults now plans scripts (count + 1) old new
-run-more faults before now plans scripts count plan old mid begun new at r b m =
+pub run-more : {K : Type 0} (faults : K → ℕ) (before now : Bool) (files : ℕ → Files) (plans : List BootPlan) (scripts : List (List (List Item))) (count : ℕ) (plan : BootPlan) (old mid begun new : Housed K) → slice_get plans count ≡ Some plan → RanSoFar faults before files plans scripts count old mid → HasBegun faults plan mid begun → BootMore faults now before files (scripts_in scripts (count + 1)) begun new → RanSoFar faults now files plans scripts (count + 1) old new
+run-more faults before now files plans scripts count plan old mid begun new at r b m =
     let g = m.played.grew in
     let facts : new.annals.facts ≡ mid.annals.facts = m.played.rest.same.facts ∙ b.facts in
     let rows : rows_before new.annals ≡ rows_before begun.annals = before-same begun.annals new.annals m.played.rest.same in
     let n : boots (past begun) ≡ count + 1 = ap boots b.past_is ∙ ap (λ (k : ℕ). k + 1) r.count_is in
     let planned : BootsPlanned plans (past begun) =
     subst (BootsPlanned plans) (sym b.past_is) ((plan, subst (λ (k : ℕ). slice_get plans k ≡ Some plan) (sym r.count_is) at, b.planned), r.planned) in
-    let earlier = earlier-begun faults before plan scripts count mid begun b r.count_is (midfacts r.played) r.earlier in
-    let grown = earlier-grown before mid.annals.facts (rows_before begun.annals) scripts (past begun) (past new) g earlier in
-    let E = λ (f : Facts) (o : List Row). EarlierPlayed now f o scripts (past new) in
-    let B = λ (f : Facts) (o : List Row). BootPlayed now f o (scripts_in scripts (count + 1)) (past new) in
+    let earlier = earlier-begun faults before files plan scripts count mid begun b r.count_is (midfacts r.played) r.earlier in
+    let grown = earlier-grown before mid.annals.facts (rows_before begun.annals) files scripts (past begun) (past new) g earlier in
+    let E = λ (f : Facts) (o : List Row). EarlierPlayed now f o files scripts (past new) in
+    let B = λ (f : Facts) (o : List Row). BootPlayed now f o files (scripts_in scripts (count + 1)) (past new) in
     record {
       facts = facts ∙ r.facts;
       first = m.played.rest.same.first ∙ b.first ∙ r.first;
@@ -78,23 +81,23 @@ run-more faults before now plans scripts count plan old mid begun new at r b m =
       planned = planned-grown plans (past begun) (past new) g planned;
       played = subst (λ (f : Facts). B f (rows_before new.annals)) (sym m.played.rest.same.facts) (subst (λ (o : List Row). B begun.annals.facts o) (sym rows) m.played.played);
       earlier = subst (λ (f : Facts). E f (rows_before new.annals)) (sym facts) (subst (λ (o : List Row). E mid.annals.facts o) (sym rows)
-          (earlier-told before now mid.annals.facts (rows_before begun.annals) scripts (past new) m.told grown));
+          (earlier-told before now mid.annals.facts (rows_before begun.annals) files scripts (past new) m.told grown));
       idle = m.played.rest.idle;
       counted = counted-both faults old mid new r.counted (counted-both faults mid begun new b.counted m.played.rest.counted m.played.rest.counts) (le-both _ _ _ b.counts m.played.rest.counts);
       counts = le-both _ _ _ r.counts (le-both _ _ _ b.counts m.played.rest.counts);
     }
   where
-    midfacts : BootPlayed before mid.annals.facts (rows_before mid.annals) (scripts_in scripts count) (past mid) → BootPlayed before mid.annals.facts (rows_before mid.annals) (scripts_in scripts count) (past mid)
+    midfacts : BootPlayed before mid.annals.facts (rows_before mid.annals) files (scripts_in scripts count) (past mid) → BootPlayed before mid.annals.facts (rows_before mid.annals) files (scripts_in scripts count) (past mid)
     midfacts p = p
 
     le-both : (a b c : ℕ) → a ≤ b → b ≤ c → a ≤ c
     le-both a b c x y = omega arith
 
 -- No boot was begun.
-pub run-stopped : {K : Type 0} (faults : K → ℕ) (wanting : Bool) (plans : List BootPlan) (scripts : List (List (List Item))) (count : ℕ) (old mid new : Housed K) → RanSoFar faults wanting plans scripts count old mid → NoneBegan faults mid new → RanSoFar faults wanting plans scripts count old new
-run-stopped faults wanting plans scripts count old mid new r n =
-    let B = λ (f : Facts) (o : List Row) (p : List Event). BootPlayed wanting f o (scripts_in scripts count) p in
-    let E = λ (f : Facts) (o : List Row) (p : List Event). EarlierPlayed wanting f o scripts p in
+pub run-stopped : {K : Type 0} (faults : K → ℕ) (wanting : Bool) (files : ℕ → Files) (plans : List BootPlan) (scripts : List (List (List Item))) (count : ℕ) (old mid new : Housed K) → RanSoFar faults wanting files plans scripts count old mid → NoneBegan faults mid new → RanSoFar faults wanting files plans scripts count old new
+run-stopped faults wanting files plans scripts count old mid new r n =
+    let B = λ (f : Facts) (o : List Row) (p : List Event). BootPlayed wanting f o files (scripts_in scripts count) p in
+    let E = λ (f : Facts) (o : List Row) (p : List Event). EarlierPlayed wanting f o files scripts p in
     record {
       facts = n.facts ∙ r.facts;
       first = n.first ∙ r.first;
@@ -110,15 +113,15 @@ run-stopped faults wanting plans scripts count old mid new r n =
     }
 
 -- Nothing was run yet.
-pub run-none : {K : Type 0} (faults : K → ℕ) (wanting : Bool) (plans : List BootPlan) (scripts : List (List (List Item))) (h : Housed K) → past h ≡ [] → RanSoFar faults wanting plans scripts 0 h h
-run-none faults wanting plans scripts h e =
+pub run-none : {K : Type 0} (faults : K → ℕ) (wanting : Bool) (files : ℕ → Files) (plans : List BootPlan) (scripts : List (List (List Item))) (h : Housed K) → past h ≡ [] → RanSoFar faults wanting files plans scripts 0 h h
+run-none faults wanting files plans scripts h e =
     record {
       facts = refl;
       first = refl;
       count_is = ap boots e;
       planned = subst (BootsPlanned plans) (sym e) tt;
-      played = subst (λ (p : List Event). BootPlayed wanting h.annals.facts (rows_before h.annals) (scripts_in scripts 0) p) (sym e) (faults-played wanting h.annals.facts (rows_before h.annals) scripts [] tt);
-      earlier = subst (EarlierPlayed wanting h.annals.facts (rows_before h.annals) scripts) (sym e) tt;
+      played = subst (λ (p : List Event). BootPlayed wanting h.annals.facts (rows_before h.annals) files (scripts_in scripts 0) p) (sym e) (faults-played wanting h.annals.facts (rows_before h.annals) files scripts [] tt);
+      earlier = subst (EarlierPlayed wanting h.annals.facts (rows_before h.annals) files scripts) (sym e) tt;
       idle = subst IsIdle (sym e) (record { no_hold = refl; no_live = refl });
       counted = inl (omega arith);
       counts = omega arith;
@@ -133,16 +136,41 @@ or-other : (a b : Bool) → b ≡ true → (a || b) ≡ true
 or-other true b e = refl
 or-other false b e = e
 
-pub boot-either : {K : Type 0} (faults : K → ℕ) (told before now : Bool) (of_boot : List (List Item)) (old new : Housed K) → told ≡ (before || now) → HouseBootPlayed faults now of_boot old new → BootMore faults told before of_boot old new
-boot-either faults told before now of_boot old new e h =
+pub boot-either : {K : Type 0} (faults : K → ℕ) (told before now : Bool) (files : ℕ → Files) (of_boot : List (List Item)) (old new : Housed K) → told ≡ (before || now) → HouseBootPlayed faults now files of_boot old new → BootMore faults told before files of_boot old new
+boot-either faults told before now files of_boot old new e h =
     record {
       played = record {
-        played = played-told now told old.annals.facts (rows_before old.annals) of_boot (past new) (λ n. e ∙ or-other before now n) h.played;
+        played = played-told now told old.annals.facts (rows_before old.annals) files of_boot (past new) (λ n. e ∙ or-other before now n) h.played;
         grew = h.grew;
         rest = h.rest;
       };
       told = λ b. e ∙ or-first before now b;
     }
+
+-- The shelves have the same files in each boot.
+boot-files : (wanting : Bool) (facts : Facts) (opening : List Row) (now files : ℕ → Files) (of_boot : List (List Item)) (past : List Event) → ((client : ℕ) → now client ≡ files client) → BootPlayed wanting facts opening now of_boot past → BootPlayed wanting facts opening files of_boot past
+boot-files wanting facts opening now files of_boot past e p =
+    record {
+      daemon = subst (λ (f : Files). PlayedSo (off past) wanting 0 (TaskPlays facts f) (tasks facts opening (began past)) (mine 0 past)) (e 0) p.daemon;
+      clients = λ client c. subst (λ (f : Files). PlayedSo (off past) wanting client (Plays facts opening f client) (items_of of_boot client) (mine client past)) (e client) (p.clients client c);
+    }
+
+pub same-files : {K : Type 0} (faults : K → ℕ) (wanting before : Bool) (now files : ℕ → Files) (of_boot : List (List Item)) (old new : Housed K) → ((client : ℕ) → now client ≡ files client) → BootMore faults wanting before now of_boot old new → BootMore faults wanting before files of_boot old new
+same-files faults wanting before now files of_boot old new e m =
+    record {
+      played = record {
+        played = boot-files wanting old.annals.facts (rows_before old.annals) now files of_boot (past new) e m.played.played;
+        grew = m.played.grew;
+        rest = m.played.rest;
+      };
+      told = m.told;
+    }
+
+-- The log was empty at first, so the keeper counted each fault that it tells.
+pub begun-counted : {K : Type 0} (faults : K → ℕ) (old mid new : Housed K) → past old ≡ [] → FaultsCounted faults old mid → FaultsCounted faults mid new → faults mid.keeper ≤ faults new.keeper → IsCounted faults new
+begun-counted faults old mid new e a b c =
+    let none : keeper_faults (past old) ≡ 0 = ap keeper_faults e in
+    elim (counted-both faults old mid new a b c) [ inl x ↦ inl (omega arith) | inr x ↦ inr x ]
 
 -- A boot that has begun may be played.
 pub begun-fresh : {K : Type 0} (faults : K → ℕ) (plan : BootPlan) (old new : Housed K) → HasBegun faults plan old new → IsFresh (past new)
@@ -165,9 +193,9 @@ stopped-so told Ending.Whole plans count mid new lt s = absurd s
 stopped-so told (Ending.BadHistory entry) plans count mid new lt s = (lt, (mid, s.0, s.1))
 stopped-so told Ending.NoMemory plans count mid new lt s = lt
 
-pub ran-stopped : {K : Type 0} (told : K → Option (List Row)) (faults : K → ℕ) (ending : Ending) (wanting : Bool) (plans : List BootPlan) (scripts : List (List (List Item))) (count : ℕ) (old mid new : Housed K) → count < length plans → RanSoFar faults wanting plans scripts count old mid → NoneBegan faults mid new → StoppedBy told ending mid new → CampaignRan told faults ending wanting plans scripts old new
-ran-stopped told faults ending wanting plans scripts count old mid new lt r n s =
-    record { count = count; ran = run-stopped faults wanting plans scripts count old mid new r n; ended = stopped-so told ending plans count mid new lt s }
+pub ran-stopped : {K : Type 0} (told : K → Option (List Row)) (faults : K → ℕ) (ending : Ending) (wanting : Bool) (files : ℕ → Files) (plans : List BootPlan) (scripts : List (List (List Item))) (count : ℕ) (old mid new : Housed K) → count < length plans → RanSoFar faults wanting files plans scripts count old mid → NoneBegan faults mid new → StoppedBy told ending mid new → CampaignRan told faults ending wanting files plans scripts old new
+ran-stopped told faults ending wanting files plans scripts count old mid new lt r n s =
+    record { count = count; ran = run-stopped faults wanting files plans scripts count old mid new r n; ended = stopped-so told ending plans count mid new lt s }
 
 -- The plan of a boot.
 pub plan-at : (plans : List BootPlan) (n : ℕ) (plan : BootPlan) → plan ≡ get_or plans n plan → n < length plans → slice_get plans n ≡ Some plan

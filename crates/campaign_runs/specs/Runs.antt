@@ -15,18 +15,19 @@ use Rattle.daemon_core.specs.Turns.{FaultsCounted}
 use Rattle.client_scripts.specs.declared.item.Item.{Item}
 use Rattle.client_plays.specs.Endings.{HouseBootPlayed, IsIdle}
 use Rattle.client_plays.specs.Scripts.{BootPlayed, EarlierPlayed, scripts_in}
+use Rattle.client_plays.specs.Tools.{Files}
 use Rattle.campaign_runs.specs.declared.ending.Ending.{Ending}
 use Rattle.campaign_runs.specs.Planned.{BootsPlanned, IsPlanned}
 
 -- So many boots of a campaign were run: each by its plan, in order, and played. Nobody has anything out,
 -- and each fault of the keeper that the log tells was counted.
-pub record RanSoFar {K : Type 0} (faults : K → ℕ) (wanting : Bool) (plans : List BootPlan) (scripts : List (List (List Item))) (count : ℕ) (old new : Housed K) : Type 0 where
+pub record RanSoFar {K : Type 0} (faults : K → ℕ) (wanting : Bool) (files : ℕ → Files) (plans : List BootPlan) (scripts : List (List (List Item))) (count : ℕ) (old new : Housed K) : Type 0 where
   pub facts : new.annals.facts ≡ old.annals.facts
   pub first : new.annals.first ≡ old.annals.first
   pub count_is : boots (past new) ≡ count
   pub planned : BootsPlanned plans (past new)
-  pub played : BootPlayed wanting new.annals.facts (rows_before new.annals) (scripts_in scripts count) (past new)
-  pub earlier : EarlierPlayed wanting new.annals.facts (rows_before new.annals) scripts (past new)
+  pub played : BootPlayed wanting new.annals.facts (rows_before new.annals) files (scripts_in scripts count) (past new)
+  pub earlier : EarlierPlayed wanting new.annals.facts (rows_before new.annals) files scripts (past new)
   pub idle : IsIdle (past new)
   pub counted : FaultsCounted faults old new
   pub counts : faults old.keeper ≤ faults new.keeper
@@ -39,9 +40,9 @@ EndedSo told (Ending.BadHistory entry) plans count new = (count < length plans) 
 EndedSo told Ending.NoMemory plans count new = count < length plans
 
 -- The boots of a campaign were run, as far as it went.
-pub record CampaignRan {K : Type 0} (told : K → Option (List Row)) (faults : K → ℕ) (ending : Ending) (wanting : Bool) (plans : List BootPlan) (scripts : List (List (List Item))) (old new : Housed K) : Type 0 where
+pub record CampaignRan {K : Type 0} (told : K → Option (List Row)) (faults : K → ℕ) (ending : Ending) (wanting : Bool) (files : ℕ → Files) (plans : List BootPlan) (scripts : List (List (List Item))) (old new : Housed K) : Type 0 where
   pub count : ℕ
-  pub ran : RanSoFar faults wanting plans scripts count old new
+  pub ran : RanSoFar faults wanting files plans scripts count old new
   pub ended : EndedSo told ending plans count new
 
 -- A boot began by its plan: it stands behind the log, and nothing was done in it yet. The rows before the
@@ -85,6 +86,6 @@ StartedSo told faults None plan old new = HasBegun faults plan old new
 StartedSo told faults (Some ending) plan old new = NoneBegan faults old new × StoppedBy told ending old new
 
 -- A boot was played, after others; `before` says that memory was wanting before.
-pub record BootMore {K : Type 0} (faults : K → ℕ) (wanting before : Bool) (of_boot : List (List Item)) (old new : Housed K) : Type 0 where
-  pub played : HouseBootPlayed faults wanting of_boot old new
+pub record BootMore {K : Type 0} (faults : K → ℕ) (wanting before : Bool) (files : ℕ → Files) (of_boot : List (List Item)) (old new : Housed K) : Type 0 where
+  pub played : HouseBootPlayed faults wanting files of_boot old new
   pub told : before ≡ true → wanting ≡ true

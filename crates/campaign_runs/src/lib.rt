@@ -1,13 +1,11 @@
-//! The boots of a campaign, one after the other.
+//! The boots of a campaign: how one starts, and how all of them end.
 //!
-//! Each boot is started by its plan and then played (`client_plays`). `specs/Planned.antt` says when the
-//! boots of a log are those of the plans, `specs/Runs.antt` what a campaign did to its house.
+//! `specs/Planned.antt` says when the boots of a log are those of the plans, `specs/Runs.antt` what a campaign
+//! did to its house, `specs/Promises.antt` the same in the words of the log alone. The boots are played by
+//! `client_threads`.
 #![tactic(auto)]
 
-pub mod campaign;
 pub mod ending;
-pub mod running;
 pub mod starting;
 
-pub use campaign::run_campaign;
 pub use ending::{Ending, Ran};

@@ -11,6 +11,7 @@ use Rattle.daemon_core.specs.Housed.{Housed, past, rows_before}
 use Rattle.client_scripts.specs.declared.item.Item.{Item}
 use Rattle.client_plays.specs.Moments.{Grew, Moment, began, mine}
 use Rattle.client_plays.specs.Plays.{Plays, TaskPlays}
+use Rattle.client_plays.specs.Tools.{Files}
 use Rattle.client_plays.specs.Scripts.{BootPlayed, PlayedSo, items_of, tasks}
 use Rattle.client_plays.specs.Endings.{AtRest, HouseBootPlayed, HouseMore, HouseWent, IsFresh}
 use Rattle.client_plays.proofs.MomentLaws.{grew-began, grew-boots, grew-both, grew-off, mine-boot}
@@ -38,8 +39,8 @@ so-kept was is_off before wanting client Play xs moments o h p =
     so-told is_off before wanting client Play xs moments h (so-later was is_off before client Play xs moments o p)
 
 -- The scripts of no client.
-pub record PlayedFirst {K : Type 0} (faults : K → ℕ) (wanting : Bool) (done : List (List Item)) (old new : Housed K) : Type 0 where
-  pub played : BootPlayed wanting old.annals.facts (rows_before old.annals) done (past new)
+pub record PlayedFirst {K : Type 0} (faults : K → ℕ) (wanting : Bool) (files : ℕ → Files) (done : List (List Item)) (old new : Housed K) : Type 0 where
+  pub played : BootPlayed wanting old.annals.facts (rows_before old.annals) files done (past new)
   pub later : (client : ℕ) → length done < client → mine client (past new) ≡ []
   pub grew : Grew (past old) (past new)
   pub rest : AtRest faults old new
@@ -74,16 +75,16 @@ not-first : (client : ℕ) → 0 < client → client ≢ 0
 not-first client h e = omega arith
 
 -- The daemon did its tasks.
-pub first-none : {K : Type 0} (faults : K → ℕ) (wanting : Bool) (old new : Housed K) → IsFresh (past old) → HouseWent faults wanting 0 TaskPlays (tasks old.annals.facts (rows_before old.annals) (began (past old))) old new → PlayedFirst faults wanting [] old new
-first-none faults wanting old new f h =
+pub first-none : {K : Type 0} (faults : K → ℕ) (wanting : Bool) (files : ℕ → Files) (old new : Housed K) → IsFresh (past old) → HouseWent faults wanting 0 (TaskPlays old.annals.facts (files 0)) (tasks old.annals.facts (rows_before old.annals) (began (past old))) old new → PlayedFirst faults wanting files [] old new
+first-none faults wanting files old new f h =
     let g = h.went.did.grew in
     let own : mine 0 (past new) ≡ h.went.moments = h.went.did.own ∙ ap (λ (m : List Moment). m ++ h.went.moments) (fresh-mine (past old) 0 f) in
     let others : (client : ℕ) → 0 < client → mine client (past new) ≡ [] = λ client c. h.went.did.others client (not-first client c) ∙ fresh-mine (past old) client f in
-    let T = λ (b : List Event) (m : List Moment). PlayedSo (off (past new)) wanting 0 TaskPlays (tasks old.annals.facts (rows_before old.annals) b) m in
+    let T = λ (b : List Event) (m : List Moment). PlayedSo (off (past new)) wanting 0 (TaskPlays old.annals.facts (files 0)) (tasks old.annals.facts (rows_before old.annals) b) m in
     record {
       played = record {
         daemon = subst (λ (b : List Event). T b (mine 0 (past new))) (sym (grew-began (past old) (past new) g)) (subst (λ (m : List Moment). T (began (past old)) m) (sym own) h.went.plays);
-        clients = λ client c. nothing-so (off (past new)) wanting client (Plays old.annals.facts (rows_before old.annals) client) (items_of [] client) (mine client (past new)) (items-none client) (others client c);
+        clients = λ client c. nothing-so (off (past new)) wanting client (Plays old.annals.facts (rows_before old.annals) (files client) client) (items_of [] client) (mine client (past new)) (items-none client) (others client c);
       };
       later = λ client c. others client c;
       grew = g;
@@ -91,52 +92,52 @@ first-none faults wanting old new f h =
     }
 
 -- The next client played its script.
-module _ {K : Type 0} (faults : K → ℕ) (now before : Bool) (done : List (List Item)) (x : List Item) (old mid new : Housed K)
-    (p : PlayedFirst faults before done old mid) (h : HouseMore faults now before (suc (length done)) (Plays old.annals.facts (rows_before old.annals) (suc (length done))) x mid new) where
+module _ {K : Type 0} (faults : K → ℕ) (now before : Bool) (files : ℕ → Files) (done : List (List Item)) (x : List Item) (old mid new : Housed K)
+    (p : PlayedFirst faults before files done old mid) (h : HouseMore faults now before (suc (length done)) (Plays old.annals.facts (rows_before old.annals) (files (suc (length done))) (suc (length done))) x mid new) where
   client : ℕ
   client = suc (length done)
 
   stays : off (past mid) ≡ true → off (past new) ≡ true
   stays = grew-off (past mid) (past new) h.went.did.grew
 
-  daemon-kept : PlayedSo (off (past new)) now 0 TaskPlays (tasks old.annals.facts (rows_before old.annals) (began (past new))) (mine 0 (past new))
+  daemon-kept : PlayedSo (off (past new)) now 0 (TaskPlays old.annals.facts (files 0)) (tasks old.annals.facts (rows_before old.annals) (began (past new))) (mine 0 (past new))
   daemon-kept =
       let same : mine 0 (past new) ≡ mine 0 (past mid) = h.went.did.others 0 (λ e. zero-suc e) in
       let boot : began (past new) ≡ began (past mid) = grew-began (past mid) (past new) h.went.did.grew in
-      let T = λ (b : List Event) (m : List Moment). PlayedSo (off (past new)) now 0 TaskPlays (tasks old.annals.facts (rows_before old.annals) b) m in
+      let T = λ (b : List Event) (m : List Moment). PlayedSo (off (past new)) now 0 (TaskPlays old.annals.facts (files 0)) (tasks old.annals.facts (rows_before old.annals) b) m in
       subst (λ (b : List Event). T b (mine 0 (past new))) (sym boot)
       (subst (λ (m : List Moment). T (began (past mid)) m) (sym same)
-      (so-kept (off (past mid)) (off (past new)) before now 0 TaskPlays (tasks old.annals.facts (rows_before old.annals) (began (past mid))) (mine 0 (past mid)) stays h.told p.played.daemon))
+      (so-kept (off (past mid)) (off (past new)) before now 0 (TaskPlays old.annals.facts (files 0)) (tasks old.annals.facts (rows_before old.annals) (began (past mid))) (mine 0 (past mid)) stays h.told p.played.daemon))
     where
       zero-suc : 0 ≡ suc (length done) → ⊥
       zero-suc e = omega arith
 
-  own-played : PlayedSo (off (past new)) now client (Plays old.annals.facts (rows_before old.annals) client) (items_of (done ++ x ∷ []) client) (mine client (past new))
+  own-played : PlayedSo (off (past new)) now client (Plays old.annals.facts (rows_before old.annals) (files client) client) (items_of (done ++ x ∷ []) client) (mine client (past new))
   unfolding client
   own-played =
-      let P = Plays old.annals.facts (rows_before old.annals) (suc (length done)) in
+      let P = Plays old.annals.facts (rows_before old.annals) (files (suc (length done))) (suc (length done)) in
       let was : mine (suc (length done)) (past mid) ≡ [] = p.later (suc (length done)) (omega arith) in
       let own : mine (suc (length done)) (past new) ≡ h.went.moments = h.went.did.own ∙ ap (λ (m : List Moment). m ++ h.went.moments) was in
       subst (λ (m : List Moment). PlayedSo (off (past new)) now (suc (length done)) P (items_of (done ++ x ∷ []) (suc (length done))) m) (sym own)
       (subst (λ (xs : List Item). PlayedSo (off (past new)) now (suc (length done)) P xs h.went.moments) (sym (items-here done x)) h.went.plays)
 
-  other-played : (c : ℕ) → 0 < c → c ≢ suc (length done) → PlayedSo (off (past new)) now c (Plays old.annals.facts (rows_before old.annals) c) (items_of (done ++ x ∷ []) c) (mine c (past new))
+  other-played : (c : ℕ) → 0 < c → c ≢ suc (length done) → PlayedSo (off (past new)) now c (Plays old.annals.facts (rows_before old.annals) (files c) c) (items_of (done ++ x ∷ []) c) (mine c (past new))
   other-played c z n =
-      let P = Plays old.annals.facts (rows_before old.annals) c in
+      let P = Plays old.annals.facts (rows_before old.annals) (files c) c in
       let same : mine c (past new) ≡ mine c (past mid) = h.went.did.others c n in
       subst (λ (m : List Moment). PlayedSo (off (past new)) now c P (items_of (done ++ x ∷ []) c) m) (sym same)
       (subst (λ (xs : List Item). PlayedSo (off (past new)) now c P xs (mine c (past mid))) (sym (items-other done x c n))
       (so-kept (off (past mid)) (off (past new)) before now c P (items_of done c) (mine c (past mid)) stays h.told (p.played.clients c z)))
 
-  any-played : (c : ℕ) → 0 < c → PlayedSo (off (past new)) now c (Plays old.annals.facts (rows_before old.annals) c) (items_of (done ++ x ∷ []) c) (mine c (past new))
+  any-played : (c : ℕ) → 0 < c → PlayedSo (off (past new)) now c (Plays old.annals.facts (rows_before old.annals) (files c) c) (items_of (done ++ x ∷ []) c) (mine c (past new))
   unfolding client
   any-played c z =
       elim (eqb_tells c (suc (length done))) [
-        | inl same ↦ subst (λ (k : ℕ). PlayedSo (off (past new)) now k (Plays old.annals.facts (rows_before old.annals) k) (items_of (done ++ x ∷ []) k) (mine k (past new))) (sym same.1) own-played
+        | inl same ↦ subst (λ (k : ℕ). PlayedSo (off (past new)) now k (Plays old.annals.facts (rows_before old.annals) (files k) k) (items_of (done ++ x ∷ []) k) (mine k (past new))) (sym same.1) own-played
         | inr other ↦ other-played c z other.1
       ]
 
-  pub first-more : PlayedFirst faults now (done ++ x ∷ []) old new
+  pub first-more : PlayedFirst faults now files (done ++ x ∷ []) old new
   first-more =
       record {
         played = record { daemon = daemon-kept; clients = any-played };
@@ -148,8 +149,8 @@ module _ {K : Type 0} (faults : K → ℕ) (now before : Bool) (done : List (Lis
       }
 
 -- All clients did.
-pub first-all : {K : Type 0} (faults : K → ℕ) (wanting : Bool) (of_boot : List (List Item)) (old new : Housed K) → PlayedFirst faults wanting of_boot old new → HouseBootPlayed faults wanting of_boot old new
-first-all faults wanting of_boot old new p = record { played = p.played; grew = p.grew; rest = p.rest }
+pub first-all : {K : Type 0} (faults : K → ℕ) (wanting : Bool) (files : ℕ → Files) (of_boot : List (List Item)) (old new : Housed K) → PlayedFirst faults wanting files of_boot old new → HouseBootPlayed faults wanting files of_boot old new
+first-all faults wanting files of_boot old new p = record { played = p.played; grew = p.grew; rest = p.rest }
 
 -- Memory was wanting now, or before.
 or-first : (a b : Bool) → a ≡ true → (a || b) ≡ true
@@ -173,20 +174,20 @@ more-either faults told before now client Play xs old new e h =
     }
 
 -- The facts and the rows before the log are the same all along.
-more-same : {K : Type 0} (faults : K → ℕ) (now before : Bool) (client : ℕ) (x : List Item) (old mid new : Housed K) → SameFacts old.annals mid.annals → HouseMore faults now before client (Plays mid.annals.facts (rows_before mid.annals) client) x mid new → HouseMore faults now before client (Plays old.annals.facts (rows_before old.annals) client) x mid new
-more-same faults now before client x old mid new s m =
-    subst (λ (r : List Row). HouseMore faults now before client (Plays old.annals.facts r client) x mid new) (before-same old.annals mid.annals s)
-    (subst (λ (f : Facts). HouseMore faults now before client (Plays f (rows_before mid.annals) client) x mid new) s.facts m)
+more-same : {K : Type 0} (faults : K → ℕ) (now before : Bool) (files : Files) (client : ℕ) (x : List Item) (old mid new : Housed K) → SameFacts old.annals mid.annals → HouseMore faults now before client (Plays mid.annals.facts (rows_before mid.annals) files client) x mid new → HouseMore faults now before client (Plays old.annals.facts (rows_before old.annals) files client) x mid new
+more-same faults now before files client x old mid new s m =
+    subst (λ (r : List Row). HouseMore faults now before client (Plays old.annals.facts r files client) x mid new) (before-same old.annals mid.annals s)
+    (subst (λ (f : Facts). HouseMore faults now before client (Plays f (rows_before mid.annals) files client) x mid new) s.facts m)
 
 -- One turn of the loop over clients.
-pub boot-turn : {K : Type 0} (faults : K → ℕ) (now before : Bool) (of_boot : List (List Item)) (n : ℕ) (x : List Item) (old mid new : Housed K) → x ≡ get_or of_boot n x → n < length of_boot → PlayedFirst faults before (take n of_boot) old mid → HouseMore faults now before (n + 1) (Plays mid.annals.facts (rows_before mid.annals) (n + 1)) x mid new → PlayedFirst faults now (take (n + 1) of_boot) old new
-boot-turn faults now before of_boot n x old mid new e lt p h =
+pub boot-turn : {K : Type 0} (faults : K → ℕ) (now before : Bool) (files : ℕ → Files) (of_boot : List (List Item)) (n : ℕ) (x : List Item) (old mid new : Housed K) → x ≡ get_or of_boot n x → n < length of_boot → PlayedFirst faults before files (take n of_boot) old mid → HouseMore faults now before (n + 1) (Plays mid.annals.facts (rows_before mid.annals) (files (n + 1)) (n + 1)) x mid new → PlayedFirst faults now files (take (n + 1) of_boot) old new
+boot-turn faults now before files of_boot n x old mid new e lt p h =
     let many : n + 1 ≡ suc (length (take n of_boot)) = omega (arith, length-take n of_boot) in
     let far : take n of_boot ++ x ∷ [] ≡ take (n + 1) of_boot = ap (λ (y : List Item). take n of_boot ++ y ∷ []) e ∙ taken-more of_boot n x lt in
-    let more = more-same faults now before (n + 1) x old mid new p.rest.same h in
-    subst (λ (done : List (List Item)). PlayedFirst faults now done old new) far
-    (first-more faults now before (take n of_boot) x old mid new p
-    (subst (λ (k : ℕ). HouseMore faults now before k (Plays old.annals.facts (rows_before old.annals) k) x mid new) many more))
+    let more = more-same faults now before (files (n + 1)) (n + 1) x old mid new p.rest.same h in
+    subst (λ (done : List (List Item)). PlayedFirst faults now files done old new) far
+    (first-more faults now before files (take n of_boot) x old mid new p
+    (subst (λ (k : ℕ). HouseMore faults now before k (Plays old.annals.facts (rows_before old.annals) (files k) k) x mid new) many more))
 
-pub first-booted : {K : Type 0} (faults : K → ℕ) (wanting : Bool) (done : List (List Item)) (old new : Housed K) → PlayedFirst faults wanting done old new → 0 < boots (past old) → 0 < boots (past new)
-first-booted faults wanting done old new p b = subst (λ (n : ℕ). 0 < n) (sym (grew-boots (past old) (past new) p.grew)) b
+pub first-booted : {K : Type 0} (faults : K → ℕ) (wanting : Bool) (files : ℕ → Files) (done : List (List Item)) (old new : Housed K) → PlayedFirst faults wanting files done old new → 0 < boots (past old) → 0 < boots (past new)
+first-booted faults wanting files done old new p b = subst (λ (n : ℕ). 0 < n) (sym (grew-boots (past old) (past new) p.grew)) b

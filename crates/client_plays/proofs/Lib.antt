@@ -1,4 +1,5 @@
 pub mod ToolLaws
+pub mod ShelfLaws
 pub mod MomentLaws
 pub mod PlayLaws
 pub mod ScriptLaws

@@ -11,6 +11,7 @@ use Rattle.client_scripts.specs.declared.item.Item.{Item}
 use Rattle.client_plays.specs.declared.played.Played.{Played}
 use Rattle.client_plays.specs.Moments.{Moment}
 use Rattle.client_plays.specs.Plays.{Plays}
+use Rattle.client_plays.specs.Tools.{Files}
 use Rattle.client_plays.specs.Scripts.{PlayedSo, PlaysAll, PlaysUntil}
 use Rattle.client_plays.specs.Endings.{AtRest, HouseOnceMore, HousePlayed, HouseWent, IsIdle, SoFar}
 use Rattle.client_plays.proofs.MomentLaws.{did-both, did-nothing, grew-boots}
@@ -121,7 +122,7 @@ still-booted faults wanting client Play done old new s b = subst (λ (n : ℕ). 
 pub before-same : (old new : Annalled) → SameFacts old new → rows_before new ≡ rows_before old
 before-same old new s = ap (λ (b : Bool). rows_taken b new.opening) s.loaded ∙ ap (λ (o : List Row). rows_taken old.loaded o) s.opening
 
-pub same-plays : {K : Type 0} (faults : K → ℕ) (told : Option Bool) (wanting : Bool) (client : ℕ) (item : Item) (old mid new : Housed K) → SameFacts old.annals mid.annals → HouseOnceMore faults told wanting client (Plays mid.annals.facts (rows_before mid.annals) client item) mid new → HouseOnceMore faults told wanting client (Plays old.annals.facts (rows_before old.annals) client item) mid new
-same-plays faults told wanting client item old mid new s m =
-    subst (λ (r : List Row). HouseOnceMore faults told wanting client (Plays old.annals.facts r client item) mid new) (before-same old.annals mid.annals s)
-    (subst (λ (f : Facts). HouseOnceMore faults told wanting client (Plays f (rows_before mid.annals) client item) mid new) s.facts m)
+pub same-plays : {K : Type 0} (faults : K → ℕ) (told : Option Bool) (wanting : Bool) (files : Files) (client : ℕ) (item : Item) (old mid new : Housed K) → SameFacts old.annals mid.annals → HouseOnceMore faults told wanting client (Plays mid.annals.facts (rows_before mid.annals) files client item) mid new → HouseOnceMore faults told wanting client (Plays old.annals.facts (rows_before old.annals) files client item) mid new
+same-plays faults told wanting files client item old mid new s m =
+    subst (λ (r : List Row). HouseOnceMore faults told wanting client (Plays old.annals.facts r files client item) mid new) (before-same old.annals mid.annals s)
+    (subst (λ (f : Facts). HouseOnceMore faults told wanting client (Plays f (rows_before mid.annals) files client item) mid new) s.facts m)

@@ -26,6 +26,7 @@ use Rattle.client_plays.specs.declared.played.Played.{Played}
 use Rattle.client_plays.specs.Moments.{at}
 use Rattle.client_plays.specs.Plays.{JudgesFound, Plays, is_row_of}
 use Rattle.client_plays.specs.Endings.{HousePlayed, IsIdle, played_of}
+use Rattle.client_plays.specs.Tools.{Files}
 use Rattle.client_plays.proofs.ItemLaws.{quiet-query}
 use Rattle.client_plays.proofs.PlayLaws.{item-unplayed}
 use Rattle.client_plays.proofs.TurnLaws.{IsQuiet, Turn, turn-done, turn-off, turn-played, turn-wanting}
@@ -92,24 +93,24 @@ quiet-judge : (client entry : ℕ) (version : List ℕ) (state : RowState) (stor
 quiet-judge client entry version state stored = record { no_boot = refl; own = refl; holds = λ h. refl; live = λ l. refl }
 
 -- The question alone.
-asked-only : (client : ℕ) (device : Selector) (old new : Annalled) → IsIdle (past_in old) → Appended client (Event.Query client (Query.Settle device)) old new → Turn Played.Done client (Plays old.facts (rows_before old) client (Item.Settle device)) old new
-asked-only client device old new i a =
-    turn-done client (Event.Query client (Query.Settle device)) (Plays old.facts (rows_before old) client (Item.Settle device)) old new
+asked-only : (files : Files) (client : ℕ) (device : Selector) (old new : Annalled) → IsIdle (past_in old) → Appended client (Event.Query client (Query.Settle device)) old new → Turn Played.Done client (Plays old.facts (rows_before old) files client (Item.Settle device)) old new
+asked-only files client device old new i a =
+    turn-done client (Event.Query client (Query.Settle device)) (Plays old.facts (rows_before old) files client (Item.Settle device)) old new
     (quiet-query client (Query.Settle device)) (inr refl) i a
 
-settle-turn : (client : ℕ) (device : Selector) (outcome : Result Settling Stop) (old new : Annalled) → IsAnnals old → IsIdle (past_in old) → SettleTurned client device outcome old new → Turn (played_of outcome) client (Plays old.facts (rows_before old) client (Item.Settle device)) old new
-settle-turn client device (Ok (Settling.Judged entry state stored)) old new k i t =
-    turn-done client (Event.Judge client entry t.2.0 state stored) (Plays old.facts (rows_before old) client (Item.Settle device)) old new
+settle-turn : (files : Files) (client : ℕ) (device : Selector) (outcome : Result Settling Stop) (old new : Annalled) → IsAnnals old → IsIdle (past_in old) → SettleTurned client device outcome old new → Turn (played_of outcome) client (Plays old.facts (rows_before old) files client (Item.Settle device)) old new
+settle-turn files client device (Ok (Settling.Judged entry state stored)) old new k i t =
+    turn-done client (Event.Judge client entry t.2.0 state stored) (Plays old.facts (rows_before old) files client (Item.Settle device)) old new
     (quiet-judge client entry t.2.0 state stored) (inl (judges-found client device old entry t.2.0 state stored k t.1)) i t.2.2
-settle-turn client device (Ok Settling.NoDevice) old new k i t = asked-only client device old new i t.2
-settle-turn client device (Ok (Settling.Waits entry)) old new k i t = asked-only client device old new i t.3
-settle-turn client device (Ok Settling.Nothing) old new k i t = asked-only client device old new i t.2
-settle-turn client device (Err Stop.Off) old new k i t =
-    turn-off client (Plays old.facts (rows_before old) client (Item.Settle device)) old new (item-unplayed old.facts (rows_before old) client (Item.Settle device)) i t
-settle-turn client device (Err Stop.NoMemory) old new k i t =
-    turn-wanting client (Plays old.facts (rows_before old) client (Item.Settle device)) old new (item-unplayed old.facts (rows_before old) client (Item.Settle device)) i t.1
+settle-turn files client device (Ok Settling.NoDevice) old new k i t = asked-only files client device old new i t.2
+settle-turn files client device (Ok (Settling.Waits entry)) old new k i t = asked-only files client device old new i t.3
+settle-turn files client device (Ok Settling.Nothing) old new k i t = asked-only files client device old new i t.2
+settle-turn files client device (Err Stop.Off) old new k i t =
+    turn-off client (Plays old.facts (rows_before old) files client (Item.Settle device)) old new (item-unplayed old.facts (rows_before old) files client (Item.Settle device)) i t
+settle-turn files client device (Err Stop.NoMemory) old new k i t =
+    turn-wanting client (Plays old.facts (rows_before old) files client (Item.Settle device)) old new (item-unplayed old.facts (rows_before old) files client (Item.Settle device)) i t.1
 
-pub settle-played : {K : Type 0} (faults : K → ℕ) (client : ℕ) (device : Selector) (outcome : Result Settling Stop) (told : Played) (old new : Housed K) → told ≡ played_of outcome → IsAnnals old.annals → IsIdle (past old) → SettleTurned client device outcome old.annals new.annals → FaultsCounted faults old new → faults old.keeper ≤ faults new.keeper → HousePlayed faults told client (Plays old.annals.facts (rows_before old.annals) client (Item.Settle device)) old new
-settle-played faults client device outcome told old new e k i t counted counts =
-    turn-played faults (played_of outcome) told client (Plays old.annals.facts (rows_before old.annals) client (Item.Settle device)) old new e
-    (settle-turn client device outcome old.annals new.annals k i t) counted counts
+pub settle-played : {K : Type 0} (faults : K → ℕ) (files : Files) (client : ℕ) (device : Selector) (outcome : Result Settling Stop) (told : Played) (old new : Housed K) → told ≡ played_of outcome → IsAnnals old.annals → IsIdle (past old) → SettleTurned client device outcome old.annals new.annals → FaultsCounted faults old new → faults old.keeper ≤ faults new.keeper → HousePlayed faults told client (Plays old.annals.facts (rows_before old.annals) files client (Item.Settle device)) old new
+settle-played faults files client device outcome told old new e k i t counted counts =
+    turn-played faults (played_of outcome) told client (Plays old.annals.facts (rows_before old.annals) files client (Item.Settle device)) old new e
+    (settle-turn files client device outcome old.annals new.annals k i t) counted counts

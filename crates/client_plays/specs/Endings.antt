@@ -1,5 +1,5 @@
 -- How a play ended, and what it did to a house.
-use Rattle.std.specs.Prelude.{◌≡◌, ◌⊎◌, ◌≤◌, ℕ, Bool, true, MatchBool, List, [], ◌∷◌, Option, Some, None, Result, Ok, Err}
+use Rattle.std.specs.Prelude.{◌≡◌, ◌⊎◌, ◌≤◌, ◌-◌, ◌^◌, ℕ, Bool, true, MatchBool, List, [], ◌∷◌, Option, Some, None, Result, Ok, Err}
 use Rattle.update_log.specs.declared.event.Event.{Event}
 use Rattle.update_log.specs.declared.event.Query.{Query}
 use Rattle.update_log.specs.Holding.{holds, live}
@@ -7,12 +7,14 @@ use Rattle.update_log.specs.Pasts.{is_boot, off}
 use Rattle.daemon_core.specs.declared.stop.Stop.{Stop}
 use Rattle.daemon_core.specs.Annals.{SameFacts}
 use Rattle.daemon_core.specs.Housed.{Housed, past, rows_before}
+use Rattle.daemon_core.specs.Keeping.{keeper_faults}
 use Rattle.daemon_core.specs.Turns.{FaultsCounted}
 use Rattle.client_scripts.specs.declared.item.Item.{Item}
 use Rattle.client_plays.specs.declared.played.Played.{Played}
 use Rattle.client_plays.specs.Moments.{Did, Grew, Moment}
 use Rattle.client_plays.specs.Plays.{Leaves}
 use Rattle.client_plays.specs.Scripts.{BootPlayed, PlayedSo, PlaysAll}
+use Rattle.client_plays.specs.Tools.{Files}
 
 -- Nobody has a hold or a live entry.
 pub record IsIdle (past : List Event) : Type 0 where
@@ -61,6 +63,10 @@ pub record AtRest {K : Type 0} (faults : K → ℕ) (old new : Housed K) : Type 
   pub counted : FaultsCounted faults old new
   pub counts : faults old.keeper ≤ faults new.keeper
 
+-- The keeper counted each fault that the log tells, or its count stands at its end.
+abbrev pub IsCounted : {K : Type 0} → (K → ℕ) → Housed K → Type 0
+IsCounted faults h = (keeper_faults (past h) ≤ faults h.keeper) ⊎ (2 ^ 64 - 1 ≤ faults h.keeper)
+
 -- What a play did to a house.
 pub record HousePlayed {K : Type 0} (faults : K → ℕ) (played : Played) (client : ℕ) (Play : List Moment → Type 0) (old new : Housed K) : Type 0 where
   pub ended : Ended played client Play (past old) (past new)
@@ -99,8 +105,8 @@ pub record SoFar {K X : Type 0} (faults : K → ℕ) (wanting : Bool) (client : 
   pub rest : AtRest faults old new
 
 -- A boot was played: the log grew by events of this boot, and the house is at rest.
-pub record HouseBootPlayed {K : Type 0} (faults : K → ℕ) (wanting : Bool) (of_boot : List (List Item)) (old new : Housed K) : Type 0 where
-  pub played : BootPlayed wanting old.annals.facts (rows_before old.annals) of_boot (past new)
+pub record HouseBootPlayed {K : Type 0} (faults : K → ℕ) (wanting : Bool) (files : ℕ → Files) (of_boot : List (List Item)) (old new : Housed K) : Type 0 where
+  pub played : BootPlayed wanting old.annals.facts (rows_before old.annals) files of_boot (past new)
   pub grew : Grew (past old) (past new)
   pub rest : AtRest faults old new
 

@@ -1,5 +1,7 @@
 pub mod Moments
-pub mod Plays
 pub mod Tools
+pub mod Has
+pub mod Shelves
+pub mod Plays
 pub mod Scripts
 pub mod Endings

@@ -11,6 +11,7 @@ use Rattle.fw_facts.specs.declared.view.DeviceView.{DeviceView}
 use Rattle.emulated_boards.specs.declared.fault.BoardFault.{BoardFault}
 use Rattle.emulated_boards.specs.declared.mark.Mark.{Mark}
 use Rattle.device_list.specs.declared.selector.Selector.{Selector}
+use Rattle.release_catalogue.specs.declared.reference.ReleaseRef.{ReleaseRef}
 use Rattle.history_keeper.specs.declared.row.Row.{Row}
 use Rattle.history_keeper.specs.declared.row.RowState.{RowState}
 use Rattle.update_log.specs.declared.event.Event.{Event}
@@ -29,6 +30,8 @@ use Rattle.update_log.specs.Known.{rows, views}
 use Rattle.update_log.specs.Legal.{found_view}
 use Rattle.client_scripts.specs.declared.item.Item.{Item}
 use Rattle.client_plays.specs.Moments.{Moment}
+use Rattle.client_plays.specs.Shelves.{IsFetched}
+use Rattle.client_plays.specs.Tools.{Files}
 
 -- There is one event, of which this holds.
 abbrev pub Alone : (Moment → Type 0) → List Moment → Type 0
@@ -65,24 +68,24 @@ AfterClaim client (ClaimAnswer.Entry entry) moments = UpdatePlays client entry m
 AfterClaim client (ClaimAnswer.Kept entry state) moments = moments ≡ []
 AfterClaim client (ClaimAnswer.Refused refusal) moments = moments ≡ []
 
--- The claim, and what follows on it.
-abbrev pub ClaimPlays : ℕ → Request → List Moment → Type 0
-ClaimPlays client request [] = ⊥
-ClaimPlays client request (m ∷ moments) =
+-- The claim, for which the release's payload was fetched from the client's shelf, and what follows on it.
+abbrev pub ClaimPlays : Facts → Files → ℕ → Request → ReleaseRef → List Moment → Type 0
+ClaimPlays facts files client request release [] = ⊥
+ClaimPlays facts files client request release (m ∷ moments) =
     (note : FetchNote) × (answer : ClaimAnswer) × (m.event ≡ Event.Claim client request note answer)
-    × AfterClaim client answer moments
+    × IsFetched facts files release note × AfterClaim client answer moments
 
 -- What follows on the ask: the claim, where the ask was answered with a hold.
-abbrev pub AfterAsk : ℕ → Request → AskAnswer → List Moment → Type 0
-AfterAsk client request (AskAnswer.Hold blocks release) moments = ClaimPlays client request moments
-AfterAsk client request (AskAnswer.Kept entry state) moments = moments ≡ []
-AfterAsk client request (AskAnswer.Refused refusal) moments = moments ≡ []
+abbrev pub AfterAsk : Facts → Files → ℕ → Request → AskAnswer → List Moment → Type 0
+AfterAsk facts files client request (AskAnswer.Hold blocks release) moments = ClaimPlays facts files client request release moments
+AfterAsk facts files client request (AskAnswer.Kept entry state) moments = moments ≡ []
+AfterAsk facts files client request (AskAnswer.Refused refusal) moments = moments ≡ []
 
 -- The ask, and what follows on it.
-abbrev pub InstallPlays : ℕ → Request → List Moment → Type 0
-InstallPlays client request [] = ⊥
-InstallPlays client request (m ∷ moments) =
-    (answer : AskAnswer) × (m.event ≡ Event.Ask client request None answer) × AfterAsk client request answer moments
+abbrev pub InstallPlays : Facts → Files → ℕ → Request → List Moment → Type 0
+InstallPlays facts files client request [] = ⊥
+InstallPlays facts files client request (m ∷ moments) =
+    (answer : AskAnswer) × (m.event ≡ Event.Ask client request None answer) × AfterAsk facts files client request answer moments
 
 -- An install that is put off.
 abbrev pub SchedulePlays : ℕ → Request → Moment → Type 0
@@ -116,14 +119,14 @@ UnplugPlays client selector m = (answer : PlugAnswer) × (m.event ≡ Event.Unpl
 abbrev pub PlugPlays : ℕ → Selector → Moment → Type 0
 PlugPlays client selector m = (answer : PlugAnswer) × (m.event ≡ Event.Plug client selector answer)
 
--- The events are the play of an item of that client.
-abbrev pub Plays : Facts → List Row → ℕ → Item → List Moment → Type 0
-Plays facts opening client (Item.Ask query) moments = Alone (λ m. m.event ≡ Event.Query client query) moments
-Plays facts opening client (Item.Install request) moments =
-    MatchBool request.flags.offline (Alone (SchedulePlays client request) moments) (InstallPlays client request moments)
-Plays facts opening client (Item.Settle selector) moments = Alone (SettlePlays facts opening client selector) moments
-Plays facts opening client (Item.Unplug selector) moments = Alone (UnplugPlays client selector) moments
-Plays facts opening client (Item.Plug selector) moments = Alone (PlugPlays client selector) moments
+-- The events are the play of an item of that client, whose shelf has these files.
+abbrev pub Plays : Facts → List Row → Files → ℕ → Item → List Moment → Type 0
+Plays facts opening files client (Item.Ask query) moments = Alone (λ m. m.event ≡ Event.Query client query) moments
+Plays facts opening files client (Item.Install request) moments =
+    MatchBool request.flags.offline (Alone (SchedulePlays client request) moments) (InstallPlays facts files client request moments)
+Plays facts opening files client (Item.Settle selector) moments = Alone (SettlePlays facts opening client selector) moments
+Plays facts opening files client (Item.Unplug selector) moments = Alone (UnplugPlays client selector) moments
+Plays facts opening files client (Item.Plug selector) moments = Alone (PlugPlays client selector) moments
 
 -- What the daemon does by itself.
 
@@ -141,24 +144,31 @@ abbrev pub AfterResume : ℕ → ResumeAnswer → List Moment → Type 0
 AfterResume entry ResumeAnswer.Begun moments = UpdatePlays 0 entry moments
 AfterResume entry (ResumeAnswer.Refused refusal) moments = moments ≡ []
 
--- The resumption, and what follows on it.
-abbrev pub ResumePlays : ℕ → List Moment → Type 0
-ResumePlays entry [] = ⊥
-ResumePlays entry (m ∷ moments) =
+-- Where the ask was answered with a hold, the release's payload was fetched from the daemon's shelf; and
+-- else nothing was.
+abbrev pub ResumeFetches : Facts → Files → AskAnswer → Option FetchNote → Type 0
+ResumeFetches facts files (AskAnswer.Hold blocks release) note = (found : FetchNote) × (note ≡ Some found) × IsFetched facts files release found
+ResumeFetches facts files (AskAnswer.Kept entry state) note = note ≡ None
+ResumeFetches facts files (AskAnswer.Refused refusal) note = note ≡ None
+
+-- The resumption after an ask that was answered so, and what follows on it.
+abbrev pub ResumePlays : Facts → Files → ℕ → AskAnswer → List Moment → Type 0
+ResumePlays facts files entry asked [] = ⊥
+ResumePlays facts files entry asked (m ∷ moments) =
     (note : Option FetchNote) × (answer : ResumeAnswer) × (stored : Stored)
-    × (m.event ≡ Event.Resume 0 entry note answer stored) × AfterResume entry answer moments
+    × (m.event ≡ Event.Resume 0 entry note answer stored) × ResumeFetches facts files asked note × AfterResume entry answer moments
 
 -- The ask for an entry that was put off, and what follows on it.
-abbrev pub PendingPlays : ℕ → List Moment → Type 0
-PendingPlays entry [] = ⊥
-PendingPlays entry (m ∷ moments) =
+abbrev pub PendingPlays : Facts → Files → ℕ → List Moment → Type 0
+PendingPlays facts files entry [] = ⊥
+PendingPlays facts files entry (m ∷ moments) =
     (request : Request) × (answer : AskAnswer) × (m.event ≡ Event.Ask 0 request (Some entry) answer)
-    × ResumePlays entry moments
+    × ResumePlays facts files entry answer moments
 
--- The events are the play of a task.
-abbrev pub TaskPlays : Task → List Moment → Type 0
-TaskPlays (ToJudge entry) moments = Alone (JudgePlays entry) moments
-TaskPlays (ToResume entry) moments = PendingPlays entry moments
+-- The events are the play of a task of the daemon, whose shelf has these files.
+abbrev pub TaskPlays : Facts → Files → Task → List Moment → Type 0
+TaskPlays facts files (ToJudge entry) moments = Alone (JudgePlays entry) moments
+TaskPlays facts files (ToResume entry) moments = PendingPlays facts files entry moments
 
 -- What is left of a play.
 

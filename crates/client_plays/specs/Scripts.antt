@@ -13,6 +13,7 @@ use Rattle.offline_updates.specs.Waiting.{entries_where, is_pending}
 use Rattle.client_scripts.specs.declared.item.Item.{Item}
 use Rattle.client_plays.specs.Moments.{Moment, began, mine}
 use Rattle.client_plays.specs.Plays.{Leaves, Plays, Task, TaskPlays, ToJudge, ToResume}
+use Rattle.client_plays.specs.Tools.{Files}
 
 -- The plays of a list of things to do.
 
@@ -72,20 +73,20 @@ tasks facts opening (boot ∷ past) =
     ++ map ToResume (entries_where is_pending (rows facts opening (boot ∷ past)))
 
 -- The boot that runs was played: the daemon did its tasks, each client its script, and nobody else
--- did anything. `wanting` says that memory was wanting.
-pub record BootPlayed (wanting : Bool) (facts : Facts) (opening : List Row) (of_boot : List (List Item)) (past : List Event) : Type 0 where
-  pub daemon : PlayedSo (off past) wanting 0 TaskPlays (tasks facts opening (began past)) (mine 0 past)
-  pub clients : (client : ℕ) → 0 < client → PlayedSo (off past) wanting client (Plays facts opening client) (items_of of_boot client) (mine client past)
+-- did anything. `wanting` says that memory was wanting; `files` has the files of each client's shelf.
+pub record BootPlayed (wanting : Bool) (facts : Facts) (opening : List Row) (files : ℕ → Files) (of_boot : List (List Item)) (past : List Event) : Type 0 where
+  pub daemon : PlayedSo (off past) wanting 0 (TaskPlays facts (files 0)) (tasks facts opening (began past)) (mine 0 past)
+  pub clients : (client : ℕ) → 0 < client → PlayedSo (off past) wanting client (Plays facts opening (files client) client) (items_of of_boot client) (mine client past)
 
 -- The boots before the one that runs were.
-abbrev pub EarlierPlayed : Bool → Facts → List Row → List (List (List Item)) → List Event → Type 0
-EarlierPlayed wanting facts opening scripts [] = Unit {0}
-EarlierPlayed wanting facts opening scripts (event ∷ past) =
-    MatchBool (is_boot event) (BootPlayed wanting facts opening (scripts_in scripts (boots past)) past) (Unit {0})
-    × EarlierPlayed wanting facts opening scripts past
+abbrev pub EarlierPlayed : Bool → Facts → List Row → (ℕ → Files) → List (List (List Item)) → List Event → Type 0
+EarlierPlayed wanting facts opening files scripts [] = Unit {0}
+EarlierPlayed wanting facts opening files scripts (event ∷ past) =
+    MatchBool (is_boot event) (BootPlayed wanting facts opening files (scripts_in scripts (boots past)) past) (Unit {0})
+    × EarlierPlayed wanting facts opening files scripts past
 
 -- All boots of a log were played.
-abbrev pub Script : Bool → Facts → List Row → List (List (List Item)) → List Event → Type 0
-Script wanting facts opening scripts log =
-    BootPlayed wanting facts opening (scripts_in scripts (boots (past_of log))) (past_of log)
-    × EarlierPlayed wanting facts opening scripts (past_of log)
+abbrev pub Script : Bool → Facts → List Row → (ℕ → Files) → List (List (List Item)) → List Event → Type 0
+Script wanting facts opening files scripts log =
+    BootPlayed wanting facts opening files (scripts_in scripts (boots (past_of log))) (past_of log)
+    × EarlierPlayed wanting facts opening files scripts (past_of log)

@@ -2,9 +2,13 @@
 use Rattle.std.specs.Prelude.{◌≡◌, ◌≤◌, ◌<◌, ◌-◌, ℕ, List, [], ◌∷◌, length, Option}
 use Rattle.update_log.specs.declared.facts.Facts.{Facts}
 
--- What is known of a shelf: its files, where it tells them, and how often it failed.
+-- The files of a shelf, each with its name and its bytes, where it tells them.
+abbrev pub Files : Type 0
+Files = Option (List (List ℕ × List ℕ))
+
+-- What is known of a shelf: its files, and how often it failed.
 pub record ShelfTold : Type 0 where
-  pub files : Option (List (List ℕ × List ℕ))
+  pub files : Files
   pub faults : ℕ
 
 -- How many plugins a worker has, and its shelves.

@@ -3,3 +3,5 @@ pub mod EndLaws
 pub mod StartLaws
 pub mod TopLaws
 pub mod MakeWords
+pub mod MakeShelves
+pub mod Completing

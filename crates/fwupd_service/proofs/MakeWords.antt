@@ -1,5 +1,5 @@
 -- The numbers of `make` are within their limits.
-use Rattle.std.proofs.Common.{◌≡◌, ℕ, ◌≤◌, List, [], ◌∷◌, Bool, true, false, ◌&&◌, Option, Some, None, if◌then◌else◌, refl, subst, arith, nat_le, drop}
+use Rattle.std.proofs.Common.{◌≡◌, ℕ, List, [], ◌∷◌, Bool, true, false, ◌&&◌, Option, Some, None, if◌then◌else◌, refl, subst, arith, nat_le, drop}
 use Rattle.std.specs.Prelude.{codes, option_and_then, option_map}
 use Rattle.std.specs.List.{before_first, after_first, position_or_len}
 use Rattle.std.specs.Result.{result_ok}
@@ -12,10 +12,7 @@ use Rattle.command_words.specs.declared.command.Command.{Command}
 use Rattle.command_words.specs.declared.command.Command.TheVariants as commands
 use Rattle.command_words.specs.Commands.{Clients, by_values, clients_by, clients_from, clients_next, clients_of, command_by, command_of, explain_of, explained, ids_of, is_joined, is_none, is_option, make_by, make_of, number_within, sole_of}
 use Rattle.command_words.specs.Parts.{is_end, values_of}
-
-pub record IsWithin (least most n : ℕ) : Type 0 where
-  pub low : least ≤ n
-  pub high : n ≤ most
+use Rattle.fwupd_service.specs.Commands.{CommandFits, IsWithin}
 
 -- What holds of the value that is there.
 abbrev Holds : {A : Type 0} → (A → Type 0) → Option A → Type 0
@@ -66,56 +63,44 @@ from-few : (front words : List (List ℕ)) → Holds Few (clients_from front wor
 from-few front [] = record { low = omega arith; high = omega arith }
 from-few front (option ∷ more) = holds-if Few (is_joined option) _ _ (by-few front (drop 10 option) more) (next-few front more)
 
--- The command fits.
-pub record MakeFits (boards clients : ℕ) : Type 0 where
-  pub boards_fit : IsWithin 1 256 boards
-  pub clients_fit : IsWithin 1 16 clients
-
-abbrev pub Fits : Command → Type 0
-Fits (commands.Make boards clients) = MakeFits boards clients
-Fits commands.Run = Unit {0}
-Fits commands.Check = Unit {0}
-Fits (commands.Explain port version) = Unit {0}
-Fits (commands.Ids texts) = Unit {0}
-
 sole-any : (values : List (List ℕ)) → Holds (λ (word : List ℕ). Unit {0}) (sole_of values)
 sole-any values = holds-any (sole_of values)
 
-make-fits : (behind : List (List ℕ)) (clients : Clients) → Few clients → Holds Fits (make_by behind clients)
+make-fits : (behind : List (List ℕ)) (clients : Clients) → Few clients → Holds CommandFits (make_by behind clients)
 make-fits behind clients few =
-    holds-then (λ (values : List (List ℕ)). Unit {0}) Fits (make_of clients.count) (values_of clients.others behind) (holds-any _) (λ values u.
-    holds-map (IsWithin 1 256) Fits (λ boards. commands.Make boards clients.count) (option_and_then (number_within 1 256) (sole_of values))
+    holds-then (λ (values : List (List ℕ)). Unit {0}) CommandFits (make_of clients.count) (values_of clients.others behind) (holds-any _) (λ values u.
+    holds-map (IsWithin 1 256) CommandFits (λ boards. commands.Make boards clients.count) (option_and_then (number_within 1 256) (sole_of values))
     (holds-then (λ (word : List ℕ). Unit {0}) (IsWithin 1 256) (number_within 1 256) (sole_of values) (sole-any values) (λ word u. within 1 256 word))
     (λ boards w. record { boards_fit = w; clients_fit = few }))
 
-explain-fits : (values : List (List ℕ)) → Holds Fits (explain_of values)
+explain-fits : (values : List (List ℕ)) → Holds CommandFits (explain_of values)
 explain-fits [] = tt
 explain-fits (port ∷ []) = tt
 explain-fits (port ∷ version ∷ more) =
-    holds-if Fits (is_none more) (explained port version) None
-    (holds-then (λ (p : List ℕ). Unit {0}) Fits (λ p. option_map (λ v. commands.Explain p v) (result_ok (version_read version))) (result_ok (name_read port)) (holds-any (result_ok (name_read port)))
-    (λ p u. holds-map (λ (v : List ℕ). Unit {0}) Fits (λ v. commands.Explain p v) (result_ok (version_read version)) (holds-any (result_ok (version_read version))) (λ v w. tt)))
+    holds-if CommandFits (is_none more) (explained port version) None
+    (holds-then (λ (p : List ℕ). Unit {0}) CommandFits (λ p. option_map (λ v. commands.Explain p v) (result_ok (version_read version))) (result_ok (name_read port)) (holds-any (result_ok (name_read port)))
+    (λ p u. holds-map (λ (v : List ℕ). Unit {0}) CommandFits (λ v. commands.Explain p v) (result_ok (version_read version)) (holds-any (result_ok (version_read version))) (λ v w. tt)))
     tt
 
-values-fit : (name : List ℕ) (values : List (List ℕ)) → Holds Fits (by_values name values)
+values-fit : (name : List ℕ) (values : List (List ℕ)) → Holds CommandFits (by_values name values)
 values-fit name values =
-    holds-if Fits (bytes_eq name (codes "run")) _ _ (holds-if Fits (is_none values) (Some commands.Run) None tt tt)
-    (holds-if Fits (bytes_eq name (codes "check")) _ _ (holds-if Fits (is_none values) (Some commands.Check) None tt tt)
-    (holds-if Fits (bytes_eq name (codes "explain")) _ None (explain-fits values) tt))
+    holds-if CommandFits (bytes_eq name (codes "run")) _ _ (holds-if CommandFits (is_none values) (Some commands.Run) None tt tt)
+    (holds-if CommandFits (bytes_eq name (codes "check")) _ _ (holds-if CommandFits (is_none values) (Some commands.Check) None tt tt)
+    (holds-if CommandFits (bytes_eq name (codes "explain")) _ None (explain-fits values) tt))
 
-ids-fit : (texts : List (List ℕ)) → Holds Fits (ids_of texts)
-ids-fit texts = holds-if Fits _ (Some (commands.Ids texts)) None tt tt
+ids-fit : (texts : List (List ℕ)) → Holds CommandFits (ids_of texts)
+ids-fit texts = holds-if CommandFits _ (Some (commands.Ids texts)) None tt tt
 
-by-fits : (name : List ℕ) (before behind : List (List ℕ)) → Holds Fits (command_by name before behind)
+by-fits : (name : List ℕ) (before behind : List (List ℕ)) → Holds CommandFits (command_by name before behind)
 by-fits name before behind =
-    holds-if Fits (bytes_eq name (codes "make")) _ _ (holds-then Few Fits (make_by behind) (clients_of before) (from-few (before_first is_option before) (drop (position_or_len is_option before) before)) (λ clients few. make-fits behind clients few))
-    (holds-if Fits (bytes_eq name (codes "ids")) _ _
-    (holds-then (λ (v : List (List ℕ)). Unit {0}) Fits ids_of (values_of before behind) (holds-any _) (λ v u. ids-fit v))
-    (holds-then (λ (v : List (List ℕ)). Unit {0}) Fits (by_values name) (values_of before behind) (holds-any _) (λ v u. values-fit name v)))
+    holds-if CommandFits (bytes_eq name (codes "make")) _ _ (holds-then Few CommandFits (make_by behind) (clients_of before) (from-few (before_first is_option before) (drop (position_or_len is_option before) before)) (λ clients few. make-fits behind clients few))
+    (holds-if CommandFits (bytes_eq name (codes "ids")) _ _
+    (holds-then (λ (v : List (List ℕ)). Unit {0}) CommandFits ids_of (values_of before behind) (holds-any _) (λ v u. ids-fit v))
+    (holds-then (λ (v : List (List ℕ)). Unit {0}) CommandFits (by_values name) (values_of before behind) (holds-any _) (λ v u. values-fit name v)))
 
-command-fits : (words : List (List ℕ)) → Holds Fits (command_of words)
+command-fits : (words : List (List ℕ)) → Holds CommandFits (command_of words)
 command-fits [] = tt
 command-fits (name ∷ words) = by-fits name (before_first is_end words) (after_first is_end words)
 
-pub words-fit : (words : List (List ℕ)) (command : Command) → command_of words ≡ Some command → Fits command
-words-fit words command e = subst (λ (o : Option Command). Holds Fits o) e (command-fits words)
+pub words-fit : (words : List (List ℕ)) (command : Command) → command_of words ≡ Some command → CommandFits command
+words-fit words command e = subst (λ (o : Option Command). Holds CommandFits o) e (command-fits words)

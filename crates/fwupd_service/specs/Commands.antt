@@ -1,38 +1,113 @@
 -- What a run of the program comes to, by its words.
-use Rattle.std.specs.Prelude.{◌≡◌, ◌⊎◌, ℕ, List, Option, Some, None}
+use Rattle.std.specs.Prelude.{◌≡◌, ◌⊎◌, ◌≤◌, ℕ, Bool, true, false, List, [], Option, Some, None}
+use Rattle.outer_traits.specs.Sinks.{Took, TookFront}
 use Rattle.fw_facts.specs.declared.machine.MachineFacts.{MachineFacts}
 use Rattle.history_keeper.specs.declared.change.Change.{Change}
 use Rattle.history_keeper.specs.declared.row.Row.{Row}
 use Rattle.plugin_order.specs.declared.sheet.PluginSheet.{PluginSheet}
 use Rattle.update_log.specs.declared.facts.PluginVetoes.{PluginVetoes}
+use Rattle.client_plays.specs.Tools.{ShelfTold}
+use Rattle.command_outputs.specs.Printed.{ids_output}
 use Rattle.command_words.specs.declared.command.Command.{Command}
 use Rattle.command_words.specs.declared.command.Command.TheVariants as commands
+use Rattle.document_commands.specs.declared.ended.Ended.{Ended}
+use Rattle.document_commands.specs.declared.ended.Ended.TheVariants as ends
+use Rattle.document_commands.specs.Ends.{CheckEnds}
+use Rattle.document_commands.specs.Explains.{ExplainEnds}
 use Rattle.run_status.specs.declared.status.Status.{Status}
 use Rattle.run_status.specs.declared.status.Status.TheVariants as statuses
 use Rattle.fwupd_service.specs.Makes.{MakeEnds}
 use Rattle.fwupd_service.specs.Tops.{Left, NothingBegan, RunEnds}
+
+-- Whether the words play over the history: `run` alone does.
+abbrev pub keeps_history : Option Command → Bool
+keeps_history None = false
+keeps_history (Some commands.Run) = true
+keeps_history (Some commands.Check) = false
+keeps_history (Some (commands.Explain port version)) = false
+keeps_history (Some (commands.Ids texts)) = false
+keeps_history (Some (commands.Make boards clients)) = false
+
+-- No campaign began, and the keeper is as it came.
+pub record NothingHappened {K : Type 0} (keeper : K) (left : Left K) : Type 0 where
+  pub log : left.log ≡ []
+  pub opening : left.opening ≡ []
+  pub boards : left.boards ≡ None
+  pub keeper_is : left.keeper ≡ keeper
+
+-- How a status tells the end of a command over a document.
+abbrev pub ended_status : Ended → Status
+ended_status ends.Done = statuses.Done
+ended_status ends.SourceFault = statuses.SourceFault
+ended_status ends.TooLong = statuses.TooLong
+ended_status (ends.Document place reason) = statuses.Document place reason
+ended_status (ends.Plugins fault) = statuses.Plugins fault
+ended_status ends.SinkFault = statuses.SinkFault
+ended_status ends.NoMemory = statuses.NoMemory
+
+-- `check` and `explain`: the status tells how the command ended over what came, and nothing else happened.
+pub record Checked {K : Type 0} (status : Status) (keeper : K) (left : Left K) (old new before after : Option (List ℕ)) : Type 0 where
+  pub ended : Ended
+  pub status_is : status ≡ ended_status ended
+  pub ends : CheckEnds ended old new before after
+  pub nothing : NothingHappened keeper left
+
+pub record Explained {K : Type 0} (sheets : List PluginSheet) (vetoes : MachineFacts → List PluginVetoes) (port version : List ℕ) (status : Status) (keeper : K) (left : Left K) (old new before after : Option (List ℕ)) : Type 0 where
+  pub ended : Ended
+  pub status_is : status ≡ ended_status ended
+  pub ends : ExplainEnds sheets vetoes port version ended old new before after
+  pub nothing : NothingHappened keeper left
+
+-- What was written of a text under a status: all of it, a front of it, or nothing.
+abbrev pub Written : List ℕ → Status → Option (List ℕ) → Option (List ℕ) → Type 0
+Written text statuses.Done before after = Took text before after
+Written text statuses.SinkFault before after = TookFront text before after
+Written text statuses.NoMemory before after = after ≡ before
+Written text _ before after = ⊥
+
+-- `ids`: nothing was read, and a line for each text was written.
+pub record Identified {K : Type 0} (texts : List (List ℕ)) (status : Status) (keeper : K) (left : Left K) (old new before after : Option (List ℕ)) : Type 0 where
+  pub unread : new ≡ old
+  pub written : Written (ids_output texts) status before after
+  pub nothing : NothingHappened keeper left
 
 -- Nothing was read, and nothing else happened.
 pub record NothingDone {K : Type 0} (keeper : K) (left : Left K) (old new before after : Option (List ℕ)) : Type 0 where
   pub unread : new ≡ old
   pub nothing : NothingBegan keeper left before after
 
+-- The numbers of `make` are within their limits; the other commands have none.
+pub record IsWithin (least most n : ℕ) : Type 0 where
+  pub low : least ≤ n
+  pub high : n ≤ most
+
+pub record MakeFits (boards clients : ℕ) : Type 0 where
+  pub boards_fit : IsWithin 1 256 boards
+  pub clients_fit : IsWithin 1 16 clients
+
+abbrev pub CommandFits : Command → Type 0
+CommandFits (commands.Make boards clients) = MakeFits boards clients
+CommandFits commands.Run = Unit {0}
+CommandFits commands.Check = Unit {0}
+CommandFits (commands.Explain port version) = Unit {0}
+CommandFits (commands.Ids texts) = Unit {0}
+
 -- The command ends so.
-abbrev pub CommandEnds : {K : Type 0} → (K → Option (List Row)) → (K → Option Change) → (K → ℕ) → ℕ → List PluginSheet → (MachineFacts → List PluginVetoes) → Command → Status → K → Left K → Option (List ℕ) → Option (List ℕ) → Option (List ℕ) → Option (List ℕ) → Type 0
+abbrev pub CommandEnds : {K : Type 0} → (K → Option (List Row)) → (K → Option Change) → (K → ℕ) → List ShelfTold → List PluginSheet → (MachineFacts → List PluginVetoes) → Command → Status → K → Left K → Option (List ℕ) → Option (List ℕ) → Option (List ℕ) → Option (List ℕ) → Type 0
 CommandEnds told doubted faults shelves sheets vetoes commands.Run status keeper left old new before after =
     RunEnds told doubted faults shelves sheets vetoes status keeper left old new before after
 CommandEnds told doubted faults shelves sheets vetoes (commands.Make boards clients) status keeper left old new before after =
     (new ≡ old) × MakeEnds boards clients sheets vetoes status keeper left before after
 CommandEnds told doubted faults shelves sheets vetoes commands.Check status keeper left old new before after =
-    (status ≡ statuses.NotBuilt) × NothingDone keeper left old new before after
+    Checked status keeper left old new before after
 CommandEnds told doubted faults shelves sheets vetoes (commands.Explain port version) status keeper left old new before after =
-    (status ≡ statuses.NotBuilt) × NothingDone keeper left old new before after
+    Explained sheets vetoes port version status keeper left old new before after
 CommandEnds told doubted faults shelves sheets vetoes (commands.Ids texts) status keeper left old new before after =
-    (status ≡ statuses.NotBuilt) × NothingDone keeper left old new before after
+    Identified texts status keeper left old new before after
 
 -- Words that are no command do nothing; those that are one do what it does, unless there was no memory to
 -- read them.
-abbrev pub WordsEnd : {K : Type 0} → (K → Option (List Row)) → (K → Option Change) → (K → ℕ) → ℕ → List PluginSheet → (MachineFacts → List PluginVetoes) → Option Command → Status → K → Left K → Option (List ℕ) → Option (List ℕ) → Option (List ℕ) → Option (List ℕ) → Type 0
+abbrev pub WordsEnd : {K : Type 0} → (K → Option (List Row)) → (K → Option Change) → (K → ℕ) → List ShelfTold → List PluginSheet → (MachineFacts → List PluginVetoes) → Option Command → Status → K → Left K → Option (List ℕ) → Option (List ℕ) → Option (List ℕ) → Option (List ℕ) → Type 0
 WordsEnd told doubted faults shelves sheets vetoes None status keeper left old new before after =
     (status ≡ statuses.Usage) × NothingDone keeper left old new before after
 WordsEnd told doubted faults shelves sheets vetoes (Some command) status keeper left old new before after =

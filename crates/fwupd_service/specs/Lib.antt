@@ -5,3 +5,4 @@ pub mod Ends
 pub mod Tops
 pub mod Makes
 pub mod Commands
+pub mod Complete

@@ -1,5 +1,5 @@
 -- What `make` comes to.
-use Rattle.std.specs.Prelude.{◌≡◌, ◌⊎◌, ℕ, List, [], Option, Some}
+use Rattle.std.specs.Prelude.{◌≡◌, ◌⊎◌, ℕ, List, [], ◌∷◌, replicate, Option, Some}
 use Rattle.fw_facts.specs.declared.machine.MachineFacts.{MachineFacts}
 use Rattle.history_keeper.specs.Memories.{Memory, doubtful, unused}
 use Rattle.plugin_order.specs.declared.sheet.PluginSheet.{PluginSheet}
@@ -7,8 +7,12 @@ use Rattle.plugin_order.specs.declared.arrangement.OrderFault.{OrderFault}
 use Rattle.plugin_order.specs.declared.arrangement.OrderFault.TheVariants as faults
 use Rattle.plugin_order.specs.Arranged.{HasCause}
 use Rattle.update_log.specs.declared.facts.PluginVetoes.{PluginVetoes}
+use Rattle.sha2.specs.Sha256.{sha256}
+use Rattle.outer_traits.specs.Plans.{MemoryFiles, fresh}
+use Rattle.client_plays.specs.Shelves.{files_for}
+use Rattle.client_plays.specs.Tools.{ShelfTold}
 use Rattle.site_types.specs.declared.campaign.Campaign.{Campaign}
-use Rattle.site_making.specs.Made.{made_site}
+use Rattle.site_making.specs.Made.{made_site, new_payload}
 use Rattle.campaign_inputs.specs.Settled.{IsCampaignOf}
 use Rattle.made_outputs.specs.Summed.{summary}
 use Rattle.run_status.specs.declared.status.Status.{Status}
@@ -21,12 +25,25 @@ order_status (faults.DuplicateName name) = statuses.Plugins (faults.DuplicateNam
 order_status (faults.Cycle names) = statuses.Plugins (faults.Cycle names)
 order_status faults.NoMemory = statuses.NoMemory
 
+-- Each client has a shelf of its own, with the one payload alone, under its digest.
+abbrev pub own_files : List (List ℕ × List ℕ)
+own_files = (sha256 new_payload, new_payload) ∷ []
+
+abbrev pub own_memory : MemoryFiles
+own_memory = record { files = own_files; plan = fresh [] }
+
+abbrev pub own_shelf : ShelfTold
+own_shelf = record { files = Some own_files; faults = 0 }
+
+abbrev pub own_shelves : ℕ → List ShelfTold
+own_shelves clients = replicate clients own_shelf
+
 -- The generated campaign was played over a keeper of its own, without rows, and its output is the summary.
 -- The keeper that came is as it was.
 pub record MadeWent {K : Type 0} (boards clients : ℕ) (status : Status) (campaign : Campaign) (keeper : K) (left : Left K) (before after : Option (List ℕ)) : Type 0 where
   pub own : Memory
   pub keeper_is : left.keeper ≡ keeper
-  pub told : CampaignTold (λ (m : Memory). Some m.rows) doubtful (λ (m : Memory). m.faults) status campaign (unused [] [])
+  pub told : CampaignTold (λ (m : Memory). Some m.rows) doubtful (λ (m : Memory). m.faults) (files_for (own_shelves clients)) status campaign (unused [] [])
       (record { log = left.log; opening = left.opening; boards = left.boards; keeper = own }) (summary boards clients left.log) before after
 
 abbrev pub MadeOrNothing : {K : Type 0} → ℕ → ℕ → Status → Campaign → K → Left K → Option (List ℕ) → Option (List ℕ) → Type 0

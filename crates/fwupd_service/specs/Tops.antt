@@ -1,5 +1,5 @@
 -- What a run of the program comes to, by its command.
-use Rattle.std.specs.Prelude.{◌≡◌, ◌⊎◌, ℕ, List, [], map, Option, Some, None}
+use Rattle.std.specs.Prelude.{◌≡◌, ◌⊎◌, ℕ, List, [], length, map, Option, Some, None}
 use Rattle.emulated_boards.specs.Boards.{BoardState}
 use Rattle.fw_facts.specs.declared.machine.MachineFacts.{MachineFacts}
 use Rattle.history_keeper.specs.declared.change.Change.{Change}
@@ -8,6 +8,8 @@ use Rattle.plugin_order.specs.declared.sheet.PluginSheet.{PluginSheet}
 use Rattle.update_log.specs.declared.event.Event.{Event}
 use Rattle.update_log.specs.declared.facts.PluginVetoes.{PluginVetoes}
 use Rattle.daemon_core.specs.House.{shown_by}
+use Rattle.client_plays.specs.Shelves.{files_for}
+use Rattle.client_plays.specs.Tools.{Files, ShelfTold}
 use Rattle.campaign_runs.specs.Planned.{with_plans}
 use Rattle.site_types.specs.declared.campaign.Campaign.{Campaign}
 use Rattle.campaign_inputs.specs.declared.opening.ClientLimit.TheVariants as limits
@@ -46,34 +48,35 @@ stop_status (stops.Plugins fault) = statuses.Plugins fault
 stop_status stops.NoMemory = statuses.NoMemory
 
 -- A campaign was played: what is true of its log and its boards, how the keeper stands to it, and what the
--- status says of how it ended and of what was written of it.
-pub record CampaignTold {K : Type 0} (told : K → Option (List Row)) (doubted : K → Option Change) (faults : K → ℕ) (status : Status) (campaign : Campaign) (keeper : K) (left : Left K) (text : List ℕ) (before after : Option (List ℕ)) : Type 0 where
+-- status says of how it ended and of what was written of it. `files` has the files of each client's shelf.
+pub record CampaignTold {K : Type 0} (told : K → Option (List Row)) (doubted : K → Option Change) (faults : K → ℕ) (files : ℕ → Files) (status : Status) (campaign : Campaign) (keeper : K) (left : Left K) (text : List ℕ) (before after : Option (List ℕ)) : Type 0 where
   pub boards : List BoardState
   pub boards_are : left.boards ≡ Some boards
   pub true_log : IsTrueLog (with_plans campaign.facts (map shown_by campaign.boards.items) campaign.boots) left.opening left.log boards
   pub keeper_stands : KeeperStands told doubted faults campaign.facts left.opening left.log keeper left.keeper
-  pub ends : CampaignEnds told status (with_plans campaign.facts (map shown_by campaign.boards.items) campaign.boots) left.opening campaign.scripts left.log left.keeper text before after
+  pub ends : CampaignEnds told files status (with_plans campaign.facts (map shown_by campaign.boards.items) campaign.boots) left.opening campaign.scripts left.log left.keeper text before after
 
 -- A campaign could begin: it was played, unless there was no memory for its house.
-abbrev pub Went : {K : Type 0} → (K → Option (List Row)) → (K → Option Change) → (K → ℕ) → Status → Campaign → K → Left K → List ℕ → Option (List ℕ) → Option (List ℕ) → Type 0
-Went told doubted faults status campaign keeper left text before after =
-    CampaignTold told doubted faults status campaign keeper left text before after
+abbrev pub Went : {K : Type 0} → (K → Option (List Row)) → (K → Option Change) → (K → ℕ) → (ℕ → Files) → Status → Campaign → K → Left K → List ℕ → Option (List ℕ) → Option (List ℕ) → Type 0
+Went told doubted faults files status campaign keeper left text before after =
+    CampaignTold told doubted faults files status campaign keeper left text before after
     ⊎ ((status ≡ statuses.NoMemory) × NothingBegan keeper left before after)
 
 -- `run`: there is no campaign, for a cause that the input, the shelves or the plugins show, and that the
--- status names; or the campaign is that of the site which the input states, and its output is the report.
+-- status names; or the campaign is that of the site which the input states, each client fetches from its own
+-- shelf, and the output is the report.
 pub record RunStopped {K : Type 0} (shelves : ℕ) (sheets : List PluginSheet) (status : Status) (keeper : K) (left : Left K) (old new before after : Option (List ℕ)) : Type 0 where
   pub stop : OpenStop
   pub status_is : status ≡ stop_status stop
   pub stopped : HasStopped (limits.Shelves shelves) sheets stop old new
   pub nothing : NothingBegan keeper left before after
 
-pub record RunWent {K : Type 0} (told : K → Option (List Row)) (doubted : K → Option Change) (faults : K → ℕ) (shelves : ℕ) (sheets : List PluginSheet) (vetoes : MachineFacts → List PluginVetoes) (status : Status) (keeper : K) (left : Left K) (old new before after : Option (List ℕ)) : Type 0 where
+pub record RunWent {K : Type 0} (told : K → Option (List Row)) (doubted : K → Option Change) (faults : K → ℕ) (shelves : List ShelfTold) (sheets : List PluginSheet) (vetoes : MachineFacts → List PluginVetoes) (status : Status) (keeper : K) (left : Left K) (old new before after : Option (List ℕ)) : Type 0 where
   pub campaign : Campaign
-  pub opened : IsOpened (limits.Shelves shelves) sheets vetoes old new campaign
-  pub went : Went told doubted faults status campaign keeper left (report campaign.facts left.opening left.log) before after
+  pub opened : IsOpened (limits.Shelves (length shelves)) sheets vetoes old new campaign
+  pub went : Went told doubted faults (files_for shelves) status campaign keeper left (report campaign.facts left.opening left.log) before after
 
-abbrev pub RunEnds : {K : Type 0} → (K → Option (List Row)) → (K → Option Change) → (K → ℕ) → ℕ → List PluginSheet → (MachineFacts → List PluginVetoes) → Status → K → Left K → Option (List ℕ) → Option (List ℕ) → Option (List ℕ) → Option (List ℕ) → Type 0
+abbrev pub RunEnds : {K : Type 0} → (K → Option (List Row)) → (K → Option Change) → (K → ℕ) → List ShelfTold → List PluginSheet → (MachineFacts → List PluginVetoes) → Status → K → Left K → Option (List ℕ) → Option (List ℕ) → Option (List ℕ) → Option (List ℕ) → Type 0
 RunEnds told doubted faults shelves sheets vetoes status keeper left old new before after =
-    RunStopped shelves sheets status keeper left old new before after
+    RunStopped (length shelves) sheets status keeper left old new before after
     ⊎ RunWent told doubted faults shelves sheets vetoes status keeper left old new before after

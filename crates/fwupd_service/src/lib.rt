@@ -1,11 +1,15 @@
 //! The top call: all that the program does.
 //!
 //! Its contract says of every run when each status comes, what is true of the log that is returned, and what
-//! was written (`specs/`: Telling, Begins, Campaigns, Ends, Tops, Makes, Commands). The program's `main` makes
-//! the real input, output, shelves, keeper and plugins, and calls it.
+//! was written (`specs/`: Telling, Begins, Campaigns, Ends, Tops, Makes, Commands). Two laws say that nothing
+//! but named causes keeps `run` and `make` from doing their whole work (`specs/Complete.antt`). The program's
+//! `main` makes the real input, output, shelves, keeper and plugins, and calls it.
 #![tactic(auto)]
 
+mod keeping;
+pub mod laws;
 mod make;
+mod others;
 mod playing;
 pub mod ran;
 pub mod reporting;
@@ -13,6 +17,7 @@ mod run;
 mod telling;
 pub mod top;
 
+pub use keeping::keeps_history;
 pub use ran::Ran;
 pub use run_status::Status;
 pub use top::run_campaign;

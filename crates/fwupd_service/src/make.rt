@@ -1,11 +1,11 @@
 //! The command `make`: a campaign that is generated.
-ghost use Rattle.std.specs.Prelude.{◌≡◌, ◌≤◌, length, map, IfOk};
+ghost use Rattle.std.specs.Prelude.{◌≡◌, ◌≤◌, replicate, length, map, IfOk};
 ghost use Rattle.outer_traits.specs.Faults.{Rose};
 ghost use Rattle.site_making.specs.Settled.{vetoes_of};
 ghost use Rattle.fwupd_service.specs.Begins.{CanBePlayed, IsReadyFor};
 ghost use Rattle.made_outputs.specs.Summed.{summary};
 ghost use Rattle.fwupd_service.specs.Ends.{IsLeft, IsReported};
-ghost use Rattle.fwupd_service.specs.Makes.{MadeOrNothing, MakeEnds, order_status};
+ghost use Rattle.fwupd_service.specs.Makes.{MadeOrNothing, MakeEnds, order_status, own_memory};
 
 use crate::playing::{Played, play};
 use crate::ran::Ran;
@@ -13,25 +13,29 @@ use crate::reporting::{status_of, write_summed};
 use campaign_inputs::{Ready, make_campaign};
 use fw_base::NoMemory;
 use history_keeper::MemoryKeeper;
-use outer_traits::{MemoryShelf, Sink};
+use outer_traits::{Gate, MemoryShelf, Sink};
 use plugin_order::OrderFault;
 use plugin_trait::Plugin;
 use run_status::Status;
 use sha2::{Digest as _, Sha256};
 use std::alloc::Global;
+use std::sync::Wait;
+use std::thread::Threads;
 
 /// The payload of the release that is installed.
 const PAYLOAD: &[u8] = b"EMU1 01010000\n";
 
 /// Plays the generated campaign of so many boards and clients over a keeper and shelves of its own, and
 /// writes what its log counts. The keeper and the shelves that came stay as they are.
-pub(crate) fn make<P, K, T: Sink>(
+pub(crate) fn make<R: Threads + Wait + Sync, P, K, T: Sink, G: Gate + Sync>(
+    rt: &R,
     alloc: Global,
     boards: u32,
     clients: u32,
     shelves: Vec<P>,
     keeper: K,
     plugins: Vec<Box<dyn Plugin>>,
+    gate: &G,
     out: &mut T,
 ) -> Ran<P, K>
     requires some_boards { 1 ≤ boards }
@@ -48,7 +52,9 @@ pub(crate) fn make<P, K, T: Sink>(
     ensures shelves { result.shelves.items ≡ shelves.items }
 {
     match make_campaign(alloc, boards, clients, plugins) {
-        Ok(ready) => make_ready(alloc, boards, clients, ready, shelves, keeper, out),
+        Ok(ready) => make_ready(
+            rt, alloc, boards, clients, ready, shelves, keeper, gate, out,
+        ),
         Err(fault) => Ran::nothing(alloc, order_status(fault), shelves, keeper),
     }
 }
@@ -66,7 +72,7 @@ fn order_status(fault: OrderFault) -> Status
 
 /// A shelf for each client, with the one payload.
 fn own_shelves(alloc: Global, clients: u32) -> Result<Vec<MemoryShelf>, NoMemory>
-    ensures { IfOk result (λ shelves. length shelves.items ≡ clients) }
+    ensures { IfOk result (λ shelves. shelves.items ≡ replicate clients own_memory) }
 {
     let mut shelves = Vec::new(alloc);
     for _ in 0..clients {
@@ -75,20 +81,24 @@ fn own_shelves(alloc: Global, clients: u32) -> Result<Vec<MemoryShelf>, NoMemory
     Ok(shelves)
 }
 
-fn own_shelf(alloc: Global) -> Result<MemoryShelf, NoMemory> {
+fn own_shelf(alloc: Global) -> Result<MemoryShelf, NoMemory>
+    ensures { IfOk result (λ shelf. shelf ≡ own_memory) }
+{
     let mut files = Vec::new(alloc);
     files.push((Sha256::digest(PAYLOAD), Vec::from_slice(alloc, PAYLOAD)?))?;
     Ok(MemoryShelf::new(files, Vec::new(alloc)))
 }
 
 /// Plays a generated campaign over shelves and a keeper of its own.
-fn make_ready<P, K, T: Sink>(
+fn make_ready<R: Threads + Wait + Sync, P, K, T: Sink, G: Gate + Sync>(
+    rt: &R,
     alloc: Global,
     boards: u32,
     clients: u32,
     ready: Ready,
     shelves: Vec<P>,
     keeper: K,
+    gate: &G,
     out: &mut T,
 ) -> Ran<P, K>
     requires ready { CanBePlayed ready.campaign }
@@ -105,7 +115,7 @@ fn make_ready<P, K, T: Sink>(
         Err(NoMemory) => return Ran::nothing(alloc, Status::NoMemory, shelves, keeper),
     };
     let own_keeper = MemoryKeeper::new(Vec::new(alloc), Vec::new(alloc));
-    let (outcome, _own) = play(alloc, ready, own, own_keeper);
+    let (outcome, _own) = play(rt, alloc, ready, own, own_keeper, gate);
     match outcome {
         Ok(played) => summed(alloc, boards, clients, played, shelves, keeper, out),
         Err(_own_keeper) => Ran::nothing(alloc, Status::NoMemory, shelves, keeper),

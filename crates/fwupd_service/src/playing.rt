@@ -1,10 +1,11 @@
-//! A campaign is played on a plain house.
+//! A campaign is played on a new house, by clients on threads.
 ghost use Rattle.std.specs.Prelude.{◌≡◌, ◌≤◌, ◌<◌, ◌-◌, ◌^◌, ℕ, [], None, Some, All, length, map, slice_get, IfOk, IfErr};
 ghost use Rattle.emulated_boards.specs.Boards.{BoardState};
 ghost use Rattle.daemon_core.specs.House.{IsNewBoard, shown_by};
 ghost use Rattle.client_plays.specs.Endings.{IsScriptItem};
+ghost use Rattle.client_plays.specs.Shelves.{files_for};
 ghost use Rattle.client_plays.specs.Tools.{Serves, ShelvesStay};
-ghost use Rattle.plain_workers.specs.Has.{shelves_told, tools_of};
+ghost use Rattle.client_plays.specs.Has.{shelves_told, tools_of};
 ghost use Rattle.campaign_runs.specs.Planned.{with_plans};
 ghost use Rattle.fwupd_service.specs.Begins.{CanBePlayed, IsBegun, IsReadyFor};
 ghost use Rattle.fwupd_service.specs.Campaigns.{WasPlayed};
@@ -13,15 +14,17 @@ use block_pool::Pool;
 use campaign_inputs::Ready;
 use campaign_runs::Ran;
 use client_scripts::Item;
+use client_threads::run_on_threads;
 use daemon_core::{HomeBoards, House, HouseParts, RefusedHouse};
 use emulated_boards::Board;
 use fw_base::Listed;
 use history_keeper::{Keeper, Row};
-use outer_traits::Shelf;
-use plain_workers::run_plain;
+use outer_traits::{Gate, Shelf};
 use plugin_trait::Plugin;
 use site_types::Campaign;
 use std::alloc::Global;
+use std::sync::Wait;
+use std::thread::Threads;
 use update_log::laws::{history_stays, legal_once, taken_once};
 use update_log::{BootPlan, Facts, Log};
 
@@ -35,12 +38,15 @@ pub(crate) struct Played<K> {
     pub opening: Listed<Row>,
 }
 
-/// Plays a campaign on a new house: its boots one after the other, each with all scripts.
-fn play_house<P: Shelf, K: Keeper>(
+/// Plays a campaign on a new house: its boots one after the other, each with all scripts, of which each is
+/// played on a thread of its own.
+fn play_house<R: Threads + Wait + Sync, P: Shelf + Send, K: Keeper + Send, G: Gate + Sync>(
+    rt: &R,
     alloc: Global,
-    mut house: House<K>,
+    house: House<K>,
     shelves: Vec<P>,
     plugins: Vec<Box<dyn Plugin>>,
+    gate: &G,
     plans: &[BootPlan],
     scripts: &[Listed<Listed<Item>>],
 ) -> (Played<K>, Vec<P>)
@@ -49,9 +55,9 @@ fn play_house<P: Shelf, K: Keeper>(
     requires few { length plans.now < 2 ^ 32 - 1 }
     requires timely { All (λ plan. plan.time ≤ 2 ^ 63 - 1) plans.now }
     requires proper { All (All (All IsScriptItem)) scripts.now }
-    requires clients { All (λ of_boot. length of_boot < 2 ^ 32 - 1) scripts.now }
+    requires clients { All (λ of_boot. length of_boot ≤ 16) scripts.now }
     requires shelves { All (λ of_boot. length of_boot ≤ length (shelves_told P.files P.faults shelves.items)) scripts.now }
-    ensures played { WasPlayed K.rows K.doubt K.faults result.0.ran (with_plans house.annals.facts house.annals.first plans.now)
+    ensures played { WasPlayed K.rows K.doubt K.faults (files_for (shelves_told P.files P.faults shelves.items)) result.0.ran (with_plans house.annals.facts house.annals.first plans.now)
         scripts.now result.0.opening result.0.log result.0.boards house.keeper result.0.keeper }
     ensures facts { result.0.facts ≡ house.annals.facts }
     ensures few { length result.0.facts.sheets ≤ 256 }
@@ -60,7 +66,9 @@ fn play_house<P: Shelf, K: Keeper>(
     legal_once();
     taken_once();
     history_stays();
-    let (ran, shelves) = run_plain(alloc, &mut house, shelves, plugins, plans, scripts);
+    let (house, ran, shelves) = run_on_threads(
+        rt, alloc, house, shelves, plugins, gate, plans, scripts,
+    );
     house.known();
     let HouseParts {
         facts,
@@ -104,18 +112,20 @@ fn new_house<K: Keeper>(
     }
 }
 
-/// Plays a campaign with these shelves and this keeper: on a plain house, where the clients of a boot play
-/// their scripts one after the other. Where memory is wanting for the house, no campaign begins.
-pub(crate) fn play<P: Shelf, K: Keeper>(
+/// Plays a campaign with these shelves and this keeper, by clients on threads. Where memory is wanting for the
+/// house, no campaign begins.
+pub(crate) fn play<R: Threads + Wait + Sync, P: Shelf + Send, K: Keeper + Send, G: Gate + Sync>(
+    rt: &R,
     alloc: Global,
     ready: Ready,
     shelves: Vec<P>,
     keeper: K,
+    gate: &G,
 ) -> (Result<Played<K>, K>, Vec<P>)
     requires ready { CanBePlayed ready.campaign }
     requires shelves { IsReadyFor (length shelves.items) (length ready.plugins.items) ready.campaign }
     requires no_doubt { K.doubt keeper ≡ None }
-    ensures played { IfOk result.0 (λ played. WasPlayed K.rows K.doubt K.faults played.ran
+    ensures played { IfOk result.0 (λ played. WasPlayed K.rows K.doubt K.faults (files_for (shelves_told P.files P.faults shelves.items)) played.ran
         (with_plans ready.campaign.facts (map shown_by ready.campaign.boards.items) ready.campaign.boots)
         ready.campaign.scripts played.opening played.log played.boards keeper played.keeper) }
     ensures facts { IfOk result.0 (λ played. played.facts ≡ ready.campaign.facts) }
@@ -136,10 +146,12 @@ pub(crate) fn play<P: Shelf, K: Keeper>(
         Err(keeper) => return (Err(keeper), shelves),
     };
     let (played, shelves) = play_house(
+        rt,
         alloc,
         house,
         shelves,
         plugins,
+        gate,
         boots.items(),
         scripts.items(),
     );

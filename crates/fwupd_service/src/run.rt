@@ -2,8 +2,9 @@
 ghost use Rattle.std.specs.Prelude.{◌≡◌, ◌≤◌, length, map, None, Some};
 ghost use Rattle.outer_traits.specs.Faults.{Rose};
 ghost use Rattle.site_making.specs.Settled.{vetoes_of};
+ghost use Rattle.client_plays.specs.Shelves.{files_for};
 ghost use Rattle.client_plays.specs.Tools.{ShelvesStay};
-ghost use Rattle.plain_workers.specs.Has.{shelves_told};
+ghost use Rattle.client_plays.specs.Has.{shelves_told};
 ghost use Rattle.report_text.specs.Report.{report};
 ghost use Rattle.fwupd_service.specs.Begins.{CanBePlayed, IsReadyFor};
 ghost use Rattle.fwupd_service.specs.Tops.{RunEnds, Went, stop_status};
@@ -13,23 +14,34 @@ use crate::ran::Ran;
 use crate::reporting::reported;
 use campaign_inputs::{ClientLimit, OpenStop, Ready, open_campaign};
 use history_keeper::Keeper;
-use outer_traits::{Shelf, Sink, Source};
+use outer_traits::{Gate, Shelf, Sink, Source};
 use plugin_trait::Plugin;
 use run_status::Status;
 use std::alloc::Global;
+use std::sync::Wait;
+use std::thread::Threads;
 
 /// Reads the document, plays its campaign, and reports it.
-pub(crate) fn run<S: Source, P: Shelf, K: Keeper, T: Sink>(
+pub(crate) fn run<
+    R: Threads + Wait + Sync,
+    S: Source,
+    P: Shelf + Send,
+    K: Keeper + Send,
+    T: Sink,
+    G: Gate + Sync,
+>(
+    rt: &R,
     alloc: Global,
     source: &mut S,
     shelves: Vec<P>,
     keeper: K,
     plugins: Vec<Box<dyn Plugin>>,
+    gate: &G,
     out: &mut T,
 ) -> Ran<P, K>
     requires few_plugins { length plugins.items ≤ 64 }
     requires no_doubt { K.doubt keeper ≡ None }
-    ensures ends { RunEnds K.rows K.doubt K.faults (length shelves.items) (map (λ p. own_sheet p) plugins.items)
+    ensures ends { RunEnds K.rows K.doubt K.faults (shelves_told P.files P.faults shelves.items) (map (λ p. own_sheet p) plugins.items)
         (λ machine. map (λ p. vetoes_of (own_sheet p) (vetoes_on p machine)) plugins.items) result.status keeper
         (record { log = result.log; opening = result.opening; boards = result.boards; keeper = result.keeper })
         (S.left source.old) (S.left source.new) (T.taken out.old) (T.taken out.new) }
@@ -41,7 +53,7 @@ pub(crate) fn run<S: Source, P: Shelf, K: Keeper, T: Sink>(
 {
     let limit = ClientLimit::Shelves(shelves.len());
     match open_campaign(alloc, source, limit, plugins) {
-        Ok(ready) => run_ready(alloc, ready, shelves, keeper, out),
+        Ok(ready) => run_ready(rt, alloc, ready, shelves, keeper, gate, out),
         Err(stop) => Ran::nothing(alloc, stop_status(stop), shelves, keeper),
     }
 }
@@ -61,24 +73,26 @@ pub(crate) fn stop_status(stop: OpenStop) -> Status
 }
 
 /// Plays a campaign, and reports it.
-fn run_ready<P: Shelf, K: Keeper, T: Sink>(
+fn run_ready<R: Threads + Wait + Sync, P: Shelf + Send, K: Keeper + Send, T: Sink, G: Gate + Sync>(
+    rt: &R,
     alloc: Global,
     ready: Ready,
     shelves: Vec<P>,
     keeper: K,
+    gate: &G,
     out: &mut T,
 ) -> Ran<P, K>
     requires ready { CanBePlayed ready.campaign }
     requires shelves { IsReadyFor (length shelves.items) (length ready.plugins.items) ready.campaign }
     requires no_doubt { K.doubt keeper ≡ None }
-    ensures went { Went K.rows K.doubt K.faults result.status ready.campaign keeper
+    ensures went { Went K.rows K.doubt K.faults (files_for (shelves_told P.files P.faults shelves.items)) result.status ready.campaign keeper
         (record { log = result.log; opening = result.opening; boards = result.boards; keeper = result.keeper })
         (report ready.campaign.facts result.opening result.log) (T.taken out.old) (T.taken out.new) }
     ensures sink_fault { result.status ≡ Status.SinkFault → Rose (T.faults out.old) (T.faults out.new) }
     ensures sink_counts { T.faults out.old ≤ T.faults out.new }
     ensures shelves { ShelvesStay (shelves_told P.files P.faults shelves.items) (shelves_told P.files P.faults result.shelves.items) }
 {
-    let (outcome, shelves) = play(alloc, ready, shelves, keeper);
+    let (outcome, shelves) = play(rt, alloc, ready, shelves, keeper, gate);
     match outcome {
         Ok(played) => reported(alloc, played, shelves, out),
         Err(keeper) => Ran::nothing(alloc, Status::NoMemory, shelves, keeper),

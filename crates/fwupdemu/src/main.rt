@@ -2,14 +2,18 @@
 //! its status.
 #![tactic(auto)]
 
+ghost use Rattle.std.specs.Prelude.{◌≡◌, None};
+
 use board_plugins::{Capsule, Flash, Loader, Power};
 use fw_base::NoMemory;
 use fwupd_service::{Ran, Status, run_campaign};
-use history_keeper::MemoryKeeper;
-use outer_traits::{FolderShelf, ReadSource, WriteSink};
+use history_keeper::{Keeper, MemoryKeeper};
+use outer_traits::{FolderShelf, NoGate, ReadSource, WriteSink};
 use plugin_trait::Plugin;
 use std::process::ExitCode;
-use std::rt::Runtime;
+use std::rt::{HostRuntime, Runtime};
+use std::sync::Wait;
+use std::thread::Threads;
 use std::{env, io};
 
 /// The folder of the payloads, in the folder where the program is called.
@@ -18,9 +22,12 @@ const SHELF: &str = "payloads";
 /// How many shelves there are, one for each client.
 const SHELVES: u32 = 16;
 
-/// Runs the command of the command line. `NoMemory` comes only where the words, the shelves or the plugins
-/// couldn't be made.
-fn run<R: Runtime + AllocGlobal>(rt: &R) -> Result<Status, NoMemory> {
+/// Runs the command of the command line. `host` is the same runtime, of which the shelves are made. `NoMemory`
+/// comes only where the words, the shelves or the plugins couldn't be made.
+fn run<R: Runtime + AllocGlobal + Threads + Wait + Sync>(
+    rt: &R,
+    host: &HostRuntime,
+) -> Result<Status, NoMemory> {
     let Ok(args) = env::args(rt) else {
         return Ok(Status::Usage);
     };
@@ -33,22 +40,47 @@ fn run<R: Runtime + AllocGlobal>(rt: &R) -> Result<Status, NoMemory> {
     for word in &words {
         texts.push(word.as_bytes())?;
     }
+    run_over_nothing(rt, host, &texts)
+}
+
+/// Runs over a history in memory, which ends with the program.
+fn run_over_nothing<R: Runtime + AllocGlobal + Threads + Wait + Sync>(
+    rt: &R,
+    host: &HostRuntime,
+    words: &[&[u8]],
+) -> Result<Status, NoMemory> {
+    let alloc = rt.alloc();
+    let unused = MemoryKeeper::new(Vec::new(alloc), Vec::new(alloc));
+    run_over(rt, host, words, unused)
+}
+
+/// Hands the words and a keeper to the top call, with the real input, output, shelves and plugins.
+fn run_over<R: Runtime + AllocGlobal + Threads + Wait + Sync, K: Keeper + Send + Drop>(
+    rt: &R,
+    host: &HostRuntime,
+    words: &[&[u8]],
+    keeper: K,
+) -> Result<Status, NoMemory>
+    requires no_doubt { K.doubt keeper ≡ None }
+{
+    let alloc = rt.alloc();
     let mut plugins: Vec<Box<dyn Plugin>> = Vec::new(alloc);
     plugins.push(Box::new(alloc, Flash::new(alloc)?)?)?;
     plugins.push(Box::new(alloc, Loader::new(alloc)?)?)?;
     plugins.push(Box::new(alloc, Capsule::new(alloc)?)?)?;
     plugins.push(Box::new(alloc, Power::new(alloc)?)?)?;
-    let shelves = shelves(rt)?;
-    let keeper = MemoryKeeper::new(Vec::new(alloc), Vec::new(alloc));
+    let shelves = shelves(host)?;
     let mut source = ReadSource::new(rt.reader());
     let mut sink = WriteSink::new(io::writer(rt));
     let ran = run_campaign(
+        rt,
         alloc,
-        &texts,
+        words,
         &mut source,
         shelves,
         keeper,
         plugins,
+        &NoGate,
         &mut sink,
     );
     let Ran {
@@ -63,17 +95,17 @@ fn run<R: Runtime + AllocGlobal>(rt: &R) -> Result<Status, NoMemory> {
 }
 
 /// The shelves, all over one folder.
-fn shelves<R: Runtime + AllocGlobal>(rt: &R) -> Result<Vec<FolderShelf<R>>, NoMemory> {
-    let mut shelves = Vec::new(rt.alloc());
+fn shelves(host: &HostRuntime) -> Result<Vec<FolderShelf<HostRuntime>>, NoMemory> {
+    let mut shelves = Vec::new(host.alloc());
     for _ in 0..SHELVES {
-        let folder = String::from_str(rt.alloc(), SHELF)?;
-        shelves.push(FolderShelf::new(rt.clone()?, folder))?;
+        let folder = String::from_str(host.alloc(), SHELF)?;
+        shelves.push(FolderShelf::new(host.clone()?, folder))?;
     }
     Ok(shelves)
 }
 
 fn main(rt: HostRuntime) -> ExitCode {
-    let status = run(&rt).unwrap_or(Status::NoMemory);
+    let status = run(&rt, &rt).unwrap_or(Status::NoMemory);
     if !matches!(status, Status::Done) {
         // Where standard error fails too, the exit status still tells.
         let _ = eprintln!(rt; "fwupdemu: {status}");

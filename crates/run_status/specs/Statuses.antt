@@ -15,4 +15,3 @@ exit_code statuses.NoMemory = 6
 exit_code statuses.KeeperFault = 7
 exit_code (statuses.Plugins fault) = 8
 exit_code (statuses.BadHistory entry) = 9
-exit_code statuses.NotBuilt = 10

@@ -33,8 +33,6 @@ pub enum Status {
     SinkFault,
     /// There was no memory.
     NoMemory,
-    /// The input asks for something that this version can't do yet.
-    NotBuilt,
 }
 
 impl Status {
@@ -52,7 +50,6 @@ impl Status {
             Status::KeeperFault => 7,
             Status::Plugins(_) => 8,
             Status::BadHistory { .. } => 9,
-            Status::NotBuilt => 10,
         }
     }
 }
@@ -73,7 +70,6 @@ impl fmt::Display for Status {
             Status::KeeperFault => write!(f, "history failed"),
             Status::SinkFault => write!(f, "writing failed"),
             Status::NoMemory => write!(f, "no memory"),
-            Status::NotBuilt => write!(f, "not built yet"),
         }
     }
 }

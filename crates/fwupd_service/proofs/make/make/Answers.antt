@@ -7,13 +7,13 @@ use Rattle.fwupd_service.proofs.make.make.Goals as goal
 
 pub make_ready-requires-clause-ready : goal.make_ready-requires-clause-ready
 make_ready-requires-clause-ready g c =
-    let e = c.in-Ok.ensures in can-be-played (made_site c.args.boards c.args.clients) _ _ c.in-Ok.ready.campaign e.can_run e.settled e.begins
+    let e = c.in-Ok.ensures in λ κs lives. can-be-played (made_site c.args.boards c.args.clients) _ _ c.in-Ok.ready.campaign e.can_run e.settled e.begins
 
 pub make_ready-requires-clause-shelves : goal.make_ready-requires-clause-shelves
 make_ready-requires-clause-shelves g c =
     let e = c.in-Ok.ensures in
     let same : length (made_site c.args.boards c.args.clients).features ≡ c.args.clients = length-map-range_with_len _ 1 c.args.clients in
-    is-ready-for (made_site c.args.boards c.args.clients) _ _ c.in-Ok.ready.campaign c.args.clients (length c.in-Ok.ready.plugins.items) e.can_run e.settled
+    λ κs lives. is-ready-for (made_site c.args.boards c.args.clients) _ _ c.in-Ok.ready.campaign c.args.clients (length c.in-Ok.ready.plugins.items) e.can_run e.settled
     (omega arith) (omega (arith, same)) (ap length e.plugins ∙ length-map _ _)
 
 pub returns-in-Ok-clause-ends : goal.returns-in-Ok-clause-ends

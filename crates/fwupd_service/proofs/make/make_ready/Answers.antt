@@ -1,17 +1,35 @@
-use Rattle.std.proofs.Common.{◌≡◌, [], Some, inl}
+use Rattle.std.proofs.Common.{◌≡◌, ◌∙◌, [], List, Some, ap, inl, map, subst}
+use Rattle.daemon_core.specs.House.{shown_by}
+use Rattle.client_plays.specs.Has.{shelves_told}
+use Rattle.client_plays.specs.Shelves.{files_for}
+use Rattle.client_plays.specs.Tools.{ShelfTold}
+use Rattle.campaign_runs.specs.Planned.{with_plans}
 use Rattle.history_keeper.specs.Memories.{Memory, doubtful, unused}
+use Rattle.outer_traits.specs.Plans.{MemoryFiles}
+use Rattle.fwupd_service.specs.Campaigns.{WasPlayed}
+use Rattle.fwupd_service.specs.Makes.{own_shelves}
+use Rattle.fwupd_service.proofs.MakeShelves.{told-own}
 use Rattle.fwupd_service.proofs.TopLaws.{campaign-told, if-ok}
 use Rattle.fwupd_service.proofs.make.make_ready.Goals as goal
 
 pub returns-in-Ok-outcome-clause-went : goal.returns-in-Ok-outcome-clause-went
 returns-in-Ok-outcome-clause-went g c =
     let out = c.in-Ok-outcome.played in
-    let played = if-ok _ _ _ c.play-outcome.ensures.played c.in-Ok-outcome.is in
+    let campaign = c.args.ready.campaign in
     let keeper : c.new-own_keeper.result ≡ unused [] [] = rw (c.new.ensures.items, c.new-2.ensures.items) at c.new-own_keeper.ensures in
+    let files = λ (m : MemoryFiles). Some m.files in
+    let faults = λ (m : MemoryFiles). m.plan.faults in
+    let told : shelves_told files faults c.in-Ok.own.items ≡ own_shelves c.args.clients =
+    ap (shelves_told files faults) (if-ok _ _ _ c.own_shelves.ensures c.in-Ok.is) ∙ told-own c.args.clients in
+    let W = λ (shelves : List ShelfTold) (k : Memory).
+    WasPlayed (λ (m : Memory). Some m.rows) doubtful (λ (m : Memory). m.faults) (files_for shelves) out.ran (with_plans campaign.facts (map shown_by campaign.boards.items) campaign.boots) campaign.scripts out.opening out.log out.boards k out.keeper in
+    let played : W (own_shelves c.args.clients) (unused [] []) =
+    subst (λ (shelves : List ShelfTold). W shelves (unused [] [])) told
+    (subst (λ (k : Memory). W (shelves_told files faults c.in-Ok.own.items) k) keeper (if-ok _ _ _ c.play-outcome.ensures.played c.in-Ok-outcome.is)) in
     let left = c.summed.ensures.left in
     rw (left.log_is, left.opening_is, left.boards_are) (inl (record {
       own = out.keeper;
       keeper_is = left.keeper_is;
-      told = campaign-told (λ (m : Memory). Some m.rows) doubtful (λ (m : Memory). m.faults) out.ran c.args.ready.campaign out.opening out.log out.boards (unused [] []) out.keeper _ _ _ c.summed.result.status
-          (rw keeper at played) c.summed.ensures.reported;
+      told = campaign-told (λ (m : Memory). Some m.rows) doubtful (λ (m : Memory). m.faults) (files_for (own_shelves c.args.clients)) out.ran campaign out.opening out.log out.boards (unused [] []) out.keeper _ _ _ c.summed.result.status
+          played c.summed.ensures.reported;
     }))

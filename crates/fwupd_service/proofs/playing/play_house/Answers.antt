@@ -4,5 +4,6 @@ use Rattle.fwupd_service.proofs.playing.play_house.Goals as goal
 pub returns-clause-played : goal.returns-clause-played
 returns-clause-played g c =
     let e = c.into_parts-facts.ensures in
-    rw (e.opening, e.log, e.keeper) (was-played g.K.Keeper.rows g.K.Keeper.doubt g.K.Keeper.faults c.run_plain-shelves.result.0 c.args.plans.now c.args.scripts.now c.args.house c.run_plain-shelves.new.house
-    c.run_plain-shelves.ensures.ran c.known.ensures.annals c.known.ensures.house c.legal_once.ensures c.taken_once.ensures c.history_stays.ensures c.requires.new c.into_parts-facts.result.boards e.boards)
+    let ran = c.run_on_threads-house in
+    rw (e.opening, e.log, e.keeper) (was-played g.K.Keeper.rows g.K.Keeper.doubt g.K.Keeper.faults _ ran.result.1 c.args.plans.now c.args.scripts.now c.args.house ran.result.0
+    ran.ensures.ran c.known.ensures.annals c.known.ensures.house c.legal_once.ensures c.taken_once.ensures c.history_stays.ensures c.requires.new c.into_parts-facts.result.boards e.boards)

@@ -16,7 +16,7 @@ returns-in-Ok-clause-went g c =
     let played = if-ok _ _ _ c.play-outcome.ensures.played c.in-Ok.is in
     let facts : c.in-Ok.played.facts ≡ campaign.facts = if-ok _ _ _ c.play-outcome.ensures.facts c.in-Ok.is in
     let left = c.reported.ensures.left in
-    rw (left.log_is, left.opening_is, left.boards_are, left.keeper_is) (inl (campaign-told g.K.Keeper.rows g.K.Keeper.doubt g.K.Keeper.faults c.in-Ok.played.ran campaign c.in-Ok.played.opening c.in-Ok.played.log c.in-Ok.played.boards
+    rw (left.log_is, left.opening_is, left.boards_are, left.keeper_is) (inl (campaign-told g.K.Keeper.rows g.K.Keeper.doubt g.K.Keeper.faults _ c.in-Ok.played.ran campaign c.in-Ok.played.opening c.in-Ok.played.log c.in-Ok.played.boards
     c.args.keeper c.in-Ok.played.keeper _ _ _ c.reported.result.status played (rw facts at c.reported.ensures.reported)))
 
 pub returns-in-Err-clause-shelves : goal.returns-in-Err-clause-shelves

@@ -1,0 +1,100 @@
+-- What a client holds whose last event is an ask that was answered with a hold.
+use Rattle.std.proofs.Common.{◌≡◌, ℕ, Bool, true, false, not, List, [], ◌∷◌, ◌++◌, refl, ap, sym, ◌∙◌, subst}
+use Rattle.std.specs.Prelude.{Option, Some, None, ◌==◌, find}
+use Rattle.release_catalogue.specs.declared.reference.ReleaseRef.{ReleaseRef}
+use Rattle.history_keeper.specs.declared.row.Row.{Row}
+use Rattle.update_log.proofs.Accepts.{some-same}
+use Rattle.update_log.proofs.Lists.{by_test, eqb-other, eqb-self, find-filter, find-filter_none, find-push_other}
+use Rattle.update_log.specs.declared.answer.AskAnswer.{AskAnswer}
+use Rattle.update_log.specs.declared.answer.ClaimAnswer.{ClaimAnswer}
+use Rattle.update_log.specs.declared.event.Event.{Event}
+use Rattle.update_log.specs.declared.live.Held.{Held}
+use Rattle.update_log.specs.declared.refusal.FetchNote.{FetchNote}
+use Rattle.update_log.specs.declared.request.Request.{Request}
+use Rattle.update_log.specs.Holding.{hold, holds, without_client}
+use Rattle.update_log.specs.Legal.{Allowed, ClaimAllowed, next_entry}
+use Rattle.update_log.specs.Pasts.{is_boot, is_of, last_of, last_of_after}
+use Rattle.update_log.specs.Shows.{Campaign}
+use Rattle.client_plays.specs.Shelves.{IsFetched}
+use Rattle.client_plays.specs.Tools.{Files}
+use Rattle.claim_laws.specs.Complete.{CanInstall, Takes}
+use Rattle.claim_laws.proofs.Takings.{claim-complete}
+
+-- The hold that an ask gave.
+abbrev pub asked_hold : ℕ → Request → Option ℕ → ℕ → ReleaseRef → Held
+asked_hold client request pending blocks release =
+    record { client = client; request = request; pending = pending; blocks = blocks; release = release }
+
+find-last : {X : Type 0} (p : X → Bool) (xs : List X) (x : X) → find p xs ≡ None → p x ≡ true → find p (xs ++ x ∷ []) ≡ Some x
+find-last p [] x n h = rw h refl
+find-last p (y ∷ ys) x n h =
+    by_test (p y) _
+    (λ t. let bad : Some y ≡ None = rw t at n in cc)
+    (λ f. let rest : find p ys ≡ None = rw f at n in rw f (find-last p ys x rest h))
+
+-- A client's hold is found past those of another one.
+others : (other client : ℕ) (all : List Held) → (other == client) ≡ false → find (λ h. h.client == client) (without_client other all) ≡ find (λ h. h.client == client) all
+others other client all f =
+    find-filter (λ (h : Held). h.client == client) (λ (h : Held). not (h.client == other)) all
+    (λ x t. ap not (eqb-other x.client other (λ s. let bad : (other == client) ≡ true = ap (λ (n : ℕ). n == client) (sym s) ∙ t in let no : true ≡ false = sym bad ∙ f in cc)))
+
+-- What another does leaves a client's hold.
+hold-kept : (event : Event) (past : List Event) (client : ℕ) → is_boot event ≡ false → is_of client event ≡ false → hold (event ∷ past) client ≡ hold past client
+hold-kept (Event.Boot number time limit found boards) past client b f = cc
+hold-kept (Event.Query other query) past client b f = refl
+hold-kept (Event.Ask other request pending (AskAnswer.Hold blocks release)) past client b f =
+    find-push_other (λ (h : Held). h.client == client) (without_client other (holds past)) (asked_hold other request pending blocks release) f
+    ∙ others other client (holds past) f
+hold-kept (Event.Ask other request pending (AskAnswer.Kept entry state)) past client b f = refl
+hold-kept (Event.Ask other request pending (AskAnswer.Refused refusal)) past client b f = refl
+hold-kept (Event.Claim other request fetched answer) past client b f = others other client (holds past) f
+hold-kept (Event.Schedule other request answer) past client b f = refl
+hold-kept (Event.Resume other entry fetched answer stored) past client b f = others other client (holds past) f
+hold-kept (Event.Start other entry op) past client b f = refl
+hold-kept (Event.End other entry op outcome told seen) past client b f = refl
+hold-kept (Event.Finish other entry state stored) past client b f = refl
+hold-kept (Event.Judge other entry version state stored) past client b f = refl
+hold-kept (Event.Unplug other device answer) past client b f = refl
+hold-kept (Event.Plug other device answer) past client b f = refl
+hold-kept (Event.GiveBack other what) past client b f = others other client (holds past) f
+hold-kept Event.Cut past client b f = refl
+
+-- So it holds what it asked for, as long as it does nothing else.
+pub asked-hold : (past : List Event) (client : ℕ) (request : Request) (pending : Option ℕ) (blocks : ℕ) (release : ReleaseRef)
+    → last_of client past ≡ Some (Event.Ask client request pending (AskAnswer.Hold blocks release)) → hold past client ≡ Some (asked_hold client request pending blocks release)
+asked-hold [] client request pending blocks release h = cc
+asked-hold (event ∷ past) client request pending blocks release h =
+    by_test (is_boot event) _
+    (λ t. let bad : None ≡ Some ask = rw t at l in cc)
+    (λ t. by_test (is_of client event) _
+    (λ u. let e : Some event ≡ Some ask = rw (t, u) at l in
+    subst (λ (x : Event). hold (x ∷ past) client ≡ Some (asked_hold client request pending blocks release)) (sym (some-same event ask e)) now)
+    (λ u. let e : last_of client past ≡ Some ask = rw (t, u) at l in
+    hold-kept event past client t u ∙ asked-hold past client request pending blocks release e))
+  where
+    ask : Event
+    ask = Event.Ask client request pending (AskAnswer.Hold blocks release)
+
+    l : last_of_after client event (last_of client past) ≡ Some ask
+    l = h
+
+    now : hold (ask ∷ past) client ≡ Some (asked_hold client request pending blocks release)
+    now =
+        find-last (λ (x : Held). x.client == client) (without_client client (holds past)) (asked_hold client request pending blocks release)
+        (find-filter_none (λ (x : Held). x.client == client) (holds past)) (eqb-self client)
+
+-- The claim of an install takes an entry.
+pub install-complete : (c : Campaign) (opening : List Row) (past : List Event) (client : ℕ) (request : Request) (release : ReleaseRef) (note : FetchNote) (answer : ClaimAnswer) (files : Files)
+    → Allowed c opening past (Event.Claim client request note answer) → IsFetched c.facts files release note
+    → CanInstall c.facts opening past files client request release → Takes (next_entry c.facts opening past) note answer
+install-complete c opening past client request release note answer files allowed fetched can =
+    claim-complete c.facts opening past client request note answer files given claim fetched (record { accepted = can.accepted; payload = can.payload })
+  where
+    given : Held
+    given = asked_hold client request None can.blocks release
+
+    same : allowed.0 ≡ given
+    same = some-same allowed.0 given (sym allowed.1.held_is ∙ asked-hold past client request None can.blocks release can.asked)
+
+    claim : ClaimAllowed c.facts opening past client request note answer given
+    claim = subst (ClaimAllowed c.facts opening past client request note answer) same allowed.1

@@ -1,0 +1,20 @@
+//! Laws of the definitions alone.
+ghost use Rattle.claim_laws.specs.Complete.{ClaimsComplete, InstallsComplete, ResumptionsComplete};
+
+/// A claim that is accepted, whose payload lies on the client's shelf, takes an entry, unless the keeper or
+/// the shelf fails.
+pub fn claims_complete()
+    ensures { ClaimsComplete }
+{}
+
+/// An install that is accepted at its ask and at its claim, whose payload lies on the client's shelf, takes an
+/// entry, unless the keeper or the shelf fails.
+pub fn installs_complete()
+    ensures { InstallsComplete }
+{}
+
+/// A resumption that is accepted, whose payload lies on the daemon's shelf, begins, unless the keeper or the
+/// shelf fails.
+pub fn resumptions_complete()
+    ensures { ResumptionsComplete }
+{}

@@ -1,0 +1,70 @@
+-- What is known of a fetch, and the files of shelves that stay.
+use Rattle.std.proofs.Common.{◌≡◌, ◌⊎◌, ℕ, zero, suc, List, [], ◌∷◌, length, refl, ap, ◌∙◌, subst, inl, inr}
+use Rattle.std.specs.Prelude.{Option, Some, None, IfSome, slice_get}
+use Rattle.fw_facts.specs.declared.release.Release.{Release}
+use Rattle.outer_traits.specs.Shelves.{file_of}
+use Rattle.release_catalogue.specs.declared.reference.ReleaseRef.{ReleaseRef}
+use Rattle.update_log.specs.declared.facts.Facts.{Facts}
+use Rattle.update_log.specs.declared.refusal.FetchNote.{FetchNote}
+use Rattle.update_log.specs.declared.request.Request.{Request}
+use Rattle.daemon_core.specs.declared.fetched.Fetched.{Fetched}
+use Rattle.daemon_core.specs.declared.hold.Hold.{Hold}
+use Rattle.daemon_core.specs.Fetches.{note_of, raw_number}
+use Rattle.daemon_core.specs.Holds.{IsHoldFor, IsReleaseAt}
+use Rattle.install_engine.specs.Answers.{IfWhole, told}
+use Rattle.install_engine.specs.Findings.{Finding, found_of}
+use Rattle.client_plays.specs.Shelves.{IsFetched, files_for, files_of, note_found}
+use Rattle.client_plays.specs.Tools.{Files, ShelfTold, ShelvesStay, shelf_of}
+
+-- What a fetch found is what its note says, unless the shelf failed.
+note-found : (digest : List ℕ) (found : Finding) (fetched : Fetched) → IfSome (told fetched) (λ now. now ≡ found) → IfWhole fetched (λ payload. payload.digest ≡ digest) → (note_of fetched ≡ FetchNote.ShelfFault) ⊎ (note_of fetched ≡ note_found digest found)
+note-found digest found (Fetched.Whole payload) f d =
+    inr (ap (λ (x : List ℕ). FetchNote.Whole x (length payload.bytes) (raw_number payload)) d ∙ ap (note_found digest) f)
+note-found digest found (Fetched.Missing blocks) f d = inr (ap (note_found digest) f)
+note-found digest found (Fetched.Length other blocks) f d = inr (ap (note_found digest) f)
+note-found digest found (Fetched.Mismatch other blocks) f d = inr (ap (note_found digest) f)
+note-found digest found (Fetched.ShelfFault blocks) f d = inl refl
+
+-- It was looked for under the digest of the hold's release.
+found-same : (all : List (List ℕ × List ℕ)) (digest other : List ℕ) (size length : ℕ) → digest ≡ other → size ≡ length → found_of (file_of all digest) digest size ≡ found_of (file_of all other) other length
+found-same all digest other size length d s =
+    ap (λ (x : List ℕ). found_of (file_of all x) x size) d ∙ ap (λ (n : ℕ). found_of (file_of all other) other n) s
+
+note-files : (files : Files) (hold : Hold) (release : Release) (fetched : Fetched) → hold.digest ≡ release.digest → hold.size ≡ release.size
+    → IfSome files (λ all. IfSome (told fetched) (λ found. found ≡ found_of (file_of all hold.digest) hold.digest hold.size)) → IfWhole fetched (λ payload. payload.digest ≡ hold.digest)
+    → IfSome files (λ all. (note_of fetched ≡ FetchNote.ShelfFault) ⊎ (note_of fetched ≡ note_found release.digest (found_of (file_of all release.digest) release.digest release.size)))
+note-files None hold release fetched d s f w = tt
+note-files (Some all) hold release fetched d s f w =
+    note-found release.digest (found_of (file_of all release.digest) release.digest release.size) fetched
+    (subst (λ (x : Finding). IfSome (told fetched) (λ found. found ≡ x)) (found-same all hold.digest release.digest hold.size release.size d s) f)
+    (subst (λ (x : List ℕ). IfWhole fetched (λ payload. payload.digest ≡ x)) d w)
+
+-- What is known of a fetch says what is known of its note.
+pub note-fetched : (facts : Facts) (client : ℕ) (request : Request) (pending : Option ℕ) (files : Files) (hold : Hold) (fetched : Fetched) → IsHoldFor facts client request pending hold
+    → IfSome files (λ all. IfSome (told fetched) (λ found. found ≡ found_of (file_of all hold.digest) hold.digest hold.size)) → IfWhole fetched (λ payload. payload.digest ≡ hold.digest)
+    → IsFetched facts files hold.ticket.release (note_of fetched)
+note-fetched facts client request pending files hold fetched h f w =
+    record {
+      release = h.release;
+      there = h.release_at;
+      note_is = note-files files hold h.release fetched h.digest_is h.size_is f w;
+    }
+
+-- Any shelf may fail.
+fault-files : (files : Files) (release : Release) → IfSome files (λ all. (FetchNote.ShelfFault ≡ FetchNote.ShelfFault) ⊎ (FetchNote.ShelfFault ≡ note_found release.digest (found_of (file_of all release.digest) release.digest release.size)))
+fault-files None release = tt
+fault-files (Some all) release = inl refl
+
+pub fault-fetched : (facts : Facts) (files : Files) (at : ReleaseRef) (release : Release) → IsReleaseAt facts.catalogue at release → IsFetched facts files at FetchNote.ShelfFault
+fault-fetched facts files at release r = record { release = release; there = r; note_is = fault-files files release }
+
+-- The files of each client's shelf, where the shelves stay.
+files-at : (old new : List ShelfTold) (n : ℕ) → ShelvesStay old new → files_of (slice_get new n) ≡ files_of (slice_get old n)
+files-at [] [] n s = refl
+files-at [] (y ∷ new) n s = absurd s
+files-at (x ∷ old) [] n s = absurd s
+files-at (x ∷ old) (y ∷ new) zero s = s.0.files
+files-at (x ∷ old) (y ∷ new) (suc n) s = files-at old new n s.1
+
+pub files-stay : (old new : List ShelfTold) → ShelvesStay old new → (client : ℕ) → files_for new client ≡ files_for old client
+files-stay old new s client = files-at old new (shelf_of client) s

@@ -1,0 +1,33 @@
+-- What a fetch tells of a client's shelf.
+use Rattle.std.specs.Prelude.{◌≡◌, ◌⊎◌, ℕ, List, length, Option, Some, None, IfSome, slice_get, unwrap_or}
+use Rattle.emulated_boards.specs.Images.{raw_version}
+use Rattle.fw_facts.specs.declared.release.Release.{Release}
+use Rattle.outer_traits.specs.Shelves.{file_of}
+use Rattle.release_catalogue.specs.declared.reference.ReleaseRef.{ReleaseRef}
+use Rattle.update_log.specs.declared.facts.Facts.{Facts}
+use Rattle.update_log.specs.declared.refusal.FetchNote.{FetchNote}
+use Rattle.daemon_core.specs.Holds.{IsReleaseAt}
+use Rattle.install_engine.specs.Findings.{Finding, found_of, missing, other_length, other_digest, whole}
+use Rattle.client_plays.specs.Tools.{Files, ShelfTold, shelf_of}
+
+-- What the log says of what was found on a shelf. The raw version of an image that is no good is 0.
+abbrev pub note_found : List ℕ → Finding → FetchNote
+note_found digest missing = FetchNote.Missing
+note_found digest (other_length found) = FetchNote.Length found
+note_found digest (other_digest found) = FetchNote.Mismatch found
+note_found digest (whole bytes) = FetchNote.Whole digest (length bytes) (unwrap_or (raw_version bytes) 0)
+
+-- The payload of a release was fetched from a shelf with these files: the note says what lies there under
+-- its digest, unless the shelf failed. Of a shelf that doesn't tell its files nothing is known.
+pub record IsFetched (facts : Facts) (files : Files) (at : ReleaseRef) (note : FetchNote) : Type 0 where
+  pub release : Release
+  pub there : IsReleaseAt facts.catalogue at release
+  pub note_is : IfSome files (λ all. (note ≡ FetchNote.ShelfFault) ⊎ (note ≡ note_found release.digest (found_of (file_of all release.digest) release.digest release.size)))
+
+-- The files of a client's shelf, where there is one that tells them.
+abbrev pub files_of : Option ShelfTold → Files
+files_of None = None
+files_of (Some shelf) = shelf.files
+
+abbrev pub files_for : List ShelfTold → ℕ → Files
+files_for shelves client = files_of (slice_get shelves (shelf_of client))

@@ -1,0 +1,82 @@
+-- A boot: the daemon's tasks, and then the clients.
+use Rattle.std.proofs.Common.{◌≡◌, ◌≢◌, ◌⊎◌, ℕ, ◌<◌, ◌≤◌, ◌-◌, ◌^◌, Bool, true, false, ◌||◌, List, [], ◌++◌, refl, ap, sym, ◌∙◌, subst, inl, inr, arith}
+use Rattle.history_keeper.specs.declared.row.Row.{Row}
+use Rattle.update_log.specs.declared.event.Event.{Event}
+use Rattle.update_log.specs.declared.facts.Facts.{Facts}
+use Rattle.update_log.specs.Pasts.{boots, off}
+use Rattle.daemon_core.specs.Annals.{SameFacts}
+use Rattle.daemon_core.specs.Housed.{Housed, past, rows_before}
+use Rattle.daemon_core.specs.Turns.{FaultsCounted}
+use Rattle.client_scripts.specs.declared.item.Item.{Item}
+use Rattle.client_plays.specs.Endings.{AtRest, HouseBootPlayed, HouseWent, IsCounted, IsFresh}
+use Rattle.client_plays.specs.Moments.{Moment, began, mine}
+use Rattle.client_plays.specs.Plays.{Plays, TaskPlays}
+use Rattle.client_plays.specs.Scripts.{PlayedSo, items_of, tasks}
+use Rattle.client_plays.specs.Tools.{Files}
+use Rattle.client_plays.proofs.MomentLaws.{grew-began, grew-boots, grew-both, grew-off, mine-boot}
+use Rattle.client_plays.proofs.RestLaws.{before-same, rest-both}
+use Rattle.client_threads.specs.Clients.{ClientsPlayed, NoClients}
+use Rattle.client_threads.proofs.Plays.{still-played}
+
+-- Nobody did anything in a boot that has just begun.
+fresh-mine : (past : List Event) (client : ℕ) → IsFresh past → mine client past ≡ []
+fresh-mine past client f = ap (mine client) f.are ∙ mine-boot client f.before f.boot f.is
+
+not-first : (client : ℕ) → 0 < client → client ≢ 0
+not-first client h e = omega arith
+
+or-one : (a b : Bool) → a ≡ true → (a || b) ≡ true
+or-one true b e = refl
+or-one false b e = cc
+
+or-other : (a b : Bool) → b ≡ true → (a || b) ≡ true
+or-other true b e = refl
+or-other false b e = e
+
+module _ {K : Type 0} (faults : K → ℕ) (now : Bool) (files : Files) (old mid : Housed K) (h : HouseWent faults now 0 (TaskPlays old.annals.facts files) (tasks old.annals.facts (rows_before old.annals) (began (past old))) old mid) where
+  -- After the tasks.
+  pub no-clients_yet : IsFresh (past old) → NoClients (past mid)
+  no-clients_yet f client c = h.went.did.others client (not-first client c) ∙ fresh-mine (past old) client f
+
+  pub still-counted : IsCounted faults old → IsCounted faults mid
+  still-counted c = both c h.rest.counted h.rest.counts
+    where
+      both : IsCounted faults old → FaultsCounted faults old mid → faults old.keeper ≤ faults mid.keeper → IsCounted faults mid
+      both (inl x) (inl y) z = inl (omega arith)
+      both (inr x) (inl y) z = inr (omega arith)
+      both x (inr y) z = inr y
+
+  pub still-booted : 0 < boots (past old) → 0 < boots (past mid)
+  still-booted b = subst (λ (n : ℕ). 0 < n) (sym (grew-boots (past old) (past mid) h.went.did.grew)) b
+
+  -- After the clients.
+  module _ (wanting : Bool) (told then : ℕ → Files) (of_boot : List (List Item)) (new : Housed K) (f : IsFresh (past old)) (first : told 0 ≡ files) (same : (client : ℕ) → then client ≡ told client) (p : ClientsPlayed faults wanting then of_boot mid new) where
+    stays : off (past mid) ≡ true → off (past new) ≡ true
+    stays = grew-off (past mid) (past new) p.grew
+
+    tasks-played : PlayedSo (off (past new)) (now || wanting) 0 (TaskPlays old.annals.facts (told 0)) (tasks old.annals.facts (rows_before old.annals) (began (past new))) (mine 0 (past new))
+    tasks-played =
+        let boot : began (past new) ≡ began (past old) = grew-began (past mid) (past new) p.grew ∙ grew-began (past old) (past mid) h.went.did.grew in
+        let own : mine 0 (past new) ≡ h.went.moments = p.daemon ∙ h.went.did.own ∙ ap (λ (m : List Moment). m ++ h.went.moments) (fresh-mine (past old) 0 f) in
+        let T : Files → List Event → List Moment → Type 0 = λ fs b m. PlayedSo (off (past new)) (now || wanting) 0 (TaskPlays old.annals.facts fs) (tasks old.annals.facts (rows_before old.annals) b) m in
+        subst (λ (fs : Files). T fs (began (past new)) (mine 0 (past new))) (sym first)
+        (subst (λ (b : List Event). T files b (mine 0 (past new))) (sym boot)
+        (subst (λ (m : List Moment). T files (began (past old)) m) (sym own)
+        (still-played 0 (TaskPlays old.annals.facts files) (tasks old.annals.facts (rows_before old.annals) (began (past old))) h.went.moments (off (past mid)) (off (past new)) now (now || wanting) stays (or-one now wanting) h.went.plays)))
+
+    scripts-played : (client : ℕ) → 0 < client → PlayedSo (off (past new)) (now || wanting) client (Plays old.annals.facts (rows_before old.annals) (told client) client) (items_of of_boot client) (mine client (past new))
+    scripts-played client c =
+        let s : SameFacts old.annals mid.annals = h.rest.same in
+        let P : Facts → List Row → Files → Type 0 = λ fs o x. PlayedSo (off (past new)) wanting client (Plays fs o x client) (items_of of_boot client) (mine client (past new)) in
+        still-played client (Plays old.annals.facts (rows_before old.annals) (told client) client) (items_of of_boot client) (mine client (past new)) (off (past new)) (off (past new)) wanting (now || wanting) (λ o. o) (or-other now wanting)
+        (subst (λ (x : Files). P old.annals.facts (rows_before old.annals) x) (same client)
+        (subst (λ (o : List Row). P old.annals.facts o (then client)) (before-same old.annals mid.annals s)
+        (subst (λ (fs : Facts). P fs (rows_before mid.annals) (then client)) s.facts (p.clients client c))))
+
+    pub boot-played : HouseBootPlayed faults (now || wanting) told of_boot old new
+    boot-played =
+        record {
+          played = record { daemon = tasks-played; clients = scripts-played };
+          grew = grew-both (past old) (past mid) (past new) h.went.did.grew p.grew;
+          rest = rest-both faults old mid new h.rest p.rest;
+        }

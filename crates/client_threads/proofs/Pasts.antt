@@ -1,0 +1,75 @@
+-- What a past says that grew, and one that a boot began.
+use Rattle.std.proofs.Common.{◌≡◌, ℕ, ◌≤◌, ◌<◌, ◌+◌, Bool, true, false, ◌||◌, List, [], ◌∷◌, ◌++◌, reverse, refl, ap, sym, ◌∙◌, subst, arith}
+use Rattle.std.proofs.lemmas.List.{reverse-append}
+use Rattle.std.specs.List.{list_any}
+use Rattle.update_log.proofs.Lists.{by_test}
+use Rattle.update_log.specs.declared.event.Event.{Event}
+use Rattle.update_log.specs.CoreFolds.{AllFaults, is_fault_boot}
+use Rattle.update_log.specs.Pasts.{boots, is_boot, off, past_of}
+use Rattle.client_plays.specs.Moments.{Grew}
+use Rattle.turn_lock.specs.Lists.{BeginsWith}
+use Rattle.shared_daemon.specs.declared.entry.Entry.{Entry}
+use Rattle.shared_daemon.specs.Entries.{events, past_seen}
+use Rattle.shared_daemon.specs.Names.{IsLogOf, Name}
+use Rattle.shared_daemon.proofs.Logs.{events-append}
+
+-- Where there are as many boots, none is among the newer events.
+one-more : (past : List Event) (event : Event) → is_boot event ≡ true → boots (event ∷ past) ≡ boots past + 1
+one-more past event b = rw b refl
+
+some-boots : (newer past : List Event) → boots past ≤ boots (newer ++ past)
+some-boots [] past = omega arith
+some-boots (event ∷ newer) past =
+    let rest : boots past ≤ boots (newer ++ past) = some-boots newer past in
+    by_test (is_boot event) _ (λ t. rw t (omega arith)) (λ f. rw f rest)
+
+too-many : (a b c : ℕ) → b ≡ a + 1 → c ≤ a → b ≡ c → ⊥
+too-many a b c e l s = omega arith
+
+same-boots : (past : List Event) (event : Event) → is_boot event ≡ false → boots (event ∷ past) ≡ boots past
+same-boots past event b = rw b refl
+
+no-boots : (newer past : List Event) → boots (newer ++ past) ≡ boots past → list_any is_boot newer ≡ false
+no-boots [] past h = refl
+no-boots (event ∷ newer) past h =
+    by_test (is_boot event) _
+    (λ t. absurd (too-many (boots (newer ++ past)) (boots (event ∷ (newer ++ past))) (boots past) (one-more (newer ++ past) event t) (some-boots newer past) h))
+    (λ f. rw f (no-boots newer past (sym (same-boots (newer ++ past) event f) ∙ h)))
+
+-- A log of a name grew since the daemon began, in one boot.
+pub log-grew : (name : Name) (log : List Entry) → IsLogOf name name.start → IsLogOf name log → Grew (past_seen name.start) (past_seen log)
+log-grew name log s l =
+    let more : List Event = reverse (events l.begins.0) in
+    let turned : past_seen log ≡ more ++ past_seen name.start =
+    ap (λ (x : List Entry). past_seen x) l.begins.1 ∙ ap past_of (events-append name.start l.begins.0) ∙ reverse-append (events name.start) (events l.begins.0) in
+    record {
+      more = more;
+      are = turned;
+      no_boot = no-boots more (past_seen name.start) (sym (ap boots turned) ∙ l.boots_are ∙ sym s.boots_are);
+    }
+
+-- A boot that couldn't read the history is off.
+fault-off : (event : Event) (past : List Event) → is_fault_boot event ≡ true → off (event ∷ past) ≡ true
+fault-off (Event.Boot number time limit found boards) past e = e
+fault-off (Event.Query client query) past e = cc
+fault-off (Event.Ask client request pending answer) past e = cc
+fault-off (Event.Claim client request fetched answer) past e = cc
+fault-off (Event.Schedule client request answer) past e = cc
+fault-off (Event.Resume client entry fetched answer stored) past e = cc
+fault-off (Event.Start client entry op) past e = cc
+fault-off (Event.End client entry op outcome told seen) past e = cc
+fault-off (Event.Finish client entry state stored) past e = cc
+fault-off (Event.Judge client entry version state stored) past e = cc
+fault-off (Event.Unplug client device answer) past e = cc
+fault-off (Event.Plug client device answer) past e = cc
+fault-off (Event.GiveBack client what) past e = cc
+fault-off Event.Cut past e = cc
+
+faults-off : (past : List Event) → AllFaults past → 0 < boots past → off past ≡ true
+faults-off [] a b = absurd (omega arith)
+faults-off (event ∷ past) a b = fault-off event past a.0
+
+-- So where a boot runs that isn't off, one took the rows that it loaded.
+pub on-loaded : (loaded : Bool) (past : List Event) → (loaded ≡ false → AllFaults past) → 0 < boots past → off past ≡ false → loaded ≡ true
+on-loaded true past h b o = refl
+on-loaded false past h b o = let bad : true ≡ false = sym (faults-off past (h refl) b) ∙ o in cc

@@ -1,0 +1,77 @@
+-- Scripts that were played, or left.
+use Rattle.std.proofs.Common.{◌≡◌, ℕ, ◌<◌, ◌≤◌, Bool, true, false, zero, suc, List, [], ◌∷◌, All, length, refl, sym, subst, arith}
+use Rattle.std.proofs.lemmas.Bool.{eqb-true}
+use Rattle.std.proofs.lemmas.List.Elements.{All-head, All-nil, All-tail}
+use Rattle.std.specs.Prelude.{◌==◌, slice_get, None}
+use Rattle.history_keeper.specs.declared.row.Row.{Row}
+use Rattle.update_log.specs.declared.facts.Facts.{Facts}
+use Rattle.client_scripts.specs.declared.item.Item.{Item}
+use Rattle.client_plays.specs.Endings.{IsScriptItem}
+use Rattle.client_plays.specs.Moments.{Moment}
+use Rattle.client_plays.specs.Plays.{Leaves, Plays}
+use Rattle.client_plays.specs.Scripts.{PlayedSo, PlaysAll, items_of}
+use Rattle.client_plays.specs.Tools.{Files}
+use Rattle.client_plays.proofs.PlayLaws.{item-unplayed}
+use Rattle.client_plays.proofs.RestLaws.{so-left}
+use Rattle.client_plays.proofs.ScriptLaws.{so-all, so-more, until-nothing}
+
+module _ {X : Type 0} (client : ℕ) (Play : X → List Moment → Type 0) (xs : List X) (moments : List Moment) where
+  -- What was played in a boot stays played, if it goes off later, and where memory is told to be wanting.
+  later : (was is_off wanting : Bool) → (was ≡ true → is_off ≡ true) → PlayedSo was wanting client Play xs moments → PlayedSo is_off wanting client Play xs moments
+  later true is_off wanting h p = so-left is_off wanting client Play xs moments (h refl) p
+  later false is_off wanting h p = so-all is_off wanting client Play xs moments p
+
+  told : (is_off before wanting : Bool) → (before ≡ true → wanting ≡ true) → PlayedSo is_off before client Play xs moments → PlayedSo is_off wanting client Play xs moments
+  told is_off before true h p = so-more is_off before client Play xs moments p
+  told is_off true false h p = let e : false ≡ true = h refl in cc
+  told is_off false false h p = p
+
+  pub still-played : (was is_off before wanting : Bool) → (was ≡ true → is_off ≡ true) → (before ≡ true → wanting ≡ true) → PlayedSo was before client Play xs moments → PlayedSo is_off wanting client Play xs moments
+  still-played was is_off before wanting o h p = told is_off before wanting h (later was is_off before o p)
+
+-- Nothing to do.
+pub nothing-so : {X : Type 0} (is_off wanting : Bool) (client : ℕ) (Play : X → List Moment → Type 0) (xs : List X) (moments : List Moment) → xs ≡ [] → moments ≡ [] → PlayedSo is_off wanting client Play xs moments
+nothing-so is_off wanting client Play xs moments e m =
+    subst (λ (ys : List _). PlayedSo is_off wanting client Play ys moments) (sym e) (so-all is_off wanting client Play [] moments m)
+
+-- A list of no length.
+pub empty-list : {X : Type 0} (xs : List X) → (length xs == 0) ≡ true → xs ≡ []
+empty-list [] e = refl
+empty-list (x ∷ xs) e = let z : length (x ∷ xs) ≡ 0 = eqb-true (length (x ∷ xs)) 0 e in absurd (omega arith)
+
+-- A client beyond the last one has no script.
+get-none : {X : Type 0} (xs : List X) (n : ℕ) → length xs ≤ n → slice_get xs n ≡ None
+get-none [] n l = refl
+get-none (x ∷ xs) zero l = absurd (omega arith)
+get-none (x ∷ xs) (suc n) l = get-none xs n (omega arith)
+
+pub items-beyond : (of_boot : List (List Item)) (client : ℕ) → length of_boot < client → items_of of_boot client ≡ []
+items-beyond of_boot zero l = refl
+items-beyond of_boot (suc n) l = rw (get-none of_boot n (omega arith)) refl
+
+-- Each script is one of the boot's.
+pub items-proper : (of_boot : List (List Item)) (client : ℕ) → All (All IsScriptItem) of_boot → All IsScriptItem (items_of of_boot client)
+items-proper of_boot zero all = All-nil IsScriptItem
+items-proper [] (suc n) all = All-nil IsScriptItem
+items-proper (items ∷ rest) (suc zero) all = All-head (All IsScriptItem) items rest all
+items-proper (items ∷ rest) (suc (suc n)) all = items-proper rest (suc n) (All-tail (All IsScriptItem) items rest all)
+
+-- Where nothing was done for want of memory, all was left.
+all-left : {X : Type 0} (client : ℕ) (Play : X → List Moment → Type 0) (xs : List X) → ((x : X) → Leaves client (Play x) []) → PlaysAll true client Play xs []
+all-left client Play [] h = refl
+all-left client Play (x ∷ xs) h =
+    record { first = []; rest = []; are = refl; first_is = h x; rest_is = all-left client Play xs h }
+
+module _ (facts : Facts) (opening : List Row) (files : Files) (client : ℕ) (items : List Item) (moments : List Moment) where
+  pub left-wanting : (is_off : Bool) → moments ≡ [] → PlayedSo is_off true client (Plays facts opening files client) items moments
+  left-wanting is_off m =
+      let Play : Item → List Moment → Type 0 = Plays facts opening files client in
+      subst (λ (ms : List Moment). PlayedSo is_off true client Play items ms) (sym m)
+      (so-all is_off true client Play items [] (all-left client Play items (λ item. item-unplayed facts opening files client item)))
+
+  -- And where nothing was done in a boot that is off.
+  pub left-off : (is_off wanting : Bool) → is_off ≡ true → moments ≡ [] → PlayedSo is_off wanting client (Plays facts opening files client) items moments
+  left-off is_off wanting o m =
+      let Play : Item → List Moment → Type 0 = Plays facts opening files client in
+      subst (λ (ms : List Moment). PlayedSo is_off wanting client Play items ms) (sym m)
+      (so-left is_off wanting client Play items [] o (until-nothing wanting client Play items (λ item. item-unplayed facts opening files client item)))

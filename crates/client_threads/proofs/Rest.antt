@@ -1,0 +1,151 @@
+-- A house whose daemon begins, and one whose daemon closed.
+use Rattle.std.proofs.Common.{◌≡◌, ◌⊎◌, ℕ, ◌<◌, ◌≤◌, ◌+◌, ◌-◌, ◌^◌, Bool, true, false, List, [], refl, ap, sym, ◌∙◌, subst, inl, inr, arith}
+use Rattle.history_keeper.specs.declared.row.Row.{Row}
+use Rattle.update_log.specs.declared.event.Event.{Event}
+use Rattle.update_log.specs.declared.facts.Facts.{Facts}
+use Rattle.update_log.specs.Holding.{holds, live}
+use Rattle.update_log.specs.Pasts.{boots, off}
+use Rattle.daemon_core.specs.Annals.{IsAnnals, SameFacts}
+use Rattle.daemon_core.specs.Housed.{Housed, past, rows_before}
+use Rattle.daemon_core.specs.Keeping.{keeper_faults}
+use Rattle.daemon_core.specs.Turns.{FaultsCounted}
+use Rattle.client_scripts.specs.declared.item.Item.{Item}
+use Rattle.client_plays.specs.Endings.{AtRest, IsCounted, IsIdle}
+use Rattle.client_plays.specs.Moments.{Grew, mine}
+use Rattle.client_plays.specs.Plays.{Plays}
+use Rattle.client_plays.specs.Scripts.{PlayedSo, items_of}
+use Rattle.client_plays.specs.Tools.{Files}
+use Rattle.client_plays.proofs.MomentLaws.{grew-nothing}
+use Rattle.client_plays.proofs.RestLaws.{rest-here}
+use Rattle.shared_daemon.specs.declared.entry.Entry.{Entry}
+use Rattle.shared_daemon.specs.Entries.{chronicle, past_seen}
+use Rattle.shared_daemon.specs.Names.{HasNothing, IsLogOf, KeepsName, Name}
+use Rattle.shared_daemon.proofs.Logs.{past-entries}
+use Rattle.shared_daemon.proofs.Seeing.{before-named}
+use Rattle.client_threads.specs.Begins.{CanBegin, name_of}
+use Rattle.client_threads.specs.Clients.{ClientsPlayed, NoClients, PlayedBehind}
+use Rattle.client_threads.proofs.Pasts.{log-grew, on-loaded}
+use Rattle.client_threads.proofs.Plays.{items-beyond, left-off, left-wanting, nothing-so}
+
+module _ {K : Type 0} (faults : K → ℕ) where
+  -- A daemon may begin round a house that was booted, and isn't off.
+  pub can-begin : (h : Housed K) → IsAnnals h.annals → 0 < boots (past h) → off (past h) ≡ false → IsCounted faults h → IsIdle (past h) → CanBegin faults h
+  can-begin h k b o c i =
+      record { loaded = on-loaded h.annals.loaded (past h) k.unloaded b o; booted = b; counted = c; idle = i }
+
+  first-counted : (h : Housed K) → IsCounted faults h → (keeper_faults (past h) + (faults h.keeper - keeper_faults (past h)) ≤ faults h.keeper) ⊎ (2 ^ 64 - 1 ≤ faults h.keeper)
+  first-counted h (inl c) = inl (omega arith)
+  first-counted h (inr c) = inr c
+
+  -- It has the name that it has as the daemon begins.
+  pub begins-named : (name : Name) (h : Housed K) → name ≡ name_of faults h → CanBegin faults h → KeepsName faults name h
+  begins-named name h e b =
+      subst (λ (n : Name). KeepsName faults n h) (sym e)
+      (record {
+        facts_are = refl;
+        first_are = refl;
+        opening_is = refl;
+        loaded = b.loaded;
+        booted = b.booted;
+        boots_are = refl;
+        counted = first-counted h b.counted;
+        counts = omega arith;
+        told = tt;
+      })
+
+  pub starts-so : (name : Name) (h : Housed K) → name ≡ name_of faults h → chronicle h ≡ name.start
+  starts-so name h e = sym (ap (λ (n : Name). n.start) e)
+
+  pub nothing-out : (h : Housed K) → IsAnnals h.annals → IsIdle (past h) → HasNothing (chronicle h)
+  nothing-out h k i =
+      let e = past-entries h.annals k in
+      (ap (λ (p : List Event). holds p) e ∙ i.no_hold, ap (λ (p : List Event). live p) e ∙ i.no_live)
+
+  idle-left : (h : Housed K) → IsAnnals h.annals → HasNothing (chronicle h) → IsIdle (past h)
+  idle-left h k n =
+      let e = past-entries h.annals k in
+      record {
+        no_hold = ap (λ (p : List Event). holds p) (sym e) ∙ n.0;
+        no_live = ap (λ (p : List Event). live p) (sym e) ∙ n.1;
+      }
+
+  -- The daemon closed.
+  module _ (name : Name) (old new : Housed K) (e : name ≡ name_of faults old) (b : CanBegin faults old) (k : IsAnnals old.annals) (w : IsAnnals new.annals) (n : KeepsName faults name new) where
+    same-facts : SameFacts old.annals new.annals
+    same-facts =
+        record {
+          facts = n.facts_are ∙ ap (λ (x : Name). x.facts) e;
+          first = n.first_are ∙ ap (λ (x : Name). x.first) e;
+          opening = n.opening_is ∙ ap (λ (x : Name). x.opening) e;
+          loaded = n.loaded ∙ sym b.loaded;
+        }
+
+    counted-so : (first start : ℕ) → first ≡ faults old.keeper - keeper_faults (past old) → (keeper_faults (past new) + first ≤ faults new.keeper) ⊎ (2 ^ 64 - 1 ≤ faults new.keeper) → FaultsCounted faults old new
+    counted-so first start f (inl c) = inl (omega arith)
+    counted-so first start f (inr c) = inr c
+
+    rest-so : HasNothing (chronicle new) → AtRest faults old new
+    rest-so nothing =
+        record {
+          idle = idle-left new w nothing;
+          same = same-facts;
+          counted = counted-so name.first_faults name.start_faults (ap (λ (x : Name). x.first_faults) e) n.counted;
+          counts = (let start : name.start_faults ≡ faults old.keeper = ap (λ (x : Name). x.start_faults) e in let c = n.counts in omega arith);
+        }
+
+    rows-so : name.opening ≡ rows_before old.annals
+    rows-so = sym (before-named faults name old (begins-named name old e b))
+
+    -- What a log of the name says, of the house.
+    old-past : past_seen name.start ≡ past old
+    old-past = ap (λ (x : Name). past_seen x.start) e ∙ past-entries old.annals k
+
+    new-past : past_seen (chronicle new) ≡ past new
+    new-past = past-entries new.annals w
+
+    pub clients-played : (wanting : Bool) (files : ℕ → Files) (of_boot : List (List Item)) → IsLogOf name name.start → IsLogOf name (chronicle new) → HasNothing (chronicle new) → NoClients (past old) → PlayedBehind wanting name files of_boot (chronicle new) → ClientsPlayed faults wanting files of_boot old new
+    clients-played wanting files of_boot s l nothing none p =
+        record {
+          daemon = ap (mine 0) (sym new-past) ∙ p.daemon ∙ ap (mine 0) old-past;
+          clients = λ client c.
+              let P : Facts → List Row → List Event → Type 0 = λ f o es. PlayedSo (off es) wanting client (Plays f o (files client) client) (items_of of_boot client) (mine client es) in
+              subst (λ (f : Facts). P f (rows_before old.annals) (past new)) (ap (λ (x : Name). x.facts) e)
+              (subst (λ (o : List Row). P name.facts o (past new)) rows-so
+              (subst (λ (es : List Event). P name.facts name.opening es) new-past
+              (p.clients client c (ap (mine client) old-past ∙ none client c))));
+          grew = subst (λ (es : List Event). Grew es (past new)) old-past (subst (λ (es : List Event). Grew (past_seen name.start) es) new-past (log-grew name (chronicle new) s l));
+          rest = rest-so nothing;
+        }
+
+  -- Nothing was done.
+  module _ (files : ℕ → Files) (of_boot : List (List Item)) (h : Housed K) (i : IsIdle (past h)) (none : NoClients (past h)) where
+    pub no-clients : (wanting : Bool) → of_boot ≡ [] → ClientsPlayed faults wanting files of_boot h h
+    no-clients wanting e =
+        record {
+          daemon = refl;
+          clients = λ client c.
+              nothing-so (off (past h)) wanting client (Plays h.annals.facts (rows_before h.annals) (files client) client) (items_of of_boot client) (mine client (past h))
+              (ap (λ (all : List (List Item)). items_of all client) e ∙ items-beyond [] client c) (none client c);
+          grew = grew-nothing (past h);
+          rest = rest-here faults h i;
+        }
+
+    pub clients-off : (wanting : Bool) → off (past h) ≡ true → ClientsPlayed faults wanting files of_boot h h
+    clients-off wanting o =
+        record {
+          daemon = refl;
+          clients = λ client c.
+              left-off h.annals.facts (rows_before h.annals) (files client) client (items_of of_boot client) (mine client (past h)) (off (past h)) wanting o (none client c);
+          grew = grew-nothing (past h);
+          rest = rest-here faults h i;
+        }
+
+    pub clients-left : ClientsPlayed faults true files of_boot h h
+    clients-left =
+        record {
+          daemon = refl;
+          clients = λ client c.
+              left-wanting h.annals.facts (rows_before h.annals) (files client) client (items_of of_boot client) (mine client (past h)) (off (past h)) (none client c);
+          grew = grew-nothing (past h);
+          rest = rest-here faults h i;
+        }

@@ -1,0 +1,42 @@
+use Rattle.std.proofs.Common.{Bool, length, sym, subst, refl}
+use Rattle.client_plays.specs.Endings.{HouseBootPlayed}
+use Rattle.client_plays.specs.Has.{shelves_told}
+use Rattle.client_plays.specs.Shelves.{files_for}
+use Rattle.client_plays.proofs.ShelfLaws.{files-stay}
+use Rattle.client_plays.proofs.ToolLaws.{shelves-both}
+use Rattle.client_threads.proofs.Boots.{boot-played, no-clients_yet, still-booted, still-counted}
+use Rattle.client_threads.proofs.Shelves.{enough-stay}
+use Rattle.client_threads.proofs.boot.play_boot.Goals as goal
+
+pub play_clients-house-requires-clause-booted : goal.play_clients-house-requires-clause-booted
+play_clients-house-requires-clause-booted g c κs within =
+    let told = files_for (shelves_told g.P.Shelf.files g.P.Shelf.faults c.args.shelves.now.items) in
+    still-booted g.K.Keeper.faults c.do_tasks_first-now.result (told 0) c.args.house c.do_tasks_first-now.new.house c.do_tasks_first-now.ensures.went c.requires.booted
+
+pub play_clients-house-requires-clause-counted : goal.play_clients-house-requires-clause-counted
+play_clients-house-requires-clause-counted g c κs within =
+    let told = files_for (shelves_told g.P.Shelf.files g.P.Shelf.faults c.args.shelves.now.items) in
+    still-counted g.K.Keeper.faults c.do_tasks_first-now.result (told 0) c.args.house c.do_tasks_first-now.new.house c.do_tasks_first-now.ensures.went c.requires.counted
+
+pub play_clients-house-requires-clause-none : goal.play_clients-house-requires-clause-none
+play_clients-house-requires-clause-none g c κs within =
+    let told = files_for (shelves_told g.P.Shelf.files g.P.Shelf.faults c.args.shelves.now.items) in
+    no-clients_yet g.K.Keeper.faults c.do_tasks_first-now.result (told 0) c.args.house c.do_tasks_first-now.new.house c.do_tasks_first-now.ensures.went c.requires.fresh
+
+pub play_clients-house-requires-clause-shelves : goal.play_clients-house-requires-clause-shelves
+play_clients-house-requires-clause-shelves g c κs within =
+    enough-stay g.P.Shelf.files g.P.Shelf.faults c.args.shelves.now.items c.do_tasks_first-now.new.shelves.items (length c.args.of_boot.now) c.requires.serves.shelf c.do_tasks_first-now.ensures.kept
+
+pub returns-clause-played : goal.returns-clause-played
+returns-clause-played g c =
+    let told = files_for (shelves_told g.P.Shelf.files g.P.Shelf.faults c.args.shelves.now.items) in
+    let then = files_for (shelves_told g.P.Shelf.files g.P.Shelf.faults c.do_tasks_first-now.new.shelves.items) in
+    subst (λ (w : Bool). HouseBootPlayed g.K.Keeper.faults w told c.args.of_boot.now c.args.house c.play_clients-house.result.0) (sym c.either.ensures)
+    (boot-played g.K.Keeper.faults c.do_tasks_first-now.result (told 0) c.args.house c.do_tasks_first-now.new.house c.do_tasks_first-now.ensures.went c.play_clients-house.result.1 told then c.args.of_boot.now c.play_clients-house.result.0 c.requires.fresh refl
+    (files-stay (shelves_told g.P.Shelf.files g.P.Shelf.faults c.args.shelves.now.items) (shelves_told g.P.Shelf.files g.P.Shelf.faults c.do_tasks_first-now.new.shelves.items) c.do_tasks_first-now.ensures.kept)
+    c.play_clients-house.ensures.played)
+
+pub returns-clause-kept : goal.returns-clause-kept
+returns-clause-kept g c =
+    shelves-both (shelves_told g.P.Shelf.files g.P.Shelf.faults c.args.shelves.now.items) (shelves_told g.P.Shelf.files g.P.Shelf.faults c.do_tasks_first-now.new.shelves.items) (shelves_told g.P.Shelf.files g.P.Shelf.faults c.play_clients-house.new.shelves.items)
+    c.do_tasks_first-now.ensures.kept c.play_clients-house.ensures.kept

@@ -1,0 +1,5 @@
+use Rattle.client_threads.specs.Begins.{name_of}
+use Rattle.client_threads.proofs.boot.play_clients.Given as goal
+
+abbrev pub ghosts-play_named : goal.ghosts-play_named
+ghosts-play_named g a = record { name = name_of g.K.Keeper.faults a.house }

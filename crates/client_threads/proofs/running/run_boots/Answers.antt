@@ -1,0 +1,61 @@
+use Rattle.std.proofs.Common.{◌≡◌, ◌≤◌, ◌∙◌, ap, refl, false, List, length, subst, sym, arith}
+use Rattle.std.specs.Prelude.{All}
+use Rattle.client_scripts.specs.declared.item.Item.{Item}
+use Rattle.client_plays.specs.Endings.{IsScriptItem}
+use Rattle.update_log.specs.Pasts.{past_of}
+use Rattle.client_plays.specs.Has.{shelves_told, tools_of}
+use Rattle.client_plays.specs.Shelves.{files_for}
+use Rattle.client_plays.proofs.ShelfLaws.{files-stay}
+use Rattle.client_plays.proofs.ToolLaws.{serves-all, serves-later, shelves-both, shelves-here}
+use Rattle.campaign_runs.specs.Runs.{BootMore}
+use Rattle.campaign_runs.proofs.RunLaws.{begun-counted, plan-at, ran-stopped, run-more, run-none, same-files, scripts-all}
+use Rattle.client_threads.proofs.running.run_boots.Goals as goal
+
+pub returns-in-Some-clause-ran : goal.returns-in-Some-clause-ran
+returns-in-Some-clause-ran g c =
+    ran-stopped g.K.Keeper.rows g.K.Keeper.faults c.in-Some.ending c.loop-number.wanting (files_for (shelves_told g.P.Shelf.files g.P.Shelf.faults c.args.shelves.now.items)) c.args.plans.now c.args.scripts.now c.loop-number.number
+    c.args.house c.loop-number.house c.start_boot.new.house c.loop-number-test.true c.loop-number.invariant.ran c.in-Some.ensures.0 c.in-Some.ensures.1
+
+pub play_next-played-requires-clause-proper : goal.play_next-played-requires-clause-proper
+play_next-played-requires-clause-proper g c κs within =
+    let P = λ (of_boot : List (List Item)). All (All IsScriptItem) of_boot in
+    subst P (sym c.scripts_of-of_boot.ensures) (scripts-all P c.args.scripts.now c.loop-number.number c.requires.proper (λ k d h. absurd (omega arith)))
+
+pub play_next-played-requires-clause-counted : goal.play_next-played-requires-clause-counted
+play_next-played-requires-clause-counted g c κs within =
+    begun-counted g.K.Keeper.faults c.args.house c.loop-number.house c.start_boot.new.house (ap past_of c.requires.new) c.loop-number.invariant.ran.counted c.in-None.ensures.counted c.in-None.ensures.counts
+
+pub play_next-played-requires-clause-few : goal.play_next-played-requires-clause-few
+play_next-played-requires-clause-few g c κs within =
+    let P = λ (of_boot : List (List Item)). length of_boot ≤ 16 in
+    subst P (sym c.scripts_of-of_boot.ensures) (scripts-all P c.args.scripts.now c.loop-number.number c.requires.clients (omega arith))
+
+pub play_next-played-requires-clause-serves : goal.play_next-played-requires-clause-serves
+play_next-played-requires-clause-serves g c κs within =
+    let tools = tools_of g.P.Shelf.files g.P.Shelf.faults (length c.args.plugins.now) c.args.shelves.now.items in
+    let P = λ (of_boot : List (List Item)). length of_boot ≤ length (shelves_told g.P.Shelf.files g.P.Shelf.faults c.args.shelves.now.items) in
+    let many : P c.scripts_of-of_boot.result.now = subst P (sym c.scripts_of-of_boot.ensures) (scripts-all P c.args.scripts.now c.loop-number.number c.requires.shelves (omega arith)) in
+    let facts : c.start_boot.new.house.annals.facts ≡ c.args.house.annals.facts = c.in-None.ensures.facts ∙ c.loop-number.invariant.ran.facts in
+    serves-later tools (tools_of g.P.Shelf.files g.P.Shelf.faults (length c.args.plugins.now) c.loop-number.shelves.items) c.args.house.annals.facts c.start_boot.new.house.annals.facts (length c.scripts_of-of_boot.result.now)
+    (serves-all tools c.args.house.annals.facts (length c.scripts_of-of_boot.result.now) c.requires.serves many) (record { plugins = refl; shelves = c.loop-number.invariant.kept }) facts
+
+pub loop-number-init : goal.loop-number-init
+loop-number-init g c = record {
+  ran = run-none g.K.Keeper.faults false (files_for (shelves_told g.P.Shelf.files g.P.Shelf.faults c.args.shelves.now.items)) c.args.plans.now c.args.scripts.now c.args.house (ap past_of c.requires.new);
+  kept = shelves-here (shelves_told g.P.Shelf.files g.P.Shelf.faults c.args.shelves.now.items);
+}
+
+pub loop-number-preserved : goal.loop-number-preserved
+loop-number-preserved g c = record {
+  ran = run-more g.K.Keeper.faults c.loop-number.wanting c.play_next-played.result.1 (files_for (shelves_told g.P.Shelf.files g.P.Shelf.faults c.args.shelves.now.items)) c.args.plans.now c.args.scripts.now c.loop-number.number
+      c.index-plans-number.result c.args.house c.loop-number.house c.start_boot.new.house c.play_next-played.result.0
+      (plan-at c.args.plans.now c.loop-number.number c.index-plans-number.result c.index-plans-number.is c.loop-number-test.true)
+      c.loop-number.invariant.ran c.in-None.ensures
+      (subst (λ (of_boot : List (List Item)). BootMore g.K.Keeper.faults c.play_next-played.result.1 c.loop-number.wanting (files_for (shelves_told g.P.Shelf.files g.P.Shelf.faults c.args.shelves.now.items)) of_boot c.start_boot.new.house c.play_next-played.result.0)
+      c.scripts_of-of_boot.ensures
+      (same-files g.K.Keeper.faults c.play_next-played.result.1 c.loop-number.wanting (files_for (shelves_told g.P.Shelf.files g.P.Shelf.faults c.loop-number.shelves.items)) (files_for (shelves_told g.P.Shelf.files g.P.Shelf.faults c.args.shelves.now.items)) c.scripts_of-of_boot.result.now
+      c.start_boot.new.house c.play_next-played.result.0
+      (files-stay (shelves_told g.P.Shelf.files g.P.Shelf.faults c.args.shelves.now.items) (shelves_told g.P.Shelf.files g.P.Shelf.faults c.loop-number.shelves.items) c.loop-number.invariant.kept) c.play_next-played.ensures.more));
+  kept = shelves-both (shelves_told g.P.Shelf.files g.P.Shelf.faults c.args.shelves.now.items) (shelves_told g.P.Shelf.files g.P.Shelf.faults c.loop-number.shelves.items) (shelves_told g.P.Shelf.files g.P.Shelf.faults c.play_next-played.new.shelves.items)
+      c.loop-number.invariant.kept c.play_next-played.ensures.kept;
+}

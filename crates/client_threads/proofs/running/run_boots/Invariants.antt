@@ -1,0 +1,11 @@
+use Rattle.client_plays.specs.Has.{shelves_told}
+use Rattle.client_plays.specs.Shelves.{files_for}
+use Rattle.client_plays.specs.Tools.{ShelvesStay}
+use Rattle.campaign_runs.specs.Runs.{RanSoFar}
+use Rattle.client_threads.proofs.running.run_boots.Given as goal
+
+abbrev pub invariant-loop-number : goal.invariant-loop-number
+invariant-loop-number g l = record {
+  ran : RanSoFar g.K.Keeper.faults l.wanting (files_for (shelves_told g.P.Shelf.files g.P.Shelf.faults l.fn.shelves.items)) l.plans l.scripts l.number l.fn.house l.house;
+  kept : ShelvesStay (shelves_told g.P.Shelf.files g.P.Shelf.faults l.fn.shelves.items) (shelves_told g.P.Shelf.files g.P.Shelf.faults l.shelves.items);
+}

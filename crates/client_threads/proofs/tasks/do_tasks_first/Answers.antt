@@ -1,0 +1,19 @@
+use Rattle.std.proofs.Common.{subst, sym}
+use Rattle.daemon_core.specs.Housed.{past, rows_before}
+use Rattle.client_plays.specs.Endings.{HouseWent}
+use Rattle.client_plays.specs.Moments.{began}
+use Rattle.client_plays.specs.Plays.{TaskPlays}
+use Rattle.client_plays.specs.Scripts.{tasks}
+use Rattle.client_plays.specs.Tools.{Files}
+use Rattle.client_threads.proofs.Shelves.{files-first, stay-first}
+use Rattle.client_threads.proofs.tasks.do_tasks_first.Goals as goal
+
+pub returns-clause-went : goal.returns-clause-went
+returns-clause-went g c =
+    let house = c.args.house.now in
+    subst (λ (f : Files). HouseWent g.K.Keeper.faults c.do_tasks.result 0 (TaskPlays house.annals.facts f) (tasks house.annals.facts (rows_before house.annals) (began (past house))) house c.do_tasks.new.house)
+    (sym (files-first g.P.Shelf.files g.P.Shelf.faults c.args.shelves.now.items c.index_mut.result.now c.requires.shelf c.index_mut.ensures.value)) c.do_tasks.ensures.went
+
+pub returns-clause-kept : goal.returns-clause-kept
+returns-clause-kept g c =
+    stay-first g.P.Shelf.files g.P.Shelf.faults c.args.shelves.now.items c.index_mut.result.now c.do_tasks.new.shelf c.requires.shelf c.index_mut.ensures.value c.do_tasks.ensures.files c.do_tasks.ensures.counts

@@ -1,0 +1,30 @@
+-- A house round which a daemon may begin, and the name that it has then.
+use Rattle.std.specs.Prelude.{◌≡◌, ◌<◌, ◌-◌, ℕ, true, None}
+use Rattle.update_log.specs.Pasts.{boots}
+use Rattle.daemon_core.specs.Housed.{Housed, past}
+use Rattle.daemon_core.specs.Keeping.{keeper_faults}
+use Rattle.client_plays.specs.Endings.{IsCounted, IsIdle}
+use Rattle.shared_daemon.specs.Entries.{chronicle}
+use Rattle.shared_daemon.specs.Names.{Name}
+
+-- It was booted, and took the rows that it loaded; each fault of the keeper that its log tells was counted;
+-- and nobody has anything out.
+pub record CanBegin {K : Type 0} (faults : K → ℕ) (h : Housed K) : Type 0 where
+  pub loaded : h.annals.loaded ≡ true
+  pub booted : 0 < boots (past h)
+  pub counted : IsCounted faults h
+  pub idle : IsIdle (past h)
+
+-- All that no turn changes, as it is now.
+abbrev pub name_of : {K : Type 0} → (K → ℕ) → Housed K → Name
+name_of faults h =
+    record {
+      facts = h.annals.facts;
+      first = h.annals.first;
+      opening = h.annals.opening;
+      boots = boots (past h);
+      start = chronicle h;
+      start_faults = faults h.keeper;
+      first_faults = faults h.keeper - keeper_faults (past h);
+      told = None;
+    }

@@ -1,0 +1,186 @@
+//! A boot: the daemon's tasks on the plain house, and then the clients behind the daemon's lock.
+ghost use Rattle.std.specs.Prelude.{◌≡◌, ◌+◌, ◌≤◌, ◌<◌, [], All, length, map, vec_capacity};
+ghost use Rattle.std.specs.List.{range_with_len};
+ghost use Rattle.update_log.specs.Pasts.{boots};
+ghost use Rattle.daemon_core.specs.Annals.{IsAnnals};
+ghost use Rattle.daemon_core.specs.Housed.{past};
+ghost use Rattle.turn_lock.specs.Shown.{IsFresh as IsNewPass};
+ghost use Rattle.shared_daemon.specs.Entries.{chronicle};
+ghost use Rattle.shared_daemon.specs.Names.{HasNothing, IsLogOf, IsPass, KeepsName};
+ghost use Rattle.client_plays.specs.Endings.{HouseBootPlayed, IsCounted, IsFresh, IsIdle, IsScriptItem};
+ghost use Rattle.client_plays.specs.Has.{shelves_told, tools_of};
+ghost use Rattle.client_plays.specs.Shelves.{files_for};
+ghost use Rattle.client_plays.specs.Tools.{Serves, ShelvesStay};
+ghost use Rattle.client_threads.specs.Begins.{CanBegin, name_of};
+ghost use Rattle.client_threads.specs.Clients.{ClientsPlayed, NoClients, PlayedBehind};
+
+use crate::clients::{Client, play_all};
+use crate::dealing::{deal_out, either, take_back};
+use crate::tasks::do_tasks_first;
+use client_scripts::Item;
+use daemon_core::House;
+use fw_base::Listed;
+use history_keeper::Keeper;
+use outer_traits::{Gate, Shelf};
+use plugin_trait::Plugin;
+use shared_daemon::{Daemon, Naming, Pass};
+use std::alloc::Global;
+use std::marker::Brand;
+use std::sync::Wait;
+use std::thread::Threads;
+use turn_lock::Refused;
+
+// Lets the clients play, and closes the daemon. There is room for the clients, and a shelf for each. Says
+// whether memory was wanting for one of them.
+fn play_behind<
+    R: Threads + Wait + Sync,
+    K: Keeper + Send,
+    N: Naming + Send + Sync,
+    P: Shelf + Send,
+    G: Gate + Sync,
+>(
+    rt: &R,
+    daemon: Daemon<K, N>,
+    passes: Vec<Pass>,
+    clients: Vec<Client<P>>,
+    shelves: &mut Vec<P>,
+    of_boot: &[Listed<Item>],
+    plugins: &[Box<dyn Plugin>],
+    gate: &G,
+) -> (House<K>, bool)
+    requires some { 0 < length of_boot.now }
+    requires seats { daemon.seats ≡ length of_boot.now + 1 }
+    requires numbers { map (λ p. p.number) passes.items ≡ range_with_len 0 (length of_boot.now + 1) }
+    requires passes { All (IsPass daemon.id N.name) passes.items }
+    requires fresh { All (IsNewPass N.name.start) passes.items }
+    requires nothing { HasNothing N.name.start }
+    requires none { clients.items ≡ [] }
+    requires room { length of_boot.now ≤ vec_capacity clients }
+    requires shelves { length of_boot.now ≤ length shelves.old.items }
+    requires proper { All (All IsScriptItem) of_boot.now }
+    requires served { length N.name.facts.vetoes ≤ length plugins.now }
+    ensures start { IsLogOf N.name N.name.start }
+    ensures name { KeepsName K.faults N.name result.0 }
+    ensures log { IsLogOf N.name (chronicle result.0) }
+    ensures nothing { HasNothing (chronicle result.0) }
+    ensures annals { IsAnnals result.0.annals }
+    ensures played { PlayedBehind result.1 N.name (files_for (shelves_told P.files P.faults shelves.old.items)) of_boot.now (chronicle result.0) }
+    ensures kept { ShelvesStay (shelves_told P.files P.faults shelves.old.items) (shelves_told P.files P.faults shelves.new.items) }
+{
+    let mut passes = passes;
+    let mut clients = clients;
+    let own = deal_out(&mut passes, shelves, &mut clients);
+    play_all(rt, &daemon, &mut clients, of_boot, plugins, gate);
+    let wanting = take_back(own, clients, &mut passes, shelves);
+    let house = daemon.close(passes);
+    house.known();
+    (house, wanting)
+}
+
+// Puts the house behind the lock of a daemon, with a pass for each client, and lets the clients play. Where
+// there is no memory for that, they are left, and it says so.
+fn play_named<
+    R: Threads + Wait + Sync,
+    K: Keeper + Send,
+    N: Naming + Send + Sync,
+    P: Shelf + Send,
+    G: Gate + Sync,
+>(
+    rt: &R,
+    alloc: Global,
+    house: House<K>,
+    shelves: &mut Vec<P>,
+    of_boot: &[Listed<Item>],
+    plugins: &[Box<dyn Plugin>],
+    gate: &G,
+) -> (House<K>, bool)
+    requires name { N.name ≡ name_of K.faults house }
+    requires begins { CanBegin K.faults house }
+    requires none { NoClients (past house) }
+    requires some { 0 < length of_boot.now }
+    requires few { length of_boot.now ≤ 16 }
+    requires proper { All (All IsScriptItem) of_boot.now }
+    requires shelves { length of_boot.now ≤ length shelves.old.items }
+    requires served { length house.annals.facts.vetoes ≤ length plugins.now }
+    ensures played { ClientsPlayed K.faults result.1 (files_for (shelves_told P.files P.faults shelves.old.items)) of_boot.now house result.0 }
+    ensures kept { ShelvesStay (shelves_told P.files P.faults shelves.old.items) (shelves_told P.files P.faults shelves.new.items) }
+{
+    house.known();
+    let Ok(clients) = Vec::with_capacity(alloc, of_boot.len()) else {
+        return (house, true);
+    };
+    match Daemon::<K, N>::begin(alloc, house, of_boot.len() as u32) {
+        Ok((daemon, passes)) => play_behind(
+            rt, daemon, passes, clients, shelves, of_boot, plugins, gate,
+        ),
+        Err(refused) => {
+            clients.destroy_empty();
+            let Refused { value } = refused;
+            (value, true)
+        }
+    }
+}
+
+// Lets the clients of a boot play, each with a shelf of its own, once the daemon did its tasks. In a boot
+// that is off they do nothing. Says whether memory was wanting, for which something was left.
+fn play_clients<R: Threads + Wait + Sync, K: Keeper + Send, P: Shelf + Send, G: Gate + Sync>(
+    rt: &R,
+    alloc: Global,
+    house: House<K>,
+    shelves: &mut Vec<P>,
+    of_boot: &[Listed<Item>],
+    plugins: &[Box<dyn Plugin>],
+    gate: &G,
+) -> (House<K>, bool)
+    requires booted { 0 < boots (past house) }
+    requires idle { IsIdle (past house) }
+    requires counted { IsCounted K.faults house }
+    requires none { NoClients (past house) }
+    requires few { length of_boot.now ≤ 16 }
+    requires proper { All (All IsScriptItem) of_boot.now }
+    requires shelves { length of_boot.now ≤ length shelves.old.items }
+    requires served { length house.annals.facts.vetoes ≤ length plugins.now }
+    ensures played { ClientsPlayed K.faults result.1 (files_for (shelves_told P.files P.faults shelves.old.items)) of_boot.now house result.0 }
+    ensures kept { ShelvesStay (shelves_told P.files P.faults shelves.old.items) (shelves_told P.files P.faults shelves.new.items) }
+{
+    if of_boot.is_empty() {
+        return (house, false);
+    }
+    if house.is_off() {
+        return (house, false);
+    }
+    house.known();
+    play_named::<R, K, Brand, P, G>(rt, alloc, house, shelves, of_boot, plugins, gate)
+}
+
+/// Plays a boot that has just begun: the daemon does its tasks, and then each client plays its script, on a
+/// thread of its own. Says whether memory was wanting, for which something was left.
+pub(crate) fn play_boot<
+    R: Threads + Wait + Sync,
+    K: Keeper + Send,
+    P: Shelf + Send,
+    G: Gate + Sync,
+>(
+    rt: &R,
+    alloc: Global,
+    house: House<K>,
+    shelves: &mut Vec<P>,
+    of_boot: &[Listed<Item>],
+    plugins: &[Box<dyn Plugin>],
+    gate: &G,
+) -> (House<K>, bool)
+    requires booted { 0 < boots (past house) }
+    requires idle { IsIdle (past house) }
+    requires fresh { IsFresh (past house) }
+    requires counted { IsCounted K.faults house }
+    requires proper { All (All IsScriptItem) of_boot.now }
+    requires few { length of_boot.now ≤ 16 }
+    requires serves { Serves (tools_of P.files P.faults (length plugins.now) shelves.old.items) house.annals.facts (length of_boot.now) }
+    ensures played { HouseBootPlayed K.faults result.1 (files_for (shelves_told P.files P.faults shelves.old.items)) of_boot.now house result.0 }
+    ensures kept { ShelvesStay (shelves_told P.files P.faults shelves.old.items) (shelves_told P.files P.faults shelves.new.items) }
+{
+    let mut house = house;
+    let now = do_tasks_first(alloc, &mut house, shelves, plugins);
+    let (house, wanting) = play_clients(rt, alloc, house, shelves, of_boot, plugins, gate);
+    (house, either(now, wanting))
+}

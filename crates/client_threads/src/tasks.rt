@@ -1,0 +1,37 @@
+//! The daemon's own tasks, with the shelf that it shares with the first client.
+ghost use Rattle.std.specs.Prelude.{◌≡◌, ◌≤◌, ◌<◌, length};
+ghost use Rattle.update_log.specs.Pasts.{boots};
+ghost use Rattle.daemon_core.specs.Housed.{past, rows_before};
+ghost use Rattle.client_plays.specs.Endings.{HouseWent, IsFresh, IsIdle};
+ghost use Rattle.client_plays.specs.Has.{shelves_told};
+ghost use Rattle.client_plays.specs.Moments.{began};
+ghost use Rattle.client_plays.specs.Plays.{TaskPlays};
+ghost use Rattle.client_plays.specs.Scripts.{tasks};
+ghost use Rattle.client_plays.specs.Shelves.{files_for};
+ghost use Rattle.client_plays.specs.Tools.{ShelvesStay};
+
+use daemon_core::House;
+use daemon_tasks::do_tasks;
+use history_keeper::Keeper;
+use outer_traits::Shelf;
+use plugin_trait::Plugin;
+use std::alloc::Global;
+
+/// Does the tasks of a boot that has just begun, with the first of these shelves. Says whether memory was
+/// wanting.
+pub(crate) fn do_tasks_first<K: Keeper, P: Shelf>(
+    alloc: Global,
+    house: &mut House<K>,
+    shelves: &mut Vec<P>,
+    plugins: &[Box<dyn Plugin>],
+) -> bool
+    requires booted { 0 < boots (past house.old) }
+    requires idle { IsIdle (past house.old) }
+    requires fresh { IsFresh (past house.old) }
+    requires shelf { 0 < length shelves.old.items }
+    requires served { length house.old.annals.facts.vetoes ≤ length plugins.now }
+    ensures went { HouseWent K.faults result 0 (TaskPlays house.old.annals.facts (files_for (shelves_told P.files P.faults shelves.old.items) 0)) (tasks house.old.annals.facts (rows_before house.old.annals) (began (past house.old))) house.old house.new }
+    ensures kept { ShelvesStay (shelves_told P.files P.faults shelves.old.items) (shelves_told P.files P.faults shelves.new.items) }
+{
+    do_tasks(alloc, house, &mut shelves[0], plugins)
+}

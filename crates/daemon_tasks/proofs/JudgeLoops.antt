@@ -1,0 +1,225 @@
+-- Rows that are judged, one after the other.
+use Rattle.std.proofs.Common.{◌≡◌, ◌⊎◌, ℕ, ◌<◌, ◌≤◌, ◌+◌, Bool, true, false, ◌&&◌, ◌||◌, List, [], ◌∷◌, ◌++◌, map, append_assoc, refl, ap, sym, ◌∙◌, subst, inl, inr, suc, take, drop, length, get_or}
+use Rattle.std.proofs.lemmas.List.{map-append, take_all}
+use Rattle.std.proofs.lemmas.List.Folds.{list_any-append}
+use Rattle.std.specs.Prelude.{Option, Some, None, ◌==◌, not, filter, option_map, unwrap_or}
+use Rattle.std.specs.List.{list_any}
+use Rattle.fw_facts.specs.Views.{is_home}
+use Rattle.fw_facts.specs.declared.view.DeviceView.{DeviceView}
+use Rattle.history_keeper.specs.declared.row.Row.{Row}
+use Rattle.history_keeper.specs.declared.row.RowState.{RowState}
+use Rattle.update_log.proofs.Lists.{by_test, eqb-other, eqb-self}
+use Rattle.update_log.specs.declared.event.Event.{Event}
+use Rattle.update_log.specs.declared.facts.Facts.{Facts}
+use Rattle.update_log.specs.Holding.{live}
+use Rattle.update_log.specs.Known.{row_of, views}
+use Rattle.update_log.specs.Legal.{may_judge}
+use Rattle.update_log.specs.Pasts.{finished, off}
+use Rattle.update_log.specs.Steps.{view_of_row}
+use Rattle.daemon_core.specs.Housed.{Annalled, Housed, past, past_in, rows_before}
+use Rattle.client_plays.specs.Endings.{HouseWent, IsIdle, SoFar}
+use Rattle.client_plays.specs.Moments.{Moment}
+use Rattle.client_plays.specs.Plays.{Task, TaskPlays, ToJudge}
+use Rattle.client_plays.specs.Scripts.{PlayedSo, PlaysAll, PlaysUntil, is_judgeable}
+use Rattle.client_plays.specs.Tools.{Files}
+use Rattle.client_plays.proofs.BootLaws.{so-told}
+use Rattle.client_plays.proofs.ListLaws.{taken-here, taken-more}
+use Rattle.client_plays.proofs.MomentLaws.{did-both}
+use Rattle.client_plays.proofs.PlayLaws.{task-unplayed}
+use Rattle.client_plays.proofs.RestLaws.{rest-both, so-left, so_far-nothing}
+use Rattle.client_plays.proofs.ScriptLaws.{until-nothing}
+use Rattle.daemon_tasks.specs.Judged.{AllKnown, HouseTried, JudgeStays, can_judge, to_judge, to_judge_in}
+use Rattle.daemon_tasks.specs.Stays.{AreApart, RowsStay, rows_at}
+
+-- ---- lists of plays
+
+pub all-append : {X : Type 0} (wanting : Bool) (client : ℕ) (Play : X → List Moment → Type 0) (xs ys : List X) (moments more : List Moment) → PlaysAll wanting client Play xs moments → PlaysAll wanting client Play ys more → PlaysAll wanting client Play (xs ++ ys) (moments ++ more)
+all-append wanting client Play [] ys moments more p q = subst (λ (m : List Moment). PlaysAll wanting client Play ys (m ++ more)) (sym p) q
+all-append wanting client Play (x ∷ xs) ys moments more p q =
+    record {
+      first = p.first;
+      rest = p.rest ++ more;
+      are = ap (λ (m : List Moment). m ++ more) p.are ∙ append_assoc p.first p.rest more;
+      first_is = p.first_is;
+      rest_is = all-append wanting client Play xs ys p.rest more p.rest_is q;
+    }
+
+pub until-append : {X : Type 0} (wanting : Bool) (client : ℕ) (Play : X → List Moment → Type 0) (xs ys : List X) (moments more : List Moment) → PlaysAll wanting client Play xs moments → PlaysUntil wanting client Play ys more → PlaysUntil wanting client Play (xs ++ ys) (moments ++ more)
+until-append wanting client Play [] ys moments more p q = subst (λ (m : List Moment). PlaysUntil wanting client Play ys (m ++ more)) (sym p) q
+until-append wanting client Play (x ∷ xs) ys moments more p q =
+    inr (record {
+      first = p.first;
+      rest = p.rest ++ more;
+      are = ap (λ (m : List Moment). m ++ more) p.are ∙ append_assoc p.first p.rest more;
+      first_is = p.first_is;
+      rest_is = until-append wanting client Play xs ys p.rest more p.rest_is q;
+    })
+
+-- All of a list were played, and what came of another one behind them.
+pub so-after : {X : Type 0} (is_off wanting told : Bool) (client : ℕ) (Play : X → List Moment → Type 0) (xs ys : List X) (moments more : List Moment) → (wanting ≡ true → told ≡ true) → PlaysAll wanting client Play xs moments → PlayedSo is_off told client Play ys more → PlayedSo is_off told client Play (xs ++ ys) (moments ++ more)
+so-after true wanting told client Play xs ys moments more h p q = until-append told client Play xs ys moments more (so-told false wanting told client Play xs moments h p) q
+so-after false wanting told client Play xs ys moments more h p q = all-append told client Play xs ys moments more (so-told false wanting told client Play xs moments h p) q
+
+-- ---- the tasks of a list of entries
+
+filter-append : {X : Type 0} (p : X → Bool) (xs ys : List X) → filter p (xs ++ ys) ≡ filter p xs ++ filter p ys
+filter-append p [] ys = refl
+filter-append p (x ∷ xs) ys =
+    let rest : filter p (xs ++ ys) ≡ filter p xs ++ filter p ys = filter-append p xs ys in
+    by_test (p x) _ (λ t. rw t (ap (λ (l : List _). x ∷ l) rest)) (λ t. rw t rest)
+
+pub judge-append : (facts : Facts) (opening : List Row) (past : List Event) (xs ys : List ℕ) → to_judge facts opening past (xs ++ ys) ≡ to_judge facts opening past xs ++ to_judge facts opening past ys
+judge-append facts opening past xs ys =
+    ap (map ToJudge) (filter-append (can_judge facts opening past) xs ys)
+    ∙ map-append ToJudge (filter (can_judge facts opening past) xs) (filter (can_judge facts opening past) ys)
+
+-- ---- whether another row can be judged stays the same
+
+may-same : (p q : List Event) (state : RowState) (entry : ℕ) → live p ≡ [] → live q ≡ [] → finished entry p ≡ finished entry q → may_judge p state entry ≡ may_judge q state entry
+may-same p q RowState.Pending entry l m f = refl
+may-same p q RowState.Begun entry l m f = rw (l, m) refl
+may-same p q RowState.NeedsReboot entry l m f = ap not f
+may-same p q RowState.Success entry l m f = refl
+may-same p q RowState.Failed entry l m f = refl
+
+can-same : (entries : List ℕ) (old mid : Annalled) (entry : ℕ) → live (past_in old) ≡ [] → live (past_in mid) ≡ [] → JudgeStays entries old mid → list_any (λ e. e == entry) entries ≡ false → can_judge mid.facts (rows_before mid) (past_in mid) entry ≡ can_judge old.facts (rows_before old) (past_in old) entry
+can-same entries old mid entry l m s n =
+    ap (λ (o : Option Row). unwrap_or (option_map (is_judgeable (past_in mid) (views mid.facts (rows_before mid) (past_in mid))) o) false) (s.rows entry n)
+    ∙ by (row_of (rows_at old) entry)
+  where
+    by : (o : Option Row) → unwrap_or (option_map (is_judgeable (past_in mid) (views mid.facts (rows_before mid) (past_in mid))) o) false ≡ unwrap_or (option_map (is_judgeable (past_in old) (views old.facts (rows_before old) (past_in old))) o) false
+    by None = refl
+    by (Some row) =
+        ap (λ (b : Bool). b && unwrap_or (option_map (λ v. is_home v.seen) (view_of_row (views mid.facts (rows_before mid) (past_in mid)) row)) false)
+        (may-same (past_in mid) (past_in old) row.state row.entry m l (s.finished row.entry))
+        ∙ ap (λ (v : List DeviceView). may_judge (past_in old) row.state row.entry && unwrap_or (option_map (λ w. is_home w.seen) (view_of_row v row)) false) s.views
+
+abbrev kept : Bool → ℕ → List Task
+kept true entry = ToJudge entry ∷ []
+kept false entry = []
+
+one : (a : Annalled) (entry : ℕ) (b : Bool) → can_judge a.facts (rows_before a) (past_in a) entry ≡ b → to_judge_in a (entry ∷ []) ≡ kept b entry
+one a entry true t = rw t refl
+one a entry false t = rw t refl
+
+one-same : (entries : List ℕ) (old mid : Annalled) (entry : ℕ) → live (past_in old) ≡ [] → live (past_in mid) ≡ [] → JudgeStays entries old mid → list_any (λ e. e == entry) entries ≡ false → to_judge_in mid (entry ∷ []) ≡ to_judge_in old (entry ∷ [])
+one-same entries old mid entry l m s n =
+    let same = can-same entries old mid entry l m s n in
+    by_test (can_judge old.facts (rows_before old) (past_in old) entry) _
+    (λ t. let u : can_judge mid.facts (rows_before mid) (past_in mid) entry ≡ true = same ∙ t in one mid entry true u ∙ sym (one old entry true t))
+    (λ t. let u : can_judge mid.facts (rows_before mid) (past_in mid) entry ≡ false = same ∙ t in one mid entry false u ∙ sym (one old entry false t))
+
+or-none : (a b : Bool) → (a || b) ≡ false → (a ≡ false) × (b ≡ false)
+or-none true b h = cc
+or-none false b h = (refl, h)
+
+any-none : (entries : List ℕ) (entry other : ℕ) → list_any (λ e. e == other) (entries ++ entry ∷ []) ≡ false → (list_any (λ e. e == other) entries ≡ false) × (list_any (λ e. e == other) (entry ∷ []) ≡ false)
+any-none entries entry other h = or-none _ _ (sym (list_any-append (λ e. e == other) entries (entry ∷ [])) ∙ h)
+
+stays-more : (entries : List ℕ) (entry : ℕ) (old mid new : Annalled) → JudgeStays entries old mid → JudgeStays (entry ∷ []) mid new → JudgeStays (entries ++ entry ∷ []) old new
+stays-more entries entry old mid new s t =
+    record {
+      rows = λ other h. let p = any-none entries entry other h in t.rows other p.1 ∙ s.rows other p.0;
+      views = t.views ∙ s.views;
+      finished = λ n. t.finished n ∙ s.finished n;
+    }
+
+-- ---- so far
+
+-- These entries were gone through.
+pub record JudgedSoFar {K : Type 0} (faults : K → ℕ) (facts : Facts) (files : Files) (wanting : Bool) (entries : List ℕ) (old new : Housed K) : Type 0 where
+  pub so_far : SoFar faults wanting 0 (TaskPlays facts files) (to_judge_in old.annals entries) old new
+  pub stays : JudgeStays entries old.annals new.annals
+
+pub judged-none : {K : Type 0} (faults : K → ℕ) (facts : Facts) (files : Files) (wanting : Bool) (h : Housed K) → IsIdle (past h) → JudgedSoFar faults facts files wanting [] h h
+judged-none faults facts files wanting h i =
+    record { so_far = so_far-nothing faults wanting 0 (TaskPlays facts files) h i; stays = record { rows = λ other n. refl; views = refl; finished = λ n. refl } }
+
+told-so : (now wanting : Bool) → (now ≡ true) ⊎ (now ≡ wanting) → wanting ≡ true → now ≡ true
+told-so now wanting (inl e) w = e
+told-so now wanting (inr e) w = e ∙ w
+
+-- One entry more was.
+pub judged-more : {K : Type 0} (faults : K → ℕ) (facts : Facts) (files : Files) (now wanting : Bool) (entries : List ℕ) (entry : ℕ) (old mid new : Housed K) → IsIdle (past old) → list_any (λ e. e == entry) entries ≡ false → JudgedSoFar faults facts files wanting entries old mid
+    → HouseTried faults facts files (Some now) wanting (to_judge_in mid.annals (entry ∷ [])) mid new → JudgeStays (entry ∷ []) mid.annals new.annals → JudgedSoFar faults facts files now (entries ++ entry ∷ []) old new
+judged-more faults facts files now wanting entries entry old mid new i n s t stays =
+    let same = one-same entries old.annals mid.annals entry i.no_live s.so_far.rest.idle.no_live s.stays n in
+    let one : PlaysAll now 0 (TaskPlays facts files) (to_judge_in old.annals (entry ∷ [])) t.moments = subst (λ (ts : List Task). PlaysAll now 0 (TaskPlays facts files) ts t.moments) same t.more.1 in
+    let before : PlaysAll now 0 (TaskPlays facts files) (to_judge_in old.annals entries) s.so_far.moments = so-told false wanting now 0 (TaskPlays facts files) (to_judge_in old.annals entries) s.so_far.moments (told-so now wanting t.more.0) s.so_far.plays in
+    record {
+      so_far = record {
+        moments = s.so_far.moments ++ t.moments;
+        did = did-both 0 s.so_far.moments t.moments (past old) (past mid) (past new) s.so_far.did t.did;
+        plays = subst (λ (ts : List Task). PlaysAll now 0 (TaskPlays facts files) ts (s.so_far.moments ++ t.moments)) (sym (judge-append old.annals.facts (rows_before old.annals) (past old) entries (entry ∷ [])))
+            (all-append now 0 (TaskPlays facts files) (to_judge_in old.annals entries) (to_judge_in old.annals (entry ∷ [])) s.so_far.moments t.moments before one);
+        rest = rest-both faults old mid new s.so_far.rest t.rest;
+      };
+      stays = stays-more entries entry old.annals mid.annals new.annals s.stays stays;
+    }
+
+-- The boot is off.
+pub judged-off : {K : Type 0} (faults : K → ℕ) (facts : Facts) (files : Files) (wanting : Bool) (entries others all : List ℕ) (more : List Task) (old mid new : Housed K) → entries ++ others ≡ all → JudgedSoFar faults facts files wanting entries old mid
+    → (tasks : List Task) → HouseTried faults facts files None wanting tasks mid new → HouseWent faults wanting 0 (TaskPlays facts files) (to_judge_in old.annals all ++ more) old new
+judged-off faults facts files wanting entries others all more old mid new e s tasks t =
+    let rest = to_judge_in old.annals others ++ more in
+    let split : to_judge_in old.annals all ++ more ≡ to_judge_in old.annals entries ++ rest =
+    ap (λ (es : List ℕ). to_judge_in old.annals es ++ more) (sym e)
+    ∙ ap (λ (ts : List Task). ts ++ more) (judge-append old.annals.facts (rows_before old.annals) (past old) entries others)
+    ∙ append_assoc (to_judge_in old.annals entries) (to_judge_in old.annals others) more
+    in
+    let none : PlaysUntil wanting 0 (TaskPlays facts files) rest t.moments = subst (λ (m : List Moment). PlaysUntil wanting 0 (TaskPlays facts files) rest m) (sym t.more.0) (until-nothing wanting 0 (TaskPlays facts files) rest (task-unplayed facts files 0)) in
+    record {
+      went = record {
+        moments = s.so_far.moments ++ t.moments;
+        did = did-both 0 s.so_far.moments t.moments (past old) (past mid) (past new) s.so_far.did t.did;
+        plays = subst (λ (ts : List Task). PlayedSo (off (past new)) wanting 0 (TaskPlays facts files) ts (s.so_far.moments ++ t.moments)) (sym split)
+            (so-left (off (past new)) wanting 0 (TaskPlays facts files) (to_judge_in old.annals entries ++ rest) (s.so_far.moments ++ t.moments) t.more.1
+            (until-append wanting 0 (TaskPlays facts files) (to_judge_in old.annals entries) rest s.so_far.moments t.moments s.so_far.plays none));
+      };
+      rest = rest-both faults old mid new s.so_far.rest t.rest;
+    }
+
+-- ---- entries that stand once
+
+-- An entry isn't among those before it.
+pub not-before : (before : List ℕ) (entry : ℕ) (behind all : List ℕ) → before ++ entry ∷ behind ≡ all → AreApart all → list_any (λ e. e == entry) before ≡ false
+not-before before entry behind all e a = by before (subst AreApart (sym e) a)
+  where
+    not-in : (x : ℕ) (ys : List ℕ) → list_any (λ e. e == x) (ys ++ entry ∷ behind) ≡ false → (x == entry) ≡ false
+    not-in x [] h = eqb-other x entry (λ s. let t : (entry == x) ≡ true = ap (λ (n : ℕ). n == x) (sym s) ∙ eqb-self x in let f : (entry == x) ≡ false = (or-none _ _ h).0 in let bad : true ≡ false = sym t ∙ f in cc)
+    not-in x (y ∷ ys) h = not-in x ys (or-none _ _ h).1
+
+    by : (xs : List ℕ) → AreApart (xs ++ entry ∷ behind) → list_any (λ e. e == entry) xs ≡ false
+    by [] a = refl
+    by (x ∷ xs) a = let f : (x == entry) ≡ false = not-in x xs a.0 in rw f (by xs a.1)
+
+-- ---- turns of the loop
+
+turn-known : (a : Annalled) (before : List ℕ) (entry : ℕ) (behind : List ℕ) → AllKnown a (before ++ entry ∷ behind) → (row : Row) × (row_of (rows_at a) entry ≡ Some row)
+turn-known a [] entry behind k = k.0
+turn-known a (x ∷ before) entry behind k = turn-known a before entry behind k.1
+
+-- The next entry has its row.
+pub known-turn : (entries : List ℕ) (i : ℕ) (old mid : Annalled) → i < length entries → AreApart entries → AllKnown old entries → JudgeStays (take i entries) old mid → (row : Row) × (row_of (rows_at mid) (get_or entries i 0) ≡ Some row)
+known-turn entries i old mid lt a k s =
+    let e = taken-here entries i 0 lt in
+    let n = not-before (take i entries) (get_or entries i 0) (drop (suc i) entries) entries e a in
+    let r = turn-known old (take i entries) (get_or entries i 0) (drop (suc i) entries) (subst (AllKnown old) (sym e) k) in
+    (r.0, s.rows (get_or entries i 0) n ∙ r.1)
+
+pub judged-turn : {K : Type 0} (faults : K → ℕ) (facts : Facts) (files : Files) (now wanting : Bool) (entries : List ℕ) (i : ℕ) (old mid new : Housed K) → i < length entries → AreApart entries → IsIdle (past old) → JudgedSoFar faults facts files wanting (take i entries) old mid
+    → HouseTried faults facts files (Some now) wanting (to_judge_in mid.annals (get_or entries i 0 ∷ [])) mid new → JudgeStays (get_or entries i 0 ∷ []) mid.annals new.annals → JudgedSoFar faults facts files now (take (i + 1) entries) old new
+judged-turn faults facts files now wanting entries i old mid new lt a idle s t stays =
+    let n = not-before (take i entries) (get_or entries i 0) (drop (suc i) entries) entries (taken-here entries i 0 lt) a in
+    subst (λ (es : List ℕ). JudgedSoFar faults facts files now es old new) (taken-more entries i 0 lt)
+    (judged-more faults facts files now wanting (take i entries) (get_or entries i 0) old mid new idle n s t stays)
+
+pub off-turn : {K : Type 0} (faults : K → ℕ) (facts : Facts) (files : Files) (wanting : Bool) (entries : List ℕ) (i : ℕ) (old mid new : Housed K) → i < length entries → JudgedSoFar faults facts files wanting (take i entries) old mid → (tasks : List Task) → HouseTried faults facts files None wanting tasks mid new
+    → (more : List Task) → HouseWent faults wanting 0 (TaskPlays facts files) (to_judge_in old.annals entries ++ more) old new
+off-turn faults facts files wanting entries i old mid new lt s tasks t more =
+    judged-off faults facts files wanting (take i entries) (get_or entries i 0 ∷ drop (suc i) entries) entries more old mid new (taken-here entries i 0 lt) s tasks t
+
+pub judged-end : {K : Type 0} (faults : K → ℕ) (facts : Facts) (files : Files) (wanting : Bool) (entries : List ℕ) (i : ℕ) (old new : Housed K) → length entries ≤ i → JudgedSoFar faults facts files wanting (take i entries) old new → SoFar faults wanting 0 (TaskPlays facts files) (to_judge_in old.annals entries) old new × RowsStay entries old.annals new.annals
+judged-end faults facts files wanting entries i old new le s =
+    let whole : JudgedSoFar faults facts files wanting entries old new = subst (λ (es : List ℕ). JudgedSoFar faults facts files wanting es old new) (take_all i entries le) s in
+    (whole.so_far, whole.stays.rows)

@@ -1,0 +1,266 @@
+-- A row that may be judged.
+use Rattle.std.proofs.Common.{◌≡◌, ℕ, ◌≤◌, Bool, true, false, ◌&&◌, ◌||◌, List, [], ◌∷◌, ◌++◌, map, refl, ap, sym, ◌∙◌, subst, inl, inr}
+use Rattle.std.proofs.lemmas.Bool.{eqb-true}
+use Rattle.std.specs.Prelude.{Option, Some, None, Result, Ok, Err, ◌==◌, if◌then◌else◌, option_map, unwrap_or}
+use Rattle.fw_facts.specs.Views.{is_home, version_of, version_shown}
+use Rattle.fw_facts.specs.declared.seen.Seen.{Seen}
+use Rattle.fw_facts.specs.declared.view.DeviceView.{DeviceView}
+use Rattle.history_keeper.specs.Histories.{is_unsettled}
+use Rattle.history_keeper.specs.declared.row.Row.{Row}
+use Rattle.history_keeper.specs.declared.row.RowState.{RowState}
+use Rattle.update_log.proofs.Lists.{find-passes}
+use Rattle.update_log.specs.declared.event.Event.{Event}
+use Rattle.update_log.specs.declared.event.Stored.{Stored}
+use Rattle.update_log.specs.declared.facts.Facts.{Facts}
+use Rattle.update_log.specs.declared.live.LiveEntry.{LiveEntry}
+use Rattle.update_log.specs.Boards.{Board, devices}
+use Rattle.update_log.specs.Holding.{live}
+use Rattle.update_log.specs.Known.{Known, known, row_of, view_of, views, views_in}
+use Rattle.update_log.specs.Legal.{may_judge}
+use Rattle.update_log.specs.Pasts.{finished}
+use Rattle.update_log.specs.Steps.{view_of_row}
+use Rattle.daemon_core.proofs.AnnalsKept.{appended-past}
+use Rattle.daemon_core.proofs.JudgeKept.{IsJudged, is-judged}
+use Rattle.daemon_core.specs.declared.judged.Judged.{Judged}
+use Rattle.daemon_core.specs.declared.judged.Standing.{Standing}
+use Rattle.daemon_core.specs.declared.stop.Stop.{Stop}
+use Rattle.daemon_core.specs.Annals.{Appended, IsAnnals, SameFacts, Unchanged}
+use Rattle.daemon_core.specs.Housed.{Annalled, Housed, past, past_in, rows_before}
+use Rattle.daemon_core.specs.Judging.{JudgeTurned, judged_by, judged_on, must_wait, standing, standing_of}
+use Rattle.daemon_core.specs.Turns.{FaultsCounted}
+use Rattle.client_plays.specs.Endings.{IsIdle}
+use Rattle.client_plays.specs.Moments.{Moment, at}
+use Rattle.client_plays.specs.Plays.{Task, TaskPlays, ToJudge}
+use Rattle.client_plays.specs.Scripts.{PlaysAll, is_judgeable}
+use Rattle.client_plays.specs.Tools.{Files}
+use Rattle.client_plays.proofs.PlayLaws.{leaves-whole, task-unplayed}
+use Rattle.client_plays.proofs.RestLaws.{before-same}
+use Rattle.daemon_tasks.specs.Judged.{HouseTried, JudgeStays, Tried, can_judge, to_judge, to_judge_in, told_by}
+use Rattle.daemon_tasks.specs.Stays.{rows_at}
+use Rattle.daemon_tasks.proofs.Rows.{others-appended, rows-halted}
+use Rattle.daemon_tasks.proofs.Turns.{Halted, cut_past, did-appended, halted-did, halted-holds, halted-live, halted-memory, halted-off}
+
+-- ---- how a row stands, and whether it can be judged
+
+pub and-false : (a b : Bool) → b ≡ false → (a && b) ≡ false
+and-false true b e = e
+and-false false b e = refl
+
+settled-not : (past : List Event) (entry : ℕ) (state : RowState) → is_unsettled state ≡ false → may_judge past state entry ≡ false
+settled-not past entry RowState.Pending u = cc
+settled-not past entry RowState.NeedsReboot u = cc
+settled-not past entry RowState.Begun u = cc
+settled-not past entry RowState.Success u = refl
+settled-not past entry RowState.Failed u = refl
+
+waits-not : (past : List Event) (entry : ℕ) (state : RowState) → live past ≡ [] → must_wait past entry state ≡ true → may_judge past state entry ≡ false
+waits-not past entry RowState.Pending l w = refl
+waits-not past entry RowState.Begun l w = rw w refl
+waits-not past entry RowState.NeedsReboot l w =
+    let f : finished entry past ≡ true = rw l at w in rw f refl
+waits-not past entry RowState.Success l w = cc
+waits-not past entry RowState.Failed l w = cc
+
+unshown : (view : DeviceView) → version_of view ≡ None → is_home view.seen ≡ false
+unshown view h = by view.seen h
+  where
+    by : (s : Seen) → version_shown view.sheet s ≡ None → is_home s ≡ false
+    by (Seen.Home raw mode) h = cc
+    by Seen.Gone h = refl
+    by Seen.Stranger h = refl
+
+-- It stands otherwise than to be judged.
+abbrev pub IsUnjudged : Standing → Type 0
+IsUnjudged Standing.Settled = Unit {0}
+IsUnjudged Standing.Waits = Unit {0}
+IsUnjudged Standing.Absent = Unit {0}
+IsUnjudged (Standing.Judged version state) = ⊥
+
+absent-not : (row : Row) (o : Option DeviceView) (s : Standing) → judged_on row o ≡ s → IsUnjudged s → unwrap_or (option_map (λ v. is_home v.seen) o) false ≡ false
+absent-not row None s e n = refl
+absent-not row (Some view) s e n = by (version_of view) refl e
+  where
+    by : (v : Option (List ℕ)) → version_of view ≡ v → judged_by row v ≡ s → is_home view.seen ≡ false
+    by None h g = unshown view h
+    by (Some version) h g = absurd (subst IsUnjudged (sym g) n)
+
+unjudged-not : (past : List Event) (views : List DeviceView) (entry : ℕ) (row : Row) (s : Standing) → row.entry ≡ entry → live past ≡ [] → standing past views entry row ≡ s → IsUnjudged s → is_judgeable past views row ≡ false
+unjudged-not past views entry row s e l h n =
+    by (is_unsettled row.state) (must_wait past entry row.state) refl refl h
+  where
+    may : may_judge past row.state entry ≡ false → is_judgeable past views row ≡ false
+    may m = rw (e, m) refl
+
+    by : (u w : Bool) → is_unsettled row.state ≡ u → must_wait past entry row.state ≡ w → (if u then (if w then Standing.Waits else judged_on row (view_of_row views row)) else Standing.Settled) ≡ s → is_judgeable past views row ≡ false
+    by false w eu ew g = may (settled-not past entry row.state eu)
+    by true true eu ew g = may (waits-not past entry row.state l ew)
+    by true false eu ew g = and-false (may_judge past row.state row.entry) _ (absent-not row (view_of_row views row) s g n)
+
+-- The rows and views of the log, as they are kept.
+standing-row : (a : Annalled) (entry : ℕ) (row : Row) → IsAnnals a → row_of (rows_at a) entry ≡ Some row → standing_of a entry ≡ Some (standing (past_in a) (views a.facts (rows_before a) (past_in a)) entry row)
+standing-row a entry row k r =
+    ap (λ (v : List DeviceView). option_map (standing (past_in a) v entry) (row_of a.core.rows entry)) k.stands.views
+    ∙ ap (λ (all : List Row). option_map (standing (past_in a) (views a.facts (rows_before a) (past_in a)) entry) (row_of all entry)) k.stands.rows
+    ∙ ap (option_map (standing (past_in a) (views a.facts (rows_before a) (past_in a)) entry)) r
+
+own-entry : (all : List Row) (entry : ℕ) (row : Row) → row_of all entry ≡ Some row → row.entry ≡ entry
+own-entry all entry row r = eqb-true row.entry entry (find-passes (λ x. x.entry == entry) all row r)
+
+some-is : {X : Type 0} (a b : X) → Some a ≡ Some b → a ≡ b
+some-is a b e = cc
+
+can-not : (a : Annalled) (entry : ℕ) (row : Row) (s : Standing) → IsAnnals a → live (past_in a) ≡ [] → row_of (rows_at a) entry ≡ Some row → standing_of a entry ≡ Some s → IsUnjudged s → can_judge a.facts (rows_before a) (past_in a) entry ≡ false
+can-not a entry row s k l r h n =
+    let V = views a.facts (rows_before a) (past_in a) in
+    let is : standing (past_in a) V entry row ≡ s = some-is (standing (past_in a) V entry row) s (sym (standing-row a entry row k r) ∙ h) in
+    ap (λ (o : Option Row). unwrap_or (option_map (is_judgeable (past_in a) V) o) false) r
+    ∙ unjudged-not (past_in a) V entry row s (own-entry (rows_at a) entry row r) l is n
+
+judged-can : (past : List Event) (views : List DeviceView) (all : List Row) (entry : ℕ) (version : List ℕ) (state : RowState) → IsJudged past views all entry version state → unwrap_or (option_map (is_judgeable past views) (row_of all entry)) false ≡ true
+judged-can past views all entry version state j =
+    let e : j.row.entry ≡ entry = own-entry all entry j.row j.row_is in
+    let may : may_judge past j.row.state j.row.entry ≡ true = ap (λ (n : ℕ). may_judge past j.row.state n) e ∙ j.waits in
+    let home : unwrap_or (option_map (λ v. is_home v.seen) (view_of_row views j.row)) false ≡ true = ap (λ (o : Option DeviceView). unwrap_or (option_map (λ v. is_home v.seen) o) false) j.device ∙ j.home in
+    ap (λ (o : Option Row). unwrap_or (option_map (is_judgeable past views) o) false) j.row_is
+    ∙ both may home
+  where
+    both : {a b : Bool} → a ≡ true → b ≡ true → (a && b) ≡ true
+    both x y = rw (x, y) refl
+
+can-so : (a : Annalled) (entry : ℕ) (version : List ℕ) (state : RowState) → IsAnnals a → standing_of a entry ≡ Some (Standing.Judged version state) → can_judge a.facts (rows_before a) (past_in a) entry ≡ true
+can-so a entry version state k h =
+    ap (λ (v : List DeviceView). unwrap_or (option_map (is_judgeable (past_in a) v) (row_of (rows_at a) entry)) false) (sym k.stands.views)
+    ∙ ap (λ (all : List Row). unwrap_or (option_map (is_judgeable (past_in a) a.core.views) (row_of all entry)) false) (sym k.stands.rows)
+    ∙ judged-can (past_in a) a.core.views a.core.rows entry version state (is-judged (past_in a) a.core.views a.core.rows entry version state h)
+
+-- ---- the task of one entry
+
+one-can : (facts : Facts) (opening : List Row) (past : List Event) (entry : ℕ) → can_judge facts opening past entry ≡ true → to_judge facts opening past (entry ∷ []) ≡ ToJudge entry ∷ []
+one-can facts opening past entry h = rw h refl
+
+one-not : (facts : Facts) (opening : List Row) (past : List Event) (entry : ℕ) → can_judge facts opening past entry ≡ false → to_judge facts opening past (entry ∷ []) ≡ []
+one-not facts opening past entry h = rw h refl
+
+one-plays : {X : Type 0} (wanting : Bool) (client : ℕ) (Play : X → List Moment → Type 0) (x : X) (moments : List Moment) → Play x moments → PlaysAll wanting client Play (x ∷ []) (moments ++ [])
+one-plays true client Play x moments p = record { first = moments; rest = []; are = refl; first_is = leaves-whole client (Play x) moments p; rest_is = refl }
+one-plays false client Play x moments p = record { first = moments; rest = []; are = refl; first_is = p; rest_is = refl }
+
+-- Whatever there was to do was left.
+pub all-nothing : (facts : Facts) (files : Files) (tasks : List Task) → PlaysAll true 0 (TaskPlays facts files) tasks []
+all-nothing facts files [] = refl
+all-nothing facts files (t ∷ tasks) = record { first = []; rest = []; are = refl; first_is = task-unplayed facts files 0 t; rest_is = all-nothing facts files tasks }
+
+module _ {K : Type 0} (faults : K → ℕ) (facts : Facts) (files : Files) (entry : ℕ) (row : Row) (wanting : Bool) (old new : Housed K)
+    (k : IsAnnals old.annals) (i : IsIdle (past old)) (r : row_of (rows_at old.annals) entry ≡ Some row)
+    (counted : FaultsCounted faults old new) (counts : faults old.keeper ≤ faults new.keeper) where
+  tasks : List Task
+  tasks = to_judge_in old.annals (entry ∷ [])
+
+  quiet : (stop : Stop) (told : Option Bool) → Halted stop old.annals new.annals → Tried facts files told wanting (to_judge_in old.annals (entry ∷ [])) (past new) [] → HouseTried faults facts files told wanting (to_judge_in old.annals (entry ∷ [])) old new
+  quiet stop told h m =
+      record {
+        moments = [];
+        did = halted-did 0 stop old.annals new.annals h;
+        more = m;
+        rest = record {
+          idle = record { no_hold = halted-holds stop old.annals new.annals h ∙ i.no_hold; no_live = halted-live stop old.annals new.annals h ∙ i.no_live };
+          same = h.same;
+          counted = counted;
+          counts = counts;
+        };
+      }
+
+  unjudged : (s : Standing) → standing_of old.annals entry ≡ Some s → IsUnjudged s → Unchanged old.annals new.annals → HouseTried faults facts files (Some wanting) wanting (to_judge_in old.annals (entry ∷ [])) old new
+  unjudged s h n u =
+      let none = one-not old.annals.facts (rows_before old.annals) (past old) entry (can-not old.annals entry row s k i.no_live r h n) in
+      quiet Stop.NoMemory (Some wanting) (halted-memory old.annals new.annals u)
+      (inr refl, subst (λ (ts : List Task). PlaysAll wanting 0 (TaskPlays facts files) ts []) (sym none) refl)
+
+  judged : (version : List ℕ) (state : RowState) (stored : Stored) → standing_of old.annals entry ≡ Some (Standing.Judged version state) → Appended 0 (Event.Judge 0 entry version state stored) old.annals new.annals → HouseTried faults facts files (Some wanting) wanting (to_judge_in old.annals (entry ∷ [])) old new
+  judged version state stored h a =
+      let event = Event.Judge 0 entry version state stored in
+      let one = one-can old.annals.facts (rows_before old.annals) (past old) entry (can-so old.annals entry version state k h) in
+      record {
+        moments = at (past old) event ∷ [];
+        did = did-appended 0 event old.annals new.annals (record { no_boot = refl; own = refl }) a;
+        more = (
+          inr refl,
+          subst (λ (ts : List Task). PlaysAll wanting 0 (TaskPlays facts files) ts (at (past old) event ∷ [])) (sym one)
+              (one-plays wanting 0 (TaskPlays facts files) (ToJudge entry) (at (past old) event ∷ []) (version, state, stored, refl)),
+        );
+        rest = record {
+          idle = subst IsIdle (sym (appended-past 0 event old.annals new.annals a)) (record { no_hold = i.no_hold; no_live = i.no_live });
+          same = a.same;
+          counted = counted;
+          counts = counts;
+        };
+      }
+
+  pub tried : (outcome : Result Judged Stop) → JudgeTurned 0 entry outcome old.annals new.annals → HouseTried faults facts files (told_by outcome wanting) wanting (to_judge_in old.annals (entry ∷ [])) old new
+  tried (Ok (Judged.Done state stored)) t = judged t.1.0 state stored t.1.1 t.1.2
+  tried (Ok Judged.Absent) t = unjudged Standing.Absent t.1 tt t.2
+  tried (Ok Judged.Waits) t = unjudged Standing.Waits t.1 tt t.2
+  tried (Ok Judged.Settled) t = unjudged Standing.Settled t.1 tt t.2
+  tried (Err Stop.NoMemory) t =
+      quiet Stop.NoMemory (Some true) (halted-memory old.annals new.annals t.1) (inl refl, all-nothing facts files (to_judge_in old.annals (entry ∷ [])))
+  tried (Err Stop.Off) t =
+      let h = halted-off 0 old.annals new.annals t in quiet Stop.Off None h (refl, h.is_off refl)
+
+-- ---- what stays
+
+views-over : (old new : Annalled) (p : List Event) → SameFacts old new → past_in new ≡ p → views new.facts (rows_before new) (past_in new) ≡ views old.facts (rows_before old) p
+views-over old new p s e =
+    ap (λ (f : Facts). views f (rows_before new) (past_in new)) s.facts
+    ∙ ap (λ (o : List Row). views old.facts o (past_in new)) (before-same old new s)
+    ∙ ap (λ (w : List Event). views old.facts (rows_before old) w) e
+
+dead-views : (k j : Known) (boards : List Board) → ((b : ℕ) → j.shown b ≡ k.shown b) → map (view_of [] j) boards ≡ map (view_of [] k) boards
+dead-views k j [] h = refl
+dead-views k j (b ∷ boards) h =
+    ap (λ (s : Seen). (let v : DeviceView = record { sheet = b.sheet; seen = s; claim = None } in v) ∷ map (view_of [] j) boards) (h b.number)
+    ∙ ap (λ (vs : List DeviceView). view_of [] k b ∷ vs) (dead-views k j boards h)
+
+views-dead : (facts : Facts) (k j : Known) (entries : List LiveEntry) → entries ≡ [] → ((b : ℕ) → j.shown b ≡ k.shown b) → views_in facts entries j ≡ views_in facts entries k
+views-dead facts k j entries e h = subst (λ (es : List LiveEntry). views_in facts es j ≡ views_in facts es k) (sym e) (dead-views k j (devices facts) h)
+
+judge-views : (facts : Facts) (opening : List Row) (past : List Event) (client entry : ℕ) (version : List ℕ) (state : RowState) (stored : Stored) → live past ≡ [] → views facts opening (Event.Judge client entry version state stored ∷ past) ≡ views facts opening past
+judge-views facts opening past client entry version state stored l =
+    views-dead facts (known facts opening past) (known facts opening (Event.Judge client entry version state stored ∷ past)) (live past) l (λ b. refl)
+
+cut-views : (facts : Facts) (opening : List Row) (past : List Event) (cut : Bool) → live past ≡ [] → views facts opening (cut_past cut past) ≡ views facts opening past
+cut-views facts opening past true l = views-dead facts (known facts opening past) (known facts opening (Event.Cut ∷ past)) (live past) l (λ b. refl)
+cut-views facts opening past false l = refl
+
+cut-finished : (entry : ℕ) (cut : Bool) (past : List Event) → finished entry (cut_past cut past) ≡ finished entry past
+cut-finished entry true past = refl
+cut-finished entry false past = refl
+
+or-first : (a b : Bool) → (a || b) ≡ false → a ≡ false
+or-first true b h = cc
+or-first false b h = refl
+
+stays-judged : (entry : ℕ) (version : List ℕ) (state : RowState) (stored : Stored) (old new : Annalled) → live (past_in old) ≡ [] → Appended 0 (Event.Judge 0 entry version state stored) old new → JudgeStays (entry ∷ []) old new
+stays-judged entry version state stored old new l a =
+    let event = Event.Judge 0 entry version state stored in
+    let e = appended-past 0 event old new a in
+    record {
+      rows = λ other h. others-appended 0 entry event old new refl a other (or-first (entry == other) false h);
+      views = views-over old new (event ∷ past_in old) a.same e ∙ judge-views old.facts (rows_before old) (past_in old) 0 entry version state stored l;
+      finished = λ n. ap (finished n) e;
+    }
+
+stays-halted : (entry : ℕ) (stop : Stop) (old new : Annalled) → live (past_in old) ≡ [] → Halted stop old new → JudgeStays (entry ∷ []) old new
+stays-halted entry stop old new l h =
+    record {
+      rows = λ other n. rows-halted stop old new h other;
+      views = views-over old new (cut_past h.cut (past_in old)) h.same h.past_is ∙ cut-views old.facts (rows_before old) (past_in old) h.cut l;
+      finished = λ n. ap (finished n) h.past_is ∙ cut-finished n h.cut (past_in old);
+    }
+
+pub tried-stays : (entry : ℕ) (outcome : Result Judged Stop) (old new : Annalled) → live (past_in old) ≡ [] → JudgeTurned 0 entry outcome old new → JudgeStays (entry ∷ []) old new
+tried-stays entry (Ok (Judged.Done state stored)) old new l t = stays-judged entry t.1.0 state stored old new l t.1.2
+tried-stays entry (Ok Judged.Absent) old new l t = stays-halted entry Stop.NoMemory old new l (halted-memory old new t.2)
+tried-stays entry (Ok Judged.Waits) old new l t = stays-halted entry Stop.NoMemory old new l (halted-memory old new t.2)
+tried-stays entry (Ok Judged.Settled) old new l t = stays-halted entry Stop.NoMemory old new l (halted-memory old new t.2)
+tried-stays entry (Err Stop.NoMemory) old new l t = stays-halted entry Stop.NoMemory old new l (halted-memory old new t.1)
+tried-stays entry (Err Stop.Off) old new l t = stays-halted entry Stop.Off old new l (halted-off 0 old new t)

@@ -1,0 +1,10 @@
+pub mod Turns
+pub mod RunPlays
+pub mod Rows
+pub mod Fetches
+pub mod Outs
+pub mod ResumePlays
+pub mod JudgePlays
+pub mod JudgeLoops
+pub mod TaskLists
+pub mod ResumeLoops

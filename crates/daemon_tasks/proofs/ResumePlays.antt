@@ -1,0 +1,273 @@
+-- An entry that was put off: its ask, its resumption, and what follows.
+use Rattle.std.proofs.Common.{◌≡◌, ℕ, ◌<◌, ◌≤◌, Bool, true, false, List, [], ◌∷◌, length, refl, ap, sym, ◌∙◌, subst, arith}
+use Rattle.std.specs.Prelude.{Option, Some, None, Ok, Err}
+use Rattle.history_keeper.specs.declared.row.Row.{Row}
+use Rattle.history_keeper.specs.declared.row.RowState.{RowState}
+use Rattle.update_log.proofs.Lists.{by_test}
+use Rattle.update_log.specs.declared.answer.AskAnswer.{AskAnswer}
+use Rattle.update_log.specs.declared.answer.ResumeAnswer.{ResumeAnswer}
+use Rattle.update_log.specs.declared.decision.Decision.{Decision}
+use Rattle.update_log.specs.declared.decision.Stage.{Stage}
+use Rattle.update_log.specs.declared.event.Event.{Event}
+use Rattle.update_log.specs.declared.event.Stored.{Stored}
+use Rattle.update_log.specs.declared.facts.Facts.{Facts}
+use Rattle.update_log.specs.declared.refusal.FetchNote.{FetchNote}
+use Rattle.update_log.specs.declared.refusal.Refusal.{Refusal}
+use Rattle.update_log.specs.declared.request.Request.{Request}
+use Rattle.update_log.specs.Holding.{blocks_fetched_if, holds, live, without_client}
+use Rattle.update_log.specs.Known.{Target, row_of, target}
+use Rattle.update_log.specs.Legal.{ask_answer}
+use Rattle.update_log.specs.Pasts.{boots, last_of, off}
+use Rattle.update_log.specs.Verdicts.{Case, case_of, first_refusal, is_that_release, need, on_found, on_present, present, refusals, refused_or}
+use Rattle.daemon_core.proofs.AnnalsKept.{appended-past}
+use Rattle.daemon_core.specs.declared.claimed.Claimed.{Claimed}
+use Rattle.daemon_core.specs.declared.claimed.Taken.{Taken}
+use Rattle.daemon_core.specs.declared.fetched.Fetched.{Fetched}
+use Rattle.daemon_core.specs.declared.hold.Ticket.{Ticket}
+use Rattle.daemon_core.specs.declared.resumed.ResumeStop.{ResumeStop}
+use Rattle.daemon_core.specs.declared.stop.Stop.{Stop}
+use Rattle.daemon_core.specs.Annals.{Appended, IsAnnals, IsLegalSo}
+use Rattle.daemon_core.specs.Fetches.{block_count, whole_note}
+use Rattle.daemon_core.specs.Holds.{back_of}
+use Rattle.daemon_core.specs.Housed.{Annalled, Housed, past, past_in, rows_before}
+use Rattle.daemon_core.specs.Keeping.{keeper_faults}
+use Rattle.daemon_core.specs.Resumes.{ComesIn, IsPutOff, ResumeGave, ResumeTurned, StoppedBy, note_in}
+use Rattle.daemon_core.specs.Turns.{FaultsCounted}
+use Rattle.client_plays.specs.declared.played.Played.{Played}
+use Rattle.client_plays.specs.Endings.{HousePlayed, IsIdle}
+use Rattle.client_plays.specs.Moments.{Moment, at}
+use Rattle.client_plays.specs.Plays.{ResumeFetches, ResumePlays, TaskPlays, ToResume, UpdatePlays}
+use Rattle.client_plays.specs.Tools.{Files}
+use Rattle.client_plays.proofs.PlayLaws.{leaves-nothing, task-unplayed}
+use Rattle.client_plays.proofs.RestLaws.{counted-both}
+use Rattle.client_plays.proofs.TurnLaws.{counted-same, counts-same}
+use Rattle.install_engine.specs.RunsIn.{RunsIn, parts_taken}
+use Rattle.install_engine.proofs.RunHouse.{taken-in}
+use Rattle.install_engine.proofs.RunTaken.{TakesWith, resume-takes}
+use Rattle.daemon_tasks.specs.Ends as ends
+use Rattle.daemon_tasks.specs.Judged.{WaitsIn}
+use Rattle.daemon_tasks.specs.Resumed.{IsOut, WasGivenUp}
+use Rattle.daemon_tasks.specs.Stays.{OthersStay, RunsAlone, rows_at}
+use Rattle.daemon_tasks.proofs.Outs.{held-halted, idle-back, idle-free, no-hold, plugin-within}
+use Rattle.daemon_tasks.proofs.Rows.{others-appended, others-both, others-halted, rows-over}
+use Rattle.daemon_tasks.proofs.Turns.{Halted, boots-appended, faults-appended, halted-boots, halted-holds, halted-live, halted-memory, halted-off, played-back, played-behind, played-last, played-stopped, stopped-alone}
+
+le-both : (a b c : ℕ) → a ≤ b → b ≤ c → a ≤ c
+le-both a b c x y = omega arith
+
+-- ---- what is out
+
+out-unheld : (held : Option (Ticket × Fetched)) (past : List Event) → IsOut held past → without_client 0 (holds past) ≡ []
+out-unheld None past o = rw o.no_hold refl
+out-unheld (Some held) past o = no-hold 0 held.0 (block_count held.1) past o
+
+out-dead : (held : Option (Ticket × Fetched)) (past : List Event) → IsOut held past → live past ≡ []
+out-dead None past o = o.no_live
+out-dead (Some held) past o = o.no_live
+
+out-halted : (held : Option (Ticket × Fetched)) (stop : Stop) (old new : Annalled) → Halted stop old new → IsOut held (past_in old) → IsOut held (past_in new)
+out-halted None stop old new h o = record { no_hold = halted-holds stop old new h ∙ o.no_hold; no_live = halted-live stop old new h ∙ o.no_live }
+out-halted (Some held) stop old new h o = held-halted 0 held.0 (block_count held.1) stop old new h o
+
+-- ---- the entry that begins
+
+module _ {K : Type 0} (entry : ℕ) (held : Option (Ticket × Fetched)) (taken : Taken) (old new : Housed K)
+    (t : ResumeTurned entry (note_in held) (Ok (Claimed.Taken taken)) old.annals new.annals)
+    (g : ResumeGave entry held (Ok (Claimed.Taken taken)) old new) where
+  event : Event
+  event = Event.Resume 0 entry (note_in held) ResumeAnswer.Begun Stored.Yes
+
+  takes : TakesWith taken.entry taken.payload event
+  unfolding event
+  takes =
+      let noted : note_in held ≡ Some (whole_note taken.payload) = ap note_in g.1.1 in
+      subst (λ (n : Option FetchNote). TakesWith taken.entry taken.payload (Event.Resume 0 entry n ResumeAnswer.Begun Stored.Yes)) (sym noted)
+      (subst (λ (e : ℕ). TakesWith taken.entry taken.payload (Event.Resume 0 e (Some (whole_note taken.payload)) ResumeAnswer.Begun Stored.Yes)) g.0
+      (resume-takes 0 taken.entry Stored.Yes taken.payload))
+
+  pub resumed-runs : IsAnnals new.annals → 0 < boots (past old) → RunsIn new.annals 0 (parts_taken taken) None
+  unfolding event
+  resumed-runs k b =
+      taken-in old.annals new.annals 0 g.3.0 event taken k t.1 (ap off (appended-past 0 event old.annals new.annals t.1) ∙ t.0.on) (boots-appended 0 event old.annals new.annals refl t.1 b) takes g.3.1
+
+  pub resumed-new : taken.trace.steps ≡ []
+  resumed-new = g.3.1.no_steps
+
+  pub resumed-marks : 8 ≤ taken.board.room
+  resumed-marks = g.3.1.marks
+
+  pub resumed-plugin : (count : ℕ) → length old.annals.facts.vetoes ≤ count → taken.plugin < count
+  resumed-plugin count l =
+      plugin-within new.annals.facts g.3.0 taken.plugin count g.3.1.served (subst (λ (f : Facts). length f.vetoes ≤ count) (sym t.1.same.facts) l)
+
+  pub resumed-alone : IsOut held (past old) → RunsAlone taken.entry (past new)
+  unfolding event
+  resumed-alone o =
+      subst (RunsAlone taken.entry) (sym (appended-past 0 event old.annals new.annals t.1))
+      (record {
+        no_hold = out-unheld held (past old) o;
+        l = record { client = 0; entry = entry; blocks = blocks_fetched_if (note_in held) };
+        live_is = rw (out-dead held (past old) o) refl;
+        entry_is = sym g.0;
+      })
+
+  pub resume-played : (faults : K → ℕ) (files : Files) (asked : AskAnswer) (played : Played) (last : Housed K) → ResumeFetches old.annals.facts files asked (note_in held) → FaultsCounted faults old new → faults old.keeper ≤ faults new.keeper → HousePlayed faults played 0 (UpdatePlays 0 taken.entry) new last → HousePlayed faults played 0 (ResumePlays old.annals.facts files entry asked) old last
+  unfolding event
+  resume-played faults files asked played last f counted counts p =
+      played-behind faults played 0 event (ResumePlays old.annals.facts files entry asked) (UpdatePlays 0 entry) old new last (record { no_boot = refl; own = refl })
+      (λ ms u. (note_in held, ResumeAnswer.Begun, Stored.Yes, refl, f, u)) t.1 counted counts
+      (subst (λ (e : ℕ). HousePlayed faults played 0 (UpdatePlays 0 e) new last) g.0 p)
+
+  pub resume-others : (last : Housed K) → OthersStay taken.entry new.annals last.annals → OthersStay entry old.annals last.annals
+  unfolding event
+  resume-others last o =
+      others-both entry old.annals new.annals last.annals (others-appended 0 entry event old.annals new.annals refl t.1)
+      (subst (λ (e : ℕ). OthersStay e new.annals last.annals) g.0 o)
+
+-- ---- a resumption that was refused
+
+pub resume-refused : {K : Type 0} (faults : K → ℕ) (files : Files) (asked : AskAnswer) (entry : ℕ) (held : Option (Ticket × Fetched)) (refusal : Refusal) (old new : Housed K) → ResumeFetches old.annals.facts files asked (note_in held) → IsOut held (past old) → ResumeTurned entry (note_in held) (Ok (Claimed.Refused refusal)) old.annals new.annals → FaultsCounted faults old new → faults old.keeper ≤ faults new.keeper
+    → HousePlayed faults Played.Done 0 (ResumePlays old.annals.facts files entry asked) old new
+resume-refused faults files asked entry held refusal old new f o t counted counts =
+    let stored = t.1.0 in
+    played-last faults 0 (Event.Resume 0 entry (note_in held) (ResumeAnswer.Refused refusal) stored) (ResumePlays old.annals.facts files entry asked) old new (record { no_boot = refl; own = refl })
+    (note_in held, ResumeAnswer.Refused refusal, stored, refl, f, refl) (record { no_hold = out-unheld held (past old) o; no_live = out-dead held (past old) o }) t.1.2 counted counts
+
+pub refused-others : (entry : ℕ) (held : Option (Ticket × Fetched)) (refusal : Refusal) (old new : Annalled) → ResumeTurned entry (note_in held) (Ok (Claimed.Refused refusal)) old new → OthersStay entry old new
+refused-others entry held refusal old new t = others-appended 0 entry (Event.Resume 0 entry (note_in held) (ResumeAnswer.Refused refusal) t.1.0) old new refl t.1.2
+
+-- ---- one that was stopped
+
+halted-resume : (stop : Stop) (old new : Annalled) → StoppedBy stop old new → Halted stop old new
+halted-resume Stop.Off old new t = halted-off 0 old new t
+halted-resume Stop.NoMemory old new t = halted-memory old new t.1
+
+some-resume : ℕ → Option FetchNote → List Moment
+some-resume entry note = at [] (Event.Resume 0 entry note (ResumeAnswer.Refused Refusal.NoDevice) Stored.Yes) ∷ []
+
+module _ {K : Type 0} (entry : ℕ) (held : Option (Ticket × Fetched)) (stopped : ResumeStop) (old mid : Housed K)
+    (t : ResumeTurned entry (note_in held) (Err stopped) old.annals mid.annals)
+    (g : ResumeGave entry held (Err stopped) old mid) where
+  halted : Halted stopped.stop old.annals mid.annals
+  halted = halted-resume stopped.stop old.annals mid.annals t
+
+  pub stopped-booted : 0 < boots (past old) → 0 < boots (past mid)
+  stopped-booted b = halted-boots stopped.stop old.annals mid.annals halted b
+
+  pub stopped-out : IsOut held (past old) → IsOut stopped.held (past mid)
+  stopped-out o = subst (λ (h : Option (Ticket × Fetched)). IsOut h (past mid)) (sym g.2) (out-halted held stopped.stop old.annals mid.annals halted o)
+
+  left : (faults : K → ℕ) (files : Files) (asked : AskAnswer) → ResumeFetches old.annals.facts files asked (note_in held) → (kept : Option (Ticket × Fetched)) (new : Housed K) → IsOut kept (past mid) → IsOut kept (past old) → FaultsCounted faults old mid → faults old.keeper ≤ faults mid.keeper
+      → WasGivenUp kept mid.annals new.annals → new.keeper ≡ mid.keeper → HousePlayed faults (ends.stopped_by stopped.stop) 0 (ResumePlays old.annals.facts files entry asked) old new
+  unfolding some-resume
+  left faults files asked f None new o was counted counts w k =
+      let h : Halted stopped.stop old.annals new.annals = subst (λ (a : Annalled). Halted stopped.stop old.annals a) (sym w) halted in
+      let e : keeper_faults (past new) ≡ keeper_faults (past mid) = ap (λ (a : Annalled). keeper_faults (past_in a)) w in
+      played-stopped faults stopped.stop 0 (ResumePlays old.annals.facts files entry asked) old new
+      (leaves-nothing 0 (ResumePlays old.annals.facts files entry asked) (some-resume entry (note_in held)) (note_in held, ResumeAnswer.Refused Refusal.NoDevice, Stored.Yes, refl, f, refl))
+      was h (counted-both faults old mid new counted (counted-same faults mid new e k) (counts-same faults mid new k)) (le-both (faults old.keeper) (faults mid.keeper) (faults new.keeper) counts (counts-same faults mid new k))
+  left faults files asked f (Some x) new o was counted counts w k =
+      played-back faults stopped.stop 0 (back_of x.0.pending x.0.request) (ResumePlays old.annals.facts files entry asked) (some-resume entry (note_in held)) old mid new
+      (note_in held, ResumeAnswer.Refused Refusal.NoDevice, Stored.Yes, refl, f, refl) halted w
+      (idle-back 0 x.0 (block_count x.1) x.0.pending x.0.request (past mid) o) counted counts k
+
+  left-others : (kept : Option (Ticket × Fetched)) (new : Housed K) → WasGivenUp kept mid.annals new.annals → OthersStay entry mid.annals new.annals
+  left-others None new w = λ other n. ap (λ (a : Annalled). row_of (rows_at a) other) w
+  left-others (Some x) new w = others-appended 0 entry (Event.GiveBack 0 (back_of x.0.pending x.0.request)) mid.annals new.annals tt w
+
+  pub resume-stopped : (faults : K → ℕ) (files : Files) (asked : AskAnswer) (told : Played) (new : Housed K) → ResumeFetches old.annals.facts files asked (note_in held) → told ≡ ends.stopped_by stopped.stop → IsOut held (past old) → FaultsCounted faults old mid → faults old.keeper ≤ faults mid.keeper
+      → WasGivenUp stopped.held mid.annals new.annals → new.keeper ≡ mid.keeper → HousePlayed faults told 0 (ResumePlays old.annals.facts files entry asked) old new
+  resume-stopped faults files asked told new f e o counted counts w k =
+      subst (λ (x : Played). HousePlayed faults x 0 (ResumePlays old.annals.facts files entry asked) old new) (sym e)
+      (left faults files asked f stopped.held new (stopped-out o) (subst (λ (h : Option (Ticket × Fetched)). IsOut h (past old)) (sym g.2) o) counted counts w k)
+
+  pub stopped-others : (new : Housed K) → WasGivenUp stopped.held mid.annals new.annals → OthersStay entry old.annals new.annals
+  stopped-others new w = others-both entry old.annals mid.annals new.annals (others-halted entry stopped.stop old.annals mid.annals halted) (left-others stopped.held new w)
+
+-- ---- the ask
+
+-- The row that waits, as it is kept.
+pub waits-kept : (a : Annalled) (entry : ℕ) → IsAnnals a → (w : WaitsIn a entry) → row_of a.core.rows entry ≡ Some w.row
+waits-kept a entry k w = ap (λ (r : List Row). row_of r entry) k.stands.rows ∙ w.row_is
+
+-- The ask for it changes no row.
+pub asked-rows : (entry : ℕ) (request : Request) (answer : AskAnswer) (old new : Annalled) → Appended 0 (Event.Ask 0 request (Some entry) answer) old new → rows_at new ≡ rows_at old
+asked-rows entry request answer old new a =
+    rows-over old new (Event.Ask 0 request (Some entry) answer ∷ past_in old) a.same (appended-past 0 (Event.Ask 0 request (Some entry) answer) old new a)
+
+pub still-put_off : (entry : ℕ) (request : Request) (answer : AskAnswer) (old new : Annalled) → IsAnnals new → WaitsIn old entry → Appended 0 (Event.Ask 0 request (Some entry) answer) old new → IsPutOff new entry
+still-put_off entry request answer old new k w a =
+    record {
+      row = w.row;
+      row_is = ap (λ (r : List Row). row_of r entry) (k.stands.rows ∙ asked-rows entry request answer old new a) ∙ w.row_is;
+      pending = w.pending;
+    }
+
+-- What comes in where the ask was refused.
+pub refused-in : (entry : ℕ) (request : Request) (refusal : Refusal) (old new : Annalled) → IsIdle (past_in old) → Appended 0 (Event.Ask 0 request (Some entry) (AskAnswer.Refused refusal)) old new → ComesIn new entry None
+refused-in entry request refusal old new i a =
+    let event = Event.Ask 0 request (Some entry) (AskAnswer.Refused refusal) in
+    let e = appended-past 0 event old new a in
+    let idle : IsIdle (past_in new) = subst IsIdle (sym e) (record { no_hold = i.no_hold; no_live = i.no_live }) in (
+      refusal,
+      record {
+        free = idle-free 0 (past_in new) idle;
+        event = event;
+        last = ap (last_of 0) e;
+        refused = (refl, refl);
+      },
+    )
+
+pub refused-idle : (entry : ℕ) (request : Request) (refusal : Refusal) (old new : Annalled) → IsIdle (past_in old) → Appended 0 (Event.Ask 0 request (Some entry) (AskAnswer.Refused refusal)) old new → IsIdle (past_in new)
+refused-idle entry request refusal old new i a =
+    subst IsIdle (sym (appended-past 0 (Event.Ask 0 request (Some entry) (AskAnswer.Refused refusal)) old new a)) (record { no_hold = i.no_hold; no_live = i.no_live })
+
+-- It is never answered by another entry of its tag.
+abbrev is_kept_ask : AskAnswer → Bool
+is_kept_ask (AskAnswer.Hold blocks release) = false
+is_kept_ask (AskAnswer.Kept entry state) = true
+is_kept_ask (AskAnswer.Refused refusal) = false
+
+target-not_kept : (c : Case) (t : Target) (o : Option Refusal) → is_kept_ask (ask_answer (refused_or o (Decision.Accept t.place t.chosen.at (need t)))) ≡ false
+target-not_kept c t None = refl
+target-not_kept c t (Some refusal) = refl
+
+found-not_kept : (c : Case) (o : Option Target) → is_kept_ask (ask_answer (on_found c o)) ≡ false
+found-not_kept c None = refl
+found-not_kept c (Some t) =
+    by_test (is_that_release c t.chosen) _
+    (λ u. rw u (target-not_kept c t (first_refusal (refusals c t))))
+    (λ u. rw u refl)
+
+present-not_kept : (c : Case) (o : Option ℕ) → is_kept_ask (ask_answer (on_present c o)) ≡ false
+present-not_kept c None = refl
+present-not_kept c (Some at) = found-not_kept c (target c.facts c.views c.request)
+
+pub pending-not_kept : (entry kept : ℕ) (state : RowState) (request : Request) (old new : Annalled) → IsAnnals new → Appended 0 (Event.Ask 0 request (Some entry) (AskAnswer.Kept kept state)) old new → ⊥
+pending-not_kept entry kept state request old new k a =
+    let event = Event.Ask 0 request (Some entry) (AskAnswer.Kept kept state) in
+    let l : IsLegalSo new.facts new.first (rows_before new) (event ∷ past_in old) = subst (λ (p : List Event). IsLegalSo new.facts new.first (rows_before new) p) (appended-past 0 event old new a) k.legal in
+    let allowed = l.3.2 in
+    let c : Case = case_of l.0.facts (rows_before new) (past_in old) 0 request (Stage.AskPending entry) in
+    let bad : true ≡ false = ap is_kept_ask allowed.answer_is ∙ present-not_kept c (present c) in
+    cc
+
+-- The resumption behind the ask.
+pub pending-behind : {K : Type 0} (faults : K → ℕ) (files : Files) (entry : ℕ) (request : Request) (answer : AskAnswer) (played : Played) (old mid new : Housed K) → mid.keeper ≡ old.keeper → Appended 0 (Event.Ask 0 request (Some entry) answer) old.annals mid.annals → HousePlayed faults played 0 (ResumePlays mid.annals.facts files entry answer) mid new
+    → HousePlayed faults played 0 (TaskPlays old.annals.facts files (ToResume entry)) old new
+pending-behind faults files entry request answer played old mid new k a p =
+    let event = Event.Ask 0 request (Some entry) answer in
+    played-behind faults played 0 event (TaskPlays old.annals.facts files (ToResume entry)) (ResumePlays old.annals.facts files entry answer) old mid new (record { no_boot = refl; own = refl })
+    (λ ms u. (request, answer, refl, u))
+    a (counted-same faults old mid (faults-appended 0 event old.annals mid.annals refl a) k) (counts-same faults old mid k)
+    (subst (λ (f : Facts). HousePlayed faults played 0 (ResumePlays f files entry answer) mid new) a.same.facts p)
+
+pub pending-others : (entry : ℕ) (request : Request) (answer : AskAnswer) (old mid new : Annalled) → Appended 0 (Event.Ask 0 request (Some entry) answer) old mid → OthersStay entry mid new → OthersStay entry old new
+pending-others entry request answer old mid new a o = others-both entry old mid new (others-appended 0 entry (Event.Ask 0 request (Some entry) answer) old mid tt a) o
+
+-- It was stopped at its ask.
+pub pending-stopped : {K : Type 0} (faults : K → ℕ) (files : Files) (entry : ℕ) (told : Played) (stop : Stop) (old new : Housed K) → told ≡ ends.stopped_by stop → IsIdle (past old) → Halted stop old.annals new.annals → new.keeper ≡ old.keeper
+    → HousePlayed faults told 0 (TaskPlays old.annals.facts files (ToResume entry)) old new
+pending-stopped faults files entry told stop old new e i h k =
+    subst (λ (x : Played). HousePlayed faults x 0 (TaskPlays old.annals.facts files (ToResume entry)) old new) (sym e)
+    (stopped-alone faults stop 0 (TaskPlays old.annals.facts files (ToResume entry)) old new (task-unplayed old.annals.facts files 0 (ToResume entry)) i h k)

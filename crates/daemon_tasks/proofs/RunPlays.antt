@@ -1,0 +1,211 @@
+-- The run of an entry, as its events in a row.
+use Rattle.std.proofs.Common.{◌≡◌, ℕ, ◌≤◌, Bool, true, false, List, [], ◌∷◌, ◌++◌, append_assoc, refl, ap, sym, ◌∙◌, subst}
+use Rattle.std.specs.Prelude.{Option, Some, None, Ok, ◌==◌}
+use Rattle.fw_facts.specs.declared.seen.Seen.{Seen}
+use Rattle.history_keeper.specs.declared.row.RowState.{RowState}
+use Rattle.update_log.proofs.Lists.{eqb-self}
+use Rattle.update_log.specs.declared.event.Back.{Back}
+use Rattle.update_log.specs.declared.event.Event.{Event}
+use Rattle.update_log.specs.declared.event.Op.{Op}
+use Rattle.update_log.specs.declared.event.Stored.{Stored}
+use Rattle.update_log.specs.declared.live.LiveEntry.{LiveEntry}
+use Rattle.update_log.specs.Holding.{live, without_entry}
+use Rattle.update_log.specs.Pasts.{client_of, is_boot, off}
+use Rattle.daemon_core.specs.Annals.{SameFacts}
+use Rattle.daemon_core.specs.Housed.{Annalled, Housed, past, past_in}
+use Rattle.daemon_core.specs.Turns.{FaultsCounted}
+use Rattle.client_plays.specs.declared.played.Played.{Played}
+use Rattle.client_plays.specs.Moments.{Did, Moment, at}
+use Rattle.client_plays.specs.Plays.{UpdatePlays}
+use Rattle.client_plays.specs.Endings.{EndsSo, HousePlayed, IsIdle}
+use Rattle.client_plays.proofs.MomentLaws.{did-both, did-nobody, did-nothing, did-one}
+use Rattle.plain_runs.specs.declared.outcome.Outcome.{Outcome}
+use Rattle.plain_runs.specs.Ran.{GaveBack, Ran, StepMade, cut_events, start_events, step_events}
+use Rattle.plain_runs.proofs.Pasts.{grown, grown-append, past-gained}
+use Rattle.daemon_tasks.specs.Ends.{ended_by}
+use Rattle.daemon_tasks.specs.Stays.{RunsAlone}
+
+-- Events in a row, each with the past before it.
+abbrev pub moments_of : List Event → List Event → List Moment
+moments_of past [] = []
+moments_of past (event ∷ events) = at past event ∷ moments_of (event ∷ past) events
+
+-- They are all the client's.
+abbrev pub OwnAll : ℕ → List Event → Type 0
+OwnAll client [] = Unit {0}
+OwnAll client (event ∷ events) = (is_boot event ≡ false) × (client_of event ≡ Some client) × OwnAll client events
+
+own-append : (client : ℕ) (xs ys : List Event) → OwnAll client xs → OwnAll client ys → OwnAll client (xs ++ ys)
+own-append client [] ys o p = p
+own-append client (x ∷ xs) ys o p = (o.0, o.1, own-append client xs ys o.2 p)
+
+own-steps : (client entry : ℕ) (steps : List StepMade) → OwnAll client (step_events client entry steps)
+own-steps client entry [] = tt
+own-steps client entry (s ∷ steps) = (refl, refl, (refl, refl, own-steps client entry steps))
+
+own-start : (client entry : ℕ) (started : Option Op) → OwnAll client (start_events client entry started)
+own-start client entry None = tt
+own-start client entry (Some op) = (refl, refl, tt)
+
+-- A client that put these behind the log did just that.
+did-all : (client : ℕ) (past events : List Event) → OwnAll client events → Did client (moments_of past events) past (grown past events)
+did-all client past [] o = did-nothing client past
+did-all client past (event ∷ events) o =
+    did-both client (at past event ∷ []) (moments_of (event ∷ past) events) past (event ∷ past) (grown (event ∷ past) events)
+    (did-one client past event o.0 o.1) (did-all client (event ∷ past) events o.2)
+
+-- ---- the play
+
+-- Steps and the finish are an update.
+update-plays : (client entry : ℕ) (past : List Event) (steps : List StepMade) (state : RowState) (stored : Stored) → UpdatePlays client entry (moments_of past (step_events client entry steps ++ Event.Finish client entry state stored ∷ []))
+update-plays client entry past [] state stored = (state, stored, refl)
+update-plays client entry past (s ∷ steps) state stored = (
+  record { op = s.op; outcome = s.outcome; told = s.told; seen = s.seen; started_is = refl; ended_is = refl },
+  update-plays client entry _ steps state stored,
+)
+
+-- What an update would do yet.
+abbrev update_rest : ℕ → ℕ → Option Op → List Moment
+update_rest client entry None = at [] (Event.Finish client entry RowState.Failed Stored.Yes) ∷ []
+update_rest client entry (Some op) = at [] (Event.End client entry op (Ok tt) [] Seen.Gone) ∷ at [] (Event.Finish client entry RowState.Failed Stored.Yes) ∷ []
+
+-- Steps, and the start of one more perhaps, begin an update.
+update-begins : (client entry : ℕ) (past : List Event) (steps : List StepMade) (started : Option Op) → UpdatePlays client entry (moments_of past (step_events client entry steps ++ start_events client entry started) ++ update_rest client entry started)
+update-begins client entry past [] None = (RowState.Failed, Stored.Yes, refl)
+update-begins client entry past [] (Some op) = (
+  record { op = op; outcome = Ok tt; told = []; seen = Seen.Gone; started_is = refl; ended_is = refl },
+  (RowState.Failed, Stored.Yes, refl),
+)
+update-begins client entry past (s ∷ steps) started = (
+  record { op = s.op; outcome = s.outcome; told = s.told; seen = s.seen; started_is = refl; ended_is = refl },
+  update-begins client entry _ steps started,
+)
+
+-- ---- what is out
+
+runs-steps : (client entry : ℕ) (past : List Event) (steps : List StepMade) → RunsAlone entry past → RunsAlone entry (grown past (step_events client entry steps))
+runs-steps client entry past [] r = r
+runs-steps client entry past (s ∷ steps) r =
+    runs-steps client entry (Event.End client entry s.op s.outcome s.told s.seen ∷ Event.Start client entry s.op ∷ past) steps
+    (record { no_hold = r.no_hold; l = r.l; live_is = r.live_is; entry_is = r.entry_is })
+
+runs-start : (client entry : ℕ) (past : List Event) (started : Option Op) → RunsAlone entry past → RunsAlone entry (grown past (start_events client entry started))
+runs-start client entry past None r = r
+runs-start client entry past (Some op) r = record { no_hold = r.no_hold; l = r.l; live_is = r.live_is; entry_is = r.entry_is }
+
+runs-cut : (entry : ℕ) (past : List Event) (cut : Bool) → RunsAlone entry past → RunsAlone entry (grown past (cut_events cut))
+runs-cut entry past true r = record { no_hold = r.no_hold; l = r.l; live_is = r.live_is; entry_is = r.entry_is }
+runs-cut entry past false r = r
+
+left-alone : (entry : ℕ) (l : LiveEntry) → l.entry ≡ entry → without_entry entry (l ∷ []) ≡ []
+left-alone entry l e =
+    let t : (l.entry == entry) ≡ true = ap (λ (n : ℕ). n == entry) e ∙ eqb-self entry in rw t refl
+
+no-live : (entry : ℕ) (past : List Event) → RunsAlone entry past → without_entry entry (live past) ≡ []
+no-live entry past r = ap (without_entry entry) r.live_is ∙ left-alone entry r.l r.entry_is
+
+idle-finish : (client entry : ℕ) (past : List Event) (state : RowState) (stored : Stored) → RunsAlone entry past → IsIdle (Event.Finish client entry state stored ∷ past)
+idle-finish client entry past state stored r = record { no_hold = r.no_hold; no_live = no-live entry past r }
+
+idle-back : (client entry : ℕ) (past : List Event) → RunsAlone entry past → IsIdle (Event.GiveBack client (Back.Entry entry) ∷ past)
+idle-back client entry past r = record { no_hold = rw r.no_hold refl; no_live = no-live entry past r }
+
+-- ---- the run
+
+-- Of a run: what the client did, how it ends, and that nothing is out.
+pub record RunPlayed (played : Played) (client entry : ℕ) (old new : List Event) : Type 0 where
+  pub moments : List Moment
+  pub did : Did client moments old new
+  pub ends : EndsSo played client (UpdatePlays client entry) new moments
+  pub idle : IsIdle new
+
+finished-run : (client entry : ℕ) (past : List Event) (steps : List StepMade) (state : RowState) (stored : Stored) → RunsAlone entry past
+    → RunPlayed Played.Done client entry past (grown past (step_events client entry steps ++ Event.Finish client entry state stored ∷ []))
+finished-run client entry past steps state stored r =
+    let last = Event.Finish client entry state stored in
+    let events = step_events client entry steps ++ last ∷ [] in
+    record {
+      moments = moments_of past events;
+      did = did-all client past events (own-append client (step_events client entry steps) (last ∷ []) (own-steps client entry steps) (refl, refl, tt));
+      ends = update-plays client entry past steps state stored;
+      idle = subst IsIdle (sym (grown-append past (step_events client entry steps) (last ∷ [])))
+          (idle-finish client entry (grown past (step_events client entry steps)) state stored (runs-steps client entry past steps r));
+    }
+
+cut-done : (client : ℕ) (past : List Event) (cut : Bool) → Did client [] past (grown past (cut_events cut))
+cut-done client past true = did-nobody client past Event.Cut refl refl
+cut-done client past false = did-nothing client past
+
+left-run : (client entry : ℕ) (past : List Event) (steps : List StepMade) (started : Option Op) (cut : Bool) → RunsAlone entry past → (new : List Event)
+    → new ≡ Event.GiveBack client (Back.Entry entry) ∷ grown (grown past (step_events client entry steps ++ start_events client entry started)) (cut_events cut) → off new ≡ true
+    → RunPlayed Played.Off client entry past new
+left-run client entry past steps started cut r new e o =
+    let front = step_events client entry steps ++ start_events client entry started in
+    let mid = grown past front in
+    let late = grown mid (cut_events cut) in
+    let last = Event.GiveBack client (Back.Entry entry) in
+    let m = at late last ∷ [] in
+    let runs : RunsAlone entry mid =
+    subst (RunsAlone entry) (sym (grown-append past (step_events client entry steps) (start_events client entry started)))
+    (runs-start client entry (grown past (step_events client entry steps)) started (runs-steps client entry past steps r))
+    in
+    let did : Did client (moments_of past front ++ ([] ++ m)) past (last ∷ late) =
+    did-both client (moments_of past front) ([] ++ m) past mid (last ∷ late)
+    (did-all client past front (own-append client (step_events client entry steps) (start_events client entry started) (own-steps client entry steps) (own-start client entry started)))
+    (did-both client [] m mid late (last ∷ late) (cut-done client mid cut) (did-one client late last refl refl))
+    in
+    record {
+      moments = moments_of past front ++ m;
+      did = subst (λ (p : List Event). Did client (moments_of past front ++ m) past p) (sym e) did;
+      ends = (
+        record {
+          front = moments_of past front;
+          rest = update_rest client entry started;
+          back = m;
+          play = update-begins client entry past steps started;
+          gave = (Back.Entry entry, refl);
+          are = refl;
+        },
+        o,
+      );
+      idle = subst IsIdle (sym e) (idle-back client entry late (runs-cut entry mid cut runs));
+    }
+
+behind-cut : (past : List Event) (cut : Bool) (last : Event) → grown past (cut_events cut ++ last ∷ []) ≡ last ∷ grown past (cut_events cut)
+behind-cut past true last = refl
+behind-cut past false last = refl
+
+given-back : (client entry : ℕ) (old new : Annalled) → RunsAlone entry (past_in old) → GaveBack client entry old new → RunPlayed Played.Off client entry (past_in old) (past_in new)
+given-back client entry old new r k =
+    let steps = step_events client entry k.steps in
+    let start = start_events client entry k.started in
+    let last = Event.GiveBack client (Back.Entry entry) in
+    let tail = cut_events k.cut ++ last ∷ [] in
+    let e : past_in new ≡ last ∷ grown (grown (past_in old) (steps ++ start)) (cut_events k.cut) =
+    past-gained (steps ++ (start ++ tail)) old new k.gained
+    ∙ ap (λ (l : List Event). grown (past_in old) l) (sym (append_assoc steps start tail))
+    ∙ grown-append (past_in old) (steps ++ start) tail
+    ∙ behind-cut (grown (past_in old) (steps ++ start)) k.cut last
+    in
+    left-run client entry (past_in old) k.steps k.started k.cut r (past_in new) e k.is_off
+
+ran-so : (client entry : ℕ) (outcome : Outcome) (old new : Annalled) → RunsAlone entry (past_in old) → Ran client entry outcome old new → RunPlayed (ended_by outcome) client entry (past_in old) (past_in new)
+ran-so client entry (Outcome.Finished finished) old new r (steps, g) =
+    let last = Event.Finish client entry finished.state finished.stored in
+    subst (RunPlayed Played.Done client entry (past_in old)) (sym (past-gained (step_events client entry steps ++ last ∷ []) old new g))
+    (finished-run client entry (past_in old) steps finished.state finished.stored r)
+ran-so client entry Outcome.Off old new r k = given-back client entry old new r k
+
+ran-same : (client entry : ℕ) (outcome : Outcome) (old new : Annalled) → Ran client entry outcome old new → SameFacts old new
+ran-same client entry (Outcome.Finished finished) old new (steps, g) = g.same
+ran-same client entry Outcome.Off old new k = k.gained.same
+
+pub run-played : {K : Type 0} (faults : K → ℕ) (client entry : ℕ) (outcome : Outcome) (told : Played) (old new : Housed K) → told ≡ ended_by outcome → RunsAlone entry (past old) → Ran client entry outcome old.annals new.annals → FaultsCounted faults old new → faults old.keeper ≤ faults new.keeper
+    → HousePlayed faults told client (UpdatePlays client entry) old new
+run-played faults client entry outcome told old new e r ran counted counts =
+    let p = ran-so client entry outcome old.annals new.annals r ran in
+    subst (λ (x : Played). HousePlayed faults x client (UpdatePlays client entry) old new) (sym e)
+    (record {
+      ended = record { moments = p.moments; did = p.did; ends = p.ends };
+      rest = record { idle = p.idle; same = ran-same client entry outcome old.annals new.annals ran; counted = counted; counts = counts };
+    })

@@ -1,0 +1,211 @@
+-- An event at the head of a play, the event that ends one, and a play that was stopped.
+use Rattle.std.proofs.Common.{◌≡◌, ℕ, ◌<◌, ◌≤◌, Bool, true, false, List, [], ◌∷◌, ◌++◌, refl, ap, sym, ◌∙◌, subst, inl, inr, arith}
+use Rattle.std.specs.Prelude.{Some, Err}
+use Rattle.update_log.specs.declared.event.Back.{Back}
+use Rattle.update_log.specs.declared.event.Event.{Event}
+use Rattle.update_log.specs.Holding.{holds, live}
+use Rattle.update_log.specs.Pasts.{boots, client_of, is_boot, off}
+use Rattle.daemon_core.proofs.AnnalsKept.{appended-past}
+use Rattle.daemon_core.specs.declared.stop.Stop.{Stop}
+use Rattle.daemon_core.specs.Annals.{Appended, SameFacts, Unchanged}
+use Rattle.daemon_core.specs.Housed.{Annalled, Housed, past, past_in}
+use Rattle.daemon_core.specs.Keeping.{keeper_faults, met_fault}
+use Rattle.daemon_core.specs.Turns.{FaultsCounted, Turned, WentOff}
+use Rattle.client_plays.specs.declared.played.Played.{Played}
+use Rattle.client_plays.specs.Moments.{Did, Moment, at}
+use Rattle.client_plays.specs.Plays.{Leaves}
+use Rattle.client_plays.specs.Endings.{EndsSo, HousePlayed, IsIdle}
+use Rattle.client_plays.proofs.MomentLaws.{did-both, did-nobody, did-nothing, did-one}
+use Rattle.client_plays.proofs.RestLaws.{counted-both, same-both}
+use Rattle.client_plays.proofs.TurnLaws.{counted-same, counts-same, unmoved}
+use Rattle.daemon_tasks.specs.Ends.{stopped_by}
+
+le-both : (a b c : ℕ) → a ≤ b → b ≤ c → a ≤ c
+le-both a b c x y = omega arith
+
+-- An event of a client that starts no boot.
+pub record IsOwn (client : ℕ) (event : Event) : Type 0 where
+  pub no_boot : is_boot event ≡ false
+  pub own : client_of event ≡ Some client
+
+pub did-appended : (client : ℕ) (event : Event) (old new : Annalled) → IsOwn client event → Appended client event old new → Did client (at (past_in old) event ∷ []) (past_in old) (past_in new)
+did-appended client event old new o a =
+    subst (λ (p : List Event). Did client (at (past_in old) event ∷ []) (past_in old) p) (sym (appended-past client event old new a))
+    (did-one client (past_in old) event o.no_boot o.own)
+
+-- An event that met no fault of the keeper.
+pub faults-appended : (client : ℕ) (event : Event) (old new : Annalled) → met_fault event ≡ false → Appended client event old new → keeper_faults (past_in new) ≡ keeper_faults (past_in old)
+faults-appended client event old new q a = ap keeper_faults (appended-past client event old new a) ∙ rw q refl
+
+pub boots-appended : (client : ℕ) (event : Event) (old new : Annalled) → is_boot event ≡ false → Appended client event old new → 0 < boots (past_in old) → 0 < boots (past_in new)
+boots-appended client event old new q a b =
+    let e : boots (past_in new) ≡ boots (past_in old) = ap boots (appended-past client event old new a) ∙ rw q refl in
+    subst (λ (n : ℕ). 0 < n) (sym e) b
+
+-- ---- what comes behind an event
+
+leaves-behind : (client : ℕ) (Play Rest : List Moment → Type 0) (m : Moment) (moments : List Moment) → ((ms : List Moment) → Rest ms → Play (m ∷ ms)) → Leaves client Rest moments → Leaves client Play (m ∷ moments)
+leaves-behind client Play Rest m moments f l =
+    record {
+      front = m ∷ l.front;
+      rest = l.rest;
+      back = l.back;
+      play = f (l.front ++ l.rest) l.play;
+      gave = l.gave;
+      are = ap (λ (ms : List Moment). m ∷ ms) l.are;
+    }
+
+ends-behind : (played : Played) (client : ℕ) (Play Rest : List Moment → Type 0) (m : Moment) (new : List Event) (moments : List Moment) → ((ms : List Moment) → Rest ms → Play (m ∷ ms)) → EndsSo played client Rest new moments → EndsSo played client Play new (m ∷ moments)
+ends-behind Played.Done client Play Rest m new moments f e = f moments e
+ends-behind Played.Off client Play Rest m new moments f e = (leaves-behind client Play Rest m moments f e.0, e.1)
+ends-behind Played.NoMemory client Play Rest m new moments f e = leaves-behind client Play Rest m moments f e
+
+-- An event, and behind it the rest of the play.
+pub played-behind : {K : Type 0} (faults : K → ℕ) (played : Played) (client : ℕ) (event : Event) (Play Rest : List Moment → Type 0) (old mid new : Housed K) → IsOwn client event
+    → ((ms : List Moment) → Rest ms → Play (at (past old) event ∷ ms)) → Appended client event old.annals mid.annals → FaultsCounted faults old mid → faults old.keeper ≤ faults mid.keeper
+    → HousePlayed faults played client Rest mid new → HousePlayed faults played client Play old new
+played-behind faults played client event Play Rest old mid new o f a counted counts p =
+    record {
+      ended = record {
+        moments = at (past old) event ∷ p.ended.moments;
+        did = did-both client (at (past old) event ∷ []) p.ended.moments (past old) (past mid) (past new) (did-appended client event old.annals mid.annals o a) p.ended.did;
+        ends = ends-behind played client Play Rest (at (past old) event) (past new) p.ended.moments f p.ended.ends;
+      };
+      rest = record {
+        idle = p.rest.idle;
+        same = same-both old.annals mid.annals new.annals a.same p.rest.same;
+        counted = counted-both faults old mid new counted p.rest.counted p.rest.counts;
+        counts = le-both (faults old.keeper) (faults mid.keeper) (faults new.keeper) counts p.rest.counts;
+      };
+    }
+
+-- An event that ends the play.
+pub played-last : {K : Type 0} (faults : K → ℕ) (client : ℕ) (event : Event) (Play : List Moment → Type 0) (old new : Housed K) → IsOwn client event
+    → Play (at (past old) event ∷ []) → IsIdle (event ∷ past old) → Appended client event old.annals new.annals → FaultsCounted faults old new → faults old.keeper ≤ faults new.keeper
+    → HousePlayed faults Played.Done client Play old new
+played-last faults client event Play old new o p i a counted counts =
+    record {
+      ended = record { moments = at (past old) event ∷ []; did = did-appended client event old.annals new.annals o a; ends = p };
+      rest = record { idle = subst IsIdle (sym (appended-past client event old.annals new.annals a)) i; same = a.same; counted = counted; counts = counts };
+    }
+
+-- ---- a call that was stopped
+
+abbrev pub cut_past : Bool → List Event → List Event
+cut_past true past = Event.Cut ∷ past
+cut_past false past = past
+
+-- It left the past as it was, or the power was cut; and where it was answered off, the boot is off.
+pub record Halted (stop : Stop) (old new : Annalled) : Type 0 where
+  pub same : SameFacts old new
+  pub cut : Bool
+  pub past_is : past_in new ≡ cut_past cut (past_in old)
+  pub is_off : stop ≡ Stop.Off → off (past_in new) ≡ true
+
+pub halted-off : (client : ℕ) (old new : Annalled) → WentOff client old new → Halted Stop.Off old new
+halted-off client old new w =
+    elim w [
+      | inl was ↦ record { same = was.1.same; cut = false; past_is = unmoved old new was.1; is_off = λ e. ap off (unmoved old new was.1) ∙ was.0 }
+      | inr cut ↦
+          record {
+            same = cut.1.same;
+            cut = true;
+            past_is = appended-past client Event.Cut old new cut.1;
+            is_off = λ e. ap off (appended-past client Event.Cut old new cut.1);
+          }
+    ]
+
+pub halted-memory : (old new : Annalled) → Unchanged old new → Halted Stop.NoMemory old new
+halted-memory old new u = record { same = u.same; cut = false; past_is = unmoved old new u; is_off = λ e. cc }
+
+pub halted-turn : {A : Type 0} (client : ℕ) (event : A → Event) (stop : Stop) (old new : Annalled) → Turned client event (Err stop) old new → Halted stop old new
+halted-turn client event Stop.Off old new t = halted-off client old new t
+halted-turn client event Stop.NoMemory old new t = halted-memory old new t.1
+
+-- What a stopped call leaves.
+cut-holds : (cut : Bool) (past : List Event) → holds (cut_past cut past) ≡ holds past
+cut-holds true past = refl
+cut-holds false past = refl
+
+cut-live : (cut : Bool) (past : List Event) → live (cut_past cut past) ≡ live past
+cut-live true past = refl
+cut-live false past = refl
+
+cut-boots : (cut : Bool) (past : List Event) → boots (cut_past cut past) ≡ boots past
+cut-boots true past = refl
+cut-boots false past = refl
+
+cut-faults : (cut : Bool) (past : List Event) → keeper_faults (cut_past cut past) ≡ keeper_faults past
+cut-faults true past = refl
+cut-faults false past = refl
+
+cut-did : (client : ℕ) (cut : Bool) (past : List Event) → Did client [] past (cut_past cut past)
+cut-did client true past = did-nobody client past Event.Cut refl refl
+cut-did client false past = did-nothing client past
+
+pub halted-holds : (stop : Stop) (old new : Annalled) → Halted stop old new → holds (past_in new) ≡ holds (past_in old)
+halted-holds stop old new h = ap holds h.past_is ∙ cut-holds h.cut (past_in old)
+
+pub halted-live : (stop : Stop) (old new : Annalled) → Halted stop old new → live (past_in new) ≡ live (past_in old)
+halted-live stop old new h = ap live h.past_is ∙ cut-live h.cut (past_in old)
+
+pub halted-boots : (stop : Stop) (old new : Annalled) → Halted stop old new → 0 < boots (past_in old) → 0 < boots (past_in new)
+halted-boots stop old new h b = subst (λ (n : ℕ). 0 < n) (sym (ap boots h.past_is ∙ cut-boots h.cut (past_in old))) b
+
+pub halted-faults : (stop : Stop) (old new : Annalled) → Halted stop old new → keeper_faults (past_in new) ≡ keeper_faults (past_in old)
+halted-faults stop old new h = ap keeper_faults h.past_is ∙ cut-faults h.cut (past_in old)
+
+pub halted-did : (client : ℕ) (stop : Stop) (old new : Annalled) → Halted stop old new → Did client [] (past_in old) (past_in new)
+halted-did client stop old new h = subst (λ (p : List Event). Did client [] (past_in old) p) (sym h.past_is) (cut-did client h.cut (past_in old))
+
+ends-left : (stop : Stop) (client : ℕ) (Play : List Moment → Type 0) (new : List Event) (moments : List Moment) → (stop ≡ Stop.Off → off new ≡ true) → Leaves client Play moments → EndsSo (stopped_by stop) client Play new moments
+ends-left Stop.Off client Play new moments o l = (l, o refl)
+ends-left Stop.NoMemory client Play new moments o l = l
+
+-- The play was left before it began.
+pub played-stopped : {K : Type 0} (faults : K → ℕ) (stop : Stop) (client : ℕ) (Play : List Moment → Type 0) (old new : Housed K) → Leaves client Play [] → IsIdle (past old) → Halted stop old.annals new.annals → FaultsCounted faults old new → faults old.keeper ≤ faults new.keeper
+    → HousePlayed faults (stopped_by stop) client Play old new
+played-stopped faults stop client Play old new l i h counted counts =
+    record {
+      ended = record {
+        moments = [];
+        did = halted-did client stop old.annals new.annals h;
+        ends = ends-left stop client Play (past new) [] h.is_off l;
+      };
+      rest = record {
+        idle = record { no_hold = halted-holds stop old.annals new.annals h ∙ i.no_hold; no_live = halted-live stop old.annals new.annals h ∙ i.no_live };
+        same = h.same;
+        counted = counted;
+        counts = counts;
+      };
+    }
+
+-- The same of a call that left the keeper alone.
+pub stopped-alone : {K : Type 0} (faults : K → ℕ) (stop : Stop) (client : ℕ) (Play : List Moment → Type 0) (old new : Housed K) → Leaves client Play [] → IsIdle (past old) → Halted stop old.annals new.annals → new.keeper ≡ old.keeper
+    → HousePlayed faults (stopped_by stop) client Play old new
+stopped-alone faults stop client Play old new l i h k =
+    played-stopped faults stop client Play old new l i h
+    (counted-same faults old new (halted-faults stop old.annals new.annals h) k) (counts-same faults old new k)
+
+-- The play was left, and what was out was given back.
+pub played-back : {K : Type 0} (faults : K → ℕ) (stop : Stop) (client : ℕ) (what : Back) (Play : List Moment → Type 0) (some : List Moment) (old mid new : Housed K) → Play some → Halted stop old.annals mid.annals
+    → Appended client (Event.GiveBack client what) mid.annals new.annals → IsIdle (Event.GiveBack client what ∷ past mid) → FaultsCounted faults old mid → faults old.keeper ≤ faults mid.keeper → new.keeper ≡ mid.keeper
+    → HousePlayed faults (stopped_by stop) client Play old new
+played-back faults stop client what Play some old mid new p h a i counted counts k =
+    let event = Event.GiveBack client what in
+    let e : past new ≡ event ∷ past mid = appended-past client event mid.annals new.annals a in
+    let own : IsOwn client event = record { no_boot = refl; own = refl } in
+    record {
+      ended = record {
+        moments = at (past mid) event ∷ [];
+        did = did-both client [] (at (past mid) event ∷ []) (past old) (past mid) (past new) (halted-did client stop old.annals mid.annals h) (did-appended client event mid.annals new.annals own a);
+        ends = ends-left stop client Play (past new) (at (past mid) event ∷ []) (λ s. ap off e ∙ h.is_off s)
+            (record { front = []; rest = some; back = at (past mid) event ∷ []; play = p; gave = (what, refl); are = refl });
+      };
+      rest = record {
+        idle = subst IsIdle (sym e) i;
+        same = same-both old.annals mid.annals new.annals h.same a.same;
+        counted = counted-both faults old mid new counted (counted-same faults mid new (faults-appended client event mid.annals new.annals refl a) k) (counts-same faults mid new k);
+        counts = le-both (faults old.keeper) (faults mid.keeper) (faults new.keeper) counts (counts-same faults mid new k);
+      };
+    }

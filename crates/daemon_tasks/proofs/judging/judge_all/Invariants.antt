@@ -1,0 +1,10 @@
+use Rattle.std.proofs.Common.{take}
+use Rattle.update_log.specs.declared.facts.Facts.{Facts}
+use Rattle.client_plays.specs.Tools.{Files}
+use Rattle.daemon_tasks.proofs.JudgeLoops.{JudgedSoFar}
+use Rattle.daemon_tasks.proofs.judging.judge_all.Given as goal
+
+abbrev pub invariant-loop-entry : goal.invariant-loop-entry
+invariant-loop-entry g l = record {
+  so_far : (facts : Facts) (files : Files) → JudgedSoFar g.K.Keeper.faults facts files l.wanting (take l.entry-index l.entries) l.initial.house l.house;
+}

@@ -1,0 +1,68 @@
+use Rattle.std.proofs.Common.{◌≤◌, ◌∙◌, map, take, get_or, length, refl, subst, sym, arith}
+use Rattle.std.specs.Prelude.{Some, None}
+use Rattle.update_log.specs.declared.facts.Facts.{Facts}
+use Rattle.client_plays.specs.Plays.{TaskPlays, ToResume}
+use Rattle.client_plays.proofs.RestLaws.{so_far-nothing, still-booted}
+use Rattle.daemon_tasks.proofs.ResumeLoops.{apart-later, le-both, resumed-end, resumed-off, resumed-turn, same-task, told-more, waits-later, waits-next}
+use Rattle.daemon_tasks.proofs.resuming.resume_all.Goals as goal
+
+pub loop-entry-init : goal.loop-entry-init
+loop-entry-init g c = record {
+  so_far = so_far-nothing g.K.Keeper.faults c.args.before 0 (TaskPlays c.args.house.now.annals.facts (g.P.Shelf.files c.args.shelf.now)) c.args.house.now c.requires.idle;
+  told = λ b. b;
+  waits = c.requires.waits;
+  apart = c.requires.apart;
+  files = refl;
+  counts = omega arith;
+}
+
+pub resume_next-requires-clause-booted : goal.resume_next-requires-clause-booted
+resume_next-requires-clause-booted g c =
+    still-booted g.K.Keeper.faults c.loop-entry.wanting 0 (TaskPlays c.args.house.now.annals.facts (g.P.Shelf.files c.args.shelf.now)) (map ToResume (take c.loop-entry.entry-index c.args.entries.now)) c.args.house.now c.loop-entry.house
+    c.loop-entry.invariant.so_far c.requires.booted
+
+pub resume_next-requires-clause-waits : goal.resume_next-requires-clause-waits
+resume_next-requires-clause-waits g c = waits-next c.loop-entry.house.annals c.args.entries.now c.loop-entry.entry-index c.loop-entry-test.true c.loop-entry.invariant.waits
+
+pub resume_next-requires-clause-served : goal.resume_next-requires-clause-served
+resume_next-requires-clause-served g c =
+    subst (λ (f : Facts). length f.vetoes ≤ length c.args.plugins.now) (sym c.loop-entry.invariant.so_far.rest.same.facts) c.requires.served
+
+pub returns-in-None-clause-more : goal.returns-in-None-clause-more
+returns-in-None-clause-more g c =
+    let v = c.loop-entry.invariant in
+    let i = c.loop-entry.entry-index in
+    let facts = c.args.house.now.annals.facts in
+    let files = g.P.Shelf.files c.args.shelf.now in
+    resumed-off g.K.Keeper.faults (TaskPlays facts files) c.args.before c.loop-entry.wanting c.args.entries.now i c.args.house.now c.loop-entry.house c.resume_next.new.house
+    c.loop-entry-test.true v.told v.so_far
+    (same-task g.K.Keeper.faults None c.loop-entry.wanting (ToResume (get_or c.args.entries.now i 0)) facts c.loop-entry.house.annals.facts files (g.P.Shelf.files c.loop-entry.shelf) c.loop-entry.house c.resume_next.new.house
+    v.so_far.rest.same.facts v.files c.in-None.ensures.more)
+
+pub returns-in-None-clause-files : goal.returns-in-None-clause-files
+returns-in-None-clause-files g c = c.in-None.ensures.files ∙ c.loop-entry.invariant.files
+
+pub returns-in-None-clause-counts : goal.returns-in-None-clause-counts
+returns-in-None-clause-counts g c =
+    le-both (g.P.Shelf.faults c.args.shelf.now) (g.P.Shelf.faults c.loop-entry.shelf) (g.P.Shelf.faults c.resume_next.new.shelf) c.loop-entry.invariant.counts c.in-None.ensures.counts
+
+pub loop-entry-preserved : goal.loop-entry-preserved
+loop-entry-preserved g c =
+    let v = c.loop-entry.invariant in
+    let i = c.loop-entry.entry-index in
+    let facts = c.args.house.now.annals.facts in
+    let files = g.P.Shelf.files c.args.shelf.now in
+    record {
+      so_far = resumed-turn g.K.Keeper.faults (TaskPlays facts files) c.in-Some.now c.loop-entry.wanting c.args.entries.now i c.args.house.now c.loop-entry.house c.resume_next.new.house c.loop-entry-test.true v.so_far
+          (same-task g.K.Keeper.faults (Some c.in-Some.now) c.loop-entry.wanting (ToResume (get_or c.args.entries.now i 0)) facts c.loop-entry.house.annals.facts files (g.P.Shelf.files c.loop-entry.shelf) c.loop-entry.house c.resume_next.new.house
+          v.so_far.rest.same.facts v.files c.in-Some.ensures.more);
+      told = told-more c.args.before c.in-Some.now c.loop-entry.wanting c.in-Some.ensures.more.more.0 v.told;
+      waits = waits-later c.loop-entry.house.annals c.resume_next.new.house.annals c.args.entries.now i c.loop-entry-test.true v.apart v.waits c.in-Some.ensures.others;
+      apart = apart-later c.args.entries.now i c.loop-entry-test.true v.apart;
+      files = c.in-Some.ensures.files ∙ v.files;
+      counts = le-both (g.P.Shelf.faults c.args.shelf.now) (g.P.Shelf.faults c.loop-entry.shelf) (g.P.Shelf.faults c.resume_next.new.shelf) v.counts c.in-Some.ensures.counts;
+    }
+
+pub returns-clause-more : goal.returns-clause-more
+returns-clause-more g c =
+    resumed-end g.K.Keeper.faults (TaskPlays c.args.house.now.annals.facts (g.P.Shelf.files c.args.shelf.now)) c.args.before c.loop-entry.wanting c.args.entries.now c.loop-entry.entry-index c.args.house.now c.loop-entry.house c.loop-entry-test.false c.loop-entry.invariant.told c.loop-entry.invariant.so_far

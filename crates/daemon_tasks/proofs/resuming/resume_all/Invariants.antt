@@ -1,0 +1,16 @@
+use Rattle.std.proofs.Common.{◌≡◌, ◌≤◌, true, drop, map, take}
+use Rattle.client_plays.specs.Endings.{SoFar}
+use Rattle.client_plays.specs.Plays.{TaskPlays, ToResume}
+use Rattle.daemon_tasks.specs.Judged.{AllWait}
+use Rattle.daemon_tasks.specs.Stays.{AreApart}
+use Rattle.daemon_tasks.proofs.resuming.resume_all.Given as goal
+
+abbrev pub invariant-loop-entry : goal.invariant-loop-entry
+invariant-loop-entry g l = record {
+  so_far : SoFar g.K.Keeper.faults l.wanting 0 (TaskPlays l.initial.house.annals.facts (g.P.Shelf.files l.initial.shelf)) (map ToResume (take l.entry-index l.entries)) l.initial.house l.house;
+  told : l.before ≡ true → l.wanting ≡ true;
+  waits : AllWait l.house.annals (drop l.entry-index l.entries);
+  apart : AreApart (drop l.entry-index l.entries);
+  files : g.P.Shelf.files l.shelf ≡ g.P.Shelf.files l.initial.shelf;
+  counts : g.P.Shelf.faults l.initial.shelf ≤ g.P.Shelf.faults l.shelf;
+}

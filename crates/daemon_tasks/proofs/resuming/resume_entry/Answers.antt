@@ -1,0 +1,158 @@
+use Rattle.std.proofs.Common.{◌≤◌, length, refl, subst, sym}
+use Rattle.std.specs.Prelude.{Some}
+use Rattle.update_log.specs.declared.answer.AskAnswer.{AskAnswer}
+use Rattle.update_log.specs.declared.event.Event.{Event}
+use Rattle.update_log.specs.declared.facts.Facts.{Facts}
+use Rattle.update_log.specs.Legal.{request_of_row}
+use Rattle.daemon_core.specs.declared.hold.Asked.{Asked}
+use Rattle.daemon_core.specs.Holds.{IsHoldFor, answer_of}
+use Rattle.daemon_core.specs.Housed.{past}
+use Rattle.daemon_tasks.proofs.Outs.{ask-holds, idle-free}
+use Rattle.daemon_tasks.proofs.ResumePlays.{pending-behind, pending-not_kept, pending-others, pending-stopped, refused-idle, refused-in, still-put_off, waits-kept}
+use Rattle.daemon_tasks.proofs.Rows.{others-halted}
+use Rattle.daemon_tasks.proofs.Turns.{boots-appended, halted-turn}
+use Rattle.daemon_tasks.proofs.resuming.resume_entry.Goals as goal
+
+pub ask_pending-requires-clause-free : goal.ask_pending-requires-clause-free
+ask_pending-requires-clause-free g c = idle-free 0 (past c.args.house.now) c.requires.idle
+
+pub ask_pending-requires-clause-pending : goal.ask_pending-requires-clause-pending
+ask_pending-requires-clause-pending g c =
+    let w = c.requires.waits in (w.row, waits-kept c.args.house.now.annals c.args.entry c.known.ensures.annals w, w.pending)
+
+pub resume_held-requires-clause-booted : goal.resume_held-requires-clause-booted
+resume_held-requires-clause-booted g c =
+    let w = c.requires.waits in
+    let kept = waits-kept c.args.house.now.annals c.args.entry c.known.ensures.annals w in
+    let a = c.in-Ok-Held in
+    let t = rw a.field-0-is at (a.ensures.turn w.row kept) in
+    boots-appended 0 (Event.Ask 0 (request_of_row w.row) (Some c.args.entry) (answer_of (Asked.Held a.hold))) c.args.house.now.annals c.ask_pending.new.self.annals refl t.1 c.requires.booted
+
+pub resume_held-requires-clause-put_off : goal.resume_held-requires-clause-put_off
+resume_held-requires-clause-put_off g c =
+    let w = c.requires.waits in
+    let kept = waits-kept c.args.house.now.annals c.args.entry c.known.ensures.annals w in
+    let a = c.in-Ok-Held in
+    let t = rw a.field-0-is at (a.ensures.turn w.row kept) in
+    still-put_off c.args.entry (request_of_row w.row) (answer_of (Asked.Held a.hold)) c.args.house.now.annals c.ask_pending.new.self.annals c.known-in-Ok-Held.ensures.annals w t.1
+
+pub resume_held-requires-clause-held : goal.resume_held-requires-clause-held
+resume_held-requires-clause-held g c =
+    let w = c.requires.waits in
+    let kept = waits-kept c.args.house.now.annals c.args.entry c.known.ensures.annals w in
+    let a = c.in-Ok-Held in
+    let t = rw a.field-0-is at (a.ensures.turn w.row kept) in
+    let h = rw a.field-0-is at (a.ensures.holds w.row kept) in
+    ask-holds c.args.house.now.annals.facts 0 (request_of_row w.row) (Some c.args.entry) a.hold c.args.house.now.annals c.ask_pending.new.self.annals h c.requires.idle t.1
+
+pub resume_held-requires-clause-hold : goal.resume_held-requires-clause-hold
+resume_held-requires-clause-hold g c =
+    let w = c.requires.waits in
+    let kept = waits-kept c.args.house.now.annals c.args.entry c.known.ensures.annals w in
+    let a = c.in-Ok-Held in
+    let t = rw a.field-0-is at (a.ensures.turn w.row kept) in
+    let h = rw a.field-0-is at (a.ensures.holds w.row kept) in
+    (request_of_row w.row, subst (λ (f : Facts). IsHoldFor f 0 (request_of_row w.row) (Some c.args.entry) a.hold) (sym t.1.same.facts) h)
+
+pub resume_held-requires-clause-served : goal.resume_held-requires-clause-served
+resume_held-requires-clause-served g c =
+    let w = c.requires.waits in
+    let kept = waits-kept c.args.house.now.annals c.args.entry c.known.ensures.annals w in
+    let a = c.in-Ok-Held in
+    let t = rw a.field-0-is at (a.ensures.turn w.row kept) in
+    subst (λ (f : Facts). length f.vetoes ≤ length c.args.plugins.now) (sym t.1.same.facts) c.requires.served
+
+pub resume_with-requires-clause-booted : goal.resume_with-requires-clause-booted
+resume_with-requires-clause-booted g c =
+    let w = c.requires.waits in
+    let kept = waits-kept c.args.house.now.annals c.args.entry c.known.ensures.annals w in
+    let a = c.in-Ok-Refused in
+    let t = rw a.field-0-is at (a.ensures.turn w.row kept) in
+    boots-appended 0 (Event.Ask 0 (request_of_row w.row) (Some c.args.entry) (AskAnswer.Refused a.field-0-0)) c.args.house.now.annals c.ask_pending.new.self.annals refl t.1 c.requires.booted
+
+pub resume_with-requires-clause-put_off : goal.resume_with-requires-clause-put_off
+resume_with-requires-clause-put_off g c =
+    let w = c.requires.waits in
+    let kept = waits-kept c.args.house.now.annals c.args.entry c.known.ensures.annals w in
+    let a = c.in-Ok-Refused in
+    let t = rw a.field-0-is at (a.ensures.turn w.row kept) in
+    still-put_off c.args.entry (request_of_row w.row) (AskAnswer.Refused a.field-0-0) c.args.house.now.annals c.ask_pending.new.self.annals c.known-in-Ok-Refused.ensures.annals w t.1
+
+pub resume_with-requires-clause-comes : goal.resume_with-requires-clause-comes
+resume_with-requires-clause-comes g c =
+    let w = c.requires.waits in
+    let kept = waits-kept c.args.house.now.annals c.args.entry c.known.ensures.annals w in
+    let a = c.in-Ok-Refused in
+    let t = rw a.field-0-is at (a.ensures.turn w.row kept) in
+    refused-in c.args.entry (request_of_row w.row) a.field-0-0 c.args.house.now.annals c.ask_pending.new.self.annals c.requires.idle t.1
+
+pub resume_with-requires-clause-out : goal.resume_with-requires-clause-out
+resume_with-requires-clause-out g c =
+    let w = c.requires.waits in
+    let kept = waits-kept c.args.house.now.annals c.args.entry c.known.ensures.annals w in
+    let a = c.in-Ok-Refused in
+    let t = rw a.field-0-is at (a.ensures.turn w.row kept) in
+    refused-idle c.args.entry (request_of_row w.row) a.field-0-0 c.args.house.now.annals c.ask_pending.new.self.annals c.requires.idle t.1
+
+pub resume_with-requires-clause-served : goal.resume_with-requires-clause-served
+resume_with-requires-clause-served g c =
+    let w = c.requires.waits in
+    let kept = waits-kept c.args.house.now.annals c.args.entry c.known.ensures.annals w in
+    let a = c.in-Ok-Refused in
+    let t = rw a.field-0-is at (a.ensures.turn w.row kept) in
+    subst (λ (f : Facts). length f.vetoes ≤ length c.args.plugins.now) (sym t.1.same.facts) c.requires.served
+
+pub unreachable-requires : goal.unreachable-requires
+unreachable-requires g c =
+    let w = c.requires.waits in
+    let kept = waits-kept c.args.house.now.annals c.args.entry c.known.ensures.annals w in
+    let a = c.in-Ok-Kept in
+    let t = rw a.field-0-is at (a.ensures.turn w.row kept) in
+    pending-not_kept c.args.entry a.field-0-0 a.field-0-1 (request_of_row w.row) c.args.house.now.annals c.ask_pending.new.self.annals c.known-in-Ok-Kept.ensures.annals t.1
+
+pub returns-in-Ok-Held-clause-played : goal.returns-in-Ok-Held-clause-played
+returns-in-Ok-Held-clause-played g c =
+    let w = c.requires.waits in
+    let kept = waits-kept c.args.house.now.annals c.args.entry c.known.ensures.annals w in
+    let a = c.in-Ok-Held in
+    let t = rw a.field-0-is at (a.ensures.turn w.row kept) in
+    pending-behind g.K.Keeper.faults (g.P.Shelf.files c.args.shelf.now) c.args.entry (request_of_row w.row) (answer_of (Asked.Held a.hold)) c.resume_held.result c.args.house.now c.ask_pending.new.self c.resume_held.new.house c.ask_pending.ensures.keeper t.1 c.resume_held.ensures.played
+
+pub returns-in-Ok-Held-clause-others : goal.returns-in-Ok-Held-clause-others
+returns-in-Ok-Held-clause-others g c =
+    let w = c.requires.waits in
+    let kept = waits-kept c.args.house.now.annals c.args.entry c.known.ensures.annals w in
+    let a = c.in-Ok-Held in
+    let t = rw a.field-0-is at (a.ensures.turn w.row kept) in
+    pending-others c.args.entry (request_of_row w.row) (answer_of (Asked.Held a.hold)) c.args.house.now.annals c.ask_pending.new.self.annals c.resume_held.new.house.annals t.1 c.resume_held.ensures.others
+
+pub returns-in-Ok-Refused-clause-played : goal.returns-in-Ok-Refused-clause-played
+returns-in-Ok-Refused-clause-played g c =
+    let w = c.requires.waits in
+    let kept = waits-kept c.args.house.now.annals c.args.entry c.known.ensures.annals w in
+    let a = c.in-Ok-Refused in
+    let t = rw a.field-0-is at (a.ensures.turn w.row kept) in
+    pending-behind g.K.Keeper.faults (g.P.Shelf.files c.args.shelf.now) c.args.entry (request_of_row w.row) (AskAnswer.Refused a.field-0-0) c.resume_with.result c.args.house.now c.ask_pending.new.self c.resume_with.new.house c.ask_pending.ensures.keeper t.1
+    (c.resume_with.ensures.played (g.P.Shelf.files c.args.shelf.now) (AskAnswer.Refused a.field-0-0) refl)
+
+pub returns-in-Ok-Refused-clause-others : goal.returns-in-Ok-Refused-clause-others
+returns-in-Ok-Refused-clause-others g c =
+    let w = c.requires.waits in
+    let kept = waits-kept c.args.house.now.annals c.args.entry c.known.ensures.annals w in
+    let a = c.in-Ok-Refused in
+    let t = rw a.field-0-is at (a.ensures.turn w.row kept) in
+    pending-others c.args.entry (request_of_row w.row) (AskAnswer.Refused a.field-0-0) c.args.house.now.annals c.ask_pending.new.self.annals c.resume_with.new.house.annals t.1 c.resume_with.ensures.others
+
+pub returns-in-Err-clause-played : goal.returns-in-Err-clause-played
+returns-in-Err-clause-played g c =
+    let w = c.requires.waits in
+    let kept = waits-kept c.args.house.now.annals c.args.entry c.known.ensures.annals w in
+    pending-stopped g.K.Keeper.faults (g.P.Shelf.files c.args.shelf.now) c.args.entry c.stopped_by.result c.in-Err.stop c.args.house.now c.ask_pending.new.self c.stopped_by.ensures c.requires.idle
+    (halted-turn 0 (λ (asked : Asked). Event.Ask 0 (request_of_row w.row) (Some c.args.entry) (answer_of asked)) c.in-Err.stop c.args.house.now.annals c.ask_pending.new.self.annals (c.in-Err.ensures.turn w.row kept)) c.ask_pending.ensures.keeper
+
+pub returns-in-Err-clause-others : goal.returns-in-Err-clause-others
+returns-in-Err-clause-others g c =
+    let w = c.requires.waits in
+    let kept = waits-kept c.args.house.now.annals c.args.entry c.known.ensures.annals w in
+    others-halted c.args.entry c.in-Err.stop c.args.house.now.annals c.ask_pending.new.self.annals
+    (halted-turn 0 (λ (asked : Asked). Event.Ask 0 (request_of_row w.row) (Some c.args.entry) (answer_of asked)) c.in-Err.stop c.args.house.now.annals c.ask_pending.new.self.annals (c.in-Err.ensures.turn w.row kept))

@@ -1,0 +1,61 @@
+use Rattle.std.proofs.Common.{length}
+use Rattle.daemon_tasks.proofs.ResumePlays.{refused-others, resume-others, resume-played, resume-refused, resume-stopped, resumed-alone, resumed-marks, resumed-new, resumed-plugin, resumed-runs, stopped-booted, stopped-others, stopped-out}
+use Rattle.daemon_tasks.proofs.resuming.resume_with.Goals as goal
+
+pub run_taken-requires-clause-runs : goal.run_taken-requires-clause-runs
+run_taken-requires-clause-runs g c =
+    resumed-runs c.args.entry c.args.held c.in-Ok-Taken.taken c.args.house.now c.resume.new.self (rw c.in-Ok-Taken.field-0-is at c.in-Ok-Taken.ensures.turn) (rw c.in-Ok-Taken.field-0-is at c.in-Ok-Taken.ensures.gave) c.known.ensures.annals c.requires.booted
+
+pub run_taken-requires-clause-no_steps : goal.run_taken-requires-clause-no_steps
+run_taken-requires-clause-no_steps g c =
+    resumed-new c.args.entry c.args.held c.in-Ok-Taken.taken c.args.house.now c.resume.new.self (rw c.in-Ok-Taken.field-0-is at c.in-Ok-Taken.ensures.turn) (rw c.in-Ok-Taken.field-0-is at c.in-Ok-Taken.ensures.gave)
+
+pub run_taken-requires-clause-marks : goal.run_taken-requires-clause-marks
+run_taken-requires-clause-marks g c =
+    resumed-marks c.args.entry c.args.held c.in-Ok-Taken.taken c.args.house.now c.resume.new.self (rw c.in-Ok-Taken.field-0-is at c.in-Ok-Taken.ensures.turn) (rw c.in-Ok-Taken.field-0-is at c.in-Ok-Taken.ensures.gave)
+
+pub run_taken-requires-clause-served : goal.run_taken-requires-clause-served
+run_taken-requires-clause-served g c =
+    resumed-plugin c.args.entry c.args.held c.in-Ok-Taken.taken c.args.house.now c.resume.new.self (rw c.in-Ok-Taken.field-0-is at c.in-Ok-Taken.ensures.turn) (rw c.in-Ok-Taken.field-0-is at c.in-Ok-Taken.ensures.gave) (length c.args.plugins.now) c.requires.served
+
+pub run_taken-requires-clause-alone : goal.run_taken-requires-clause-alone
+run_taken-requires-clause-alone g c =
+    resumed-alone c.args.entry c.args.held c.in-Ok-Taken.taken c.args.house.now c.resume.new.self (rw c.in-Ok-Taken.field-0-is at c.in-Ok-Taken.ensures.turn) (rw c.in-Ok-Taken.field-0-is at c.in-Ok-Taken.ensures.gave) c.requires.out
+
+pub unreachable-requires : goal.unreachable-requires
+unreachable-requires g c = rw c.in-Ok-Kept.field-0-is at c.in-Ok-Kept.ensures.turn
+
+pub give_up-requires-clause-booted : goal.give_up-requires-clause-booted
+give_up-requires-clause-booted g c =
+    stopped-booted c.args.entry c.args.held c.in-Err.stopped c.args.house.now c.resume.new.self c.in-Err.ensures.turn c.in-Err.ensures.gave c.requires.booted
+
+pub give_up-requires-clause-out : goal.give_up-requires-clause-out
+give_up-requires-clause-out g c =
+    stopped-out c.args.entry c.args.held c.in-Err.stopped c.args.house.now c.resume.new.self c.in-Err.ensures.turn c.in-Err.ensures.gave c.requires.out
+
+pub returns-in-Ok-Taken-clause-played : goal.returns-in-Ok-Taken-clause-played
+returns-in-Ok-Taken-clause-played g c files asked f =
+    resume-played c.args.entry c.args.held c.in-Ok-Taken.taken c.args.house.now c.resume.new.self (rw c.in-Ok-Taken.field-0-is at c.in-Ok-Taken.ensures.turn) (rw c.in-Ok-Taken.field-0-is at c.in-Ok-Taken.ensures.gave) g.K.Keeper.faults files asked c.run_taken.result c.run_taken.new.house f c.resume.ensures.faults c.resume.ensures.counts c.run_taken.ensures.played
+
+pub returns-in-Ok-Taken-clause-others : goal.returns-in-Ok-Taken-clause-others
+returns-in-Ok-Taken-clause-others g c =
+    resume-others c.args.entry c.args.held c.in-Ok-Taken.taken c.args.house.now c.resume.new.self (rw c.in-Ok-Taken.field-0-is at c.in-Ok-Taken.ensures.turn) (rw c.in-Ok-Taken.field-0-is at c.in-Ok-Taken.ensures.gave) c.run_taken.new.house c.run_taken.ensures.others
+
+pub returns-in-Ok-Refused-clause-played : goal.returns-in-Ok-Refused-clause-played
+returns-in-Ok-Refused-clause-played g c files asked f =
+    let a = c.in-Ok-Refused in
+    resume-refused g.K.Keeper.faults files asked c.args.entry c.args.held a.field-0-0 c.args.house.now c.resume.new.self f c.requires.out (rw a.field-0-is at a.ensures.turn) c.resume.ensures.faults c.resume.ensures.counts
+
+pub returns-in-Ok-Refused-clause-others : goal.returns-in-Ok-Refused-clause-others
+returns-in-Ok-Refused-clause-others g c =
+    let a = c.in-Ok-Refused in
+    refused-others c.args.entry c.args.held a.field-0-0 c.args.house.now.annals c.resume.new.self.annals (rw a.field-0-is at a.ensures.turn)
+
+pub returns-in-Err-clause-played : goal.returns-in-Err-clause-played
+returns-in-Err-clause-played g c files asked f =
+    resume-stopped c.args.entry c.args.held c.in-Err.stopped c.args.house.now c.resume.new.self c.in-Err.ensures.turn c.in-Err.ensures.gave g.K.Keeper.faults files asked c.give_up.result c.give_up.new.house f c.give_up.ensures.told c.requires.out c.resume.ensures.faults c.resume.ensures.counts
+    c.give_up.ensures.given c.give_up.ensures.keeper
+
+pub returns-in-Err-clause-others : goal.returns-in-Err-clause-others
+returns-in-Err-clause-others g c =
+    stopped-others c.args.entry c.args.held c.in-Err.stopped c.args.house.now c.resume.new.self c.in-Err.ensures.turn c.in-Err.ensures.gave c.give_up.new.house c.give_up.ensures.given

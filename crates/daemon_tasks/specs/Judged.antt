@@ -1,0 +1,78 @@
+-- What the daemon judges and resumes by itself, entry by entry.
+use Rattle.std.specs.Prelude.{◌≡◌, ◌⊎◌, ℕ, Bool, true, false, List, [], ◌∷◌, ◌++◌, Option, Some, None, map, filter, unwrap_or, option_map, Result, Ok, Err}
+use Rattle.history_keeper.specs.declared.row.Row.{Row}
+use Rattle.history_keeper.specs.declared.row.RowState.{RowState}
+use Rattle.update_log.specs.declared.event.Event.{Event}
+use Rattle.update_log.specs.declared.facts.Facts.{Facts}
+use Rattle.update_log.specs.Known.{row_of, rows, views}
+use Rattle.update_log.specs.Pasts.{finished, off}
+use Rattle.daemon_core.specs.declared.judged.Judged.{Judged}
+use Rattle.daemon_core.specs.declared.stop.Stop.{Stop}
+use Rattle.daemon_core.specs.Housed.{Annalled, Housed, past, past_in, rows_before}
+use Rattle.client_plays.specs.Endings.{AtRest, HouseWent, SoFar}
+use Rattle.client_plays.specs.Moments.{Did, Moment}
+use Rattle.client_plays.specs.Plays.{Task, TaskPlays, ToJudge}
+use Rattle.client_plays.specs.Scripts.{PlaysAll, is_judgeable}
+use Rattle.client_plays.specs.Tools.{Files}
+use Rattle.daemon_tasks.specs.Stays.{RowsStay, rows_at}
+use Rattle.daemon_tasks.specs.declared.judging.Went.{Went}
+
+-- The entry's row can be judged.
+abbrev pub can_judge : Facts → List Row → List Event → ℕ → Bool
+can_judge facts opening past entry =
+    unwrap_or (option_map (is_judgeable past (views facts opening past)) (row_of (rows facts opening past) entry)) false
+
+-- Those of these entries that can be judged are to be.
+abbrev pub to_judge : Facts → List Row → List Event → List ℕ → List Task
+to_judge facts opening past entries = map ToJudge (filter (can_judge facts opening past) entries)
+
+abbrev pub to_judge_in : Annalled → List ℕ → List Task
+to_judge_in a entries = to_judge a.facts (rows_before a) (past_in a) entries
+
+-- Rows were judged, and no others changed; each device shows what it showed, and nothing was finished.
+pub record JudgeStays (entries : List ℕ) (old new : Annalled) : Type 0 where
+  pub rows : RowsStay entries old new
+  pub views : views new.facts (rows_before new) (past_in new) ≡ views old.facts (rows_before old) (past_in old)
+  pub finished : (entry : ℕ) → finished entry (past_in new) ≡ finished entry (past_in old)
+
+-- What is told of a judgement: whether memory was wanting so far, or nothing where the boot is off.
+abbrev pub told_by : Result Judged Stop → Bool → Option Bool
+told_by (Ok judged) wanting = Some wanting
+told_by (Err Stop.NoMemory) wanting = Some true
+told_by (Err Stop.Off) wanting = None
+
+-- Each of these entries has a row.
+abbrev pub AllKnown : Annalled → List ℕ → Type 0
+AllKnown a [] = Unit {0}
+AllKnown a (entry ∷ entries) = ((row : Row) × (row_of (rows_at a) entry ≡ Some row)) × AllKnown a entries
+
+-- What was tried of these tasks, whose plays go by these facts and the files of the daemon's shelf: they were played, or left for want of memory, and that is told; or the boot
+-- is off, and nothing was done.
+abbrev pub Tried : Facts → Files → Option Bool → Bool → List Task → List Event → List Moment → Type 0
+Tried facts files (Some now) wanting tasks new moments = ((now ≡ true) ⊎ (now ≡ wanting)) × PlaysAll now 0 (TaskPlays facts files) tasks moments
+Tried facts files None wanting tasks new moments = (moments ≡ []) × (off new ≡ true)
+
+pub record HouseTried {K : Type 0} (faults : K → ℕ) (facts : Facts) (files : Files) (told : Option Bool) (wanting : Bool) (tasks : List Task) (old new : Housed K) : Type 0 where
+  pub moments : List Moment
+  pub did : Did 0 moments (past old) (past new)
+  pub more : Tried facts files told wanting tasks (past new) moments
+  pub rest : AtRest faults old new
+
+-- All entries were gone through; or the boot is off, and then these and whatever else was to be done were
+-- played as far as they came.
+abbrev pub JudgedAll : {K : Type 0} → (K → ℕ) → Facts → Files → Went → List ℕ → Housed K → Housed K → Type 0
+JudgedAll faults facts files (Went.Through wanting) entries old new =
+    SoFar faults wanting 0 (TaskPlays facts files) (to_judge_in old.annals entries) old new × RowsStay entries old.annals new.annals
+JudgedAll faults facts files (Went.Off wanting) entries old new =
+    (more : List Task) → HouseWent faults wanting 0 (TaskPlays facts files) (to_judge_in old.annals entries ++ more) old new
+
+-- The entry's row is put off.
+pub record WaitsIn (a : Annalled) (entry : ℕ) : Type 0 where
+  pub row : Row
+  pub row_is : row_of (rows_at a) entry ≡ Some row
+  pub pending : row.state ≡ RowState.Pending
+
+-- So is the row of each of these.
+abbrev pub AllWait : Annalled → List ℕ → Type 0
+AllWait a [] = Unit {0}
+AllWait a (entry ∷ entries) = WaitsIn a entry × AllWait a entries

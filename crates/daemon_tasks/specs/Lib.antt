@@ -1,0 +1,4 @@
+pub mod Ends
+pub mod Stays
+pub mod Judged
+pub mod Resumed

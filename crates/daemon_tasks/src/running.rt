@@ -1,0 +1,53 @@
+//! The run of an entry that was taken.
+ghost use Rattle.std.specs.Prelude.{◌≡◌, ◌≤◌, ◌<◌, [], None, length};
+ghost use Rattle.daemon_core.specs.Housed.{past};
+ghost use Rattle.client_plays.specs.Endings.{HousePlayed};
+ghost use Rattle.client_plays.specs.Plays.{UpdatePlays};
+ghost use Rattle.install_engine.specs.RunsIn.{RunsIn, parts_taken};
+ghost use Rattle.daemon_tasks.specs.Ends.{ended_by, stopped_by};
+ghost use Rattle.daemon_tasks.specs.Stays.{OthersStay, RunsAlone};
+
+use client_plays::Played;
+use daemon_core::{House, Stop, Taken};
+use history_keeper::Keeper;
+use plain_runs::{Outcome, run_claim};
+use plugin_trait::Plugin;
+
+// Runs an entry of a client that was taken, which nothing else is out beside.
+pub(crate) fn run_taken<K: Keeper>(
+    house: &mut House<K>,
+    client: u32,
+    taken: Taken,
+    plugins: &[Box<dyn Plugin>],
+) -> Played
+    requires runs { RunsIn house.old.annals client (parts_taken taken) None }
+    requires no_steps { taken.trace.steps ≡ [] }
+    requires marks { 8 ≤ taken.board.room }
+    requires served { taken.plugin < length plugins.now }
+    requires alone { RunsAlone taken.entry (past house.old) }
+    ensures played { HousePlayed K.faults result client (UpdatePlays client taken.entry) house.old house.new }
+    ensures others { OthersStay taken.entry house.old.annals house.new.annals }
+{
+    let outcome = run_claim(house, client, taken, plugins);
+    ended_by(outcome)
+}
+
+// How the play of an update ended.
+fn ended_by(outcome: Outcome) -> Played
+    ensures { result ≡ ended_by outcome }
+{
+    match outcome {
+        Outcome::Finished(_) => Played::Done,
+        Outcome::Off => Played::Off,
+    }
+}
+
+// How a play ended that was stopped.
+pub(crate) fn stopped_by(stop: Stop) -> Played
+    ensures { result ≡ stopped_by stop }
+{
+    match stop {
+        Stop::Off => Played::Off,
+        Stop::NoMemory => Played::NoMemory,
+    }
+}

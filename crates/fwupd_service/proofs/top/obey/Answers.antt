@@ -1,0 +1,21 @@
+use Rattle.std.proofs.Common.{refl}
+use Rattle.fwupd_service.proofs.TopLaws.{stay-same}
+use Rattle.fwupd_service.proofs.top.obey.Goals as goal
+
+pub returns-in-Make-clause-shelves : goal.returns-in-Make-clause-shelves
+returns-in-Make-clause-shelves g c = rw c.make.ensures.shelves (stay-same _)
+
+pub returns-in-Check-clause-shelves : goal.returns-in-Check-clause-shelves
+returns-in-Check-clause-shelves g c = rw c.run_check.ensures.shelves (stay-same _)
+
+pub returns-in-Explain-clause-shelves : goal.returns-in-Explain-clause-shelves
+returns-in-Explain-clause-shelves g c = rw c.run_explain.ensures.shelves (stay-same _)
+
+pub returns-in-Ids-clause-shelves : goal.returns-in-Ids-clause-shelves
+returns-in-Ids-clause-shelves g c = rw c.run_ids.ensures.shelves (stay-same _)
+
+pub returns-in-Make-clause-ends : goal.returns-in-Make-clause-ends
+returns-in-Make-clause-ends g c = rw c.in-Make.is (refl, c.make.ensures.ends)
+
+pub returns-in-Explain-clause-ends : goal.returns-in-Explain-clause-ends
+returns-in-Explain-clause-ends g c = rw c.in-Explain.is c.run_explain.ensures.ends

@@ -1,0 +1,82 @@
+-- When `run` and `make` do all that they are for: nothing but what is named here keeps them from it.
+use Rattle.std.specs.Prelude.{◌≡◌, ◌≤◌, ℕ, false, List, length, map, Option, Some, None, Ok}
+use Rattle.fw_facts.specs.declared.machine.MachineFacts.{MachineFacts}
+use Rattle.history_keeper.specs.declared.change.Change.{Change}
+use Rattle.history_keeper.specs.declared.row.Row.{Row}
+use Rattle.history_keeper.specs.Histories.{IsHistory}
+use Rattle.plugin_order.specs.declared.sheet.PluginSheet.{PluginSheet}
+use Rattle.plugin_order.specs.Arranged.{CanBeArranged}
+use Rattle.update_log.specs.declared.facts.PluginVetoes.{PluginVetoes}
+use Rattle.daemon_core.specs.House.{shown_by}
+use Rattle.client_plays.specs.Shelves.{files_for}
+use Rattle.client_plays.specs.Tools.{Files, ShelfTold}
+use Rattle.campaign_runs.specs.Planned.{with_plans}
+use Rattle.site_types.specs.declared.campaign.Campaign.{Campaign}
+use Rattle.site_types.specs.declared.site.Site.{Site}
+use Rattle.site_making.specs.Made.{made_site}
+use Rattle.campaign_inputs.specs.Inputs.{document_max, stated}
+use Rattle.campaign_inputs.specs.Opened.{asked_for}
+use Rattle.campaign_inputs.specs.Settled.{IsCampaignOf}
+use Rattle.made_outputs.specs.Summed.{summary}
+use Rattle.report_text.specs.Report.{report}
+use Rattle.run_status.specs.declared.status.Status.{Status}
+use Rattle.run_status.specs.declared.status.Status.TheVariants as statuses
+use Rattle.fwupd_service.specs.Ends.{WentWhole}
+use Rattle.fwupd_service.specs.Makes.{MakeEnds, own_shelves}
+use Rattle.fwupd_service.specs.Telling.{any_fault}
+use Rattle.fwupd_service.specs.Tops.{Left, RunEnds}
+
+-- The whole input is no longer than a document may be and states this site, whose clients are no more than
+-- the shelves.
+pub record GivesSite (shelves : ℕ) (input : Option (List ℕ)) (site : Site) : Type 0 where
+  pub bytes : List ℕ
+  pub input_is : input ≡ Some bytes
+  pub within : length bytes ≤ document_max
+  pub states : stated bytes ≡ Ok site
+  pub clients : asked_for site ≤ shelves
+
+-- The history held: the rows before the log are a valid one, and the log tells no fault of the keeper.
+pub record HistoryHeld {K : Type 0} (left : Left K) : Type 0 where
+  pub valid : IsHistory left.opening
+  pub no_fault : any_fault left.log ≡ false
+
+-- The campaign of that site was played whole: all its boots were run, each script was played, as far as its
+-- boot didn't go off, and the text of its log was written whole.
+pub record SiteWentWhole {K : Type 0} (files : ℕ → Files) (sheets : List PluginSheet) (vetoes : MachineFacts → List PluginVetoes) (site : Site) (left : Left K) (text : Campaign → List ℕ) (before after : Option (List ℕ)) : Type 0 where
+  pub campaign : Campaign
+  pub settled : IsCampaignOf site sheets (vetoes site.machine) campaign
+  pub whole : WentWhole files (with_plans campaign.facts (map shown_by campaign.boards.items) campaign.boots) left.opening campaign.scripts left.log (text campaign) before after
+
+-- All was done, or else memory was wanting, or the input or the output failed; or, where the keeper doesn't
+-- tell its rows, a later boot read other rows than the log's.
+abbrev pub RunDone : {K : Type 0} → (K → Option (List Row)) → K → Type 0 → Status → Type 0
+RunDone told keeper Complete statuses.Done = Complete
+RunDone told keeper Complete statuses.NoMemory = Unit {0}
+RunDone told keeper Complete statuses.SourceFault = Unit {0}
+RunDone told keeper Complete statuses.SinkFault = Unit {0}
+RunDone told keeper Complete (statuses.BadHistory entry) = told keeper ≡ None
+RunDone told keeper Complete _ = ⊥
+
+-- `run` is complete: whatever it came to, where the input gives a site, the plugins can be arranged and the
+-- history held, the campaign of that site was played whole and its report was written, but for those causes.
+abbrev pub RunCompletes : {K : Type 0} → (K → Option (List Row)) → (K → Option Change) → (K → ℕ) → Type 0
+RunCompletes {K = K} told doubted faults =
+    (shelves : List ShelfTold) (sheets : List PluginSheet) (vetoes : MachineFacts → List PluginVetoes) (status : Status) (keeper : K) (left : Left K) (old new before after : Option (List ℕ)) (site : Site)
+    → RunEnds told doubted faults shelves sheets vetoes status keeper left old new before after
+    → GivesSite (length shelves) old site → CanBeArranged sheets → HistoryHeld left
+    → RunDone told left.keeper (SiteWentWhole (files_for shelves) sheets vetoes site left (λ campaign. report campaign.facts left.opening left.log) before after) status
+
+-- All was done, or else memory was wanting, or the output failed.
+abbrev pub MakeDone : Type 0 → Status → Type 0
+MakeDone Complete statuses.Done = Complete
+MakeDone Complete statuses.NoMemory = Unit {0}
+MakeDone Complete statuses.SinkFault = Unit {0}
+MakeDone Complete _ = ⊥
+
+-- `make` is complete: where the plugins can be arranged and the history held, the campaign of the generated
+-- site was played whole and its summary was written, but for those causes.
+abbrev pub MakeCompletes : Type 0 → Type 0
+MakeCompletes K =
+    (boards clients : ℕ) (sheets : List PluginSheet) (vetoes : MachineFacts → List PluginVetoes) (status : Status) (keeper : K) (left : Left K) (before after : Option (List ℕ))
+    → MakeEnds boards clients sheets vetoes status keeper left before after → CanBeArranged sheets → HistoryHeld left
+    → MakeDone (SiteWentWhole (files_for (own_shelves clients)) sheets vetoes (made_site boards clients) left (λ campaign. summary boards clients left.log) before after) status

@@ -1,0 +1,17 @@
+//! Laws of what a run of the program comes to.
+ghost use Rattle.fwupd_service.specs.Complete.{MakeCompletes, RunCompletes};
+
+use history_keeper::Keeper;
+
+/// Where the input gives a site, the plugins can be arranged and the history held, `run` plays the whole
+/// campaign of that site and writes its report, but for want of memory, a fault of the input or the output, or
+/// rows of another's in a history that doesn't tell its rows.
+pub fn run_completes<K: Keeper>()
+    ensures { RunCompletes K.rows K.doubt K.faults }
+{}
+
+/// Where the plugins can be arranged and the history held, `make` plays the whole campaign of the generated
+/// site and writes its summary, but for want of memory or a fault of the output.
+pub fn make_completes<K: Keeper>()
+    ensures { MakeCompletes K }
+{}

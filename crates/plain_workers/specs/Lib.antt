@@ -1,5 +1,0 @@
-pub mod Has
-pub mod Ends
-pub mod Stays
-pub mod Judged
-pub mod Resumed

@@ -1,0 +1,82 @@
+-- Going through a list of things.
+use Rattle.std.proofs.Common.{◌≡◌, ◌⊎◌, ℕ, Bool, true, false, List, [], ◌∷◌, ◌++◌, refl, sym, subst, inl, inr}
+use Rattle.std.specs.Prelude.{Option, Some, None}
+use Rattle.history_keeper.specs.declared.row.Row.{Row}
+use Rattle.update_log.specs.declared.facts.Facts.{Facts}
+use Rattle.update_log.specs.Pasts.{off}
+use Rattle.client_scripts.specs.declared.item.Item.{Item}
+use Rattle.client_plays.specs.declared.played.Played.{Played}
+use Rattle.client_plays.specs.Endings.{OnceMore}
+use Rattle.client_plays.specs.Moments.{Moment}
+use Rattle.client_plays.specs.Plays.{Plays}
+use Rattle.client_plays.specs.Scripts.{PlayedSo, PlaysAll, PlaysUntil}
+use Rattle.client_plays.specs.Tools.{Files}
+use Rattle.client_plays.proofs.PlayLaws.{leaves-whole}
+use Rattle.client_plays.proofs.ScriptLaws.{all-more, all-push, so-all, until-left}
+use Rattle.turn_lock.specs.Shown.{PassView}
+use Rattle.shared_daemon.specs.declared.entry.Entry.{Entry}
+use Rattle.shared_daemon.specs.Closings.{IsFreePass}
+use Rattle.shared_daemon.specs.Entries.{past_seen}
+use Rattle.script_runs.specs.Passes.{Ended, EndedMore, SoFar, Went}
+use Rattle.script_runs.proofs.DidLaws.{did-both, did-nothing}
+
+-- One thing more, by how its play ended.
+pub more-done : (wanting : Bool) (Play : List Moment → Type 0) (old new : PassView Entry) → Ended Played.Done Play old new → EndedMore (Some wanting) wanting Play old new
+more-done true Play old new p = record { moments = p.moments; did = p.did; more = (inl refl, leaves-whole old.number Play p.moments p.ends) }
+more-done false Play old new p = record { moments = p.moments; did = p.did; more = (inr refl, p.ends) }
+
+pub more-wanting : (wanting : Bool) (Play : List Moment → Type 0) (old new : PassView Entry) → Ended Played.NoMemory Play old new → EndedMore (Some true) wanting Play old new
+more-wanting wanting Play old new p = record { moments = p.moments; did = p.did; more = (inl refl, p.ends) }
+
+pub more-off : (wanting : Bool) (Play : List Moment → Type 0) (old new : PassView Entry) → Ended Played.Off Play old new → EndedMore None wanting Play old new
+more-off wanting Play old new p = record { moments = p.moments; did = p.did; more = p.ends }
+
+-- Nothing was done yet.
+pub so_far-nothing : {X : Type 0} (wanting : Bool) (Play : X → List Moment → Type 0) (pass : PassView Entry) → IsFreePass pass → SoFar wanting Play [] pass pass
+so_far-nothing wanting Play pass f = record { moments = []; did = did-nothing pass f; plays = refl }
+
+-- What was played is still played where memory is told to be wanting.
+still-played : {X : Type 0} (now wanting : Bool) (client : ℕ) (Play : X → List Moment → Type 0) (xs : List X) (moments : List Moment) → (now ≡ true) ⊎ (now ≡ wanting) → PlaysAll wanting client Play xs moments → PlaysAll now client Play xs moments
+still-played now wanting client Play xs moments h p =
+    let P : Bool → Type 0 = λ b. PlaysAll b client Play xs moments in
+    elim h [ inl e ↦ subst P (sym e) (all-more client Play xs moments wanting p) | inr e ↦ subst P (sym e) p ]
+
+-- One thing more was played.
+pub so_far-more : {X : Type 0} (now wanting : Bool) (Play : X → List Moment → Type 0) (done : List X) (x : X) (old mid new : PassView Entry) → SoFar wanting Play done old mid → EndedMore (Some now) wanting (Play x) mid new → SoFar now Play (done ++ x ∷ []) old new
+so_far-more now wanting Play done x old mid new s m =
+    let more : OnceMore (Some now) wanting old.number (Play x) (past_seen new.seen) m.moments =
+    subst (λ (n : ℕ). OnceMore (Some now) wanting n (Play x) (past_seen new.seen) m.moments) s.did.same m.more in
+    record {
+      moments = s.moments ++ m.moments;
+      did = did-both s.moments m.moments old mid new s.did.own_are s.did.same m.did;
+      plays = all-push now old.number Play done x s.moments m.moments (still-played now wanting old.number Play done s.moments more.0 s.plays) more.1;
+    }
+
+-- The next thing was left, in a boot that is off.
+so-left : {X : Type 0} (is_off wanting : Bool) (client : ℕ) (Play : X → List Moment → Type 0) (xs : List X) (moments : List Moment) → is_off ≡ true → PlaysUntil wanting client Play xs moments → PlayedSo is_off wanting client Play xs moments
+so-left true wanting client Play xs moments e p = p
+so-left false wanting client Play xs moments e p = cc
+
+pub went-left : {X : Type 0} (wanting : Bool) (Play : X → List Moment → Type 0) (done : List X) (x : X) (others all : List X) (old mid new : PassView Entry) → done ++ x ∷ others ≡ all → SoFar wanting Play done old mid → EndedMore None wanting (Play x) mid new → Went wanting Play all old new
+went-left wanting Play done x others all old mid new e s m =
+    let more : OnceMore None wanting old.number (Play x) (past_seen new.seen) m.moments =
+    subst (λ (n : ℕ). OnceMore None wanting n (Play x) (past_seen new.seen) m.moments) s.did.same m.more in
+    let until : PlaysUntil wanting old.number Play (done ++ x ∷ others) (s.moments ++ m.moments) = until-left wanting old.number Play done x others s.moments m.moments s.plays more.0 in
+    record {
+      moments = s.moments ++ m.moments;
+      did = did-both s.moments m.moments old mid new s.did.own_are s.did.same m.did;
+      plays = subst (λ (xs : List _). PlayedSo (off (past_seen new.seen)) wanting old.number Play xs (s.moments ++ m.moments)) e
+          (so-left (off (past_seen new.seen)) wanting old.number Play (done ++ x ∷ others) (s.moments ++ m.moments) more.1 until);
+    }
+
+-- All were played.
+pub went-all : {X : Type 0} (wanting : Bool) (Play : X → List Moment → Type 0) (all : List X) (old new : PassView Entry) → SoFar wanting Play all old new → Went wanting Play all old new
+went-all wanting Play all old new s =
+    record { moments = s.moments; did = s.did; plays = so-all (off (past_seen new.seen)) wanting old.number Play all s.moments s.plays }
+
+-- The same plays, by a pass and a shelf that are told the same of.
+pub same-plays : (facts : Facts) (opening : List Row) (told : Option Bool) (wanting : Bool) (item : Item) (files now : Files) (old mid new : PassView Entry) → now ≡ files → mid.number ≡ old.number → EndedMore told wanting (Plays facts opening now mid.number item) mid new
+    → EndedMore told wanting (Plays facts opening files old.number item) mid new
+same-plays facts opening told wanting item files now old mid new f n m =
+    subst (λ (k : ℕ). EndedMore told wanting (Plays facts opening files k item) mid new) n
+    (subst (λ (x : Files). EndedMore told wanting (Plays facts opening x mid.number item) mid new) f m)

@@ -1,0 +1,9 @@
+pub mod OwnMoments
+pub mod DidLaws
+pub mod TurnLaws
+pub mod SettleLaws
+pub mod GoingLaws
+pub mod Fetches
+pub mod EndedPlays
+pub mod UpdateEnds
+pub mod InstallEnds

@@ -1,0 +1,93 @@
+use Rattle.std.proofs.Common.{refl, subst, length}
+use Rattle.std.specs.Prelude.{Ok}
+use Rattle.update_log.specs.declared.answer.ClaimAnswer.{ClaimAnswer}
+use Rattle.update_log.specs.Holding.{hold}
+use Rattle.daemon_core.specs.declared.claimed.Claimed.{Claimed}
+use Rattle.daemon_core.specs.Claims.{claim_event}
+use Rattle.daemon_core.specs.Fetches.{block_count, note_of}
+use Rattle.daemon_core.specs.Holds.{held_by}
+use Rattle.shared_daemon.specs.Calls.{AddsOn}
+use Rattle.shared_daemon.specs.Entries.{past_seen}
+use Rattle.shared_daemon.specs.Taking.{Gave}
+use Rattle.claim_runs.proofs.Taking.{claim-runs, served-within}
+use Rattle.script_runs.proofs.EndedPlays.{stopped-held, stopped-off, stopped-own}
+use Rattle.script_runs.proofs.InstallEnds.{claim-behind, claim-ended, claim-stopped, held-back}
+use Rattle.script_runs.proofs.installing.claim_fetched.Goals as goal
+
+pub run_taken-requires-clause-runs : goal.run_taken-requires-clause-runs
+run_taken-requires-clause-runs g c =
+    let n = c.args.pass.now.number in
+    let a = c.in-Ok-Taken in
+    let t = a.ensures.turn in
+    let gave = subst (λ (x : Claimed). Gave g.N.Naming.name n c.args.ticket c.args.fetched (Ok x) c.claim.new.pass.seen) a.field-0-is a.ensures.gave in
+    claim-runs g.N.Naming.name gave.1.0 c.args.ticket.request c.args.fetched a.taken c.args.pass.now c.claim.new.pass c.claim.ensures.pass.log c.claim.ensures.same t
+    (subst (λ (x : Claimed). AddsOn n (claim_event n c.args.ticket.request c.args.fetched x) t.met c.claim.new.pass.seen) a.field-0-is t.does)
+    gave.0 gave.1.1
+
+pub run_taken-requires-clause-no_steps : goal.run_taken-requires-clause-no_steps
+run_taken-requires-clause-no_steps g c =
+    let a = c.in-Ok-Taken in
+    let gave = subst (λ (x : Claimed). Gave g.N.Naming.name c.args.pass.now.number c.args.ticket c.args.fetched (Ok x) c.claim.new.pass.seen) a.field-0-is a.ensures.gave in
+    gave.1.1.no_steps
+
+pub run_taken-requires-clause-marks : goal.run_taken-requires-clause-marks
+run_taken-requires-clause-marks g c =
+    let a = c.in-Ok-Taken in
+    let gave = subst (λ (x : Claimed). Gave g.N.Naming.name c.args.pass.now.number c.args.ticket c.args.fetched (Ok x) c.claim.new.pass.seen) a.field-0-is a.ensures.gave in
+    gave.1.1.marks
+
+pub run_taken-requires-clause-served : goal.run_taken-requires-clause-served
+run_taken-requires-clause-served g c =
+    let a = c.in-Ok-Taken in
+    let gave = subst (λ (x : Claimed). Gave g.N.Naming.name c.args.pass.now.number c.args.ticket c.args.fetched (Ok x) c.claim.new.pass.seen) a.field-0-is a.ensures.gave in
+    served-within g.N.Naming.name.facts gave.1.0 a.taken.plugin (length c.args.plugins.now) gave.1.1.served c.requires.served
+
+pub returns-in-Ok-Taken-clause-ended : goal.returns-in-Ok-Taken-clause-ended
+returns-in-Ok-Taken-clause-ended g c =
+    let n = c.args.pass.now.number in
+    let a = c.in-Ok-Taken in
+    let t = a.ensures.turn in
+    λ files f. claim-behind g.N.Naming.name c.args.daemon.now.id files c.args.ticket.request c.args.pass.now c.claim.new.pass c.requires.pass c.claim.ensures.same t c.args.ticket.release (note_of c.args.fetched) a.taken.entry c.run_taken.result c.run_taken.new.pass f
+    (subst (λ (x : Claimed). AddsOn n (claim_event n c.args.ticket.request c.args.fetched x) t.met c.claim.new.pass.seen) a.field-0-is t.does)
+    c.run_taken.ensures.ended
+
+pub returns-in-Ok-Kept-clause-ended : goal.returns-in-Ok-Kept-clause-ended
+returns-in-Ok-Kept-clause-ended g c =
+    let n = c.args.pass.now.number in
+    let a = c.in-Ok-Kept in
+    let t = a.ensures.turn in
+    λ files f. claim-ended g.N.Naming.name c.args.daemon.now.id files c.args.ticket.request c.args.pass.now c.claim.new.pass c.requires.pass c.claim.ensures.same t c.args.ticket.release (note_of c.args.fetched) (ClaimAnswer.Kept a.field-0-0 a.field-0-1)
+    (held_by c.args.ticket (block_count c.args.fetched)) f refl (λ past. refl) c.requires.held
+    (subst (λ (x : Claimed). AddsOn n (claim_event n c.args.ticket.request c.args.fetched x) t.met c.claim.new.pass.seen) a.field-0-is t.does)
+
+pub returns-in-Ok-Refused-clause-ended : goal.returns-in-Ok-Refused-clause-ended
+returns-in-Ok-Refused-clause-ended g c =
+    let n = c.args.pass.now.number in
+    let a = c.in-Ok-Refused in
+    let t = a.ensures.turn in
+    λ files f. claim-ended g.N.Naming.name c.args.daemon.now.id files c.args.ticket.request c.args.pass.now c.claim.new.pass c.requires.pass c.claim.ensures.same t c.args.ticket.release (note_of c.args.fetched) (ClaimAnswer.Refused a.field-0-0)
+    (held_by c.args.ticket (block_count c.args.fetched)) f refl (λ past. refl) c.requires.held
+    (subst (λ (x : Claimed). AddsOn n (claim_event n c.args.ticket.request c.args.fetched x) t.met c.claim.new.pass.seen) a.field-0-is t.does)
+
+pub give_back-requires-clause-held : goal.give_back-requires-clause-held
+give_back-requires-clause-held g c =
+    let n = c.args.pass.now.number in
+    let s = c.in-Err.stopped in
+    let t = c.in-Err.ensures.turn in
+    held-back s c.args.ticket c.args.fetched (hold (past_seen c.claim.new.pass.seen) c.claim.new.pass.number) c.in-Err.ensures.gave.0 c.in-Err.ensures.gave.1
+    (stopped-held g.N.Naming.name c.args.daemon.now.id c.args.pass.now c.claim.new.pass c.requires.pass c.claim.ensures.same t (claim_event n c.args.ticket.request c.args.fetched) s.stop
+    (held_by c.args.ticket (block_count c.args.fetched)) c.requires.held t.does)
+
+pub give_back-requires-clause-halted : goal.give_back-requires-clause-halted
+give_back-requires-clause-halted g c =
+    let t = c.in-Err.ensures.turn in
+    stopped-off c.args.pass.now.number (claim_event c.args.pass.now.number c.args.ticket.request c.args.fetched) c.in-Err.stopped.stop t.met c.claim.new.pass.seen t.does
+
+pub returns-in-Err-clause-ended : goal.returns-in-Err-clause-ended
+returns-in-Err-clause-ended g c =
+    let n = c.args.pass.now.number in
+    let s = c.in-Err.stopped in
+    let t = c.in-Err.ensures.turn in
+    λ files f. claim-stopped g.N.Naming.name.facts files s c.args.ticket c.args.fetched c.give_back.result c.args.pass.now c.claim.new.pass c.give_back.new.pass c.in-Err.ensures.gave.0 c.in-Err.ensures.gave.1
+    (stopped-own g.N.Naming.name c.args.daemon.now.id c.args.pass.now c.claim.new.pass c.requires.pass c.claim.ensures.same t (claim_event n c.args.ticket.request c.args.fetched) s.stop t.does)
+    c.claim.ensures.same f (λ is. c.give_back.ensures.ended files is)

@@ -1,0 +1,37 @@
+use Rattle.std.proofs.Common.{ap, sym, subst, ◌∙◌}
+use Rattle.std.specs.Prelude.{None}
+use Rattle.update_log.specs.Holding.{hold}
+use Rattle.client_plays.specs.Plays.{ClaimPlays}
+use Rattle.client_plays.specs.Shelves.{IsFetched}
+use Rattle.client_plays.proofs.ShelfLaws.{note-fetched}
+use Rattle.daemon_core.specs.declared.hold.Ticket.{Ticket}
+use Rattle.daemon_core.specs.Fetches.{note_of}
+use Rattle.shared_daemon.specs.Entries.{past_seen}
+use Rattle.script_runs.specs.Passes.{Ended}
+use Rattle.script_runs.proofs.Fetches.{fetched-whole, sized-enough, still-held}
+use Rattle.script_runs.proofs.installing.install_held.Goals as goal
+
+pub fetch-ticket-requires : goal.fetch-ticket-requires
+fetch-ticket-requires g c = sized-enough c.args.given.size c.args.given.blocks.count c.requires.hold.blocks_are
+
+pub claim_fetched-requires-clause-held : goal.claim_fetched-requires-clause-held
+claim_fetched-requires-clause-held g c =
+    let f = c.fetch-ticket in
+    still-held c.args.given f.result.0 f.result.1 (hold (past_seen c.args.pass.now.seen) c.args.pass.now.number) f.ensures.ticket f.ensures.blocks c.requires.held
+
+pub claim_fetched-requires-clause-asked : goal.claim_fetched-requires-clause-asked
+claim_fetched-requires-clause-asked g c = ap (λ (t : Ticket). t.pending) c.fetch-ticket.ensures.ticket ∙ c.requires.hold.pending_is
+
+pub claim_fetched-requires-clause-whole : goal.claim_fetched-requires-clause-whole
+claim_fetched-requires-clause-whole g c =
+    let f = c.fetch-ticket in
+    fetched-whole g.N.Naming.name.facts c.args.pass.now.number c.args.given.ticket.request None c.args.given f.result.0 f.result.1 c.requires.hold f.ensures.ticket f.ensures.digest f.ensures.size
+
+pub returns-clause-ended : goal.returns-clause-ended
+returns-clause-ended g c =
+    let f = c.fetch-ticket in
+    let files = g.P.Shelf.files c.args.shelf.now in
+    subst (λ (t : Ticket). Ended c.claim_fetched.result (ClaimPlays g.N.Naming.name.facts files c.args.pass.now.number t.request t.release) c.args.pass.now c.claim_fetched.new.pass) f.ensures.ticket
+    (c.claim_fetched.ensures.ended files
+    (subst (λ (t : Ticket). IsFetched g.N.Naming.name.facts files t.release (note_of f.result.1)) (sym f.ensures.ticket)
+    (note-fetched g.N.Naming.name.facts c.args.pass.now.number c.args.given.ticket.request None files c.args.given f.result.1 c.requires.hold f.ensures.found f.ensures.digest)))

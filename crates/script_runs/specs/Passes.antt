@@ -1,0 +1,46 @@
+-- What a client did by its pass: told by the log that the pass saw before, and by the one that it sees now.
+use Rattle.std.specs.Prelude.{◌≡◌, Bool, List, ◌++◌, Option}
+use Rattle.update_log.specs.Pasts.{off}
+use Rattle.client_plays.specs.declared.played.Played.{Played}
+use Rattle.client_plays.specs.Endings.{EndsSo, OnceMore}
+use Rattle.client_plays.specs.Moments.{Moment, mine}
+use Rattle.client_plays.specs.Scripts.{PlayedSo, PlaysAll}
+use Rattle.turn_lock.specs.Shown.{PassView}
+use Rattle.shared_daemon.specs.declared.entry.Entry.{Entry}
+use Rattle.shared_daemon.specs.Closings.{IsFreePass}
+use Rattle.shared_daemon.specs.Entries.{past_seen}
+
+-- The client's own events of the boot, each with the past before it, in what the pass saw last.
+abbrev pub own : PassView Entry → List Moment
+own pass = mine pass.number (past_seen pass.seen)
+
+-- These are the client's own moments since, and it has nothing out.
+pub record Did (moments : List Moment) (old new : PassView Entry) : Type 0 where
+  pub same : new.number ≡ old.number
+  pub own_are : own new ≡ own old ++ moments
+  pub free : IsFreePass new
+
+-- What a client did who played something.
+pub record Ended (played : Played) (Play : List Moment → Type 0) (old new : PassView Entry) : Type 0 where
+  pub moments : List Moment
+  pub did : Did moments old new
+  pub ends : EndsSo played old.number Play (past_seen new.seen) moments
+
+-- What a client did who played one thing more: it was played; or it was left for want of memory, and
+-- that is told; or it was left in a boot that is off.
+pub record EndedMore (told : Option Bool) (wanting : Bool) (Play : List Moment → Type 0) (old new : PassView Entry) : Type 0 where
+  pub moments : List Moment
+  pub did : Did moments old new
+  pub more : OnceMore told wanting old.number Play (past_seen new.seen) moments
+
+-- What a client has done so far who goes through a list of things.
+pub record SoFar {X : Type 0} (wanting : Bool) (Play : X → List Moment → Type 0) (done : List X) (old new : PassView Entry) : Type 0 where
+  pub moments : List Moment
+  pub did : Did moments old new
+  pub plays : PlaysAll wanting old.number Play done moments
+
+-- What a client did who went through a list of things. `wanting` says that memory was wanting.
+pub record Went {X : Type 0} (wanting : Bool) (Play : X → List Moment → Type 0) (xs : List X) (old new : PassView Entry) : Type 0 where
+  pub moments : List Moment
+  pub did : Did moments old new
+  pub plays : PlayedSo (off (past_seen new.seen)) wanting old.number Play xs moments

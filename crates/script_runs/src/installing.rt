@@ -1,0 +1,161 @@
+//! An install: the ask, the fetch, the claim, and the run of the claim.
+ghost use Rattle.std.specs.Prelude.{◌≡◌, ◌≤◌, ◌<◌, [], None, Some, Err, length, true, false};
+ghost use Rattle.update_log.specs.Holding.{hold};
+ghost use Rattle.update_log.specs.Pasts.{off};
+ghost use Rattle.daemon_core.specs.declared.stop.Stop.{Stop};
+ghost use Rattle.daemon_core.specs.Fetches.{IsFetchOf, block_count, note_of};
+ghost use Rattle.daemon_core.specs.Holds.{IsHoldFor, held_by};
+ghost use Rattle.install_engine.specs.RunsIn.{parts_taken};
+ghost use Rattle.client_scripts.specs.declared.item.Item.{Item};
+ghost use Rattle.client_plays.specs.Endings.{played_of};
+ghost use Rattle.client_plays.specs.Plays.{ClaimPlays, Plays, UpdatePlays};
+ghost use Rattle.client_plays.specs.Shelves.{IsFetched};
+ghost use Rattle.client_plays.specs.Tools.{Files};
+ghost use Rattle.shared_daemon.specs.Closings.{IsFreePass};
+ghost use Rattle.shared_daemon.specs.Entries.{past_seen};
+ghost use Rattle.shared_daemon.specs.Names.{IsPass};
+ghost use Rattle.claim_runs.specs.Known.{RunsSeen};
+ghost use Rattle.script_runs.specs.Passes.{Ended};
+
+use claim_runs::{Outcome, run_claim};
+use client_plays::Played;
+use daemon_core::{Asked, ClaimStop, Claimed, Fetched, Hold, Stop, Taken, Ticket};
+use history_keeper::Keeper;
+use install_engine::fetch;
+use outer_traits::{Gate, Shelf};
+use plugin_trait::Plugin;
+use shared_daemon::{Daemon, Naming, Pass};
+use std::sync::Wait;
+use update_log::Request;
+
+// How a play ended that was stopped.
+fn stopped_by(stop: Stop) -> Played
+    ensures { result ≡ played_of {A = Unit {0}} (Err stop) }
+{
+    match stop {
+        Stop::Off => Played::Off,
+        Stop::NoMemory => Played::NoMemory,
+    }
+}
+
+// Gives the hold of a claim back that was stopped.
+fn give_back<R: Wait, K: Keeper, N: Naming>(
+    rt: &R,
+    daemon: &Daemon<K, N>,
+    pass: &mut Pass,
+    stopped: ClaimStop,
+) -> Played
+    requires pass { IsPass daemon.now.id N.name pass.old }
+    requires held { hold (past_seen pass.old.seen) pass.old.number ≡ Some (held_by stopped.ticket (block_count stopped.fetched)) }
+    requires halted { stopped.stop ≡ Stop.Off → off (past_seen pass.old.seen) ≡ true }
+    ensures pass { IsPass daemon.now.id N.name pass.new }
+    ensures ended { (files : Files) → IsFetched N.name.facts files stopped.ticket.release (note_of stopped.fetched) → Ended result (ClaimPlays N.name.facts files pass.old.number stopped.ticket.request stopped.ticket.release) pass.old pass.new }
+{
+    let ClaimStop {
+        stop,
+        ticket,
+        fetched,
+    } = stopped;
+    daemon.give_up(rt, pass, ticket, fetched);
+    stopped_by(stop)
+}
+
+// Runs an entry that was taken.
+fn run_taken<R: Wait, K: Keeper, N: Naming, G: Gate>(
+    rt: &R,
+    daemon: &Daemon<K, N>,
+    pass: &mut Pass,
+    taken: Taken,
+    plugins: &[Box<dyn Plugin>],
+    gate: &G,
+) -> Played
+    requires pass { IsPass daemon.now.id N.name pass.old }
+    requires runs { RunsSeen N.name pass.old.number (parts_taken taken) None pass.old.seen }
+    requires no_steps { taken.trace.steps ≡ [] }
+    requires marks { 8 ≤ taken.board.room }
+    requires served { taken.plugin < length plugins.now }
+    ensures pass { IsPass daemon.now.id N.name pass.new }
+    ensures ended { Ended result (UpdatePlays pass.old.number taken.entry) pass.old pass.new }
+{
+    match run_claim(rt, daemon, pass, taken, plugins, gate) {
+        Outcome::Finished(_) => Played::Done,
+        Outcome::Off => Played::Off,
+    }
+}
+
+// Claims what was asked for and fetched, and runs the entry that is taken.
+fn claim_fetched<R: Wait, K: Keeper, N: Naming, G: Gate>(
+    rt: &R,
+    daemon: &Daemon<K, N>,
+    pass: &mut Pass,
+    ticket: Ticket,
+    fetched: Fetched,
+    plugins: &[Box<dyn Plugin>],
+    gate: &G,
+) -> Played
+    requires pass { IsPass daemon.now.id N.name pass.old }
+    requires held { hold (past_seen pass.old.seen) pass.old.number ≡ Some (held_by ticket (block_count fetched)) }
+    requires asked { ticket.pending ≡ None }
+    requires whole { IsFetchOf N.name.facts ticket.release fetched }
+    requires served { length N.name.facts.vetoes ≤ length plugins.now }
+    ensures pass { IsPass daemon.now.id N.name pass.new }
+    ensures ended { (files : Files) → IsFetched N.name.facts files ticket.release (note_of fetched) → Ended result (ClaimPlays N.name.facts files pass.old.number ticket.request ticket.release) pass.old pass.new }
+{
+    match daemon.claim(rt, pass, ticket, fetched) {
+        Ok(Claimed::Taken(taken)) => run_taken(rt, daemon, pass, taken, plugins, gate),
+        Ok(Claimed::Kept { entry: _, state: _ }) => Played::Done,
+        Ok(Claimed::Refused(_)) => Played::Done,
+        Err(stopped) => give_back(rt, daemon, pass, stopped),
+    }
+}
+
+// Goes on with a hold: its payload is fetched from the client's shelf, and claimed.
+fn install_held<R: Wait, K: Keeper, N: Naming, P: Shelf, G: Gate>(
+    rt: &R,
+    daemon: &Daemon<K, N>,
+    pass: &mut Pass,
+    shelf: &mut P,
+    given: Hold,
+    plugins: &[Box<dyn Plugin>],
+    gate: &G,
+) -> Played
+    requires pass { IsPass daemon.now.id N.name pass.old }
+    requires held { hold (past_seen pass.old.seen) pass.old.number ≡ Some (held_by given.ticket given.blocks.count) }
+    requires hold { IsHoldFor N.name.facts pass.old.number given.ticket.request None given }
+    requires served { length N.name.facts.vetoes ≤ length plugins.now }
+    ensures pass { IsPass daemon.now.id N.name pass.new }
+    ensures ended { Ended result (ClaimPlays N.name.facts (P.files shelf.old) pass.old.number given.ticket.request given.ticket.release) pass.old pass.new }
+    ensures files { P.files shelf.new ≡ P.files shelf.old }
+    ensures counts { P.faults shelf.old ≤ P.faults shelf.new }
+{
+    let (ticket, fetched) = fetch(shelf, given);
+    claim_fetched(rt, daemon, pass, ticket, fetched, plugins, gate)
+}
+
+/// Installs what a client asks for: it asks, fetches the payload from its shelf, claims, and runs the
+/// entry that it took. Whatever was out has come back.
+pub(crate) fn play_install<R: Wait, K: Keeper, N: Naming, P: Shelf, G: Gate>(
+    rt: &R,
+    daemon: &Daemon<K, N>,
+    pass: &mut Pass,
+    shelf: &mut P,
+    request: &Request,
+    plugins: &[Box<dyn Plugin>],
+    gate: &G,
+) -> Played
+    requires pass { IsPass daemon.now.id N.name pass.old }
+    requires free { IsFreePass pass.old }
+    requires online { request.now.flags.offline ≡ false }
+    requires served { length N.name.facts.vetoes ≤ length plugins.now }
+    ensures pass { IsPass daemon.now.id N.name pass.new }
+    ensures ended { Ended result (Plays N.name.facts N.name.opening (P.files shelf.old) pass.old.number (Item.Install request.now)) pass.old pass.new }
+    ensures files { P.files shelf.new ≡ P.files shelf.old }
+    ensures counts { P.faults shelf.old ≤ P.faults shelf.new }
+{
+    match daemon.ask(rt, pass, request) {
+        Ok(Asked::Held(given)) => install_held(rt, daemon, pass, shelf, given, plugins, gate),
+        Ok(Asked::Kept { entry: _, state: _ }) => Played::Done,
+        Ok(Asked::Refused(_)) => Played::Done,
+        Err(stop) => stopped_by(stop),
+    }
+}

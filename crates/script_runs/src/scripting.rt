@@ -1,0 +1,108 @@
+//! The items of a client, one after the other.
+ghost use Rattle.std.specs.Prelude.{◌≡◌, ◌≤◌, All, length};
+ghost use Rattle.client_plays.specs.Endings.{IsScriptItem};
+ghost use Rattle.client_plays.specs.Plays.{Plays};
+ghost use Rattle.shared_daemon.specs.Closings.{IsFreePass};
+ghost use Rattle.shared_daemon.specs.Names.{IsPass};
+ghost use Rattle.script_runs.specs.Passes.{Ended, EndedMore, Went};
+
+use crate::installing::play_install;
+use crate::playing::{play_plug, play_question, play_schedule, play_settle, play_unplug};
+use client_plays::Played;
+use client_scripts::Item;
+use history_keeper::Keeper;
+use outer_traits::{Gate, Shelf};
+use plugin_trait::Plugin;
+use shared_daemon::{Daemon, Naming, Pass};
+use std::sync::Wait;
+
+// Plays an item of a client. It has nothing out before, nor afterwards.
+fn play_item<R: Wait, K: Keeper, N: Naming, P: Shelf, G: Gate>(
+    rt: &R,
+    daemon: &Daemon<K, N>,
+    pass: &mut Pass,
+    shelf: &mut P,
+    item: &Item,
+    plugins: &[Box<dyn Plugin>],
+    gate: &G,
+) -> Played
+    requires pass { IsPass daemon.now.id N.name pass.old }
+    requires free { IsFreePass pass.old }
+    requires proper { IsScriptItem item.now }
+    requires served { length N.name.facts.vetoes ≤ length plugins.now }
+    ensures pass { IsPass daemon.now.id N.name pass.new }
+    ensures ended { Ended result (Plays N.name.facts N.name.opening (P.files shelf.old) pass.old.number item.now) pass.old pass.new }
+    ensures files { P.files shelf.new ≡ P.files shelf.old }
+    ensures counts { P.faults shelf.old ≤ P.faults shelf.new }
+{
+    match item {
+        Item::Ask(query) => play_question(rt, daemon, pass, query),
+        Item::Install(request) => {
+            if request.flags.offline {
+                play_schedule(rt, daemon, pass, request)
+            } else {
+                play_install(rt, daemon, pass, shelf, request, plugins, gate)
+            }
+        }
+        Item::Settle(device) => play_settle(rt, daemon, pass, device),
+        Item::Unplug(device) => play_unplug(rt, daemon, pass, device),
+        Item::Plug(device) => play_plug(rt, daemon, pass, device),
+    }
+}
+
+// Plays one item more. Says whether memory was wanting so far, or nothing where the boot is off.
+fn play_next<R: Wait, K: Keeper, N: Naming, P: Shelf, G: Gate>(
+    rt: &R,
+    daemon: &Daemon<K, N>,
+    pass: &mut Pass,
+    shelf: &mut P,
+    item: &Item,
+    plugins: &[Box<dyn Plugin>],
+    gate: &G,
+    wanting: bool,
+) -> Option<bool>
+    requires pass { IsPass daemon.now.id N.name pass.old }
+    requires free { IsFreePass pass.old }
+    requires proper { IsScriptItem item.now }
+    requires served { length N.name.facts.vetoes ≤ length plugins.now }
+    ensures pass { IsPass daemon.now.id N.name pass.new }
+    ensures more { EndedMore result wanting (Plays N.name.facts N.name.opening (P.files shelf.old) pass.old.number item.now) pass.old pass.new }
+    ensures files { P.files shelf.new ≡ P.files shelf.old }
+    ensures counts { P.faults shelf.old ≤ P.faults shelf.new }
+{
+    match play_item(rt, daemon, pass, shelf, item, plugins, gate) {
+        Played::Done => Some(wanting),
+        Played::NoMemory => Some(true),
+        Played::Off => None,
+    }
+}
+
+/// Plays the items of a client, one after the other, until the boot is off. Says whether memory was wanting,
+/// for which an item was left. The client has nothing out before, nor afterwards.
+pub fn play_script<R: Wait, K: Keeper, N: Naming, P: Shelf, G: Gate>(
+    rt: &R,
+    daemon: &Daemon<K, N>,
+    pass: &mut Pass,
+    shelf: &mut P,
+    items: &[Item],
+    plugins: &[Box<dyn Plugin>],
+    gate: &G,
+) -> bool
+    requires pass { IsPass daemon.now.id N.name pass.old }
+    requires free { IsFreePass pass.old }
+    requires proper { All IsScriptItem items.now }
+    requires served { length N.name.facts.vetoes ≤ length plugins.now }
+    ensures pass { IsPass daemon.now.id N.name pass.new }
+    ensures went { Went result (Plays N.name.facts N.name.opening (P.files shelf.old) pass.old.number) items.now pass.old pass.new }
+    ensures files { P.files shelf.new ≡ P.files shelf.old }
+    ensures counts { P.faults shelf.old ≤ P.faults shelf.new }
+{
+    let mut wanting = false;
+    for item in items {
+        match play_next(rt, daemon, pass, shelf, item, plugins, gate, wanting) {
+            Some(now) => wanting = now,
+            None => return wanting,
+        }
+    }
+    wanting
+}
