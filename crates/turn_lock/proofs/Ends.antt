@@ -48,10 +48,11 @@ module _ {X E : Type 0} (entries : X → List E) (by : E → ℕ) (seats : ℕ) 
   only_opener x (suc n) u e = absurd (some-ne-none u (sym e))
 
   -- the table at the start
-  pub starts : (x : X) → entries x ≡ start → seats < 2 ^ 32 → R (opening (0 ∷ 0 ∷ []) (Some x ∷ []) (Opening 0 start))
-  starts x is low = record {
+  pub starts : (x : X) → entries x ≡ start → seats < 2 ^ 32 → (bells : List ℕ) → R (opening (0 ∷ 0 ∷ bells) (Some x ∷ []) (Opening 0 start))
+  starts x is low bells = record {
     past = record { drawn = 0; ended = 0; made = 0; start = start; since = []; home = Some x };
     start_is = refl;
+    bells = bells;
     words = refl;
     slot = refl;
     value = is ∙ sym (append-nil start);

@@ -66,6 +66,7 @@ module _ {X E : Type 0} (entries : X → List E) (by : E → ℕ) (seats : ℕ) 
       record {
         past = t';
         start_is = r.start_is;
+        bells = r.bells;
         words = r.words;
         slot = r.slot;
         value = r.value;
@@ -120,6 +121,7 @@ module _ {X E : Type 0} (entries : X → List E) (by : E → ℕ) (seats : ℕ) 
       record {
         past = t;
         start_is = r.start_is;
+        bells = r.bells;
         words = r.words;
         slot = r.slot;
         value = r.value;

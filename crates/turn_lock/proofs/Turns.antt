@@ -1,5 +1,5 @@
--- Draw, look and pass on keep the rule.
-use Rattle.std.proofs.Common.{All, ◌<◌, drop, ◌≡◌, ◌≢◌, ℕ, ◌+◌, ◌%◌, ◌^◌, eqb, List, [], ◌∷◌, ◌++◌, get_or, set, sym, refl, ap, ◌∙◌, subst, ⊎_elim, arith, cond, Option, Some, None, IfSome, length-set, append-nil, append_assoc}
+-- Draw, look, pass on and ring keep the rule.
+use Rattle.std.proofs.Common.{All, zero, suc, ◌<◌, ◌≤◌, drop, ◌≡◌, ◌≢◌, ℕ, ◌+◌, ◌%◌, ◌^◌, eqb, List, [], ◌∷◌, ◌++◌, get_or, set, sym, refl, ap, ◌∙◌, subst, ⊎_elim, arith, cond, Option, Some, None, IfSome, length-set, append-nil, append_assoc}
 use Rattle.std.proofs.lemmas.List.Elements.{filter-append, All-nil, All-cons, All-append, All-weaker}
 use Rattle.std.proofs.lemmas.List.Sums.{count_by-le-length}
 use mathlib.Core.Logic.{dite}
@@ -14,7 +14,7 @@ use Rattle.turn_lock.specs.declared.view.SeatView.{SeatView}
 use Rattle.turn_lock.specs.declared.view.SeatView.TheVariants.{Idle, Waiting, Inside, Spent}
 use Rattle.turn_lock.specs.Lists.{BeginsWith, made_by, beyond, AddsAtMostOne}
 use Rattle.turn_lock.specs.Views.{saw, grown, own_of, account_count, has_ticket, ticket_of}
-use Rattle.turn_lock.specs.Steps.{Seated, Draws, Looks, PassesOn}
+use Rattle.turn_lock.specs.Steps.{Seated, Draws, Looks, PassesOn, Rings}
 use Rattle.turn_lock.specs.Rule.{Past, slot_of, list_of, IsTrueOf, Fits, TakesTurns}
 use Rattle.turn_lock.proofs.Counting.{at_within, beyond_append, sum_by-set_at, made_by-own, made_by-other, ring_more}
 use Rattle.turn_lock.proofs.Others.{some_is, some_not_none, spent_stay, seats_stay, apart_stays, stays, same_known, ticket_in}
@@ -59,8 +59,9 @@ module _ {X E : Type 0} (entries : X → List E) (by : E → ℕ) (seats : ℕ) 
         record {
           past = t';
           start_is = r.start_is;
-          words = let Q : List ℕ → Type 0 = λ ws. set ws 0 ((get_or ws 0 0 + 1) % 2 ^ 64) ≡ ((t.drawn + 1) % 2 ^ 64) ∷ (t.ended % 2 ^ 64) ∷ [] in
-              subst Q (sym r.words) (ap (λ (n : ℕ). n ∷ (t.ended % 2 ^ 64) ∷ []) (ring_more t.drawn));
+          bells = r.bells;
+          words = let Q : List ℕ → Type 0 = λ ws. set ws 0 ((get_or ws 0 0 + 1) % 2 ^ 64) ≡ ((t.drawn + 1) % 2 ^ 64) ∷ (t.ended % 2 ^ 64) ∷ r.bells in
+              subst Q (sym r.words) (ap (λ (n : ℕ). n ∷ (t.ended % 2 ^ 64) ∷ r.bells) (ring_more t.drawn));
           slot = r.slot;
           value = r.value;
           away = λ gone. let a = r.away gone in (
@@ -103,8 +104,8 @@ module _ {X E : Type 0} (entries : X → List E) (by : E → ℕ) (seats : ℕ) 
       let out = r.out in
       sym (one_turn t.ended k 18446744073709551616 f.2 (omega (arith, f.3)) (sym word ∙ e))
 
-  same_words : (ws : List ℕ) (a b : ℕ) → ws ≡ a ∷ b ∷ [] → set ws 1 (get_or ws 1 0) ≡ a ∷ b ∷ []
-  same_words ws a b e = let Q : List ℕ → Type 0 = λ us. set us 1 (get_or us 1 0) ≡ a ∷ b ∷ [] in subst Q (sym e) refl
+  same_words : (ws : List ℕ) (a b : ℕ) (bells : List ℕ) → ws ≡ a ∷ b ∷ bells → set ws 1 (get_or ws 1 0) ≡ a ∷ b ∷ bells
+  same_words ws a b bells e = let Q : List ℕ → Type 0 = λ us. set us 1 (get_or us 1 0) ≡ a ∷ b ∷ bells in subst Q (sym e) refl
 
   -- the turn has come: the value goes out
   comes : (slots id k : ℕ) (h : Knowledge E) (s : St) (r : R s) (at : get_elem? s.views id ≡ some (Waiting k h)) → k ≡ r.past.ended
@@ -130,7 +131,8 @@ module _ {X E : Type 0} (entries : X → List E) (by : E → ℕ) (seats : ℕ) 
         record {
           past = t';
           start_is = r.start_is;
-          words = same_words s.words _ _ r.words;
+          bells = r.bells;
+          words = same_words s.words _ _ _ r.words;
           slot = let Q : List (maybe.Option (Option X)) → Type 0 = λ hs. set hs 0 none ≡ none ∷ [] in subst Q (sym homes) refl;
           value = tt;
           away = λ _. (id, k, saw h (entries x), set_here s.views id w (at_within s.views id (Waiting k h) at));
@@ -174,7 +176,7 @@ module _ {X E : Type 0} (entries : X → List E) (by : E → ℕ) (seats : ℕ) 
         Waiting k h,
         keeps,
         tt,
-        (let still : stepped s 1 n id [] (Waiting k h) keeps ≡ s = λ i. record { words = (same_words s.words _ _ r.words ∙ sym r.words) i; homes = s.homes; views = set_again s.views id (Waiting k h) at i } in
+        (let still : stepped s 1 n id [] (Waiting k h) keeps ≡ s = λ i. record { words = (same_words s.words _ _ _ r.words ∙ sym r.words) i; homes = s.homes; views = set_again s.views id (Waiting k h) at i } in
             subst R (sym still) r),
         (λ k' h' same. let i = same_seat k' h' same in ((λ e. absurd (no (e ∙ ap (λ (m : ℕ). m % 2 ^ 64) (sym i.0)))), (λ _. refl))),
       )))
@@ -219,8 +221,9 @@ module _ {X E : Type 0} (entries : X → List E) (by : E → ℕ) (seats : ℕ) 
         record {
           past = t';
           start_is = r.start_is;
-          words = let Q : List ℕ → Type 0 = λ ws. set ws 1 ((get_or ws 1 0 + 1) % 2 ^ 64) ≡ (t.drawn % 2 ^ 64) ∷ ((t.ended + 1) % 2 ^ 64) ∷ [] in
-              subst Q (sym r.words) (ap (λ (n : ℕ). (t.drawn % 2 ^ 64) ∷ n ∷ []) (ring_more t.ended));
+          bells = r.bells;
+          words = let Q : List ℕ → Type 0 = λ ws. set ws 1 ((get_or ws 1 0 + 1) % 2 ^ 64) ≡ (t.drawn % 2 ^ 64) ∷ ((t.ended + 1) % 2 ^ 64) ∷ r.bells in
+              subst Q (sym r.words) (ap (λ (n : ℕ). (t.drawn % 2 ^ 64) ∷ n ∷ r.bells) (ring_more t.ended));
           slot = let Q : List (maybe.Option (Option X)) → Type 0 = λ hs. set hs 0 (some (Some x)) ≡ some (Some x) ∷ [] in subst Q (sym homes) refl;
           value = list_is;
           away = λ gone. absurd (some_not_none x gone);
@@ -250,3 +253,33 @@ module _ {X E : Type 0} (entries : X → List E) (by : E → ℕ) (seats : ℕ) 
       (λ same. ends_turn slots id k h x [] (same ∙ sym (append-nil h.seen)) (record { all = All-nil (λ (e : E). by e ≡ h.number); own = refl; others = λ m _. refl }) st)
       (λ more. ends_turn slots id k h x (more.0 ∷ []) more.2 (record { all = All-cons (λ (e : E). by e ≡ h.number) more.0 [] more.1 (All-nil (λ (e : E). by e ≡ h.number)); own = made_by-own by h.number more.0 more.1; others = λ m ne. made_by-other by m h.number more.0 more.1 ne }) st)
       adds)
+
+  -- a word past the two that count
+  bells_change : (ws : List ℕ) (a b : ℕ) (bells : List ℕ) (word n : ℕ) → 2 ≤ word → ws ≡ a ∷ b ∷ bells → (after : List ℕ) × (set ws word n ≡ a ∷ b ∷ after)
+  bells_change ws a b bells zero n low is = absurd (omega arith)
+  bells_change ws a b bells (suc zero) n low is = absurd (omega arith)
+  bells_change ws a b bells (suc (suc i)) n low is = (set bells i n, ap (λ (us : List ℕ). set us (suc (suc i)) n) is)
+
+  pub rings : (slots id word : ℕ) (me : Seated X E) → 2 ≤ word → (st : Step (Option X)) → Allows R slots id me word (λ n. (n + 1) % 2 ^ 64) (Rings st me)
+  rings slots id word me low st = λ s r sized at fits.
+      let n = (get_or s.words word 0 + 1) % 2 ^ 64 in
+      let changed = bells_change s.words _ _ r.bells word n low r.words in
+      let rung : St = record { words = set s.words word n; homes = s.homes; views = s.views } in
+      let kept : R rung = record {
+        past = r.past;
+        start_is = r.start_is;
+        bells = changed.0;
+        words = changed.1;
+        slot = r.slot;
+        value = r.value;
+        away = r.away;
+        out = r.out;
+        apart = r.apart;
+        sized = r.sized;
+        within = r.within;
+        answered = r.answered;
+        each = r.each;
+        makers = r.makers;
+      } in
+      let same : rung ≡ stepped s word n id me.1 me.0 keeps = λ i. record { words = set s.words word n; homes = s.homes; views = sym (set_again s.views id me.0 at) i } in
+      (me.0, keeps, tt, subst R same kept, refl)

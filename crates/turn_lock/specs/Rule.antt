@@ -1,5 +1,5 @@
 -- The rule of a lock's table: what is true between any two steps of any seats.
--- Word 0 counts the tickets drawn and word 1 the turns ended, both modulo 2 ^ 64. The one slot has the value. Seat 0 opens the lock, and the pass n sits at seat n + 1.
+-- Word 0 counts the tickets drawn and word 1 the turns ended, both modulo 2 ^ 64. The words past those are bells, which tell nothing. The one slot has the value. Seat 0 opens the lock, and the pass n sits at seat n + 1.
 use Rattle.std.specs.Prelude.{◌≡◌, ◌⊎◌, ℕ, ◌+◌, ◌%◌, ◌^◌, ◌<◌, ◌≤◌, List, [], ◌∷◌, ◌++◌, All, length, sum_by, count_by, Option, Some, None, IfSome}
 use mathlib.Core.Option as maybe
 use mathlib.Core.Option.{some, none}
@@ -59,7 +59,9 @@ module _ {X E : Type 0} (entries : X → List E) (by : E → ℕ) where
   pub record TakesTurns (seats : ℕ) (start : List E) (table : State (Option X) (SeatView E)) : Type 0 where
     pub past : Past X E
     pub start_is : past.start ≡ start
-    pub words : table.words ≡ (past.drawn % 2 ^ 64) ∷ (past.ended % 2 ^ 64) ∷ []
+    -- the words of the bells, on which those who wait sleep
+    pub bells : List ℕ
+    pub words : table.words ≡ (past.drawn % 2 ^ 64) ∷ (past.ended % 2 ^ 64) ∷ bells
     pub slot : table.homes ≡ slot_of past.home ∷ []
     -- the value at home stands for the list
     pub value : IfSome past.home (λ x. entries x ≡ list_of past)

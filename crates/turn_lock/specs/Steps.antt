@@ -1,4 +1,4 @@
--- What the steps of a seat tell. Draw, look and pass on change the view of the seat, as is said here. Take and put move the value between the slot and the program, and change no view. Split and join are `one_more_made`, `next_pass` and `taken_in` of Views.
+-- What the steps of a seat tell. Draw, look and pass on change the view of the seat, as is said here, and ring changes nothing that a seat knows. Take and put move the value between the slot and the program, and change no view. Split and join are `one_more_made`, `next_pass` and `taken_in` of Views.
 use Rattle.std.specs.Prelude.{◌≡◌, ◌≢◌, ℕ, ◌%◌, ◌^◌, List, [], ◌∷◌, drop, Option, Some}
 use Rattle.atomic_table.specs.Seated.{TableId}
 use Rattle.atomic_table.specs.Table.{Me, Step}
@@ -10,9 +10,9 @@ use Rattle.turn_lock.specs.declared.view.SeatView.TheVariants.{Idle, Waiting, In
 use Rattle.turn_lock.specs.Lists.{BeginsWith, AddsAtMostOne, made_by}
 use Rattle.turn_lock.specs.Views.{own_of, saw, grown}
 
--- the table of a lock has two words and one slot
+-- the table of a lock has two words that count, sixteen bells, and one slot
 abbrev pub IsLaid : TableId → Type 0
-IsLaid table = (table.words ≡ 2) × (table.slots ≡ 1)
+IsLaid table = (table.words ≡ 18) × (table.slots ≡ 1)
 
 -- the seat is one of this table, which is a lock's
 abbrev pub SitsAt : TableId → TableId → Type 0
@@ -35,6 +35,10 @@ module _ {X E : Type 0} where
   abbrev pub Draws : Step (Option X) → Seated X E → ℕ → Seated X E → Type 0
   Draws step before found after = (known : Knowledge E) → before ≡ (Idle known, []) → HasTicket found known after
 
+  -- ring: the seat knows and holds what it did
+  abbrev pub Rings : Step (Option X) → Seated X E → ℕ → Seated X E → Type 0
+  Rings step before found after = after ≡ before
+
 module _ {X E : Type 0} (entries : X → List E) where
   -- the seat's turn has come, and the value is out with it. Its list begins with what the seat had seen, and the pass's own entries are those of its number since the lock was made
   pub record HasTurn (by : E → ℕ) (known : Knowledge E) (x : X) (seat : Seated X E) : Type 0 where
@@ -50,7 +54,7 @@ module _ {X E : Type 0} (entries : X → List E) where
   -- the same, by what the program makes of the number found
   abbrev pub Finds : (E → ℕ) → Seated X E → Found → Seated X E → Type 0
   Finds by before OwnTurn after = (x : X) × HasTurn by (own_of before.0) x after
-  Finds by before (OtherTurn ended) after = after ≡ before
+  Finds by before OtherTurn after = after ≡ before
 
   -- the seat's turn may end: the list of its value is what the seat saw, or that and one entry of its pass
   abbrev pub MayEnd : (E → ℕ) → Seated X E → Type 0

@@ -8,7 +8,7 @@ use crate::chronicle::Chronicle;
 use crate::closing::gather;
 use crate::opening::{OwnTable, Refused, Start, lay, make_passes};
 use crate::pass::Pass;
-use crate::steps::{TURNS, VALUE, draw, pass_on, put, take, wait_for};
+use crate::steps::{VALUE, call_next, draw, pass_on, put, take, wait_for};
 use crate::turn::Turn;
 use std::alloc::Global;
 use std::marker::Model;
@@ -102,8 +102,8 @@ impl<V: Chronicle> TurnLock<V> {
     {
         let Turn { value, mut seat } = turn;
         put(&self.table.shared, &mut seat, value);
-        pass_on(&self.table.shared, &mut seat);
-        self.table.shared.wake_all(TURNS);
+        let ended = pass_on(&self.table.shared, &mut seat);
+        call_next(&self.table.shared, &mut seat, ended);
         pass.regain(seat);
     }
 

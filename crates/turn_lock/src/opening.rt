@@ -8,7 +8,7 @@ ghost use Rattle.turn_lock.specs.Steps.{IsLaid, SitsAt};
 use crate::chronicle::Chronicle;
 use crate::pass::Pass;
 use crate::rule::InTurn;
-use crate::steps::{LockSeat, LockTable, make_pass};
+use crate::steps::{LockSeat, LockTable, WORDS, make_pass};
 use crate::view::SeatView;
 use atomic_table::Table;
 use std::alloc::Global;
@@ -77,7 +77,7 @@ pub(crate) fn lay<V: Chronicle>(
     ensures err { IfErr result (λ refused. refused.value ≡ value) }
 {
     let slots = one_slot(alloc, value)?;
-    match Table::new(alloc, &[0, 0], slots, start) {
+    match Table::new(alloc, &[0; WORDS], slots, start) {
         Ok(laid) => Ok(laid),
         Err(refused) => Err(Refused {
             value: only_value(refused.slots),

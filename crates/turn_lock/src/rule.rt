@@ -42,6 +42,15 @@ impl<V: Chronicle> Play<Option<V>, SeatView<V::Entry>> for PassOn {
     ghost then = { PassesOn V.entries };
 }
 
+/// A seat rings a bell.
+pub(crate) struct Ring;
+
+impl<V: Chronicle> Play<Option<V>, SeatView<V::Entry>> for Ring {
+    ghost use Rattle.turn_lock.specs.Steps.{Rings};
+
+    ghost then = { Rings };
+}
+
 /// The seat that makes the passes makes one more.
 pub(crate) struct MakePass;
 

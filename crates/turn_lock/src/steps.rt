@@ -1,5 +1,5 @@
-//! The seven kinds of atomic step, one function each, and the wait for a turn.
-ghost use Rattle.std.specs.Prelude.{◌≡◌, ◌+◌, ◌∷◌, ◌<◌, ℕ, [], length};
+//! The eight kinds of atomic step, one function each, and the wait for a turn.
+ghost use Rattle.std.specs.Prelude.{◌≡◌, ◌+◌, ◌∷◌, ◌<◌, ◌≤◌, ℕ, [], length};
 ghost use Rattle.turn_lock.specs.declared.view.SeatView.TheVariants.{Opening, Idle, Closing};
 ghost use Rattle.turn_lock.specs.Shown.{IsReady, new_pass};
 ghost use Rattle.turn_lock.specs.Views.{CanTakeIn, accounts_of, knowledge_of, own_of};
@@ -8,7 +8,7 @@ ghost use Rattle.turn_lock.specs.Steps.{SitsAt, HasTicket, HasTurn, Finds, MayEn
 use crate::chronicle::Chronicle;
 use crate::opening::Start;
 use crate::pass::Pass;
-use crate::rule::{Draw, InTurn, Look, MakePass, PassOn, TakeIn};
+use crate::rule::{Draw, InTurn, Look, MakePass, PassOn, Ring, TakeIn};
 use crate::view::SeatView;
 use atomic_table::{Seat, Shared};
 use std::sync::Wait;
@@ -17,6 +17,14 @@ use std::sync::Wait;
 pub(crate) const TICKETS: usize = 0;
 
 pub(crate) const TURNS: usize = 1;
+
+// The words past those two are bells. A pass that waits sleeps on the bell of its ticket.
+const FIRST_BELL: usize = 2;
+
+const BELLS: u64 = 16;
+
+// So many words a lock's table has.
+pub(crate) const WORDS: usize = 18;
 
 // The slot that the value is in.
 pub(crate) const VALUE: usize = 0;
@@ -46,8 +54,8 @@ pub(crate) fn draw<V: Chronicle>(table: &LockTable<V>, seat: &mut LockSeat<V>) -
 pub(crate) enum Found {
     /// The seat's turn has come, and the value is out with it.
     OwnTurn,
-    /// It has not. This is how many turns have ended, modulo 2^32.
-    OtherTurn(u32),
+    /// It has not, and nothing has changed.
+    OtherTurn,
 }
 
 /// Look: has the turn of the seat's ticket come?
@@ -61,7 +69,7 @@ pub(crate) fn look<V: Chronicle>(table: &LockTable<V>, seat: &mut LockSeat<V>, t
     if ended == ticket {
         Found::OwnTurn
     } else {
-        Found::OtherTurn((ended % (1 << 32)) as u32)
+        Found::OtherTurn
     }
 }
 
@@ -91,13 +99,46 @@ pub(crate) fn put<V: Chronicle>(table: &LockTable<V>, seat: &mut LockSeat<V>, va
 }
 
 /// Pass on: the seat's turn ends, and the value goes home, with an entry of the pass or as it was.
-pub(crate) fn pass_on<V: Chronicle>(table: &LockTable<V>, seat: &mut LockSeat<V>)
+/// The answer is the ticket whose turn ended, modulo 2^64.
+pub(crate) fn pass_on<V: Chronicle>(table: &LockTable<V>, seat: &mut LockSeat<V>) -> u64
     requires seat { SitsAt table.now.table_id seat.old.table_id }
     requires turn { MayEnd V.entries V.by seat.old.me }
     ensures seat { seat.new.table_id ≡ seat.old.table_id }
     ensures idle { Ends V.entries seat.old.me seat.new.me }
 {
-    table.fetch_add::<PassOn>(seat, TURNS, 1);
+    table.fetch_add::<PassOn>(seat, TURNS, 1)
+}
+
+// The bell of a ticket, which is given modulo 2^64. Up to 16 that wait have one each.
+fn bell_of(ticket: u64) -> usize
+    ensures { (FIRST_BELL ≤ result) × (result < WORDS) }
+{
+    FIRST_BELL + (ticket % BELLS) as usize
+}
+
+/// Ring: those who sleep on the bell of this ticket wake. Where more wait than there are bells,
+/// one whose turn it is not may wake too, and sleeps again.
+pub(crate) fn ring<V: Chronicle>(table: &LockTable<V>, seat: &mut LockSeat<V>, ticket: u64)
+    requires seat { SitsAt table.now.table_id seat.old.table_id }
+    ensures seat { seat.new.table_id ≡ seat.old.table_id }
+    ensures same { seat.new.me ≡ seat.old.me }
+{
+    let bell = bell_of(ticket);
+    table.fetch_add::<Ring>(seat, bell, 1);
+    table.wake_all(bell);
+}
+
+/// Lets the pass go on whose ticket is next, if it was drawn.
+/// Where it was not, whoever draws it looks at the turns later, and finds that its turn has come.
+pub(crate) fn call_next<V: Chronicle>(table: &LockTable<V>, seat: &mut LockSeat<V>, ended: u64)
+    requires seat { SitsAt table.now.table_id seat.old.table_id }
+    ensures seat { seat.new.table_id ≡ seat.old.table_id }
+    ensures same { seat.new.me ≡ seat.old.me }
+{
+    let next = ended.wrapping_add(1);
+    if table.peek(TICKETS) != next {
+        ring(table, seat, next);
+    }
 }
 
 /// Split: the seat that opens the lock makes the pass of this number, which is the next.
@@ -131,7 +172,10 @@ pub(crate) fn take_in<V: Chronicle>(
     table.join_seat::<TakeIn>(closer, pass.lend());
 }
 
-/// Looks until the seat's turn has come. It sleeps between two looks, until some turn ends.
+/// Looks until the seat's turn has come. It sleeps between two looks, until its bell rings.
+/// No ring is lost: the bell is read before the turns are looked at, and a turn ends before it
+/// rings the next ticket's bell. So a look that came too early read the bell before that ring, and
+/// to park on the number read is to go on at once where the bell has rung since.
 pub(crate) fn wait_for<V: Chronicle, R: Wait>(
     rt: &R,
     table: &LockTable<V>,
@@ -143,10 +187,12 @@ pub(crate) fn wait_for<V: Chronicle, R: Wait>(
     ensures seat { seat.new.table_id ≡ seat.old.table_id }
     ensures turn { (x : V) × HasTurn V.entries V.by (own_of seat.old.me.0) x seat.new.me }
 {
+    let bell = bell_of(ticket);
     for _ in rt.forever() {
+        let rung = table.peek(bell) % (1 << 32);
         match look(table, seat, ticket) {
             Found::OwnTurn => return,
-            Found::OtherTurn(ended) => table.park(rt, TURNS, ended),
+            Found::OtherTurn => table.park(rt, bell, rung as u32),
         }
     }
     unreachable!()

@@ -73,7 +73,7 @@ fn count_up_at_once<R: Threads + Wait + Sync>(
     requires { All (IsReady lock.now.id) passes.old }
     ensures { All (IsReady lock.now.id) passes.new }
 {
-    thread::for_each_mut(rt, passes, 3, &|_, pass| count_up(rt, lock, pass));
+    thread::for_each_mut(rt, passes, 20, &|_, pass| count_up(rt, lock, pass));
 }
 
 // Lets the passes count at the same time, each on a thread.
@@ -105,9 +105,9 @@ fn items_of(refused: Refused<Counts>) -> Vec<Count>
     items
 }
 
-// The closed list of three passes that counted on three threads.
-fn three_count<R: Threads + Wait + Sync>(rt: &R, alloc: Global) -> Option<Vec<Count>> {
-    match TurnLock::new(alloc, no_counts(alloc), 3) {
+// The closed list of twenty passes that counted on twenty threads: more than the lock has bells.
+fn twenty_count<R: Threads + Wait + Sync>(rt: &R, alloc: Global) -> Option<Vec<Count>> {
+    match TurnLock::new(alloc, no_counts(alloc), 20) {
         Ok((lock, mut passes)) => {
             count_together(rt, &lock, &mut passes);
             let Counts { items } = lock.close(passes);
@@ -121,10 +121,10 @@ fn three_count<R: Threads + Wait + Sync>(rt: &R, alloc: Global) -> Option<Vec<Co
 }
 
 #[test]
-fn passes_on_three_threads_keep_their_order(rt: HostRuntime) -> Result<(), Fail> {
-    let items = three_count(&rt, rt.alloc()).ok_or("no memory")?;
-    assert_eq!(rt; items.len(), 300);
-    for pass in 0..3 {
+fn passes_on_twenty_threads_keep_their_order(rt: HostRuntime) -> Result<(), Fail> {
+    let items = twenty_count(&rt, rt.alloc()).ok_or("no memory")?;
+    assert_eq!(rt; items.len(), 2000);
+    for pass in 0..20 {
         let mut next = 0;
         for item in items.iter().filter(|item| item.pass == pass) {
             assert_eq!(rt; item.count, next, "of pass {pass}");
