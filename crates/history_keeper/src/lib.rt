@@ -7,9 +7,11 @@ pub mod change;
 pub mod history;
 pub mod keeper;
 pub mod memory_keeper;
+mod memory_rows;
 pub mod plan;
 pub mod refusal;
 pub mod row;
+pub mod stated;
 
 pub use change::Change;
 pub use history::first_faulty;

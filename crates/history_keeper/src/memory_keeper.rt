@@ -6,9 +6,10 @@ ghost use Rattle.history_keeper.specs.Memories.{unused, planned, kept, doubtful,
 
 use crate::change::Change;
 use crate::keeper::Keeper;
+use crate::memory_rows::MemoryRows;
 use crate::plan::{Doubt, KeeperPlan};
 use crate::refusal::KeeperRefusal;
-use crate::row::{Row, RowState};
+use crate::row::Row;
 use fw_base::NoMemory;
 use std::alloc::Global;
 use std::marker::Model;
@@ -16,7 +17,7 @@ use std::marker::Model;
 /// Rows in memory. It tells them, and it fails at the calls that were planned.
 #[derive(Drop)]
 pub struct MemoryKeeper {
-    rows: Vec<Row>,
+    rows: MemoryRows,
     doubt: Option<Doubt>,
     plan: Vec<KeeperPlan>,
     calls: u64,
@@ -28,7 +29,7 @@ impl Model for MemoryKeeper {
 
     ghost Value = { Memory };
 
-    ghost view = { λ s. record { rows = s.rows.items; doubt = s.doubt; plan = s.plan.items; calls = s.calls; faults = s.faults } };
+    ghost view = { λ s. record { rows = s.rows; doubt = s.doubt; plan = s.plan.items; calls = s.calls; faults = s.faults } };
 }
 
 impl MemoryKeeper {
@@ -37,7 +38,7 @@ impl MemoryKeeper {
         ensures { result ≡ unused rows.items plan.items }
     {
         MemoryKeeper {
-            rows,
+            rows: MemoryRows::new(rows),
             doubt: None,
             plan,
             calls: 0,
@@ -49,7 +50,7 @@ impl MemoryKeeper {
     pub fn rows(&self) -> &[Row]
         ensures { result.now ≡ self.now.rows }
     {
-        &self.rows
+        self.rows.items()
     }
 
     /// How many calls there were that did not want for memory.
@@ -109,7 +110,7 @@ impl Keeper for MemoryKeeper {
             self.count_fault();
             return Err(KeeperRefusal::Fault);
         }
-        let rows = copied(alloc, &self.rows)?;
+        let rows = copied(alloc, self.rows.items())?;
         self.count_call();
         Ok(rows)
     }
@@ -182,9 +183,9 @@ fn copied(alloc: Global, rows: &[Row]) -> Result<Vec<Row>, NoMemory>
 }
 
 // Makes the doubtful change, where the plan keeps it.
-fn keep(rows: &mut Vec<Row>, doubt: &Option<Doubt>) -> Result<(), NoMemory>
-    ensures kept { OnOk result (rows.new.items ≡ kept doubt.now rows.old.items) }
-    ensures unchanged { OnErr result (rows.new.items ≡ rows.old.items) }
+fn keep(rows: &mut MemoryRows, doubt: &Option<Doubt>) -> Result<(), NoMemory>
+    ensures kept { OnOk result (rows.new ≡ kept doubt.now rows.old) }
+    ensures unchanged { OnErr result (rows.new ≡ rows.old) }
 {
     match doubt {
         Some(doubt) if doubt.keep => make(rows, &doubt.change),
@@ -193,9 +194,9 @@ fn keep(rows: &mut Vec<Row>, doubt: &Option<Doubt>) -> Result<(), NoMemory>
 }
 
 // Makes the change. Another state of a row takes no memory.
-fn make(rows: &mut Vec<Row>, change: &Change) -> Result<(), NoMemory>
-    ensures made { OnOk result (rows.new.items ≡ changed change.now rows.old.items) }
-    ensures unchanged { OnErr result (rows.new.items ≡ rows.old.items) }
+fn make(rows: &mut MemoryRows, change: &Change) -> Result<(), NoMemory>
+    ensures made { OnOk result (rows.new ≡ changed change.now rows.old) }
+    ensures unchanged { OnErr result (rows.new ≡ rows.old) }
     ensures takes_none { AddsNone change.now → IsOk result }
 {
     match change {
@@ -205,31 +206,7 @@ fn make(rows: &mut Vec<Row>, change: &Change) -> Result<(), NoMemory>
             state,
             reason,
             time,
-        } => advance(rows, *entry, *state, *reason, *time),
+        } => rows.advance(*entry, *state, *reason, *time),
     }
     Ok(())
-}
-
-// Another state of the row with that entry.
-fn advance(rows: &mut [Row], entry: u32, state: RowState, reason: u8, time: u64)
-    ensures { rows.new ≡ map (with_state entry state reason time) rows.old }
-{
-    for row in rows.iter_mut() {
-        *row = stated(*row, entry, state, reason, time);
-    }
-}
-
-// The row, with another state where it has that entry.
-fn stated(row: Row, entry: u32, state: RowState, reason: u8, time: u64) -> Row
-    ensures { result ≡ with_state entry state reason time row }
-{
-    if row.entry != entry {
-        return row;
-    }
-    Row {
-        state,
-        reason,
-        time_changed: time,
-        ..row
-    }
 }

@@ -1,5 +1,5 @@
 -- An index with one row more, and with another state of a row.
-use Rattle.std.proofs.Common.{◌≡◌, ℕ, suc, Bool, true, false, ◌&&◌, List, [], ◌∷◌, ◌++◌, length, map, refl, ap, sym, ◌∙◌, ◌+◌, ◌≤◌, arith, ◌⊎◌, inl, inr, subst}
+use Rattle.std.proofs.Common.{◌≡◌, ℕ, suc, Bool, true, false, ◌&&◌, List, [], ◌∷◌, ◌++◌, length, map, refl, ap, sym, ◌∙◌, ◌+◌, arith, ◌⊎◌, inl, inr, subst}
 use Rattle.std.proofs.lemmas.Option.{slice_get-map}
 use Rattle.std.specs.Prelude.{Result, Ok, Err, IsOk, OnOk, IfSome, Option, Some, None, ◌==◌, if◌then◌else◌, option_map, slice_get}
 use Rattle.std.specs.Cmp.Lexicographic.{bytes_decides}
@@ -11,8 +11,9 @@ use Rattle.history_keeper.specs.declared.row.RowState.{RowState}
 use Rattle.history_keeper.specs.Changes.{with_state}
 use Rattle.history_keeper.specs.Histories.{is_unsettled}
 use Rattle.row_index.specs.Rows.{has_tag, waits_on}
-use Rattle.row_index.specs.Indexes.{IsIndexOf, IsNumbered, WaitsFromBefore, or_noted, place_of, row_at}
-use Rattle.row_index.proofs.Places.{by_test, get-push, place-push, some-same}
+use Rattle.history_keeper.proofs.Numbered.{by_test, get-push, some-same}
+use Rattle.row_index.specs.Indexes.{IsIndexOf, WaitsFromBefore, or_noted, place_of, row_at}
+use Rattle.row_index.proofs.Places.{place-push}
 
 and-true : (a b : Bool) → (a && b) ≡ true → (a ≡ true) × (b ≡ true)
 and-true true b h = (refl, h)

@@ -1,9 +1,7 @@
 -- Rows found by their places.
-use Rattle.std.proofs.Common.{◌≡◌, ℕ, zero, suc, Bool, true, false, cond, not, List, [], ◌∷◌, ◌++◌, length, map, refl, ap, sym, ◌∙◌, ◌<◌, ◌≤◌, ◌+◌, arith, ◌⊎◌, inl, inr, subst}
+use Rattle.std.proofs.Common.{◌≡◌, ℕ, zero, suc, Bool, true, false, not, List, [], ◌∷◌, ◌++◌, length, map, refl, ap, sym, ◌∙◌, ◌<◌, ◌≤◌, ◌+◌, arith, ◌⊎◌, inl, inr}
 use Rattle.std.proofs.lemmas.Bool.{eqb-true, eq-eqb}
-use Rattle.std.specs.Prelude.{Option, Some, None, ◌==◌, find, option_map, option_and_then, slice_get, slice_set}
-use Rattle.std.specs.List.{list_any}
-use Rattle.std.specs.Option.{option_map_or}
+use Rattle.std.specs.Prelude.{Option, Some, None, ◌==◌, find, option_map, slice_get}
 use Rattle.std.specs.Bool.{OnFalse}
 use Rattle.std.proofs.lemmas.Option.{slice_get-map}
 use Rattle.history_keeper.specs.declared.row.Row.{Row}
@@ -11,30 +9,9 @@ use Rattle.history_keeper.specs.declared.row.RowState.{RowState}
 use Rattle.history_keeper.specs.Changes.{with_state}
 use Rattle.row_index.specs.Rows.{has_entry}
 use Rattle.history_keeper.specs.Histories.{is_unsettled}
-use Rattle.row_index.specs.Indexes.{IsNumbered, WaitsFromBefore, or_noted, place_of, row_at}
-
--- a choice by a test, with what the test says
-pub by_test : (b : Bool) (G : Type 0) → (b ≡ true → G) → (b ≡ false → G) → G
-by_test true G f g = f refl
-by_test false G f g = g refl
-
-pub some-same : {X : Type 0} (x y : X) → Some x ≡ Some y → x ≡ y
-some-same x y h = cc
-
-pub eqb-other : (m n : ℕ) → (m ≡ n → ⊥) → (m == n) ≡ false
-eqb-other m n h = by_test (m == n) _ (λ t. absurd (h (eqb-true m n t))) (λ t. t)
-
--- The row behind the others, and those before it.
-
-pub get-push : (rows : List Row) (row r : Row) (at : ℕ) → slice_get (rows ++ row ∷ []) at ≡ Some r → (slice_get rows at ≡ Some r) ⊎ ((at ≡ length rows) × (row ≡ r))
-get-push [] row r zero h = inr (refl, some-same row r h)
-get-push [] row r (suc at) h = cc
-get-push (x ∷ rows) row r zero h = inl h
-get-push (x ∷ rows) row r (suc at) h = later (get-push rows row r at h)
-  where
-    later : (slice_get rows at ≡ Some r) ⊎ ((at ≡ length rows) × (row ≡ r)) → (slice_get (x ∷ rows) (suc at) ≡ Some r) ⊎ ((suc at ≡ suc (length rows)) × (row ≡ r))
-    later (inl g) = inl g
-    later (inr g) = inr (ap suc g.0, g.1)
+use Rattle.history_keeper.specs.Numbers.{IsNumbered}
+use Rattle.history_keeper.proofs.Numbered.{by_test, some-same, eqb-other, CountsFrom, counts-from, stated-past}
+use Rattle.row_index.specs.Indexes.{WaitsFromBefore, or_noted, place_of, row_at}
 
 pub place-push : (test : Row → Bool) (rows : List Row) (row : Row) → or_noted (place_of test rows) (test row) (length rows) ≡ place_of test (rows ++ row ∷ [])
 place-push test [] row = by_test (test row) _ (λ t. rw t refl) (λ t. rw t refl)
@@ -87,18 +64,7 @@ pub near-passes : (test : Row → Bool) (rows : List Row) (noted : Option ℕ) �
 near-passes test rows None h = sym (none-passes test rows (λ at r g p. let bad : None ≡ Some at = h at r g p in cc))
 near-passes test rows (Some k) h = one-passes test rows k (λ at r g p. some-same k at (h at r g p))
 
--- Entries that count from a number.
-
-abbrev pub CountsFrom : ℕ → List Row → Type 0
-CountsFrom n [] = Unit {0}
-CountsFrom n (r ∷ rows) = (r.entry ≡ n) × CountsFrom (n + 1) rows
-
-pub counts-from : (n : ℕ) (rows : List Row) → ((at : ℕ) (r : Row) → slice_get rows at ≡ Some r → r.entry ≡ at + n) → CountsFrom n rows
-counts-from n [] h = tt
-counts-from n (r ∷ rows) h = (
-  let first : r.entry ≡ 0 + n = h 0 r refl in omega arith,
-  counts-from (n + 1) rows (λ at s g. let next : s.entry ≡ suc at + n = h (suc at) s g in omega arith),
-)
+-- The row of an entry.
 
 entry-within : (n : ℕ) (rows : List Row) (k e : ℕ) → CountsFrom n rows → k < length rows → e ≡ k + n → find (has_entry e) rows ≡ slice_get rows k
 entry-within n [] k e c l q = absurd (omega arith)
@@ -132,39 +98,6 @@ found-past rows e h (inr l) = entry-past 1 rows e (counts-from 1 rows h) (inr (o
 -- Another state of the row of an entry.
 
 module _ (e : ℕ) (state : RowState) (reason time : ℕ) where
-  past-stated : (n : ℕ) (rows : List Row) → CountsFrom n rows → (e < n) ⊎ (n + length rows ≤ e) → rows ≡ map (with_state e state reason time) rows
-  past-stated n [] c l = refl
-  past-stated n (r ∷ rows) c l =
-      let apart : (r.entry == e) ≡ false = eqb-other r.entry e (λ g. away n r rows l g c.0) in
-      let rest : rows ≡ map (with_state e state reason time) rows = past-stated (n + 1) rows c.1 (later n rows l) in
-      rw apart (ap (λ rs. r ∷ rs) rest)
-    where
-      away : (n : ℕ) (r : Row) (rows : List Row) → (e < n) ⊎ (n + suc (length rows) ≤ e) → r.entry ≡ e → r.entry ≡ n → ⊥
-      away n r rows (inl h) g s = omega arith
-      away n r rows (inr h) g s = omega arith
-
-      later : (n : ℕ) (rows : List Row) → (e < n) ⊎ (n + suc (length rows) ≤ e) → (e < n + 1) ⊎ (n + 1 + length rows ≤ e)
-      later n rows (inl h) = inl (omega arith)
-      later n rows (inr h) = inr (omega arith)
-
-  within-stated : (n : ℕ) (rows : List Row) (k : ℕ) (r : Row) → CountsFrom n rows → slice_get rows k ≡ Some r → e ≡ k + n → slice_set rows k (with_state e state reason time r) ≡ map (with_state e state reason time) rows
-  within-stated n [] k r c g q = cc
-  within-stated n (x ∷ rows) zero r c g q =
-      let same : x ≡ r = some-same x r g in
-      ap (λ y. with_state e state reason time y ∷ rows) (sym same)
-      ∙ ap (λ rs. with_state e state reason time x ∷ rs) (past-stated (n + 1) rows c.1 (inl (omega arith)))
-  within-stated n (x ∷ rows) (suc k) r c g q =
-      let apart : (x.entry == e) ≡ false = eqb-other x.entry e (λ s. let z : x.entry ≡ n = c.0 in omega arith) in
-      let rest : slice_set rows k (with_state e state reason time r) ≡ map (with_state e state reason time) rows = within-stated (n + 1) rows k r c.1 g (omega arith) in
-      ap (λ rs. x ∷ rs) rest ∙ ap (λ y. y ∷ map (with_state e state reason time) rows) (let same : with_state e state reason time x ≡ x = rw apart refl in sym same)
-
-  pub stated-past : (rows : List Row) → IsNumbered rows → (e ≡ 0) ⊎ (length rows < e) → rows ≡ map (with_state e state reason time) rows
-  stated-past rows h (inl z) = past-stated 1 rows (counts-from 1 rows h) (inl (omega arith))
-  stated-past rows h (inr l) = past-stated 1 rows (counts-from 1 rows h) (inr (omega arith))
-
-  pub stated-within : (rows : List Row) (k : ℕ) (r : Row) → IsNumbered rows → slice_get rows k ≡ Some r → e ≡ k + 1 → slice_set rows k (with_state e state reason time r) ≡ map (with_state e state reason time) rows
-  stated-within rows k r h g q = within-stated 1 rows k r (counts-from 1 rows h) g q
-
   -- a row that waits then waited before, where the row of the entry did, and where there is none
   pub waits-before : (rows : List Row) (k : ℕ) (r : Row) → IsNumbered rows → slice_get rows k ≡ Some r → e ≡ k + 1 → is_unsettled r.state ≡ true → WaitsFromBefore (with_state e state reason time) rows
   waits-before rows k r h g q u = λ at s f w.
@@ -179,7 +112,7 @@ module _ (e : ℕ) (state : RowState) (reason time : ℕ) where
   pub none-waits : (rows : List Row) → IsNumbered rows → (e ≡ 0) ⊎ (length rows < e) → WaitsFromBefore (with_state e state reason time) rows
   none-waits rows h l = λ at s f w.
       let mapped : slice_get (map (with_state e state reason time) rows) at ≡ Some (with_state e state reason time s) = slice_get-map (with_state e state reason time) rows at ∙ ap (option_map (with_state e state reason time)) f in
-      let same : Some s ≡ Some (with_state e state reason time s) = sym f ∙ ap (λ rs. slice_get rs at) (stated-past rows h l) ∙ mapped in
+      let same : Some s ≡ Some (with_state e state reason time s) = sym f ∙ ap (λ rs. slice_get rs at) (stated-past e state reason time rows h l) ∙ mapped in
       ap (λ (x : Row). is_unsettled x.state) (some-same s (with_state e state reason time s) same) ∙ w
 
 pub not-settled : (b : Bool) (P : Type 0) → (b ≡ true → P) → OnFalse (not b) P

@@ -1,11 +1,12 @@
 -- Where rows stand.
-use Rattle.std.specs.Prelude.{◌≡◌, ℕ, suc, ◌+◌, ◌-◌, ◌≤◌, Bool, true, List, [], ◌∷◌, Option, Some, None, if◌then◌else◌, option_map, slice_get, vec_len, vec_capacity, Vec}
+use Rattle.std.specs.Prelude.{◌≡◌, ℕ, suc, ◌-◌, ◌≤◌, Bool, true, List, [], ◌∷◌, Option, Some, None, if◌then◌else◌, option_map, slice_get, vec_len, vec_capacity, Vec}
 use Rattle.std.specs.Option.{option_map_or}
 use Rattle.std.specs.Str.{bytes_eq}
 use Rattle.std.specs.declared.alloc.Global.{Global}
 use Rattle.indexmap.specs.IndexMap.{IndexMap, get, spare}
 use Rattle.history_keeper.specs.declared.row.Row.{Row}
 use Rattle.history_keeper.specs.Histories.{is_unsettled}
+use Rattle.history_keeper.specs.Numbers.{IsNumbered}
 use Rattle.row_index.specs.Rows.{has_tag, waits_on}
 
 -- The place of the first row that passes a test.
@@ -17,10 +18,6 @@ place_of test (r ∷ rows) = if test r then Some 0 else option_map suc (place_of
 abbrev pub or_noted : Option ℕ → Bool → ℕ → Option ℕ
 or_noted (Some before) here at = Some before
 or_noted None here at = if here then Some at else None
-
--- The entries are 1, 2, 3 and so on.
-abbrev pub IsNumbered : List Row → Type 0
-IsNumbered rows = (at : ℕ) (r : Row) → slice_get rows at ≡ Some r → r.entry ≡ at + 1
 
 -- A row that waits once it was changed waited before.
 abbrev pub WaitsFromBefore : (Row → Row) → List Row → Type 0

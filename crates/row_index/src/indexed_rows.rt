@@ -3,12 +3,14 @@ ghost use Rattle.std.specs.Prelude.{◌≡◌, ◌≤◌, ◌+◌, ◌-◌, ℕ,
 ghost use Rattle.history_keeper.specs.declared.row.Row.{Row};
 ghost use Rattle.history_keeper.specs.Changes.{with_state};
 ghost use Rattle.row_index.specs.Rows.{has_entry, has_tag, waits_on};
-ghost use Rattle.row_index.specs.Indexes.{HasRoom, IsIndexOf, IsNumbered};
+ghost use Rattle.history_keeper.specs.Numbers.{IsNumbered};
+ghost use Rattle.row_index.specs.Indexes.{HasRoom, IsIndexOf};
 
 use crate::index::{Index, at_place, waits_on};
-use crate::stated::{place_of_entry, state_each, state_numbered};
+use crate::stated::state_numbered;
 use fw_base::{Name, NoMemory};
 use guid_ids::DeviceId;
+use history_keeper::stated::{place_of_entry, state_each};
 use history_keeper::{Row, RowState};
 use std::alloc::Global;
 use std::marker::Model;

@@ -3,18 +3,11 @@ ghost use Rattle.std.specs.Prelude.{◌≡◌, ◌⊎◌, ◌+◌, ◌<◌, map,
 ghost use Rattle.std.specs.Bool.{OnFalse};
 ghost use Rattle.history_keeper.specs.Changes.{with_state};
 ghost use Rattle.history_keeper.specs.Histories.{is_unsettled};
-ghost use Rattle.row_index.specs.Indexes.{IsNumbered, WaitsFromBefore};
+ghost use Rattle.history_keeper.specs.Numbers.{IsNumbered};
+ghost use Rattle.row_index.specs.Indexes.{WaitsFromBefore};
 
+use history_keeper::stated::{place_of_entry, stated};
 use history_keeper::{Row, RowState};
-
-/// The row with that entry gets another state, in a list that may be any.
-pub fn state_each(rows: &mut [Row], entry: u32, state: RowState, reason: u8, time: u64)
-    ensures { rows.new ≡ map (with_state entry state reason time) rows.old }
-{
-    for row in rows.iter_mut() {
-        *row = stated(*row, entry, state, reason, time);
-    }
-}
 
 /// The row with that entry gets another state, in a list whose entries are 1, 2, 3 and so on. Tells
 /// whether a settled row waits again.
@@ -39,32 +32,6 @@ fn state_at(rows: &mut [Row], at: usize, entry: u32, state: RowState, reason: u8
     let before = rows[at].state;
     rows[at] = stated(rows[at], entry, state, reason, time);
     is_unsettled(state) && !is_unsettled(before)
-}
-
-/// The place of an entry, in a list whose entries are 1, 2, 3 and so on.
-pub fn place_of_entry(rows: &[Row], entry: u32) -> Option<usize>
-    ensures found { IfSome result (λ at. (at < length rows.now) × (entry ≡ at + 1)) }
-    ensures past { IfNone result ((entry ≡ 0) ⊎ (length rows.now < entry)) }
-{
-    if entry == 0 || entry as usize > rows.len() {
-        return None;
-    }
-    Some(entry as usize - 1)
-}
-
-// The row, with another state where it has that entry.
-fn stated(row: Row, entry: u32, state: RowState, reason: u8, time: u64) -> Row
-    ensures { result ≡ with_state entry state reason time row }
-{
-    if row.entry != entry {
-        return row;
-    }
-    Row {
-        state,
-        reason,
-        time_changed: time,
-        ..row
-    }
 }
 
 /// The row of this state waits for its end.

@@ -3,7 +3,8 @@ use Rattle.std.specs.Prelude.{slice_get, slice_set}
 use Rattle.std.proofs.lemmas.Option.{slice_get-get_or}
 use Rattle.history_keeper.specs.declared.row.Row.{Row}
 use Rattle.history_keeper.specs.Histories.{is_unsettled}
-use Rattle.row_index.proofs.Places.{not-settled, stated-within, waits-before}
+use Rattle.history_keeper.proofs.Numbered.{stated-within}
+use Rattle.row_index.proofs.Places.{not-settled, waits-before}
 use Rattle.row_index.proofs.stated.state_at.Goals as goal
 
 pub returns-then-is_unsettled-clause-stated : goal.returns-then-is_unsettled-clause-stated

@@ -1,4 +1,5 @@
-use Rattle.row_index.proofs.Places.{none-waits, stated-past}
+use Rattle.history_keeper.proofs.Numbered.{stated-past}
+use Rattle.row_index.proofs.Places.{none-waits}
 use Rattle.row_index.proofs.stated.state_numbered.Goals as goal
 
 pub returns-in-None-clause-stated : goal.returns-in-None-clause-stated

@@ -1,4 +1,4 @@
-use Rattle.std.proofs.Common.{◌≡◌, ℕ, ◌+◌, ◌-◌, ◌≤◌, [], ◌∷◌, ◌++◌, length, ap, sym, ◌∙◌, arith, vec_len, vec_capacity}
+use Rattle.std.proofs.Common.{ℕ, ◌+◌, ◌-◌, [], ◌∷◌, ◌++◌, ap, sym, ◌∙◌, arith, vec_len, vec_capacity}
 use Rattle.std.specs.Prelude.{IfSome}
 use Rattle.row_index.specs.declared.index.Index.{Index}
 use Rattle.row_index.specs.Indexes.{HasRoom, IsIndexOf}

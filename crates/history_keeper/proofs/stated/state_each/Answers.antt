@@ -1,7 +1,7 @@
 use Rattle.std.proofs.Common.{arith}
 use Rattle.std.proofs.lemmas.List.Edits.{map_over_more}
 use Rattle.history_keeper.specs.Changes.{with_state}
-use Rattle.row_index.proofs.stated.state_each.Goals as goal
+use Rattle.history_keeper.proofs.stated.state_each.Goals as goal
 
 pub loop-row-preserved : goal.loop-row-preserved
 loop-row-preserved c =
