@@ -14,10 +14,6 @@ pub mod parts;
 mod releases;
 mod reply;
 mod rows;
-#[cfg(test)]
-mod scenes;
-#[cfg(test)]
-mod tests;
 pub mod words;
 
 pub use item::Item;

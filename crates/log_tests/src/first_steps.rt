@@ -56,14 +56,38 @@ fn boot_and_cut(facts: &Facts, state: &mut CoreState, boards: Vec<BoardSeen>)
     step(facts, state, Event::Cut);
 }
 
+/// The same, with room for both.
+fn boot_and_cut_with_room(alloc: Global, facts: &Facts, state: &mut CoreState) -> Result<(), Fail>
+    requires no_boards { facts.now.sheets ≡ [] }
+    requires stands { Stands facts.now [] state.old }
+    requires empty { state.old.log ≡ [] }
+{
+    state.reserve(2)?;
+    boot_and_cut(facts, state, Vec::new(alloc));
+    Ok(())
+}
+
+fn are_logged(state: &CoreState) -> bool {
+    let is_off = state.off() && state.boots() == 1 && state.time() == 1000;
+    is_off && state.log().len() == 2
+}
+
+/// Whether both are logged by a new state.
+fn are_logged_over(alloc: Global, facts: &Facts) -> Result<bool, Fail>
+    requires no_boards { facts.now.sheets ≡ [] }
+{
+    let mut state = CoreState::new(alloc, facts)?;
+    boot_and_cut_with_room(alloc, facts, &mut state)?;
+    Ok(are_logged(&state))
+}
+
+fn are_logged_of_none(alloc: Global) -> Result<bool, Fail> {
+    let facts = facts_with(alloc, Vec::new(alloc))?;
+    are_logged_over(alloc, &facts)
+}
+
 #[test]
 fn a_boot_and_a_cut_are_logged(rt: HostRuntime) -> Result<(), Fail> {
-    let alloc = rt.alloc();
-    let facts = facts_with(alloc, Vec::new(alloc))?;
-    let mut state = CoreState::new(alloc, &facts)?;
-    state.reserve(2)?;
-    boot_and_cut(&facts, &mut state, Vec::new(alloc));
-    let is_off = state.off() && state.boots() == 1 && state.time() == 1000;
-    assert!(rt; is_off && state.log().len() == 2);
+    assert!(rt; are_logged_of_none(rt.alloc())?);
     Ok(())
 }

@@ -1,4 +1,4 @@
-//! Tests of the log by its public calls.
+//! Tests of the log by its public calls, and of the verdict beside its plain program.
 //!
 //! They stand in a crate of their own, since a crate that has tests is proved a second time with them.
 #![tactic(auto)]
@@ -6,4 +6,8 @@
 #[cfg(test)]
 mod first_steps;
 #[cfg(test)]
+mod scenes;
+#[cfg(test)]
 mod values;
+#[cfg(test)]
+mod verdicts;

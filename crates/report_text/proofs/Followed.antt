@@ -1,9 +1,8 @@
 -- A log that a state follows, event by event.
-use Rattle.std.proofs.Common.{◌≡◌, ℕ, suc, ◌+◌, ◌<◌, ◌≤◌, arith, true, List, [], ◌∷◌, ◌++◌, length, take, drop, get_or, map, reverse, Option, Some, None, ◌⊎◌, inl, inr, refl, sym, ap, subst, ◌∙◌}
+use Rattle.std.proofs.Common.{◌≡◌, ℕ, ◌+◌, ◌<◌, ◌≤◌, arith, true, List, [], ◌∷◌, ◌++◌, length, take, drop, get_or, reverse, Option, Some, None, ◌⊎◌, inl, inr, refl, sym, ap, subst, ◌∙◌}
 use Rattle.history_keeper.specs.Histories.{IsHistory}
 use Rattle.outer_traits.specs.Sinks.{Took, TookFront}
 use Rattle.std.proofs.lemmas.List.{length_push, length-map, reverse-append, take-append-drop, take_more, append-nil}
-use Rattle.fw_facts.specs.declared.sheet.Sheet.{Sheet}
 use Rattle.history_keeper.specs.declared.change.Change.{Change}
 use Rattle.history_keeper.specs.declared.row.Row.{Row}
 use Rattle.history_keeper.specs.Changes.{changed, with_state}
@@ -18,7 +17,7 @@ use Rattle.update_log.specs.Legal.{IsLegal, Legal}
 use Rattle.update_log.specs.Pasts.{past_of}
 use Rattle.update_log.specs.Shows.{Campaign}
 use Rattle.client_scripts.proofs.Pieces.{newest_first}
-use Rattle.report_text.specs.Report.{in_turn, lines_by_sheets, lines_in, lines_over}
+use Rattle.report_text.specs.Report.{in_turn, lines_alone, lines_in, lines_over}
 
 -- ---- an event adds at most one row
 
@@ -112,7 +111,7 @@ follow-log log i event old new lt is before after =
 
 -- ---- boots that couldn't read the rows
 
-boot-lines : (facts : Facts) (opening : List Row) (past : List Event) (event : Event) → is_fault_boot event ≡ true → lines_in facts opening past event ≡ lines_by_sheets facts.sheets past event
+boot-lines : (facts : Facts) (opening : List Row) (past : List Event) (event : Event) → is_fault_boot event ≡ true → lines_in facts opening past event ≡ lines_alone facts.sheets past event
 boot-lines facts opening past (Event.Boot number time limit found boards) h = append-nil _
 boot-lines facts opening past (Event.Query client query) h = cc
 boot-lines facts opening past (Event.Ask client request pending answer) h = cc
@@ -136,17 +135,17 @@ faults-later : (later past : List Event) → AllFaults (later ++ past) → AllFa
 faults-later [] past h = tt
 faults-later (event ∷ later) past h = (h.0, faults-later later past h.1)
 
-boots-lines : (facts : Facts) (opening : List Row) (past log : List Event) → AllFaults (reverse log) → in_turn (lines_in facts opening) past log ≡ in_turn (lines_by_sheets facts.sheets) past log
+boots-lines : (facts : Facts) (opening : List Row) (past log : List Event) → AllFaults (reverse log) → in_turn (lines_in facts opening) past log ≡ in_turn (lines_alone facts.sheets) past log
 boots-lines facts opening past [] h = refl
 boots-lines facts opening past (event ∷ log) h =
     let turned : reverse (event ∷ log) ≡ reverse log ++ event ∷ [] = reverse-append (event ∷ []) log in
     let parts : AllFaults (reverse log ++ event ∷ []) = subst AllFaults turned h in
     let here : is_fault_boot event ≡ true = (faults-before (reverse log) (event ∷ []) parts).0 in
-    let rest : in_turn (lines_in facts opening) (event ∷ past) log ≡ in_turn (lines_by_sheets facts.sheets) (event ∷ past) log = boots-lines facts opening (event ∷ past) log (faults-later (reverse log) (event ∷ []) parts) in
+    let rest : in_turn (lines_in facts opening) (event ∷ past) log ≡ in_turn (lines_alone facts.sheets) (event ∷ past) log = boots-lines facts opening (event ∷ past) log (faults-later (reverse log) (event ∷ []) parts) in
     ap (λ (t : List ℕ). t ++ in_turn (lines_in facts opening) (event ∷ past) log) (boot-lines facts opening past event here)
-    ∙ ap (λ (t : List ℕ). lines_by_sheets facts.sheets past event ++ t) rest
+    ∙ ap (λ (t : List ℕ). lines_alone facts.sheets past event ++ t) rest
 
-pub faults-lines : (facts : Facts) (opening : List Row) (log : List Event) → AllFaults (past_of log) → in_turn (lines_in facts opening) [] log ≡ in_turn (lines_by_sheets facts.sheets) [] log
+pub faults-lines : (facts : Facts) (opening : List Row) (log : List Event) → AllFaults (past_of log) → in_turn (lines_in facts opening) [] log ≡ in_turn (lines_alone facts.sheets) [] log
 faults-lines facts opening log h = boots-lines facts opening [] log h
 
 -- Rows that are no history: each event is such a boot.

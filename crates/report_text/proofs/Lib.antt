@@ -1,4 +1,3 @@
 pub mod Marks
 pub mod Events
 mod Followed
-pub mod QuietLogs

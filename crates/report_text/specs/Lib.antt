@@ -1,5 +1,4 @@
 pub mod Words
 pub mod Refusals
 pub mod Lines
-pub mod Named
 pub mod Report

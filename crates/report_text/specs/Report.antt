@@ -1,5 +1,5 @@
 -- The report of a log.
-use Rattle.std.specs.Prelude.{ℕ, Bool, false, ◌==◌, List, [], ◌∷◌, ◌++◌, length, codes, Option, find, option_map, option_and_then, unwrap_or}
+use Rattle.std.specs.Prelude.{ℕ, Bool, false, ◌==◌, List, [], ◌∷◌, ◌++◌, length, codes, Option, None, find, option_map, option_and_then, unwrap_or}
 use Rattle.std.specs.Fmt.{decimal}
 use Rattle.fw_facts.specs.declared.sheet.Sheet.{Sheet}
 use Rattle.fw_facts.specs.declared.view.DeviceView.{DeviceView}
@@ -10,7 +10,6 @@ use Rattle.update_log.specs.declared.facts.Facts.{Facts}
 use Rattle.update_log.specs.Known.{rows, views}
 use Rattle.client_scripts.specs.Replies.{reply}
 use Rattle.report_text.specs.Lines.{entry_ended, lines_of}
-use Rattle.report_text.specs.Named.{sheet_of}
 
 -- ---- the lines of an event
 
@@ -58,11 +57,8 @@ report_by lines log = first_line ++ (in_turn lines [] log ++ last_line (length l
 abbrev pub report : Facts → List Row → List Event → List ℕ
 report facts opening log = report_by (lines_in facts opening) log
 
--- ---- the report of a log of installs, by the sheets alone
+-- ---- the lines by the sheets alone
 
--- The lines of an event, where an entry is on the board that its request named, and nothing is replied.
-abbrev pub lines_by_sheets : List Sheet → List Event → Event → List ℕ
-lines_by_sheets sheets past event = lines_of sheets (option_and_then (λ entry. sheet_of sheets entry past) (entry_ended event)) event
-
-abbrev pub report_by_sheets : List Sheet → List Event → List ℕ
-report_by_sheets sheets log = report_by (lines_by_sheets sheets) log
+-- The lines of an event that ends no step and asks nothing, whatever stands before it.
+abbrev pub lines_alone : List Sheet → List Event → Event → List ℕ
+lines_alone sheets past event = lines_of sheets None event

@@ -5,21 +5,15 @@
 #![tactic(auto)]
 
 pub mod answers;
-mod by_sheets;
+mod boots;
 mod ends;
 mod lines;
 mod lookup;
 mod parts;
 mod report;
-#[cfg(test)]
-mod sink_tests;
 mod stop;
-#[cfg(test)]
-mod tests;
-#[cfg(test)]
-mod word_tests;
 mod words;
 
-pub use by_sheets::write_report_by_sheets;
+pub use lines::put_lines;
 pub use report::write_report;
 pub use stop::ReportStop;

@@ -13,7 +13,7 @@ ghost use Rattle.update_log.specs.Pasts.{past_of};
 ghost use Rattle.update_log.specs.Shows.{Campaign};
 ghost use Rattle.report_text.specs.Report.{in_turn, lines_in, lines_over, report, reply_under, sheet_ended};
 
-use crate::by_sheets::write_events_by_sheets;
+use crate::boots::write_alone;
 use crate::ends::{write_first, write_last};
 use crate::lines::{entry_ended, put_lines};
 use crate::lookup::sheet_claimed;
@@ -165,7 +165,7 @@ fn write_log<T: Sink>(
 {
     match first_faulty(alloc, rows)? {
         None => write_over(alloc, facts, rows, log, out),
-        Some(_) => write_events_by_sheets(alloc, facts.sheets.items(), log, out),
+        Some(_) => write_alone(alloc, facts.sheets.items(), log, out),
     }
 }
 

@@ -1,11 +1,9 @@
-use Rattle.std.proofs.Common.{arith, [], ◌∙◌, ap, sym, refl, List, ℕ, take, drop, reverse, ◌+◌}
-use Rattle.std.specs.Prelude.{Option}
+use Rattle.std.proofs.Common.{arith, [], refl}
 use Rattle.std.proofs.lemmas.Result.{err_from_is_err_and}
-use Rattle.outer_traits.specs.Sinks.{Took, TookFront}
 use Rattle.outer_traits.proofs.Fronts.{still_front}
 use Rattle.report_text.specs.Report.{in_turn, lines_in}
 use Rattle.report_text.proofs.Events.{event_written, event_stopped}
-use Rattle.report_text.proofs.Followed.{follow-log, lines-stand, lines-took, lines-front, next-legal}
+use Rattle.report_text.proofs.Followed.{follow-log, lines-took, lines-front, next-legal}
 use Rattle.report_text.proofs.report.write_events.Goals as goal
 
 pub returns-in_err-write_event-clause-front : goal.returns-in_err-write_event-clause-front

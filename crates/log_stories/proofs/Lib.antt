@@ -1,0 +1,5 @@
+pub mod LogScans
+pub mod Plainly
+pub mod Growing
+pub mod Booting
+pub mod Asking

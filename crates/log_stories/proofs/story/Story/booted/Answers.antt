@@ -1,0 +1,32 @@
+use Rattle.std.proofs.Common.{◌≡◌, [], List, ap, sym, ◌∙◌, subst, arith}
+use Rattle.history_keeper.specs.declared.row.Row.{Row}
+use Rattle.update_log.proofs.FirstSteps.{stands-reserved}
+use Rattle.update_log.specs.Core.{Core, Stands}
+use Rattle.log_stories.specs.Stories.{RunsOn}
+use Rattle.update_log.specs.Pasts.{past_of}
+use Rattle.log_stories.proofs.story.Story.booted.Goals as goal
+
+pub boot-requires : goal.boot-requires
+boot-requires c =
+    let same = c.set_rows.ensures.same in
+    let reserved = c.in_ok-reserve.ensures.same in
+    record {
+      each = c.requires.each;
+      shown = c.in_ok-boards.ensures;
+      stands =
+          subst (λ (rs : List Row). Stands c.args.facts rs c.set_rows.new.self) (sym (ap (λ (k : Core). k.rows) same))
+          (c.set_rows.ensures.stands c.args.facts [] (stands-reserved c.args.facts [] c.in_ok-state.state c.reserve.new.self reserved c.in_ok-state.ensures.stands));
+      empty = ap (λ (k : Core). k.log) same ∙ ap (λ (k : Core). k.log) reserved ∙ c.in_ok-state.ensures.empty;
+      room = let r = c.in_ok-reserve.ensures.room in let e = ap (λ (k : Core). k.room) same in omega (arith, r, e);
+    }
+
+pub invariant_of-result : goal.invariant_of-result
+invariant_of-result c =
+    let copied = c.in_ok-opening.ensures.items in
+    let read = c.deref.ensures.value in
+    let put = ap (λ (k : Core). k.rows) c.set_rows.ensures.same in
+    let same : c.set_rows.new.self.rows ≡ c.in_ok-opening.opening.items = cc in
+    record {
+      runs = subst (λ (rs : List Row). RunsOn c.args.facts rs (past_of c.boot.new.state.log)) same c.boot.ensures.runs;
+      stands = subst (λ (rs : List Row). Stands c.args.facts rs c.boot.new.state) same c.boot.ensures.stands;
+    }

@@ -1,0 +1,5 @@
+use Rattle.log_stories.proofs.Growing.{story-roomier}
+use Rattle.log_stories.proofs.story.Story.reserve.Goals as goal
+
+pub invariant_of-self : goal.invariant_of-self
+invariant_of-self c = story-roomier c.self.inside.facts c.self.inside.opening.items c.self.inside.state c.reserve.new.self c.reserve.ensures.same c.self.invariant

@@ -1,0 +1,421 @@
+//! The verdict and the plain program decide the same, and what was meant.
+use crate::scenes::{Level, client_at, request, request_at, row, story_at, story_over};
+use device_list::Selector;
+use fw_base::Name;
+use fw_facts::Problem;
+use guid_ids::device_id;
+use history_keeper::{Row, RowState};
+use log_stories::{Story, plain_verdict};
+use release_catalogue::ReleaseRef;
+use requirements::Unmet;
+use std::alloc::Global;
+use std::test::Fail;
+use update_log::{Decision, FetchNote, InstallFlags, Refusal, Request, Stage, verdict};
+use version_formats::Version;
+
+/// The number of a decision: that of its refusal, 0 where it is accepted, and 100 where it is kept.
+fn number(decision: &Decision) -> u32 {
+    match decision {
+        Decision::Accept { .. } => 0,
+        Decision::Kept { .. } => 100,
+        Decision::Refused(refusal) => refusal_number(refusal),
+    }
+}
+
+fn refusal_number(refusal: &Refusal) -> u32 {
+    match refusal {
+        Refusal::NoDevice => 1,
+        Refusal::NoRelease => 2,
+        Refusal::Busy { .. } => 3,
+        Refusal::Unsettled { .. } => 4,
+        Refusal::NotUpdatable => 5,
+        Refusal::Locked => 6,
+        Refusal::Problem(_) => 7,
+        Refusal::SameVersion => 8,
+        Refusal::Older => 9,
+        Refusal::Unmet(_) => 10,
+        Refusal::Veto { .. } => 11,
+        Refusal::Size { .. } => 12,
+        Refusal::NoRoom { .. } => 13,
+        Refusal::Payload(_) => 14,
+        Refusal::RowsFull => 15,
+        Refusal::KeeperFault => 16,
+    }
+}
+
+/// What the plain program decides, over the devices of a machine, which are few.
+fn plainly(story: &Story, client: u32, request: &Request, stage: Stage) -> Option<Decision> {
+    let state = story.state();
+    if state.views().len() > 256 {
+        return None;
+    }
+    Some(plain_verdict(story.facts(), state, client, request, stage))
+}
+
+/// The numbers that a refusal holds, where it holds numbers alone.
+fn numbers(refusal: &Refusal) -> [u32; 3] {
+    match refusal {
+        Refusal::Busy { entry } | Refusal::Unsettled { entry } => [*entry, 0, 0],
+        Refusal::Size { len, min, max } => [*len, *min, *max],
+        Refusal::NoRoom { need, free } => [*need, *free, 0],
+        _ => [0, 0, 0],
+    }
+}
+
+fn unmet(refusal: &Refusal) -> Option<Unmet> {
+    match refusal {
+        Refusal::Unmet(unmet) => Some(*unmet),
+        _ => None,
+    }
+}
+
+fn problem(refusal: &Refusal) -> Option<Problem> {
+    match refusal {
+        Refusal::Problem(problem) => Some(*problem),
+        _ => None,
+    }
+}
+
+fn plugin(refusal: &Refusal) -> Option<Name> {
+    match refusal {
+        Refusal::Veto { plugin } => Some(*plugin),
+        _ => None,
+    }
+}
+
+/// Whether both are the same. The payload is no part of a verdict.
+fn is_same_refusal(one: &Refusal, other: &Refusal) -> bool {
+    refusal_number(one) == refusal_number(other)
+        && numbers(one) == numbers(other)
+        && unmet(one) == unmet(other)
+        && problem(one) == problem(other)
+        && plugin(one) == plugin(other)
+}
+
+/// The place of the device that is accepted, the release and the blocks.
+fn accepted(decision: &Decision) -> Option<(u32, ReleaseRef, u32)> {
+    match decision {
+        Decision::Accept {
+            device,
+            release,
+            blocks,
+        } => Some((*device, *release, *blocks)),
+        Decision::Kept { .. } | Decision::Refused(_) => None,
+    }
+}
+
+/// The entry that took the tag before, and its state.
+fn kept(decision: &Decision) -> Option<(u32, RowState)> {
+    match decision {
+        Decision::Kept { entry, state } => Some((*entry, *state)),
+        Decision::Accept { .. } | Decision::Refused(_) => None,
+    }
+}
+
+/// Whether both are the same.
+fn is_same(one: &Decision, other: &Decision) -> bool {
+    match one {
+        Decision::Accept { .. } => accepted(one) == accepted(other),
+        Decision::Kept { .. } => kept(one) == kept(other),
+        Decision::Refused(refusal) => match other {
+            Decision::Accept { .. } | Decision::Kept { .. } => false,
+            Decision::Refused(again) => is_same_refusal(refusal, again),
+        },
+    }
+}
+
+/// The number of the decision that both programs give, and 99 where they give two.
+fn decided(story: &Story, client: u32, request: &Request, stage: Stage) -> u32 {
+    let one = verdict(story.facts(), story.state(), client, request, stage);
+    match plainly(story, client, request, stage) {
+        Some(other) => {
+            if is_same(&one, &other) {
+                number(&one)
+            } else {
+                99
+            }
+        }
+        None => 99,
+    }
+}
+
+/// The decision on the ask that so much hinders.
+fn decided_in(story: &Story, level: Level) -> Result<u32, Fail> {
+    // The check has to be shown each type that a request holds.
+    let _named: Option<Selector> = None;
+    let request = request_at(level)?;
+    Ok(decided(story, client_at(level), &request, Stage::Ask))
+}
+
+/// The same over the machine of that level.
+fn decided_at(alloc: Global, level: Level) -> Result<u32, Fail> {
+    let story = story_at(alloc, level)?;
+    decided_in(&story, level)
+}
+
+/// What is decided where that much hinders a request. A busy device is met below; a payload that isn't
+/// whole and a fault of the keeper are no part of a verdict.
+const LEVELS: [(u32, u32); 14] = [
+    (0, 100),
+    (1, 1),
+    (2, 2),
+    (4, 4),
+    (5, 5),
+    (6, 6),
+    (7, 7),
+    (8, 8),
+    (9, 9),
+    (10, 10),
+    (11, 11),
+    (12, 12),
+    (13, 13),
+    (14, 0),
+];
+
+/// How many levels stand before the first at which something else is decided.
+fn levels_decided(alloc: Global) -> Result<usize, Fail> {
+    for (at, (level, want)) in LEVELS.iter().enumerate() {
+        if decided_at(alloc, Level(*level))? != *want {
+            return Ok(at);
+        }
+    }
+    Ok(LEVELS.len())
+}
+
+#[test]
+fn each_refusal_as_the_first(rt: HostRuntime) -> Result<(), Fail> {
+    assert_eq!(rt; levels_decided(rt.alloc())?, 14);
+    Ok(())
+}
+
+const FOUND: ReleaseRef = ReleaseRef {
+    component: 0,
+    release: 0,
+};
+
+const OTHER: ReleaseRef = ReleaseRef {
+    component: 0,
+    release: 1,
+};
+
+/// At each stage, where nothing hinders but that the pool is too small.
+const STAGES: [(Stage, u32); 5] = [
+    (Stage::Ask, 13),
+    (Stage::AskPending { entry: 9 }, 13),
+    (Stage::Claim { release: FOUND }, 0),
+    (Stage::Claim { release: OTHER }, 2),
+    (Stage::Schedule, 0),
+];
+
+/// How many rows stand before the first stage at which something else is decided.
+fn stages_decided(story: &Story, request: &Request, rows: &[(Stage, u32)]) -> usize {
+    for (at, (stage, want)) in rows.iter().enumerate() {
+        if decided(story, 2, request, *stage) != *want {
+            return at;
+        }
+    }
+    rows.len()
+}
+
+/// The same of the request that so much hinders.
+fn stages_decided_at(story: &Story, level: Level, rows: &[(Stage, u32)]) -> Result<usize, Fail> {
+    let _named: Option<Selector> = None;
+    let request = request_at(level)?;
+    Ok(stages_decided(story, &request, rows))
+}
+
+fn all_stages_decided(alloc: Global) -> Result<usize, Fail> {
+    let story = story_at(alloc, Level(13))?;
+    stages_decided_at(&story, Level(13), &STAGES)
+}
+
+#[test]
+fn at_each_stage(rt: HostRuntime) -> Result<(), Fail> {
+    assert_eq!(rt; all_stages_decided(rt.alloc())?, 5);
+    Ok(())
+}
+
+/// The machine, over one row that was put off by a client.
+fn put_off(alloc: Global, client: u32, digest: [u8; 32]) -> Result<Story, Fail> {
+    let mut rows = Vec::new(alloc);
+    rows.push(row(1, "t1", client, RowState::Pending, digest)?)?;
+    story_over(alloc, Level(14), 2, rows)
+}
+
+/// The request of that row.
+fn request_of_row() -> Result<Request, Fail> {
+    let tag = Name::read(b"t1")?;
+    let version = Version::read(b"1.2.0")?;
+    Ok(Request {
+        tag,
+        device: Selector::Id(device_id(b"usb1", None)),
+        version,
+        flags: InstallFlags {
+            offline: true,
+            allow_reinstall: false,
+            allow_older: false,
+        },
+    })
+}
+
+/// What is decided of the row's request at a stage.
+fn decided_of_request(story: &Story, stage: Stage) -> Result<u32, Fail> {
+    let _named: Option<Selector> = None;
+    let request = request_of_row()?;
+    Ok(decided(story, 0, &request, stage))
+}
+
+/// The same of a row of that client and digest.
+fn decided_of_row(alloc: Global, client: u32, digest: [u8; 32], stage: Stage) -> Result<u32, Fail> {
+    let story = put_off(alloc, client, digest)?;
+    decided_of_request(&story, stage)
+}
+
+const PUT_OFF: [(u32, u8, Stage, u32); 7] = [
+    (2, 10, Stage::Ask, 100),
+    (2, 10, Stage::AskPending { entry: 1 }, 0),
+    (
+        2,
+        10,
+        Stage::Resume {
+            entry: 1,
+            release: FOUND,
+        },
+        0,
+    ),
+    (
+        2,
+        10,
+        Stage::Resume {
+            entry: 1,
+            release: OTHER,
+        },
+        2,
+    ),
+    (2, 11, Stage::AskPending { entry: 1 }, 2),
+    (1, 10, Stage::AskPending { entry: 1 }, 10),
+    (2, 10, Stage::AskPending { entry: 2 }, 4),
+];
+
+/// How many rows stand before the first of which something else is decided.
+fn rows_decided(alloc: Global) -> Result<usize, Fail> {
+    for (at, (client, byte, stage, want)) in PUT_OFF.iter().enumerate() {
+        if decided_of_row(alloc, *client, [*byte; 32], *stage)? != *want {
+            return Ok(at);
+        }
+    }
+    Ok(PUT_OFF.len())
+}
+
+#[test]
+fn a_row_that_was_put_off(rt: HostRuntime) -> Result<(), Fail> {
+    assert_eq!(rt; rows_decided(rt.alloc())?, 7);
+    Ok(())
+}
+
+/// What is decided of an ask of client 3.
+fn asked(story: &Story, tag: &str, port: &str) -> Result<u32, Fail> {
+    let _named: Option<Selector> = None;
+    let request = request(tag, port, "1.2.0")?;
+    Ok(decided(story, 3, &request, Stage::Ask))
+}
+
+/// What is decided of its asks for both boards, and of an ask that repeats the first tag.
+fn asked_of(story: &Story) -> Result<[u32; 3], Fail> {
+    let first = asked(story, "t2", "usb1")?;
+    let second = asked(story, "t2", "usb2")?;
+    let again = asked(story, "t1", "usb2")?;
+    Ok([first, second, again])
+}
+
+/// Client 2 asks, and holds two blocks where it can.
+fn hold(story: &mut Story) -> Result<bool, Fail> {
+    let _named: Option<Selector> = None;
+    let request = request("t1", "usb1", "1.2.0")?;
+    Ok(story.ask(2, &request)?)
+}
+
+const FETCHED: FetchNote = FetchNote::Whole {
+    digest: [10; 32],
+    len: 8192,
+    raw: 0x0102_0000,
+};
+
+/// What is decided while client 2 has a hold, and then while its entry is live.
+const OTHERS: [(u32, [u32; 3], [u32; 3]); 2] = [
+    (3, [13, 13, 13], [3, 13, 100]),
+    (4, [0, 0, 0], [3, 0, 100]),
+];
+
+fn is_decided_held(story: &mut Story, want: [u32; 3]) -> Result<bool, Fail> {
+    if hold(story)? {
+        Ok(asked_of(story)? == want)
+    } else {
+        Ok(false)
+    }
+}
+
+fn is_decided_live(story: &mut Story, want: [u32; 3]) -> Result<bool, Fail> {
+    if story.claim(2, &FETCHED)? {
+        Ok(asked_of(story)? == want)
+    } else {
+        Ok(false)
+    }
+}
+
+fn are_both_decided(story: &mut Story, held: [u32; 3], live: [u32; 3]) -> Result<bool, Fail> {
+    if is_decided_held(story, held)? {
+        is_decided_live(story, live)
+    } else {
+        Ok(false)
+    }
+}
+
+/// The same over a pool of so many blocks.
+fn is_decided_over(alloc: Global, pool: u32, held: [u32; 3], live: [u32; 3]) -> Result<bool, Fail> {
+    let mut story = story_over(alloc, Level(14), pool, Vec::new(alloc))?;
+    are_both_decided(&mut story, held, live)
+}
+
+/// How many pools stand before the first over which something else is decided.
+fn pools_decided(alloc: Global) -> Result<usize, Fail> {
+    for (at, (pool, held, live)) in OTHERS.iter().enumerate() {
+        if !is_decided_over(alloc, *pool, *held, *live)? {
+            return Ok(at);
+        }
+    }
+    Ok(OTHERS.len())
+}
+
+#[test]
+fn room_over_holds_and_live_entries(rt: HostRuntime) -> Result<(), Fail> {
+    assert_eq!(rt; pools_decided(rt.alloc())?, 2);
+    Ok(())
+}
+
+/// A history that is full of rows of one device, all settled.
+fn full(alloc: Global) -> Result<Vec<Row>, Fail> {
+    let mut rows = Vec::new(alloc);
+    for entry in 1..65_537 {
+        let tag = format!(in alloc; "r{entry}")?;
+        rows.push(row(entry, tag.as_str(), 2, RowState::Success, [10; 32])?)?;
+    }
+    Ok(rows)
+}
+
+const FULL: [(Stage, u32); 3] = [
+    (Stage::Ask, 0),
+    (Stage::Schedule, 15),
+    (Stage::Claim { release: FOUND }, 15),
+];
+
+fn decided_over_full(alloc: Global) -> Result<usize, Fail> {
+    let story = story_over(alloc, Level(14), 2, full(alloc)?)?;
+    stages_decided_at(&story, Level(14), &FULL)
+}
+
+#[test]
+fn a_full_history(rt: HostRuntime) -> Result<(), Fail> {
+    assert_eq!(rt; decided_over_full(rt.alloc())?, 3);
+    Ok(())
+}
