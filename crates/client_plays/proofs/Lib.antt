@@ -9,3 +9,5 @@ pub mod SettleLaws
 pub mod RestLaws
 pub mod ListLaws
 pub mod BootLaws
+pub mod FaultLaws
+pub mod ShelfCounts

@@ -1,5 +1,6 @@
 pub mod Moments
 pub mod Tools
+pub mod Faults
 pub mod Has
 pub mod Shelves
 pub mod Plays

@@ -1,16 +1,20 @@
 -- All clients of a boot, by the log as the daemon closed.
-use Rattle.std.proofs.Common.{◌≡◌, ℕ, ◌<◌, ◌≤◌, ◌+◌, ◌-◌, zero, suc, Bool, true, false, ◌||◌, List, [], ◌∷◌, All, map, length, get_or, refl, ap, sym, ◌∙◌, subst, ⊎_elim, arith}
+use Rattle.std.proofs.Common.{◌≡◌, ℕ, ◌<◌, ◌≤◌, ◌+◌, ◌-◌, zero, suc, Bool, true, false, ◌||◌, List, [], ◌∷◌, ◌++◌, All, map, length, get_or, refl, ap, sym, ◌∙◌, subst, ⊎_elim, arith}
 use Rattle.std.proofs.lemmas.Bool.{cases_lt}
 use Rattle.std.proofs.lemmas.List.{get_or-map, length-map}
 use Rattle.std.proofs.lemmas.List.Elements.{All-cons, All-head, All-nil, All-tail}
 use Rattle.std.proofs.lemmas.List.FromFn.{get_or-range_with_len}
 use Rattle.std.specs.List.{list_any, range_with_len}
+use Rattle.update_log.specs.declared.event.Event.{Event}
 use Rattle.update_log.specs.Pasts.{off}
 use Rattle.client_scripts.specs.declared.item.Item.{Item}
-use Rattle.client_plays.specs.Moments.{mine}
+use Rattle.client_plays.specs.Faults.{Counted, FaultsTold, ShelvesCount, shelf_faults}
+use Rattle.client_plays.specs.Has.{shelves_told}
+use Rattle.client_plays.specs.Moments.{Grew, mine}
 use Rattle.client_plays.specs.Plays.{Plays}
 use Rattle.client_plays.specs.Scripts.{PlayedSo, items_of}
 use Rattle.client_plays.specs.Tools.{Files}
+use Rattle.client_plays.proofs.ShelfCounts.{count-client, count-quiet}
 use Rattle.turn_lock.specs.Lists.{BeginsWith, beyond}
 use Rattle.turn_lock.specs.Shown.{HasItsEntries, IsFresh, LockId, PassView}
 use Rattle.shared_daemon.specs.declared.entry.Entry.{Entry}
@@ -20,8 +24,10 @@ use Rattle.shared_daemon.specs.Names.{HasNothing, IsLogOf, IsPass, Name}
 use Rattle.shared_daemon.proofs.Closed.{passes-count}
 use Rattle.client_threads.specs.declared.clients.Client.{Client}
 use Rattle.client_threads.specs.Clients.{MayPlay, PlayedBehind, PlayedScript}
-use Rattle.client_threads.proofs.OneClient.{fresh-free, one-played, stranger-quiet, unused-quiet}
+use Rattle.client_threads.proofs.OneClient.{fresh-free, one-played, one-told, stranger-quiet, unused-quiet}
+use Rattle.client_threads.proofs.Pasts.{log-grew}
 use Rattle.client_threads.proofs.Plays.{items-beyond, nothing-so}
+use Rattle.client_threads.proofs.ShelfFaults.{count-dealt}
 
 -- What holds of each image.
 pub mapped : {A B : Type 0} (Q : B → Type 0) (f : A → B) (xs : List A) → All Q (map f xs) → (i : ℕ) (d : A) → i < length xs → Q (f (get_or xs i d))
@@ -184,3 +190,36 @@ module _ {P : Type 0} (files : P → Files) (faults : P → ℕ) (lock : LockId)
               (λ (high : length of_boot + 1 ≤ client). stranger client high none)
               (cases_lt client (length of_boot + 1));
         }
+
+    -- What the daemon itself did.
+    daemon-quiet : mine 0 (past_seen log) ≡ mine 0 (past_seen name.start)
+    daemon-quiet = played-behind.daemon
+
+    -- What the log tells of the clients' shelves.
+    client-told : (i : ℕ) (d : Client P) → i < length old → FaultsTold (mine (suc i) (past_seen name.start)) (mine (suc i) (past_seen log)) (faults (get_or old i d).shelf) (faults (get_or new i d).shelf)
+    client-told i d low =
+        let pass : Client P → PassView Entry = λ c. c.pass in
+        let many : length new ≡ length old = a.count in
+        let c : Client P = get_or old i d in
+        let n : Client P = get_or new i d in
+        let number : c.pass.number ≡ i + 1 = numbered own (length of_boot + 1) old i d a.dealt.begun low (let k = a.dealt.count in omega arith) in
+        let next : i + 1 ≡ suc i = omega arith in
+        subst (λ (k : ℕ). FaultsTold (mine k (past_seen name.start)) (mine k (past_seen log)) (faults c.shelf) (faults n.shelf)) (number ∙ next)
+        (one-told name log (start-log a) l files faults lock of_boot c n (a.played i d low)
+        (mapped (IsFresh name.start) pass old (All-tail (IsFresh name.start) own (map pass old) a.dealt.fresh) i d low)
+        (mapped (λ (p : PassView Entry). BeginsWith log p.seen) pass new (All-tail (λ (p : PassView Entry). BeginsWith log p.seen) own (map pass new) seen) i d (omega arith))
+        (mapped (HasItsEntries maker_of name.start log) pass new (All-tail (HasItsEntries maker_of name.start log) own (map pass new) mine_are) i d (omega arith)))
+
+    pub shelves-behind : (all now rest : List P) → all ≡ map (λ (c : Client P). c.shelf) old ++ rest → now ≡ map (λ (c : Client P). c.shelf) new ++ rest
+        → ShelvesCount (past_seen name.start) (past_seen log) (shelves_told files faults all) (shelves_told files faults now)
+    shelves-behind all now rest e o =
+        let start : List Event = past_seen name.start in
+        let grew : Grew start (past_seen log) = log-grew name log (start-log a) l in
+        let shelf : Client P → P = λ c. c.shelf in
+        let Q : ℕ → ℕ → ℕ → Type 0 = λ place x y. Counted (shelf_faults place start) (shelf_faults place (past_seen log)) x y in
+        subst (λ (ps : List P). ShelvesCount start (past_seen log) (shelves_told files faults ps) (shelves_told files faults now)) (sym e)
+        (subst (λ (ps : List P). ShelvesCount start (past_seen log) (shelves_told files faults (map shelf old ++ rest)) (shelves_told files faults ps)) (sym o)
+        (count-dealt files faults shelf Q rest old new a.count
+        (λ i d low. count-client start (past_seen log) grew i (faults (get_or old i d).shelf) (faults (get_or new i d).shelf) daemon-quiet (client-told i d low))
+        (λ i x high. count-quiet start (past_seen log) grew i x x daemon-quiet
+        (stranger-quiet name log (start-log a) l (length of_boot + 1) (suc i) (let k = a.dealt.count in omega arith) makers) (omega arith))))

@@ -1,5 +1,6 @@
 pub mod Dealt
 pub mod Shelves
+pub mod ShelfFaults
 pub mod Pasts
 pub mod Plays
 pub mod OneClient

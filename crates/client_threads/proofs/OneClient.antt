@@ -1,14 +1,14 @@
 -- What a client did, by the log as the daemon closed.
 use Rattle.std.proofs.Common.{◌≡◌, ℕ, ◌<◌, ◌≤◌, Bool, true, List, [], ◌++◌, All, ap, sym, ◌∙◌, subst}
-use Rattle.update_log.specs.declared.event.Event.{Event}
 use Rattle.update_log.specs.declared.live.Held.{Held}
 use Rattle.update_log.specs.declared.live.LiveEntry.{LiveEntry}
-use Rattle.update_log.specs.Holding.{hold_of, holds, live}
+use Rattle.update_log.specs.Holding.{hold_of}
 use Rattle.update_log.specs.Legal.{IsFree}
 use Rattle.update_log.specs.Pasts.{off}
 use Rattle.std.specs.Prelude.{◌==◌}
 use Rattle.std.specs.List.{list_any}
 use Rattle.client_scripts.specs.declared.item.Item.{Item}
+use Rattle.client_plays.specs.Faults.{FaultsTold}
 use Rattle.client_plays.specs.Moments.{Moment, mine}
 use Rattle.client_plays.specs.Plays.{Plays}
 use Rattle.client_plays.specs.Scripts.{PlayedSo, items_of}
@@ -20,7 +20,7 @@ use Rattle.shared_daemon.specs.declared.entry.Entry.{Entry}
 use Rattle.shared_daemon.specs.Calls.{Meets}
 use Rattle.shared_daemon.specs.Closings.{IsFreePass}
 use Rattle.shared_daemon.specs.Entries.{maker_of, past_seen}
-use Rattle.shared_daemon.specs.Names.{HasNothing, IsLogOf, IsPass, Name}
+use Rattle.shared_daemon.specs.Names.{HasNothing, IsLogOf, Name}
 use Rattle.shared_daemon.proofs.Seeing.{others-since, stays}
 use Rattle.script_runs.specs.Passes.{own}
 use Rattle.script_runs.proofs.OwnMoments.{mine-met}
@@ -61,12 +61,25 @@ module _ (name : Name) (log : List Entry) (s : IsLogOf name name.start) (l : IsL
           log = l;
         }
 
-    own-moments : mine old.pass.number (past_seen name.start) ≡ [] → mine old.pass.number (past_seen log) ≡ p.went.moments
-    own-moments none =
+    own-then : own old.pass ≡ mine old.pass.number (past_seen name.start)
+    own-then = ap (λ (list : List Entry). mine old.pass.number (past_seen list)) f.0
+
+    own-now : mine old.pass.number (past_seen log) ≡ own new.pass
+    own-now =
         ap (λ (n : ℕ). mine n (past_seen log)) (sym p.went.did.same)
         ∙ mine-met name new.pass.number new.pass.seen log p.pass.log met
+
+    own-moments : mine old.pass.number (past_seen name.start) ≡ [] → mine old.pass.number (past_seen log) ≡ p.went.moments
+    own-moments none =
+        own-now
         ∙ p.went.did.own_are
-        ∙ ap (λ (x : List Moment). x ++ p.went.moments) (ap (λ (list : List Entry). mine old.pass.number (past_seen list)) f.0 ∙ none)
+        ∙ ap (λ (x : List Moment). x ++ p.went.moments) (own-then ∙ none)
+
+    -- The faults of its shelf that the log tells of it were counted.
+    pub one-told : FaultsTold (mine old.pass.number (past_seen name.start)) (mine old.pass.number (past_seen log)) (faults old.shelf) (faults new.shelf)
+    one-told =
+        subst (λ (ms : List Moment). FaultsTold ms (mine old.pass.number (past_seen log)) (faults old.shelf) (faults new.shelf)) own-then
+        (subst (λ (ms : List Moment). FaultsTold (own old.pass) ms (faults old.shelf) (faults new.shelf)) (sym own-now) p.told)
 
     pub one-played : (wanting : Bool) → (new.wanting ≡ true → wanting ≡ true) → mine old.pass.number (past_seen name.start) ≡ []
         → PlayedSo (off (past_seen log)) wanting old.pass.number (Plays name.facts name.opening (files old.shelf) old.pass.number) (items_of of_boot old.pass.number) (mine old.pass.number (past_seen log))

@@ -1,5 +1,5 @@
 -- What a past says that grew, and one that a boot began.
-use Rattle.std.proofs.Common.{◌≡◌, ℕ, ◌≤◌, ◌<◌, ◌+◌, Bool, true, false, ◌||◌, List, [], ◌∷◌, ◌++◌, reverse, refl, ap, sym, ◌∙◌, subst, arith}
+use Rattle.std.proofs.Common.{◌≡◌, ℕ, ◌≤◌, ◌<◌, ◌+◌, Bool, true, false, List, [], ◌∷◌, ◌++◌, reverse, refl, ap, sym, ◌∙◌, arith}
 use Rattle.std.proofs.lemmas.List.{reverse-append}
 use Rattle.std.specs.List.{list_any}
 use Rattle.update_log.proofs.Lists.{by_test}
@@ -7,7 +7,6 @@ use Rattle.update_log.specs.declared.event.Event.{Event}
 use Rattle.update_log.specs.CoreFolds.{AllFaults, is_fault_boot}
 use Rattle.update_log.specs.Pasts.{boots, is_boot, off, past_of}
 use Rattle.client_plays.specs.Moments.{Grew}
-use Rattle.turn_lock.specs.Lists.{BeginsWith}
 use Rattle.shared_daemon.specs.declared.entry.Entry.{Entry}
 use Rattle.shared_daemon.specs.Entries.{events, past_seen}
 use Rattle.shared_daemon.specs.Names.{IsLogOf, Name}

@@ -11,13 +11,13 @@ use Rattle.daemon_core.specs.Keeping.{keeper_faults}
 use Rattle.daemon_core.specs.Turns.{FaultsCounted}
 use Rattle.client_scripts.specs.declared.item.Item.{Item}
 use Rattle.client_plays.specs.Endings.{AtRest, IsCounted, IsIdle}
+use Rattle.client_plays.specs.Faults.{ShelvesCount}
 use Rattle.client_plays.specs.Moments.{Grew, mine}
 use Rattle.client_plays.specs.Plays.{Plays}
 use Rattle.client_plays.specs.Scripts.{PlayedSo, items_of}
-use Rattle.client_plays.specs.Tools.{Files}
+use Rattle.client_plays.specs.Tools.{Files, ShelfTold}
 use Rattle.client_plays.proofs.MomentLaws.{grew-nothing}
 use Rattle.client_plays.proofs.RestLaws.{rest-here}
-use Rattle.shared_daemon.specs.declared.entry.Entry.{Entry}
 use Rattle.shared_daemon.specs.Entries.{chronicle, past_seen}
 use Rattle.shared_daemon.specs.Names.{HasNothing, IsLogOf, KeepsName, Name}
 use Rattle.shared_daemon.proofs.Logs.{past-entries}
@@ -25,6 +25,7 @@ use Rattle.shared_daemon.proofs.Seeing.{before-named}
 use Rattle.client_threads.specs.Begins.{CanBegin, name_of}
 use Rattle.client_threads.specs.Clients.{ClientsPlayed, NoClients, PlayedBehind}
 use Rattle.client_threads.proofs.Pasts.{log-grew, on-loaded}
+use Rattle.client_threads.proofs.ShelfFaults.{count-closed}
 use Rattle.client_threads.proofs.Plays.{items-beyond, left-off, left-wanting, nothing-so}
 
 module _ {K : Type 0} (faults : K → ℕ) where
@@ -102,6 +103,9 @@ module _ {K : Type 0} (faults : K → ℕ) where
 
     new-past : past_seen (chronicle new) ≡ past new
     new-past = past-entries new.annals w
+
+    pub shelves-counted : (was now : List ShelfTold) → ShelvesCount (past_seen name.start) (past_seen (chronicle new)) was now → ShelvesCount (past old) (past new) was now
+    shelves-counted was now c = count-closed (past_seen name.start) (past_seen (chronicle new)) (past old) (past new) was now old-past new-past c
 
     pub clients-played : (wanting : Bool) (files : ℕ → Files) (of_boot : List (List Item)) → IsLogOf name name.start → IsLogOf name (chronicle new) → HasNothing (chronicle new) → NoClients (past old) → PlayedBehind wanting name files of_boot (chronicle new) → ClientsPlayed faults wanting files of_boot old new
     clients-played wanting files of_boot s l nothing none p =

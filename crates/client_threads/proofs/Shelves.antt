@@ -4,7 +4,7 @@ use Rattle.std.proofs.lemmas.List.{length-map}
 use Rattle.std.specs.Prelude.{slice_get}
 use Rattle.client_plays.specs.Has.{shelf_told, shelves_told}
 use Rattle.client_plays.specs.Shelves.{files_for, files_of}
-use Rattle.client_plays.specs.Tools.{Files, ShelfStays, ShelfTold, ShelvesStay}
+use Rattle.client_plays.specs.Tools.{Files, ShelfStays, ShelvesStay}
 use Rattle.client_plays.proofs.ToolLaws.{shelves-here, shelves-long}
 
 -- The first shelf, which the daemon shares with the first client.

@@ -5,6 +5,7 @@ use Rattle.update_log.specs.Pasts.{off}
 use Rattle.daemon_core.specs.Housed.{Housed, past, rows_before}
 use Rattle.client_scripts.specs.declared.item.Item.{Item}
 use Rattle.client_plays.specs.Endings.{AtRest}
+use Rattle.client_plays.specs.Faults.{FaultsTold}
 use Rattle.client_plays.specs.Has.{shelf_told}
 use Rattle.client_plays.specs.Moments.{Grew, mine}
 use Rattle.client_plays.specs.Plays.{Plays}
@@ -15,7 +16,7 @@ use Rattle.shared_daemon.specs.declared.entry.Entry.{Entry}
 use Rattle.shared_daemon.specs.Closings.{IsFreePass}
 use Rattle.shared_daemon.specs.Entries.{past_seen}
 use Rattle.shared_daemon.specs.Names.{IsPass, Name}
-use Rattle.script_runs.specs.Passes.{Went}
+use Rattle.script_runs.specs.Passes.{Went, own}
 use Rattle.client_threads.specs.declared.clients.Client.{Client}
 
 -- The client may play: its pass is one of this daemon, with a number from 1 on, and has nothing out.
@@ -24,11 +25,13 @@ pub record MayPlay {P : Type 0} (lock : LockId) (name : Name) (client : Client P
   pub free : IsFreePass client.pass
   pub numbered : 0 < client.pass.number
 
--- The client went through its own script. It has nothing out, and its shelf has the same files.
+-- The client went through its own script. It has nothing out, and its shelf has the same files and counted
+-- each fault that the client's own events tell.
 pub record PlayedScript {P : Type 0} (files : P → Files) (faults : P → ℕ) (lock : LockId) (name : Name) (of_boot : List (List Item)) (old new : Client P) : Type 0 where
   pub pass : IsPass lock name new.pass
   pub went : Went new.wanting (Plays name.facts name.opening (files old.shelf) old.pass.number) (items_of of_boot old.pass.number) old.pass new.pass
   pub shelf : ShelfStays (shelf_told files faults old.shelf) (shelf_told files faults new.shelf)
+  pub told : FaultsTold (own old.pass) (own new.pass) (faults old.shelf) (faults new.shelf)
 
 -- No client did anything in the boot that runs. The daemon itself may have.
 abbrev pub NoClients : List Event → Type 0

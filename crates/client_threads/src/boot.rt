@@ -5,9 +5,10 @@ ghost use Rattle.update_log.specs.Pasts.{boots};
 ghost use Rattle.daemon_core.specs.Annals.{IsAnnals};
 ghost use Rattle.daemon_core.specs.Housed.{past};
 ghost use Rattle.turn_lock.specs.Shown.{IsFresh as IsNewPass};
-ghost use Rattle.shared_daemon.specs.Entries.{chronicle};
+ghost use Rattle.shared_daemon.specs.Entries.{chronicle, past_seen};
 ghost use Rattle.shared_daemon.specs.Names.{HasNothing, IsLogOf, IsPass, KeepsName};
 ghost use Rattle.client_plays.specs.Endings.{HouseBootPlayed, IsCounted, IsFresh, IsIdle, IsScriptItem};
+ghost use Rattle.client_plays.specs.Faults.{ShelvesCount};
 ghost use Rattle.client_plays.specs.Has.{shelves_told, tools_of};
 ghost use Rattle.client_plays.specs.Shelves.{files_for};
 ghost use Rattle.client_plays.specs.Tools.{Serves, ShelvesStay};
@@ -66,6 +67,7 @@ fn play_behind<
     ensures annals { IsAnnals result.0.annals }
     ensures played { PlayedBehind result.1 N.name (files_for (shelves_told P.files P.faults shelves.old.items)) of_boot.now (chronicle result.0) }
     ensures kept { ShelvesStay (shelves_told P.files P.faults shelves.old.items) (shelves_told P.files P.faults shelves.new.items) }
+    ensures told { ShelvesCount (past_seen N.name.start) (past_seen (chronicle result.0)) (shelves_told P.files P.faults shelves.old.items) (shelves_told P.files P.faults shelves.new.items) }
 {
     let mut passes = passes;
     let mut clients = clients;
@@ -104,6 +106,7 @@ fn play_named<
     requires served { length house.annals.facts.vetoes ≤ length plugins.now }
     ensures played { ClientsPlayed K.faults result.1 (files_for (shelves_told P.files P.faults shelves.old.items)) of_boot.now house result.0 }
     ensures kept { ShelvesStay (shelves_told P.files P.faults shelves.old.items) (shelves_told P.files P.faults shelves.new.items) }
+    ensures told { ShelvesCount (past house) (past result.0) (shelves_told P.files P.faults shelves.old.items) (shelves_told P.files P.faults shelves.new.items) }
 {
     house.known();
     let Ok(clients) = Vec::with_capacity(alloc, of_boot.len()) else {
@@ -142,6 +145,7 @@ fn play_clients<R: Threads + Wait + Sync, K: Keeper + Send, P: Shelf + Send, G: 
     requires served { length house.annals.facts.vetoes ≤ length plugins.now }
     ensures played { ClientsPlayed K.faults result.1 (files_for (shelves_told P.files P.faults shelves.old.items)) of_boot.now house result.0 }
     ensures kept { ShelvesStay (shelves_told P.files P.faults shelves.old.items) (shelves_told P.files P.faults shelves.new.items) }
+    ensures told { ShelvesCount (past house) (past result.0) (shelves_told P.files P.faults shelves.old.items) (shelves_told P.files P.faults shelves.new.items) }
 {
     if of_boot.is_empty() {
         return (house, false);
@@ -178,6 +182,7 @@ pub(crate) fn play_boot<
     requires serves { Serves (tools_of P.files P.faults (length plugins.now) shelves.old.items) house.annals.facts (length of_boot.now) }
     ensures played { HouseBootPlayed K.faults result.1 (files_for (shelves_told P.files P.faults shelves.old.items)) of_boot.now house result.0 }
     ensures kept { ShelvesStay (shelves_told P.files P.faults shelves.old.items) (shelves_told P.files P.faults shelves.new.items) }
+    ensures told { ShelvesCount (past house) (past result.0) (shelves_told P.files P.faults shelves.old.items) (shelves_told P.files P.faults shelves.new.items) }
 {
     let mut house = house;
     let now = do_tasks_first(alloc, &mut house, shelves, plugins);

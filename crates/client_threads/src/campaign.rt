@@ -3,6 +3,7 @@ ghost use Rattle.std.specs.Prelude.{◌≡◌, ◌≤◌, ◌<◌, ◌-◌, ◌^
 ghost use Rattle.update_log.specs.Legal.{IsLegal};
 ghost use Rattle.daemon_core.specs.Housed.{past, rows_before};
 ghost use Rattle.client_plays.specs.Endings.{IsScriptItem};
+ghost use Rattle.client_plays.specs.Faults.{ShelvesCount};
 ghost use Rattle.client_plays.specs.Shelves.{files_for};
 ghost use Rattle.client_plays.specs.Tools.{Serves, ShelvesStay};
 ghost use Rattle.campaign_runs.specs.Planned.{with_plans};
@@ -45,6 +46,7 @@ pub fn run_on_threads<R: Threads + Wait + Sync, K: Keeper + Send, P: Shelf + Sen
     ensures ran { CampaignRan K.rows K.faults result.1.ending result.1.wanting (files_for (shelves_told P.files P.faults shelves.items)) plans.now scripts.now house result.0 }
     ensures legal { IsLegal (with_plans result.0.annals.facts result.0.annals.first plans.now) (rows_before result.0.annals) (past result.0) }
     ensures kept { ShelvesStay (shelves_told P.files P.faults shelves.items) (shelves_told P.files P.faults result.2.items) }
+    ensures told { ShelvesCount (past house) (past result.0) (shelves_told P.files P.faults shelves.items) (shelves_told P.files P.faults result.2.items) }
 {
     let mut shelves = shelves;
     let (house, ran) = run_boots(

@@ -3,6 +3,7 @@ ghost use Rattle.std.specs.Prelude.{◌≡◌, ◌≤◌, ◌<◌, ◌+◌, ◌-
 ghost use Rattle.update_log.specs.Pasts.{boots};
 ghost use Rattle.daemon_core.specs.Housed.{past};
 ghost use Rattle.client_plays.specs.Endings.{IsCounted, IsFresh, IsIdle, IsScriptItem};
+ghost use Rattle.client_plays.specs.Faults.{ShelvesCount};
 ghost use Rattle.client_plays.specs.Has.{shelves_told, tools_of};
 ghost use Rattle.client_plays.specs.Scripts.{scripts_in};
 ghost use Rattle.client_plays.specs.Shelves.{files_for};
@@ -44,6 +45,7 @@ fn play_next<R: Threads + Wait + Sync, K: Keeper + Send, P: Shelf + Send, G: Gat
     requires serves { Serves (tools_of P.files P.faults (length plugins.now) shelves.old.items) house.annals.facts (length of_boot.now) }
     ensures more { BootMore K.faults result.1 wanting (files_for (shelves_told P.files P.faults shelves.old.items)) of_boot.now house result.0 }
     ensures kept { ShelvesStay (shelves_told P.files P.faults shelves.old.items) (shelves_told P.files P.faults shelves.new.items) }
+    ensures told { ShelvesCount (past house) (past result.0) (shelves_told P.files P.faults shelves.old.items) (shelves_told P.files P.faults shelves.new.items) }
 {
     let (played, now) = play_boot(rt, alloc, house, shelves, of_boot, plugins, gate);
     (played, either(wanting, now))
@@ -86,6 +88,7 @@ pub(crate) fn run_boots<
     requires shelves { All (λ of_boot. length of_boot ≤ length (shelves_told P.files P.faults shelves.old.items)) scripts.now }
     ensures ran { CampaignRan K.rows K.faults result.1.ending result.1.wanting (files_for (shelves_told P.files P.faults shelves.old.items)) plans.now scripts.now house result.0 }
     ensures kept { ShelvesStay (shelves_told P.files P.faults shelves.old.items) (shelves_told P.files P.faults shelves.new.items) }
+    ensures told { ShelvesCount (past house) (past result.0) (shelves_told P.files P.faults shelves.old.items) (shelves_told P.files P.faults shelves.new.items) }
 {
     let mut wanting = false;
     for (number, plan) in plans.iter().enumerate() {

@@ -8,3 +8,4 @@ pub mod JudgePlays
 pub mod JudgeLoops
 pub mod TaskLists
 pub mod ResumeLoops
+pub mod FaultPlays

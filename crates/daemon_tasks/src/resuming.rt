@@ -1,5 +1,5 @@
 //! The entries that were put off: each is asked for, fetched, resumed and run.
-ghost use Rattle.std.specs.Prelude.{◌≡◌, ◌≤◌, ◌<◌, Some, length, map, true};
+ghost use Rattle.std.specs.Prelude.{◌≡◌, ◌≤◌, ◌<◌, ◌+◌, Some, length, map, true};
 ghost use Rattle.update_log.specs.declared.answer.AskAnswer.{AskAnswer};
 ghost use Rattle.update_log.specs.declared.request.Request.{Request};
 ghost use Rattle.update_log.specs.Pasts.{boots};
@@ -8,6 +8,8 @@ ghost use Rattle.daemon_core.specs.Holds.{IsHoldFor};
 ghost use Rattle.daemon_core.specs.Housed.{past};
 ghost use Rattle.daemon_core.specs.Resumes.{ComesIn, IsPutOff, note_in};
 ghost use Rattle.client_plays.specs.Endings.{HouseMore, HouseOnceMore, HousePlayed, IsIdle};
+ghost use Rattle.client_plays.specs.Faults.{FaultsTold, faults_in, faults_noted};
+ghost use Rattle.client_plays.specs.Moments.{mine};
 ghost use Rattle.client_plays.specs.Plays.{ResumeFetches, ResumePlays, TaskPlays, ToResume};
 ghost use Rattle.client_plays.specs.Tools.{Files};
 ghost use Rattle.daemon_tasks.specs.Ends.{stopped_by};
@@ -54,6 +56,7 @@ fn resume_with<K: Keeper>(
     requires served { length house.old.annals.facts.vetoes ≤ length plugins.now }
     ensures played { (files : Files) (asked : AskAnswer) → ResumeFetches house.old.annals.facts files asked (note_in held) → HousePlayed K.faults result 0 (ResumePlays house.old.annals.facts files entry asked) house.old house.new }
     ensures others { OthersStay entry house.old.annals house.new.annals }
+    ensures told { faults_in (mine 0 (past house.new)) ≤ faults_in (mine 0 (past house.old)) + faults_noted (note_in held) }
 {
     match house.resume(entry, held) {
         Ok(Claimed::Taken(taken)) => {
@@ -83,6 +86,7 @@ fn resume_held<K: Keeper, P: Shelf>(
     ensures others { OthersStay entry house.old.annals house.new.annals }
     ensures files { P.files shelf.new ≡ P.files shelf.old }
     ensures counts { P.faults shelf.old ≤ P.faults shelf.new }
+    ensures told { FaultsTold (mine 0 (past house.old)) (mine 0 (past house.new)) (P.faults shelf.old) (P.faults shelf.new) }
 {
     let (ticket, fetched) = fetch(shelf, hold);
     resume_with(house, entry, Some((ticket, fetched)), plugins)
@@ -103,6 +107,7 @@ fn resume_entry<K: Keeper, P: Shelf>(
     ensures others { OthersStay entry house.old.annals house.new.annals }
     ensures files { P.files shelf.new ≡ P.files shelf.old }
     ensures counts { P.faults shelf.old ≤ P.faults shelf.new }
+    ensures told { FaultsTold (mine 0 (past house.old)) (mine 0 (past house.new)) (P.faults shelf.old) (P.faults shelf.new) }
 {
     house.known();
     match house.ask_pending(entry) {
@@ -138,6 +143,7 @@ fn resume_next<K: Keeper, P: Shelf>(
     ensures others { OthersStay entry house.old.annals house.new.annals }
     ensures files { P.files shelf.new ≡ P.files shelf.old }
     ensures counts { P.faults shelf.old ≤ P.faults shelf.new }
+    ensures told { FaultsTold (mine 0 (past house.old)) (mine 0 (past house.new)) (P.faults shelf.old) (P.faults shelf.new) }
 {
     match resume_entry(house, shelf, entry, plugins) {
         Played::Done => Some(wanting),
@@ -163,6 +169,7 @@ pub(crate) fn resume_all<K: Keeper, P: Shelf>(
     ensures more { HouseMore K.faults result before 0 (TaskPlays house.old.annals.facts (P.files shelf.old)) (map ToResume entries.now) house.old house.new }
     ensures files { P.files shelf.new ≡ P.files shelf.old }
     ensures counts { P.faults shelf.old ≤ P.faults shelf.new }
+    ensures told { FaultsTold (mine 0 (past house.old)) (mine 0 (past house.new)) (P.faults shelf.old) (P.faults shelf.new) }
 {
     let mut wanting = before;
     for entry in entries {

@@ -3,7 +3,8 @@ ghost use Rattle.std.specs.Prelude.{◌≡◌, ◌≤◌, ◌<◌, length};
 ghost use Rattle.update_log.specs.Pasts.{boots};
 ghost use Rattle.daemon_core.specs.Housed.{past, rows_before};
 ghost use Rattle.client_plays.specs.Endings.{HouseWent, IsFresh, IsIdle};
-ghost use Rattle.client_plays.specs.Moments.{began};
+ghost use Rattle.client_plays.specs.Faults.{FaultsTold};
+ghost use Rattle.client_plays.specs.Moments.{began, mine};
 ghost use Rattle.client_plays.specs.Plays.{TaskPlays};
 ghost use Rattle.client_plays.specs.Scripts.{tasks};
 ghost use Rattle.offline_updates.specs.Waiting.{entries_where, is_pending, is_to_judge};
@@ -35,6 +36,7 @@ fn go_through<K: Keeper, P: Shelf>(
     ensures went { HouseWent K.faults result 0 (TaskPlays house.old.annals.facts (P.files shelf.old)) (tasks house.old.annals.facts (rows_before house.old.annals) (began (past house.old))) house.old house.new }
     ensures files { P.files shelf.new ≡ P.files shelf.old }
     ensures counts { P.faults shelf.old ≤ P.faults shelf.new }
+    ensures told { FaultsTold (mine 0 (past house.old)) (mine 0 (past house.new)) (P.faults shelf.old) (P.faults shelf.new) }
 {
     house.known();
     match judge_all(house, judged) {
@@ -57,6 +59,7 @@ pub fn do_tasks<K: Keeper, P: Shelf>(
     ensures went { HouseWent K.faults result 0 (TaskPlays house.old.annals.facts (P.files shelf.old)) (tasks house.old.annals.facts (rows_before house.old.annals) (began (past house.old))) house.old house.new }
     ensures files { P.files shelf.new ≡ P.files shelf.old }
     ensures counts { P.faults shelf.old ≤ P.faults shelf.new }
+    ensures told { FaultsTold (mine 0 (past house.old)) (mine 0 (past house.new)) (P.faults shelf.old) (P.faults shelf.new) }
 {
     let Ok(judged) = to_judge(alloc, house.rows()) else {
         return true;

@@ -120,23 +120,23 @@ module _ {K : Type 0} (told : K → Option (List Row)) (doubted : K → Option C
   ended files sheets vetoes site campaign left text before after statuses.SourceFault s held e = tt
   ended files sheets vetoes site campaign left text before after _ s held e = absurd e
 
-  pub run-complete : (shelves : List ShelfTold) (sheets : List PluginSheet) (vetoes : MachineFacts → List PluginVetoes) (status : Status) (keeper : K) (left : Left K) (old new before after : Option (List ℕ)) (site : Site)
-      → RunEnds told doubted faults shelves sheets vetoes status keeper left old new before after
+  pub run-complete : (shelves now : List ShelfTold) (sheets : List PluginSheet) (vetoes : MachineFacts → List PluginVetoes) (status : Status) (keeper : K) (left : Left K) (old new before after : Option (List ℕ)) (site : Site)
+      → RunEnds told doubted faults shelves now sheets vetoes status keeper left old new before after
       → GivesSite (length shelves) old site → CanBeArranged sheets → HistoryHeld left
       → RunDone told left.keeper (SiteWentWhole (files_for shelves) sheets vetoes site left (λ campaign. report campaign.facts left.opening left.log) before after) status
-  run-complete shelves sheets vetoes status keeper left old new before after site ends given can held = at ends
+  run-complete shelves now sheets vetoes status keeper left old new before after site ends given can held = at ends
     where
       Complete : Type 0
       Complete = SiteWentWhole (files_for shelves) sheets vetoes site left (λ campaign. report campaign.facts left.opening left.log) before after
 
-      went : (campaign : Campaign) → IsOpened (limits.Shelves (length shelves)) sheets vetoes old new campaign → Went told doubted faults (files_for shelves) status campaign keeper left (report campaign.facts left.opening left.log) before after → RunDone told left.keeper Complete status
+      went : (campaign : Campaign) → IsOpened (limits.Shelves (length shelves)) sheets vetoes old new campaign → Went told doubted faults shelves now status campaign keeper left (report campaign.facts left.opening left.log) before after → RunDone told left.keeper Complete status
       went campaign o (inl w) =
           let same : o.site ≡ site = site-same (length shelves) sheets old new site given o.bytes o.site o.came o.states.read o.states.stated in
           let settled : IsCampaignOf site sheets (vetoes site.machine) campaign = subst (λ (x : Site). IsCampaignOf x sheets (vetoes x.machine) campaign) same o.settled in
           ended (files_for shelves) sheets vetoes site campaign left (λ c. report c.facts left.opening left.log) before after status settled held w.ends
       went campaign o (inr (e, nothing)) = subst (RunDone told left.keeper Complete) (sym e) tt
 
-      at : RunEnds told doubted faults shelves sheets vetoes status keeper left old new before after → RunDone told left.keeper Complete status
+      at : RunEnds told doubted faults shelves now sheets vetoes status keeper left old new before after → RunDone told left.keeper Complete status
       at (inl s) = subst (RunDone told left.keeper Complete) (sym s.status_is) (stopped Complete (length shelves) sheets left.keeper old new site s.stop s.stopped given can)
       at (inr w) = went w.campaign w.opened w.went
 

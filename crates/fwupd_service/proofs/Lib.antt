@@ -1,4 +1,5 @@
 pub mod HouseLaws
+pub mod ShelfLaws
 pub mod EndLaws
 pub mod StartLaws
 pub mod TopLaws

@@ -6,12 +6,13 @@ use Rattle.history_keeper.specs.declared.change.Change.{Change}
 use Rattle.history_keeper.specs.declared.row.Row.{Row}
 use Rattle.update_log.specs.declared.event.Event.{Event}
 use Rattle.daemon_core.specs.House.{shown_by}
-use Rattle.client_plays.specs.Tools.{Files, ShelfTold, ShelvesStay}
+use Rattle.client_plays.specs.Shelves.{files_for}
+use Rattle.client_plays.specs.Tools.{ShelfTold, ShelvesStay}
 use Rattle.campaign_runs.specs.declared.ending.Ran.{Ran}
 use Rattle.campaign_runs.specs.Planned.{with_plans}
 use Rattle.site_types.specs.declared.campaign.Campaign.{Campaign}
 use Rattle.run_status.specs.declared.status.Status.{Status}
-use Rattle.fwupd_service.specs.Campaigns.{WasPlayed}
+use Rattle.fwupd_service.specs.Campaigns.{ShelvesStand, WasPlayed}
 use Rattle.fwupd_service.specs.Ends.{IsReported}
 use Rattle.fwupd_service.specs.Tops.{CampaignTold}
 use Rattle.fwupd_service.proofs.EndLaws.{campaign-ends}
@@ -28,14 +29,15 @@ pub stay-same : (shelves : List ShelfTold) → ShelvesStay shelves shelves
 stay-same [] = tt
 stay-same (shelf ∷ shelves) = (record { files = refl; counts = omega arith }, stay-same shelves)
 
-module _ {K : Type 0} (told : K → Option (List Row)) (doubted : K → Option Change) (faults : K → ℕ) (files : ℕ → Files) (ran : Ran) (campaign : Campaign) (opening : List Row) (log : List Event) (boards : List BoardState) (old new : K) (text : List ℕ) (before after : Option (List ℕ)) where
-  pub campaign-told : (status : Status) → WasPlayed told doubted faults files ran (with_plans campaign.facts (map shown_by campaign.boards.items) campaign.boots) campaign.scripts opening log boards old new
+module _ {K : Type 0} (told : K → Option (List Row)) (doubted : K → Option Change) (faults : K → ℕ) (shelves now : List ShelfTold) (ran : Ran) (campaign : Campaign) (opening : List Row) (log : List Event) (boards : List BoardState) (old new : K) (text : List ℕ) (before after : Option (List ℕ)) where
+  pub campaign-told : (status : Status) → ShelvesStand log shelves now → WasPlayed told doubted faults (files_for shelves) ran (with_plans campaign.facts (map shown_by campaign.boards.items) campaign.boots) campaign.scripts opening log boards old new
       → IsReported status ran.ending ran.wanting log text before after
-      → CampaignTold told doubted faults files status campaign old (record { log = log; opening = opening; boards = Some boards; keeper = new }) text before after
-  campaign-told status p r = record {
+      → CampaignTold told doubted faults shelves now status campaign old (record { log = log; opening = opening; boards = Some boards; keeper = new }) text before after
+  campaign-told status s p r = record {
     boards = boards;
     boards_are = refl;
     true_log = p.true_log;
     keeper_stands = p.keeper;
-    ends = campaign-ends told doubted faults files (with_plans campaign.facts (map shown_by campaign.boards.items) campaign.boots) campaign.scripts opening log boards old new text before after status ran p r;
+    shelves_stand = s;
+    ends = campaign-ends told doubted faults (files_for shelves) (with_plans campaign.facts (map shown_by campaign.boards.items) campaign.boots) campaign.scripts opening log boards old new text before after status ran p r;
   }

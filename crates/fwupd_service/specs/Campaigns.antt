@@ -1,6 +1,7 @@
 -- What is true of a campaign that was played, however it ended.
 use Rattle.std.specs.Prelude.{◌≡◌, ◌⊎◌, ◌≤◌, ◌<◌, ◌+◌, ◌-◌, ◌^◌, ℕ, List, length, map, Option, Some, None, slice_get}
 use Rattle.emulated_boards.specs.Boards.{BoardState}
+use Rattle.outer_traits.specs.Faults.{RoseBy}
 use Rattle.history_keeper.specs.declared.change.Change.{Change}
 use Rattle.history_keeper.specs.declared.row.Row.{Row}
 use Rattle.history_keeper.specs.Histories.{IsHistory}
@@ -17,7 +18,8 @@ use Rattle.daemon_core.specs.Boots.{BreaksAt}
 use Rattle.daemon_core.specs.Keeping.{Keeps, keeper_faults}
 use Rattle.daemon_core.specs.Reading.{AreOthers}
 use Rattle.client_scripts.specs.declared.item.Item.{Item}
-use Rattle.client_plays.specs.Tools.{Files}
+use Rattle.client_plays.specs.Faults.{shelf_faults}
+use Rattle.client_plays.specs.Tools.{Files, ShelfTold, ShelvesStay}
 use Rattle.campaign_runs.specs.declared.ending.Ending.{Ending}
 use Rattle.campaign_runs.specs.declared.ending.Ran.{Ran}
 use Rattle.campaign_runs.specs.Promises.{PlayedBoots}
@@ -43,6 +45,12 @@ pub record KeeperStands {K : Type 0} (told : K → Option (List Row)) (doubted :
   pub keeps : (AllFaults (past_of log) × (doubted new ≡ None)) ⊎ Keeps told doubted new (rows facts opening (past_of log)) (doubt facts opening (past_of log))
   pub counted : (keeper_faults (past_of log) + faults old ≤ faults new) ⊎ (2 ^ 64 - 1 ≤ faults new)
   pub counts : faults old ≤ faults new
+
+-- The shelves are as many, each with its files, and each counted each of its faults that the log tells: its
+-- count rose by as many, or stands at its end.
+pub record ShelvesStand (log : List Event) (old new : List ShelfTold) : Type 0 where
+  pub stay : ShelvesStay old new
+  pub counted : (place : ℕ) (was is : ShelfTold) → slice_get old place ≡ Some was → slice_get new place ≡ Some is → RoseBy (shelf_faults place (past_of log)) was.faults is.faults
 
 -- The rows that a boot read are no valid history from this row on, and no boot before could read any; or,
 -- with a keeper that doesn't tell its rows, a later boot read other rows.

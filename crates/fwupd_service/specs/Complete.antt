@@ -61,8 +61,8 @@ RunDone told keeper Complete _ = ⊥
 -- history held, the campaign of that site was played whole and its report was written, but for those causes.
 abbrev pub RunCompletes : {K : Type 0} → (K → Option (List Row)) → (K → Option Change) → (K → ℕ) → Type 0
 RunCompletes {K = K} told doubted faults =
-    (shelves : List ShelfTold) (sheets : List PluginSheet) (vetoes : MachineFacts → List PluginVetoes) (status : Status) (keeper : K) (left : Left K) (old new before after : Option (List ℕ)) (site : Site)
-    → RunEnds told doubted faults shelves sheets vetoes status keeper left old new before after
+    (shelves now : List ShelfTold) (sheets : List PluginSheet) (vetoes : MachineFacts → List PluginVetoes) (status : Status) (keeper : K) (left : Left K) (old new before after : Option (List ℕ)) (site : Site)
+    → RunEnds told doubted faults shelves now sheets vetoes status keeper left old new before after
     → GivesSite (length shelves) old site → CanBeArranged sheets → HistoryHeld left
     → RunDone told left.keeper (SiteWentWhole (files_for shelves) sheets vetoes site left (λ campaign. report campaign.facts left.opening left.log) before after) status
 

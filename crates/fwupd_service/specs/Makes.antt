@@ -9,7 +9,6 @@ use Rattle.plugin_order.specs.Arranged.{HasCause}
 use Rattle.update_log.specs.declared.facts.PluginVetoes.{PluginVetoes}
 use Rattle.sha2.specs.Sha256.{sha256}
 use Rattle.outer_traits.specs.Plans.{MemoryFiles, fresh}
-use Rattle.client_plays.specs.Shelves.{files_for}
 use Rattle.client_plays.specs.Tools.{ShelfTold}
 use Rattle.site_types.specs.declared.campaign.Campaign.{Campaign}
 use Rattle.site_making.specs.Made.{made_site, new_payload}
@@ -38,12 +37,13 @@ own_shelf = record { files = Some own_files; faults = 0 }
 abbrev pub own_shelves : ℕ → List ShelfTold
 own_shelves clients = replicate clients own_shelf
 
--- The generated campaign was played over a keeper of its own, without rows, and its output is the summary.
--- The keeper that came is as it was.
+-- The generated campaign was played over a keeper of its own, without rows, and shelves of its own, and its
+-- output is the summary. `kept` is what is known of those shelves afterwards. The keeper that came is as it was.
 pub record MadeWent {K : Type 0} (boards clients : ℕ) (status : Status) (campaign : Campaign) (keeper : K) (left : Left K) (before after : Option (List ℕ)) : Type 0 where
   pub own : Memory
+  pub kept : List ShelfTold
   pub keeper_is : left.keeper ≡ keeper
-  pub told : CampaignTold (λ (m : Memory). Some m.rows) doubtful (λ (m : Memory). m.faults) (files_for (own_shelves clients)) status campaign (unused [] [])
+  pub told : CampaignTold (λ (m : Memory). Some m.rows) doubtful (λ (m : Memory). m.faults) (own_shelves clients) kept status campaign (unused [] [])
       (record { log = left.log; opening = left.opening; boards = left.boards; keeper = own }) (summary boards clients left.log) before after
 
 abbrev pub MadeOrNothing : {K : Type 0} → ℕ → ℕ → Status → Campaign → K → Left K → Option (List ℕ) → Option (List ℕ) → Type 0

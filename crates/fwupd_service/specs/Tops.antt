@@ -9,7 +9,7 @@ use Rattle.update_log.specs.declared.event.Event.{Event}
 use Rattle.update_log.specs.declared.facts.PluginVetoes.{PluginVetoes}
 use Rattle.daemon_core.specs.House.{shown_by}
 use Rattle.client_plays.specs.Shelves.{files_for}
-use Rattle.client_plays.specs.Tools.{Files, ShelfTold}
+use Rattle.client_plays.specs.Tools.{ShelfTold}
 use Rattle.campaign_runs.specs.Planned.{with_plans}
 use Rattle.site_types.specs.declared.campaign.Campaign.{Campaign}
 use Rattle.campaign_inputs.specs.declared.opening.ClientLimit.TheVariants as limits
@@ -19,11 +19,10 @@ use Rattle.campaign_inputs.specs.Opened.{HasStopped, IsOpened}
 use Rattle.report_text.specs.Report.{report}
 use Rattle.run_status.specs.declared.status.Status.{Status}
 use Rattle.run_status.specs.declared.status.Status.TheVariants as statuses
-use Rattle.fwupd_service.specs.Campaigns.{IsTrueLog, KeeperStands}
+use Rattle.fwupd_service.specs.Campaigns.{IsTrueLog, KeeperStands, ShelvesStand}
 use Rattle.fwupd_service.specs.Ends.{CampaignEnds}
 
--- What a run leaves: its log, the rows before it, the boards where a campaign began, the keeper, and the
--- files of the shelves.
+-- What a run leaves: its log, the rows before it, the boards where a campaign began, and the keeper.
 pub record Left (K : Type 0) : Type 0 where
   pub log : List Event
   pub opening : List Row
@@ -47,19 +46,21 @@ stop_status (stops.TooManyClients asked shelves) = statuses.TooManyClients asked
 stop_status (stops.Plugins fault) = statuses.Plugins fault
 stop_status stops.NoMemory = statuses.NoMemory
 
--- A campaign was played: what is true of its log and its boards, how the keeper stands to it, and what the
--- status says of how it ended and of what was written of it. `files` has the files of each client's shelf.
-pub record CampaignTold {K : Type 0} (told : K → Option (List Row)) (doubted : K → Option Change) (faults : K → ℕ) (files : ℕ → Files) (status : Status) (campaign : Campaign) (keeper : K) (left : Left K) (text : List ℕ) (before after : Option (List ℕ)) : Type 0 where
+-- A campaign was played: what is true of its log and its boards, how the keeper and the shelves stand to it,
+-- and what the status says of how it ended and of what was written of it. The shelves are as they came, and
+-- as they are now.
+pub record CampaignTold {K : Type 0} (told : K → Option (List Row)) (doubted : K → Option Change) (faults : K → ℕ) (shelves now : List ShelfTold) (status : Status) (campaign : Campaign) (keeper : K) (left : Left K) (text : List ℕ) (before after : Option (List ℕ)) : Type 0 where
   pub boards : List BoardState
   pub boards_are : left.boards ≡ Some boards
   pub true_log : IsTrueLog (with_plans campaign.facts (map shown_by campaign.boards.items) campaign.boots) left.opening left.log boards
   pub keeper_stands : KeeperStands told doubted faults campaign.facts left.opening left.log keeper left.keeper
-  pub ends : CampaignEnds told files status (with_plans campaign.facts (map shown_by campaign.boards.items) campaign.boots) left.opening campaign.scripts left.log left.keeper text before after
+  pub shelves_stand : ShelvesStand left.log shelves now
+  pub ends : CampaignEnds told (files_for shelves) status (with_plans campaign.facts (map shown_by campaign.boards.items) campaign.boots) left.opening campaign.scripts left.log left.keeper text before after
 
 -- A campaign could begin: it was played, unless there was no memory for its house.
-abbrev pub Went : {K : Type 0} → (K → Option (List Row)) → (K → Option Change) → (K → ℕ) → (ℕ → Files) → Status → Campaign → K → Left K → List ℕ → Option (List ℕ) → Option (List ℕ) → Type 0
-Went told doubted faults files status campaign keeper left text before after =
-    CampaignTold told doubted faults files status campaign keeper left text before after
+abbrev pub Went : {K : Type 0} → (K → Option (List Row)) → (K → Option Change) → (K → ℕ) → List ShelfTold → List ShelfTold → Status → Campaign → K → Left K → List ℕ → Option (List ℕ) → Option (List ℕ) → Type 0
+Went told doubted faults shelves now status campaign keeper left text before after =
+    CampaignTold told doubted faults shelves now status campaign keeper left text before after
     ⊎ ((status ≡ statuses.NoMemory) × NothingBegan keeper left before after)
 
 -- `run`: there is no campaign, for a cause that the input, the shelves or the plugins show, and that the
@@ -71,12 +72,12 @@ pub record RunStopped {K : Type 0} (shelves : ℕ) (sheets : List PluginSheet) (
   pub stopped : HasStopped (limits.Shelves shelves) sheets stop old new
   pub nothing : NothingBegan keeper left before after
 
-pub record RunWent {K : Type 0} (told : K → Option (List Row)) (doubted : K → Option Change) (faults : K → ℕ) (shelves : List ShelfTold) (sheets : List PluginSheet) (vetoes : MachineFacts → List PluginVetoes) (status : Status) (keeper : K) (left : Left K) (old new before after : Option (List ℕ)) : Type 0 where
+pub record RunWent {K : Type 0} (told : K → Option (List Row)) (doubted : K → Option Change) (faults : K → ℕ) (shelves now : List ShelfTold) (sheets : List PluginSheet) (vetoes : MachineFacts → List PluginVetoes) (status : Status) (keeper : K) (left : Left K) (old new before after : Option (List ℕ)) : Type 0 where
   pub campaign : Campaign
   pub opened : IsOpened (limits.Shelves (length shelves)) sheets vetoes old new campaign
-  pub went : Went told doubted faults (files_for shelves) status campaign keeper left (report campaign.facts left.opening left.log) before after
+  pub went : Went told doubted faults shelves now status campaign keeper left (report campaign.facts left.opening left.log) before after
 
-abbrev pub RunEnds : {K : Type 0} → (K → Option (List Row)) → (K → Option Change) → (K → ℕ) → List ShelfTold → List PluginSheet → (MachineFacts → List PluginVetoes) → Status → K → Left K → Option (List ℕ) → Option (List ℕ) → Option (List ℕ) → Option (List ℕ) → Type 0
-RunEnds told doubted faults shelves sheets vetoes status keeper left old new before after =
+abbrev pub RunEnds : {K : Type 0} → (K → Option (List Row)) → (K → Option Change) → (K → ℕ) → List ShelfTold → List ShelfTold → List PluginSheet → (MachineFacts → List PluginVetoes) → Status → K → Left K → Option (List ℕ) → Option (List ℕ) → Option (List ℕ) → Option (List ℕ) → Type 0
+RunEnds told doubted faults shelves now sheets vetoes status keeper left old new before after =
     RunStopped (length shelves) sheets status keeper left old new before after
-    ⊎ RunWent told doubted faults shelves sheets vetoes status keeper left old new before after
+    ⊎ RunWent told doubted faults shelves now sheets vetoes status keeper left old new before after

@@ -4,11 +4,11 @@ ghost use Rattle.emulated_boards.specs.Boards.{BoardState};
 ghost use Rattle.daemon_core.specs.House.{IsNewBoard, shown_by};
 ghost use Rattle.client_plays.specs.Endings.{IsScriptItem};
 ghost use Rattle.client_plays.specs.Shelves.{files_for};
-ghost use Rattle.client_plays.specs.Tools.{Serves, ShelvesStay};
+ghost use Rattle.client_plays.specs.Tools.{Serves};
 ghost use Rattle.client_plays.specs.Has.{shelves_told, tools_of};
 ghost use Rattle.campaign_runs.specs.Planned.{with_plans};
 ghost use Rattle.fwupd_service.specs.Begins.{CanBePlayed, IsBegun, IsReadyFor};
-ghost use Rattle.fwupd_service.specs.Campaigns.{WasPlayed};
+ghost use Rattle.fwupd_service.specs.Campaigns.{ShelvesStand, WasPlayed};
 
 use block_pool::Pool;
 use campaign_inputs::Ready;
@@ -61,7 +61,7 @@ fn play_house<R: Threads + Wait + Sync, P: Shelf + Send, K: Keeper + Send, G: Ga
         scripts.now result.0.opening result.0.log result.0.boards house.keeper result.0.keeper }
     ensures facts { result.0.facts ≡ house.annals.facts }
     ensures few { length result.0.facts.sheets ≤ 256 }
-    ensures kept { ShelvesStay (shelves_told P.files P.faults shelves.items) (shelves_told P.files P.faults result.1.items) }
+    ensures stand { ShelvesStand result.0.log (shelves_told P.files P.faults shelves.items) (shelves_told P.files P.faults result.1.items) }
 {
     legal_once();
     taken_once();
@@ -132,7 +132,7 @@ pub(crate) fn play<R: Threads + Wait + Sync, P: Shelf + Send, K: Keeper + Send, 
     ensures few { IfOk result.0 (λ played. length played.facts.sheets ≤ 256) }
     ensures refused { IfErr result.0 (λ refused. refused ≡ keeper) }
     ensures unused { IfErr result.0 (λ refused. result.1.items ≡ shelves.items) }
-    ensures shelves { IfOk result.0 (λ played. ShelvesStay (shelves_told P.files P.faults shelves.items) (shelves_told P.files P.faults result.1.items)) }
+    ensures stand { IfOk result.0 (λ played. ShelvesStand played.log (shelves_told P.files P.faults shelves.items) (shelves_told P.files P.faults result.1.items)) }
 {
     let Ready { campaign, plugins } = ready;
     let Campaign {

@@ -2,7 +2,6 @@
 ghost use Rattle.std.specs.Prelude.{◌≡◌, ◌≤◌, length, map, None, Some};
 ghost use Rattle.outer_traits.specs.Faults.{Rose};
 ghost use Rattle.site_making.specs.Settled.{vetoes_of};
-ghost use Rattle.client_plays.specs.Shelves.{files_for};
 ghost use Rattle.client_plays.specs.Tools.{ShelvesStay};
 ghost use Rattle.client_plays.specs.Has.{shelves_told};
 ghost use Rattle.report_text.specs.Report.{report};
@@ -41,7 +40,7 @@ pub(crate) fn run<
 ) -> Ran<P, K>
     requires few_plugins { length plugins.items ≤ 64 }
     requires no_doubt { K.doubt keeper ≡ None }
-    ensures ends { RunEnds K.rows K.doubt K.faults (shelves_told P.files P.faults shelves.items) (map (λ p. own_sheet p) plugins.items)
+    ensures ends { RunEnds K.rows K.doubt K.faults (shelves_told P.files P.faults shelves.items) (shelves_told P.files P.faults result.shelves.items) (map (λ p. own_sheet p) plugins.items)
         (λ machine. map (λ p. vetoes_of (own_sheet p) (vetoes_on p machine)) plugins.items) result.status keeper
         (record { log = result.log; opening = result.opening; boards = result.boards; keeper = result.keeper })
         (S.left source.old) (S.left source.new) (T.taken out.old) (T.taken out.new) }
@@ -85,7 +84,7 @@ fn run_ready<R: Threads + Wait + Sync, P: Shelf + Send, K: Keeper + Send, T: Sin
     requires ready { CanBePlayed ready.campaign }
     requires shelves { IsReadyFor (length shelves.items) (length ready.plugins.items) ready.campaign }
     requires no_doubt { K.doubt keeper ≡ None }
-    ensures went { Went K.rows K.doubt K.faults (files_for (shelves_told P.files P.faults shelves.items)) result.status ready.campaign keeper
+    ensures went { Went K.rows K.doubt K.faults (shelves_told P.files P.faults shelves.items) (shelves_told P.files P.faults result.shelves.items) result.status ready.campaign keeper
         (record { log = result.log; opening = result.opening; boards = result.boards; keeper = result.keeper })
         (report ready.campaign.facts result.opening result.log) (T.taken out.old) (T.taken out.new) }
     ensures sink_fault { result.status ≡ Status.SinkFault → Rose (T.faults out.old) (T.faults out.new) }

@@ -7,3 +7,4 @@ pub mod Fetches
 pub mod EndedPlays
 pub mod UpdateEnds
 pub mod InstallEnds
+pub mod FaultEnds

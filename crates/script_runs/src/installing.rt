@@ -1,5 +1,5 @@
 //! An install: the ask, the fetch, the claim, and the run of the claim.
-ghost use Rattle.std.specs.Prelude.{◌≡◌, ◌≤◌, ◌<◌, [], None, Some, Err, length, true, false};
+ghost use Rattle.std.specs.Prelude.{◌≡◌, ◌≤◌, ◌<◌, ◌+◌, [], None, Some, Err, length, true, false};
 ghost use Rattle.update_log.specs.Holding.{hold};
 ghost use Rattle.update_log.specs.Pasts.{off};
 ghost use Rattle.daemon_core.specs.declared.stop.Stop.{Stop};
@@ -8,6 +8,7 @@ ghost use Rattle.daemon_core.specs.Holds.{IsHoldFor, held_by};
 ghost use Rattle.install_engine.specs.RunsIn.{parts_taken};
 ghost use Rattle.client_scripts.specs.declared.item.Item.{Item};
 ghost use Rattle.client_plays.specs.Endings.{played_of};
+ghost use Rattle.client_plays.specs.Faults.{FaultsTold, faults_in, faults_noted};
 ghost use Rattle.client_plays.specs.Plays.{ClaimPlays, Plays, UpdatePlays};
 ghost use Rattle.client_plays.specs.Shelves.{IsFetched};
 ghost use Rattle.client_plays.specs.Tools.{Files};
@@ -15,7 +16,7 @@ ghost use Rattle.shared_daemon.specs.Closings.{IsFreePass};
 ghost use Rattle.shared_daemon.specs.Entries.{past_seen};
 ghost use Rattle.shared_daemon.specs.Names.{IsPass};
 ghost use Rattle.claim_runs.specs.Known.{RunsSeen};
-ghost use Rattle.script_runs.specs.Passes.{Ended};
+ghost use Rattle.script_runs.specs.Passes.{Ended, own};
 
 use claim_runs::{Outcome, run_claim};
 use client_plays::Played;
@@ -50,6 +51,7 @@ fn give_back<R: Wait, K: Keeper, N: Naming>(
     requires halted { stopped.stop ≡ Stop.Off → off (past_seen pass.old.seen) ≡ true }
     ensures pass { IsPass daemon.now.id N.name pass.new }
     ensures ended { (files : Files) → IsFetched N.name.facts files stopped.ticket.release (note_of stopped.fetched) → Ended result (ClaimPlays N.name.facts files pass.old.number stopped.ticket.request stopped.ticket.release) pass.old pass.new }
+    ensures told { faults_in (own pass.new) ≡ faults_in (own pass.old) }
 {
     let ClaimStop {
         stop,
@@ -100,6 +102,7 @@ fn claim_fetched<R: Wait, K: Keeper, N: Naming, G: Gate>(
     requires served { length N.name.facts.vetoes ≤ length plugins.now }
     ensures pass { IsPass daemon.now.id N.name pass.new }
     ensures ended { (files : Files) → IsFetched N.name.facts files ticket.release (note_of fetched) → Ended result (ClaimPlays N.name.facts files pass.old.number ticket.request ticket.release) pass.old pass.new }
+    ensures told { faults_in (own pass.new) ≤ faults_in (own pass.old) + faults_noted (Some (note_of fetched)) }
 {
     match daemon.claim(rt, pass, ticket, fetched) {
         Ok(Claimed::Taken(taken)) => run_taken(rt, daemon, pass, taken, plugins, gate),
@@ -127,6 +130,7 @@ fn install_held<R: Wait, K: Keeper, N: Naming, P: Shelf, G: Gate>(
     ensures ended { Ended result (ClaimPlays N.name.facts (P.files shelf.old) pass.old.number given.ticket.request given.ticket.release) pass.old pass.new }
     ensures files { P.files shelf.new ≡ P.files shelf.old }
     ensures counts { P.faults shelf.old ≤ P.faults shelf.new }
+    ensures told { FaultsTold (own pass.old) (own pass.new) (P.faults shelf.old) (P.faults shelf.new) }
 {
     let (ticket, fetched) = fetch(shelf, given);
     claim_fetched(rt, daemon, pass, ticket, fetched, plugins, gate)
@@ -151,6 +155,7 @@ pub(crate) fn play_install<R: Wait, K: Keeper, N: Naming, P: Shelf, G: Gate>(
     ensures ended { Ended result (Plays N.name.facts N.name.opening (P.files shelf.old) pass.old.number (Item.Install request.now)) pass.old pass.new }
     ensures files { P.files shelf.new ≡ P.files shelf.old }
     ensures counts { P.faults shelf.old ≤ P.faults shelf.new }
+    ensures told { FaultsTold (own pass.old) (own pass.new) (P.faults shelf.old) (P.faults shelf.new) }
 {
     match daemon.ask(rt, pass, request) {
         Ok(Asked::Held(given)) => install_held(rt, daemon, pass, shelf, given, plugins, gate),

@@ -1,10 +1,11 @@
 //! The items of a client, one after the other.
 ghost use Rattle.std.specs.Prelude.{◌≡◌, ◌≤◌, All, length};
 ghost use Rattle.client_plays.specs.Endings.{IsScriptItem};
+ghost use Rattle.client_plays.specs.Faults.{FaultsTold};
 ghost use Rattle.client_plays.specs.Plays.{Plays};
 ghost use Rattle.shared_daemon.specs.Closings.{IsFreePass};
 ghost use Rattle.shared_daemon.specs.Names.{IsPass};
-ghost use Rattle.script_runs.specs.Passes.{Ended, EndedMore, Went};
+ghost use Rattle.script_runs.specs.Passes.{Ended, EndedMore, Went, own};
 
 use crate::installing::play_install;
 use crate::playing::{play_plug, play_question, play_schedule, play_settle, play_unplug};
@@ -34,6 +35,7 @@ fn play_item<R: Wait, K: Keeper, N: Naming, P: Shelf, G: Gate>(
     ensures ended { Ended result (Plays N.name.facts N.name.opening (P.files shelf.old) pass.old.number item.now) pass.old pass.new }
     ensures files { P.files shelf.new ≡ P.files shelf.old }
     ensures counts { P.faults shelf.old ≤ P.faults shelf.new }
+    ensures told { FaultsTold (own pass.old) (own pass.new) (P.faults shelf.old) (P.faults shelf.new) }
 {
     match item {
         Item::Ask(query) => play_question(rt, daemon, pass, query),
@@ -69,6 +71,7 @@ fn play_next<R: Wait, K: Keeper, N: Naming, P: Shelf, G: Gate>(
     ensures more { EndedMore result wanting (Plays N.name.facts N.name.opening (P.files shelf.old) pass.old.number item.now) pass.old pass.new }
     ensures files { P.files shelf.new ≡ P.files shelf.old }
     ensures counts { P.faults shelf.old ≤ P.faults shelf.new }
+    ensures told { FaultsTold (own pass.old) (own pass.new) (P.faults shelf.old) (P.faults shelf.new) }
 {
     match play_item(rt, daemon, pass, shelf, item, plugins, gate) {
         Played::Done => Some(wanting),
@@ -96,6 +99,7 @@ pub fn play_script<R: Wait, K: Keeper, N: Naming, P: Shelf, G: Gate>(
     ensures went { Went result (Plays N.name.facts N.name.opening (P.files shelf.old) pass.old.number) items.now pass.old pass.new }
     ensures files { P.files shelf.new ≡ P.files shelf.old }
     ensures counts { P.faults shelf.old ≤ P.faults shelf.new }
+    ensures told { FaultsTold (own pass.old) (own pass.new) (P.faults shelf.old) (P.faults shelf.new) }
 {
     let mut wanting = false;
     for item in items {

@@ -1,4 +1,4 @@
-use Rattle.std.proofs.Common.{◌≡◌, ◌<◌, ◌+◌, ℕ, Bool, All, List, [], ◌∷◌, length, map, reverse, ap, sym, ◌∙◌, subst, arith}
+use Rattle.std.proofs.Common.{◌<◌, ◌+◌, ℕ, Bool, All, List, [], length, map, reverse, ap, sym, ◌∙◌, subst, arith}
 use Rattle.std.specs.List.{range_with_len}
 use Rattle.client_plays.specs.Has.{shelves_told}
 use Rattle.client_plays.specs.Shelves.{files_for}
@@ -11,7 +11,7 @@ use Rattle.shared_daemon.specs.Names.{IsPass}
 use Rattle.shared_daemon.proofs.Closed.{passes-count}
 use Rattle.client_threads.specs.declared.clients.Client.{Client}
 use Rattle.client_threads.specs.Clients.{PlayedBehind}
-use Rattle.client_threads.proofs.Behind.{AllPlayed, Dealt, closing-free, closing-numbers, closing-passes, dealt-so, may-play, played-behind, start-log}
+use Rattle.client_threads.proofs.Behind.{AllPlayed, Dealt, closing-free, closing-numbers, closing-passes, dealt-so, may-play, played-behind, shelves-behind}
 use Rattle.client_threads.proofs.Shelves.{files-client, stay-dealt}
 use Rattle.client_threads.proofs.boot.play_behind.Goals as goal
 
@@ -98,3 +98,23 @@ pub returns-clause-kept : goal.returns-clause-kept
 returns-clause-kept g c =
     stay-dealt g.P.Shelf.files g.P.Shelf.faults (λ (k : Client g.row.P.Denot). k.shelf) c.args.shelves.now.items c.take_back-wanting.new.shelves.items (reverse c.deal_out-own.new.shelves.items)
     c.deal_out-own.new.clients.items c.play_all.new.clients.items c.play_all.ensures.count (λ i d low. (c.play_all.ensures.played i d low).shelf) c.deal_out-own.ensures.shelves c.take_back-wanting.ensures.shelves
+
+pub returns-clause-told : goal.returns-clause-told
+returns-clause-told g c =
+    let name = g.N.Naming.name in
+    let cs = c.deal_out-own.new.clients.items in
+    let ds = c.play_all.new.clients.items in
+    let told = files_for (shelves_told g.P.Shelf.files g.P.Shelf.faults c.args.shelves.now.items) in
+    let log : List Entry = chronicle c.close-house.result in
+    let a : AllPlayed g.P.Shelf.files g.P.Shelf.faults c.args.daemon.id name c.args.of_boot.now c.deal_out-own.result cs ds =
+    record {
+      dealt = dealt-so c.args.daemon.id name c.args.of_boot.now c.deal_out-own.result cs c.args.passes.items c.deal_out-own.ensures.passes c.requires.numbers c.requires.passes c.requires.fresh;
+      count = c.play_all.ensures.count;
+      played = c.play_all.ensures.played;
+    } in
+    shelves-behind g.P.Shelf.files g.P.Shelf.faults c.args.daemon.id name c.args.of_boot.now c.deal_out-own.result cs ds told log a c.close-house.ensures.log
+    (subst (λ (l : List (PassView Entry)). All (λ (p : PassView Entry). BeginsWith log p.seen) l) c.take_back-wanting.ensures.passes c.close-house.ensures.seen)
+    (subst (λ (l : List (PassView Entry)). All (HasItsEntries maker_of name.start log) l) c.take_back-wanting.ensures.passes c.close-house.ensures.mine)
+    (subst (λ (n : ℕ). All (λ (e : Entry). maker_of e < n) (beyond name.start log)) c.requires.seats c.close-house.ensures.makers)
+    (λ i d low. files-client g.P.Shelf.files g.P.Shelf.faults (λ (k : Client g.row.P.Denot). k.shelf) c.args.shelves.now.items (reverse c.deal_out-own.new.shelves.items) cs i d c.deal_out-own.ensures.shelves low)
+    c.args.shelves.now.items c.take_back-wanting.new.shelves.items (reverse c.deal_out-own.new.shelves.items) c.deal_out-own.ensures.shelves c.take_back-wanting.ensures.shelves

@@ -6,6 +6,8 @@ use Rattle.client_plays.proofs.ShelfLaws.{files-stay}
 use Rattle.client_plays.proofs.ToolLaws.{shelves-both}
 use Rattle.client_threads.proofs.Boots.{boot-played, no-clients_yet, still-booted, still-counted}
 use Rattle.client_threads.proofs.Shelves.{enough-stay}
+use Rattle.daemon_core.specs.Housed.{past}
+use Rattle.client_plays.proofs.ShelfCounts.{shelves-count_both}
 use Rattle.client_threads.proofs.boot.play_boot.Goals as goal
 
 pub play_clients-house-requires-clause-booted : goal.play_clients-house-requires-clause-booted
@@ -40,3 +42,9 @@ pub returns-clause-kept : goal.returns-clause-kept
 returns-clause-kept g c =
     shelves-both (shelves_told g.P.Shelf.files g.P.Shelf.faults c.args.shelves.now.items) (shelves_told g.P.Shelf.files g.P.Shelf.faults c.do_tasks_first-now.new.shelves.items) (shelves_told g.P.Shelf.files g.P.Shelf.faults c.play_clients-house.new.shelves.items)
     c.do_tasks_first-now.ensures.kept c.play_clients-house.ensures.kept
+
+pub returns-clause-told : goal.returns-clause-told
+returns-clause-told g c =
+    shelves-count_both (past c.args.house) (past c.do_tasks_first-now.new.house) (past c.play_clients-house.result.0)
+    (shelves_told g.P.Shelf.files g.P.Shelf.faults c.args.shelves.now.items) (shelves_told g.P.Shelf.files g.P.Shelf.faults c.do_tasks_first-now.new.shelves.items) (shelves_told g.P.Shelf.files g.P.Shelf.faults c.play_clients-house.new.shelves.items)
+    c.do_tasks_first-now.ensures.kept c.play_clients-house.ensures.kept c.do_tasks_first-now.ensures.told c.play_clients-house.ensures.told

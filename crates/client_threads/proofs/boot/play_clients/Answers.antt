@@ -4,6 +4,8 @@ use Rattle.client_plays.specs.Shelves.{files_for}
 use Rattle.client_plays.proofs.ToolLaws.{shelves-here}
 use Rattle.client_threads.proofs.Plays.{empty-list}
 use Rattle.client_threads.proofs.Rest.{can-begin, clients-off, no-clients}
+use Rattle.daemon_core.specs.Housed.{past}
+use Rattle.client_plays.proofs.ShelfCounts.{shelves-count_here}
 use Rattle.client_threads.proofs.boot.play_clients.Goals as goal
 
 pub returns-then-is_empty-clause-played : goal.returns-then-is_empty-clause-played
@@ -24,3 +26,9 @@ returns-then-is_off-clause-kept g c = shelves-here (shelves_told g.P.Shelf.files
 pub play_named-requires-clause-begins : goal.play_named-requires-clause-begins
 play_named-requires-clause-begins g c κs within =
     can-begin g.K.Keeper.faults c.args.house c.known.ensures.annals c.requires.booted (sym c.is_off.ensures ∙ c.if-is_off.false) c.requires.counted c.requires.idle
+
+pub returns-then-is_empty-clause-told : goal.returns-then-is_empty-clause-told
+returns-then-is_empty-clause-told g c = shelves-count_here (past c.args.house) (shelves_told g.P.Shelf.files g.P.Shelf.faults c.args.shelves.now.items)
+
+pub returns-then-is_off-clause-told : goal.returns-then-is_off-clause-told
+returns-then-is_off-clause-told g c = shelves-count_here (past c.args.house) (shelves_told g.P.Shelf.files g.P.Shelf.faults c.args.shelves.now.items)

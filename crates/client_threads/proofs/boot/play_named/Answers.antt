@@ -1,10 +1,12 @@
 use Rattle.std.proofs.Common.{true, subst, sym}
-use Rattle.daemon_core.specs.Housed.{Housed}
+use Rattle.daemon_core.specs.Housed.{Housed, past}
+use Rattle.client_plays.specs.Faults.{ShelvesCount}
 use Rattle.client_plays.specs.Has.{shelves_told}
 use Rattle.client_plays.specs.Shelves.{files_for}
 use Rattle.client_plays.proofs.ToolLaws.{shelves-here}
 use Rattle.client_threads.specs.Clients.{ClientsPlayed}
-use Rattle.client_threads.proofs.Rest.{begins-named, clients-left, clients-played, nothing-out}
+use Rattle.client_threads.proofs.Rest.{begins-named, clients-left, clients-played, nothing-out, shelves-counted}
+use Rattle.client_plays.proofs.ShelfCounts.{shelves-count_here}
 use Rattle.client_threads.proofs.boot.play_named.Goals as goal
 
 pub returns-in_default-clause-played : goal.returns-in_default-clause-played
@@ -33,3 +35,16 @@ returns-in-Err-clause-played g c =
 
 pub returns-in-Err-clause-kept : goal.returns-in-Err-clause-kept
 returns-in-Err-clause-kept g c = shelves-here (shelves_told g.P.Shelf.files g.P.Shelf.faults c.args.shelves.now.items)
+
+pub returns-in_default-clause-told : goal.returns-in_default-clause-told
+returns-in_default-clause-told g c = shelves-count_here (past c.args.house) (shelves_told g.P.Shelf.files g.P.Shelf.faults c.args.shelves.now.items)
+
+pub returns-in-Ok-begin-clause-told : goal.returns-in-Ok-begin-clause-told
+returns-in-Ok-begin-clause-told g c =
+    shelves-counted g.K.Keeper.faults g.N.Naming.name c.args.house c.play_behind.result.0 c.requires.name c.requires.begins c.known.ensures.annals c.play_behind.ensures.annals c.play_behind.ensures.name
+    (shelves_told g.P.Shelf.files g.P.Shelf.faults c.args.shelves.now.items) (shelves_told g.P.Shelf.files g.P.Shelf.faults c.play_behind.new.shelves.items) c.play_behind.ensures.told
+
+pub returns-in-Err-clause-told : goal.returns-in-Err-clause-told
+returns-in-Err-clause-told g c =
+    let shelves = shelves_told g.P.Shelf.files g.P.Shelf.faults c.args.shelves.now.items in
+    subst (λ (h : Housed g.row.K.Denot). ShelvesCount (past c.args.house) (past h) shelves shelves) (sym c.in-Err.ensures.refused) (shelves-count_here (past c.args.house) shelves)

@@ -9,6 +9,9 @@ use Rattle.client_plays.proofs.ShelfLaws.{files-stay}
 use Rattle.client_plays.proofs.ToolLaws.{serves-all, serves-later, shelves-both, shelves-here}
 use Rattle.campaign_runs.specs.Runs.{BootMore}
 use Rattle.campaign_runs.proofs.RunLaws.{begun-counted, plan-at, ran-stopped, run-more, run-none, same-files, scripts-all}
+use Rattle.daemon_core.specs.Housed.{past}
+use Rattle.client_plays.proofs.ShelfCounts.{shelves-count_here}
+use Rattle.client_threads.proofs.ShelfFaults.{boot-counted, stop-counted}
 use Rattle.client_threads.proofs.running.run_boots.Goals as goal
 
 pub returns-in-Some-clause-ran : goal.returns-in-Some-clause-ran
@@ -43,6 +46,7 @@ pub loop-number-init : goal.loop-number-init
 loop-number-init g c = record {
   ran = run-none g.K.Keeper.faults false (files_for (shelves_told g.P.Shelf.files g.P.Shelf.faults c.args.shelves.now.items)) c.args.plans.now c.args.scripts.now c.args.house (ap past_of c.requires.new);
   kept = shelves-here (shelves_told g.P.Shelf.files g.P.Shelf.faults c.args.shelves.now.items);
+  told = shelves-count_here (past c.args.house) (shelves_told g.P.Shelf.files g.P.Shelf.faults c.args.shelves.now.items);
 }
 
 pub loop-number-preserved : goal.loop-number-preserved
@@ -58,4 +62,13 @@ loop-number-preserved g c = record {
       (files-stay (shelves_told g.P.Shelf.files g.P.Shelf.faults c.args.shelves.now.items) (shelves_told g.P.Shelf.files g.P.Shelf.faults c.loop-number.shelves.items) c.loop-number.invariant.kept) c.play_next-played.ensures.more));
   kept = shelves-both (shelves_told g.P.Shelf.files g.P.Shelf.faults c.args.shelves.now.items) (shelves_told g.P.Shelf.files g.P.Shelf.faults c.loop-number.shelves.items) (shelves_told g.P.Shelf.files g.P.Shelf.faults c.play_next-played.new.shelves.items)
       c.loop-number.invariant.kept c.play_next-played.ensures.kept;
+  told = boot-counted g.K.Keeper.faults c.index-plans-number.result c.args.house c.loop-number.house c.start_boot.new.house c.play_next-played.result.0
+      (shelves_told g.P.Shelf.files g.P.Shelf.faults c.args.shelves.now.items) (shelves_told g.P.Shelf.files g.P.Shelf.faults c.loop-number.shelves.items) (shelves_told g.P.Shelf.files g.P.Shelf.faults c.play_next-played.new.shelves.items)
+      c.loop-number.invariant.kept c.play_next-played.ensures.kept c.in-None.ensures c.loop-number.invariant.told c.play_next-played.ensures.told;
 }
+
+pub returns-in-Some-clause-told : goal.returns-in-Some-clause-told
+returns-in-Some-clause-told g c =
+    stop-counted g.K.Keeper.faults c.args.house c.loop-number.house c.start_boot.new.house
+    (shelves_told g.P.Shelf.files g.P.Shelf.faults c.args.shelves.now.items) (shelves_told g.P.Shelf.files g.P.Shelf.faults c.loop-number.shelves.items)
+    c.loop-number.invariant.kept c.in-Some.ensures.0 c.loop-number.invariant.told

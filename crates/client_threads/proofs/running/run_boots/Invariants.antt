@@ -1,3 +1,5 @@
+use Rattle.daemon_core.specs.Housed.{past}
+use Rattle.client_plays.specs.Faults.{ShelvesCount}
 use Rattle.client_plays.specs.Has.{shelves_told}
 use Rattle.client_plays.specs.Shelves.{files_for}
 use Rattle.client_plays.specs.Tools.{ShelvesStay}
@@ -8,4 +10,5 @@ abbrev pub invariant-loop-number : goal.invariant-loop-number
 invariant-loop-number g l = record {
   ran : RanSoFar g.K.Keeper.faults l.wanting (files_for (shelves_told g.P.Shelf.files g.P.Shelf.faults l.fn.shelves.items)) l.plans l.scripts l.number l.fn.house l.house;
   kept : ShelvesStay (shelves_told g.P.Shelf.files g.P.Shelf.faults l.fn.shelves.items) (shelves_told g.P.Shelf.files g.P.Shelf.faults l.shelves.items);
+  told : ShelvesCount (past l.fn.house) (past l.house) (shelves_told g.P.Shelf.files g.P.Shelf.faults l.fn.shelves.items) (shelves_told g.P.Shelf.files g.P.Shelf.faults l.shelves.items);
 }

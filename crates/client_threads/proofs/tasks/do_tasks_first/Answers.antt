@@ -6,6 +6,7 @@ use Rattle.client_plays.specs.Plays.{TaskPlays}
 use Rattle.client_plays.specs.Scripts.{tasks}
 use Rattle.client_plays.specs.Tools.{Files}
 use Rattle.client_threads.proofs.Shelves.{files-first, stay-first}
+use Rattle.client_threads.proofs.ShelfFaults.{count-tasks}
 use Rattle.client_threads.proofs.tasks.do_tasks_first.Goals as goal
 
 pub returns-clause-went : goal.returns-clause-went
@@ -17,3 +18,9 @@ returns-clause-went g c =
 pub returns-clause-kept : goal.returns-clause-kept
 returns-clause-kept g c =
     stay-first g.P.Shelf.files g.P.Shelf.faults c.args.shelves.now.items c.index_mut.result.now c.do_tasks.new.shelf c.requires.shelf c.index_mut.ensures.value c.do_tasks.ensures.files c.do_tasks.ensures.counts
+
+pub returns-clause-told : goal.returns-clause-told
+returns-clause-told g c =
+    let w = c.do_tasks.ensures.went.went in
+    count-tasks g.P.Shelf.files g.P.Shelf.faults w.moments (past c.args.house.now) (past c.do_tasks.new.house) w.did
+    c.args.shelves.now.items c.index_mut.result.now c.do_tasks.new.shelf c.requires.shelf c.index_mut.ensures.value c.do_tasks.ensures.told

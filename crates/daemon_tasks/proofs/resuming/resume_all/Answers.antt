@@ -4,6 +4,9 @@ use Rattle.update_log.specs.declared.facts.Facts.{Facts}
 use Rattle.client_plays.specs.Plays.{TaskPlays, ToResume}
 use Rattle.client_plays.proofs.RestLaws.{so_far-nothing, still-booted}
 use Rattle.daemon_tasks.proofs.ResumeLoops.{apart-later, le-both, resumed-end, resumed-off, resumed-turn, same-task, told-more, waits-later, waits-next}
+use Rattle.daemon_core.specs.Housed.{past}
+use Rattle.client_plays.specs.Moments.{mine}
+use Rattle.client_plays.proofs.FaultLaws.{told-both, told-same}
 use Rattle.daemon_tasks.proofs.resuming.resume_all.Goals as goal
 
 pub loop-entry-init : goal.loop-entry-init
@@ -14,6 +17,7 @@ loop-entry-init g c = record {
   apart = c.requires.apart;
   files = refl;
   counts = omega arith;
+  counted = told-same (mine 0 (past c.args.house.now)) (mine 0 (past c.args.house.now)) (g.P.Shelf.faults c.args.shelf.now) refl;
 }
 
 pub resume_next-requires-clause-booted : goal.resume_next-requires-clause-booted
@@ -61,8 +65,18 @@ loop-entry-preserved g c =
       apart = apart-later c.args.entries.now i c.loop-entry-test.true v.apart;
       files = c.in-Some.ensures.files ∙ v.files;
       counts = le-both (g.P.Shelf.faults c.args.shelf.now) (g.P.Shelf.faults c.loop-entry.shelf) (g.P.Shelf.faults c.resume_next.new.shelf) v.counts c.in-Some.ensures.counts;
+      counted = told-both (mine 0 (past c.args.house.now)) (mine 0 (past c.loop-entry.house)) (mine 0 (past c.resume_next.new.house)) (g.P.Shelf.faults c.args.shelf.now) (g.P.Shelf.faults c.loop-entry.shelf) (g.P.Shelf.faults c.resume_next.new.shelf)
+          c.loop-entry.invariant.counted c.in-Some.ensures.told c.in-Some.ensures.counts;
     }
 
 pub returns-clause-more : goal.returns-clause-more
 returns-clause-more g c =
     resumed-end g.K.Keeper.faults (TaskPlays c.args.house.now.annals.facts (g.P.Shelf.files c.args.shelf.now)) c.args.before c.loop-entry.wanting c.args.entries.now c.loop-entry.entry-index c.args.house.now c.loop-entry.house c.loop-entry-test.false c.loop-entry.invariant.told c.loop-entry.invariant.so_far
+
+pub returns-in-None-clause-told : goal.returns-in-None-clause-told
+returns-in-None-clause-told g c =
+    told-both (mine 0 (past c.args.house.now)) (mine 0 (past c.loop-entry.house)) (mine 0 (past c.resume_next.new.house)) (g.P.Shelf.faults c.args.shelf.now) (g.P.Shelf.faults c.loop-entry.shelf) (g.P.Shelf.faults c.resume_next.new.shelf)
+    c.loop-entry.invariant.counted c.in-None.ensures.told c.in-None.ensures.counts
+
+pub returns-clause-told : goal.returns-clause-told
+returns-clause-told g c = c.loop-entry.invariant.counted

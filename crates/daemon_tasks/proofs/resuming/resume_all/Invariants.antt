@@ -1,5 +1,8 @@
 use Rattle.std.proofs.Common.{◌≡◌, ◌≤◌, true, drop, map, take}
+use Rattle.daemon_core.specs.Housed.{past}
 use Rattle.client_plays.specs.Endings.{SoFar}
+use Rattle.client_plays.specs.Faults.{FaultsTold}
+use Rattle.client_plays.specs.Moments.{mine}
 use Rattle.client_plays.specs.Plays.{TaskPlays, ToResume}
 use Rattle.daemon_tasks.specs.Judged.{AllWait}
 use Rattle.daemon_tasks.specs.Stays.{AreApart}
@@ -13,4 +16,5 @@ invariant-loop-entry g l = record {
   apart : AreApart (drop l.entry-index l.entries);
   files : g.P.Shelf.files l.shelf ≡ g.P.Shelf.files l.initial.shelf;
   counts : g.P.Shelf.faults l.initial.shelf ≤ g.P.Shelf.faults l.shelf;
+  counted : FaultsTold (mine 0 (past l.initial.house)) (mine 0 (past l.house)) (g.P.Shelf.faults l.initial.shelf) (g.P.Shelf.faults l.shelf);
 }

@@ -1,4 +1,4 @@
-use Rattle.std.proofs.Common.{◌≤◌, length, refl, subst, sym}
+use Rattle.std.proofs.Common.{◌≤◌, arith, length, refl, subst, sym}
 use Rattle.std.specs.Prelude.{Some}
 use Rattle.update_log.specs.declared.answer.AskAnswer.{AskAnswer}
 use Rattle.update_log.specs.declared.event.Event.{Event}
@@ -11,6 +11,10 @@ use Rattle.daemon_tasks.proofs.Outs.{ask-holds, idle-free}
 use Rattle.daemon_tasks.proofs.ResumePlays.{pending-behind, pending-not_kept, pending-others, pending-stopped, refused-idle, refused-in, still-put_off, waits-kept}
 use Rattle.daemon_tasks.proofs.Rows.{others-halted}
 use Rattle.daemon_tasks.proofs.Turns.{boots-appended, halted-turn}
+use Rattle.client_plays.specs.Faults.{faults_in}
+use Rattle.client_plays.specs.Moments.{mine}
+use Rattle.client_plays.proofs.FaultLaws.{count-less, told-behind, told-same}
+use Rattle.daemon_tasks.proofs.FaultPlays.{appended-quiet, halted-quiet, unfetched}
 use Rattle.daemon_tasks.proofs.resuming.resume_entry.Goals as goal
 
 pub ask_pending-requires-clause-free : goal.ask_pending-requires-clause-free
@@ -156,3 +160,34 @@ returns-in-Err-clause-others g c =
     let kept = waits-kept c.args.house.now.annals c.args.entry c.known.ensures.annals w in
     others-halted c.args.entry c.in-Err.stop c.args.house.now.annals c.ask_pending.new.self.annals
     (halted-turn 0 (λ (asked : Asked). Event.Ask 0 (request_of_row w.row) (Some c.args.entry) (answer_of asked)) c.in-Err.stop c.args.house.now.annals c.ask_pending.new.self.annals (c.in-Err.ensures.turn w.row kept))
+
+pub returns-in-Ok-Held-clause-told : goal.returns-in-Ok-Held-clause-told
+returns-in-Ok-Held-clause-told g c =
+    let w = c.requires.waits in
+    let kept = waits-kept c.args.house.now.annals c.args.entry c.known.ensures.annals w in
+    let a = c.in-Ok-Held in
+    let t = rw a.field-0-is at (a.ensures.turn w.row kept) in
+    told-behind (mine 0 (past c.args.house.now)) (mine 0 (past c.ask_pending.new.self)) (mine 0 (past c.resume_held.new.house)) (g.P.Shelf.faults c.args.shelf.now) (g.P.Shelf.faults c.resume_held.new.shelf)
+    (appended-quiet (Event.Ask 0 (request_of_row w.row) (Some c.args.entry) (answer_of (Asked.Held a.hold))) c.args.house.now.annals c.ask_pending.new.self.annals (record { no_boot = refl; own = refl }) refl t.1)
+    c.resume_held.ensures.told c.resume_held.ensures.counts
+
+pub returns-in-Ok-Refused-clause-told : goal.returns-in-Ok-Refused-clause-told
+returns-in-Ok-Refused-clause-told g c =
+    let w = c.requires.waits in
+    let kept = waits-kept c.args.house.now.annals c.args.entry c.known.ensures.annals w in
+    let a = c.in-Ok-Refused in
+    let t = rw a.field-0-is at (a.ensures.turn w.row kept) in
+    let x = g.P.Shelf.faults c.args.shelf.now in
+    count-less (faults_in (mine 0 (past c.args.house.now))) (faults_in (mine 0 (past c.resume_with.new.house))) x x
+    (unfetched (faults_in (mine 0 (past c.args.house.now))) (faults_in (mine 0 (past c.ask_pending.new.self))) (faults_in (mine 0 (past c.resume_with.new.house)))
+    (appended-quiet (Event.Ask 0 (request_of_row w.row) (Some c.args.entry) (AskAnswer.Refused a.field-0-0)) c.args.house.now.annals c.ask_pending.new.self.annals (record { no_boot = refl; own = refl }) refl t.1)
+    c.resume_with.ensures.told)
+    (omega arith)
+
+pub returns-in-Err-clause-told : goal.returns-in-Err-clause-told
+returns-in-Err-clause-told g c =
+    let w = c.requires.waits in
+    let kept = waits-kept c.args.house.now.annals c.args.entry c.known.ensures.annals w in
+    told-same (mine 0 (past c.args.house.now)) (mine 0 (past c.ask_pending.new.self)) (g.P.Shelf.faults c.args.shelf.now)
+    (halted-quiet c.in-Err.stop c.args.house.now.annals c.ask_pending.new.self.annals
+    (halted-turn 0 (λ (asked : Asked). Event.Ask 0 (request_of_row w.row) (Some c.args.entry) (answer_of asked)) c.in-Err.stop c.args.house.now.annals c.ask_pending.new.self.annals (c.in-Err.ensures.turn w.row kept)))

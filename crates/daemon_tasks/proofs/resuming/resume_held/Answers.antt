@@ -7,6 +7,9 @@ use Rattle.daemon_core.specs.Housed.{past}
 use Rattle.client_plays.proofs.ShelfLaws.{note-fetched}
 use Rattle.daemon_tasks.proofs.Outs.{hold-is}
 use Rattle.daemon_tasks.proofs.Fetches.{fetched-whole, sized-enough, still-held}
+use Rattle.client_plays.specs.Faults.{faults_in}
+use Rattle.client_plays.specs.Moments.{mine}
+use Rattle.client_plays.proofs.FaultLaws.{fetch-counted}
 use Rattle.daemon_tasks.proofs.resuming.resume_held.Goals as goal
 
 pub fetch-ticket-requires : goal.fetch-ticket-requires
@@ -36,3 +39,9 @@ returns-clause-played g c =
       refl,
       note-fetched c.args.house.now.annals.facts 0 c.requires.hold.0 (Some c.args.entry) files c.args.hold f.result.1 c.requires.hold.1 f.ensures.found f.ensures.digest,
     )
+
+pub returns-clause-told : goal.returns-clause-told
+returns-clause-told g c =
+    let f = c.fetch-ticket in
+    fetch-counted f.result.1 (faults_in (mine 0 (past c.args.house.now))) (faults_in (mine 0 (past c.resume_with.new.house))) (g.P.Shelf.faults c.args.shelf.now) (g.P.Shelf.faults f.new.shelf)
+    c.resume_with.ensures.told f.ensures.cause f.ensures.counts

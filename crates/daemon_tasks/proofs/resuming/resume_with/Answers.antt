@@ -1,5 +1,6 @@
 use Rattle.std.proofs.Common.{length}
 use Rattle.daemon_tasks.proofs.ResumePlays.{refused-others, resume-others, resume-played, resume-refused, resume-stopped, resumed-alone, resumed-marks, resumed-new, resumed-plugin, resumed-runs, stopped-booted, stopped-others, stopped-out}
+use Rattle.daemon_tasks.proofs.FaultPlays.{refused-told, resumed-told, stopped-told}
 use Rattle.daemon_tasks.proofs.resuming.resume_with.Goals as goal
 
 pub run_taken-requires-clause-runs : goal.run_taken-requires-clause-runs
@@ -59,3 +60,16 @@ returns-in-Err-clause-played g c files asked f =
 pub returns-in-Err-clause-others : goal.returns-in-Err-clause-others
 returns-in-Err-clause-others g c =
     stopped-others c.args.entry c.args.held c.in-Err.stopped c.args.house.now c.resume.new.self c.in-Err.ensures.turn c.in-Err.ensures.gave c.give_up.new.house c.give_up.ensures.given
+
+pub returns-in-Ok-Taken-clause-told : goal.returns-in-Ok-Taken-clause-told
+returns-in-Ok-Taken-clause-told g c =
+    resumed-told g.K.Keeper.faults c.args.entry c.args.held c.in-Ok-Taken.taken c.run_taken.result c.args.house.now c.resume.new.self c.run_taken.new.house (rw c.in-Ok-Taken.field-0-is at c.in-Ok-Taken.ensures.turn) c.run_taken.ensures.played
+
+pub returns-in-Ok-Refused-clause-told : goal.returns-in-Ok-Refused-clause-told
+returns-in-Ok-Refused-clause-told g c =
+    let a = c.in-Ok-Refused in
+    refused-told c.args.entry c.args.held a.field-0-0 c.args.house.now.annals c.resume.new.self.annals (rw a.field-0-is at a.ensures.turn)
+
+pub returns-in-Err-clause-told : goal.returns-in-Err-clause-told
+returns-in-Err-clause-told g c =
+    stopped-told c.args.entry c.args.held c.in-Err.stopped c.args.house.now.annals c.resume.new.self.annals c.give_up.new.house.annals c.in-Err.ensures.turn c.give_up.ensures.given

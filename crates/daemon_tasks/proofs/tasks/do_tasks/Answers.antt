@@ -1,7 +1,9 @@
 use Rattle.daemon_core.specs.Housed.{past, rows_before}
-use Rattle.client_plays.specs.Moments.{began}
+use Rattle.client_plays.specs.Moments.{began, mine}
 use Rattle.client_plays.specs.Scripts.{tasks}
 use Rattle.daemon_tasks.proofs.TaskLists.{went-nothing}
+use Rattle.std.proofs.Common.{refl}
+use Rattle.client_plays.proofs.FaultLaws.{told-same}
 use Rattle.daemon_tasks.proofs.tasks.do_tasks.Goals as goal
 
 pub returns-in_default-clause-went : goal.returns-in_default-clause-went
@@ -11,3 +13,9 @@ returns-in_default-clause-went g c =
 pub returns-in_default-pending-clause-went : goal.returns-in_default-pending-clause-went
 returns-in_default-pending-clause-went g c =
     went-nothing g.K.Keeper.faults c.args.house.now.annals.facts (g.P.Shelf.files c.args.shelf.now) (tasks c.args.house.now.annals.facts (rows_before c.args.house.now.annals) (began (past c.args.house.now))) c.args.house.now c.requires.idle
+
+pub returns-in_default-clause-told : goal.returns-in_default-clause-told
+returns-in_default-clause-told g c = told-same (mine 0 (past c.args.house.now)) (mine 0 (past c.args.house.now)) (g.P.Shelf.faults c.args.shelf.now) refl
+
+pub returns-in_default-pending-clause-told : goal.returns-in_default-pending-clause-told
+returns-in_default-pending-clause-told g c = told-same (mine 0 (past c.args.house.now)) (mine 0 (past c.args.house.now)) (g.P.Shelf.faults c.args.shelf.now) refl

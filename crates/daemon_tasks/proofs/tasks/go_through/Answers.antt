@@ -1,11 +1,16 @@
-use Rattle.std.proofs.Common.{◌≤◌, List, map, length, subst, sym}
+use Rattle.std.proofs.Common.{◌≤◌, List, map, length, subst, sym, []}
 use Rattle.update_log.specs.declared.facts.Facts.{Facts}
 use Rattle.offline_updates.specs.Waiting.{is_pending, is_to_judge}
 use Rattle.client_plays.specs.Endings.{HouseMore, HouseWent}
 use Rattle.client_plays.specs.Plays.{Task, TaskPlays, ToResume}
 use Rattle.client_plays.proofs.RestLaws.{still-booted}
-use Rattle.daemon_tasks.specs.Judged.{to_judge_in}
+use Rattle.daemon_tasks.specs.Judged.{to_judge_in, can_judge}
 use Rattle.daemon_tasks.proofs.TaskLists.{all-apart, all-known, all-wait, all-wait_still, none-both, tasks-are, went-both}
+use Rattle.std.specs.Prelude.{filter}
+use Rattle.daemon_core.specs.Housed.{past, past_in, rows_before}
+use Rattle.client_plays.specs.Moments.{mine}
+use Rattle.client_plays.proofs.FaultLaws.{told-behind, told-same}
+use Rattle.daemon_tasks.proofs.FaultPlays.{judged-off, judged-told}
 use Rattle.daemon_tasks.proofs.tasks.go_through.Goals as goal
 
 pub judge_all-requires-clause-rows : goal.judge_all-requires-clause-rows
@@ -51,3 +56,18 @@ returns-in-Off-clause-went g c =
     subst (λ (ts : List Task). HouseWent g.K.Keeper.faults c.in-Off.wanting 0 (TaskPlays a.facts (g.P.Shelf.files c.args.shelf.now)) ts c.args.house.now c.judge_all.new.house)
     (sym (tasks-are a c.known.ensures.annals c.args.judged.now c.args.waiting.now c.requires.fresh c.requires.judged c.requires.waiting))
     (c.in-Off.ensures a.facts (g.P.Shelf.files c.args.shelf.now) (map ToResume c.args.waiting.now))
+
+pub returns-in-Through-clause-told : goal.returns-in-Through-clause-told
+returns-in-Through-clause-told g c =
+    let a = c.args.house.now.annals in
+    let files = g.P.Shelf.files c.args.shelf.now in
+    told-behind (mine 0 (past c.args.house.now)) (mine 0 (past c.judge_all.new.house)) (mine 0 (past c.resume_all.new.house)) (g.P.Shelf.faults c.args.shelf.now) (g.P.Shelf.faults c.resume_all.new.shelf)
+    (judged-told g.K.Keeper.faults c.in-Through.wanting a.facts files (filter (can_judge a.facts (rows_before a) (past_in a)) c.args.judged.now) c.args.house.now c.judge_all.new.house (c.in-Through.ensures a.facts files).0)
+    c.resume_all.ensures.told c.resume_all.ensures.counts
+
+pub returns-in-Off-clause-told : goal.returns-in-Off-clause-told
+returns-in-Off-clause-told g c =
+    let a = c.args.house.now.annals in
+    let files = g.P.Shelf.files c.args.shelf.now in
+    told-same (mine 0 (past c.args.house.now)) (mine 0 (past c.judge_all.new.house)) (g.P.Shelf.faults c.args.shelf.now)
+    (judged-off g.K.Keeper.faults c.in-Off.wanting a.facts files (filter (can_judge a.facts (rows_before a) (past_in a)) c.args.judged.now) c.args.house.now c.judge_all.new.house (c.in-Off.ensures a.facts files []))

@@ -6,7 +6,7 @@ use Rattle.client_plays.specs.Tools.{ShelfTold}
 use Rattle.campaign_runs.specs.Planned.{with_plans}
 use Rattle.history_keeper.specs.Memories.{Memory, doubtful, unused}
 use Rattle.outer_traits.specs.Plans.{MemoryFiles}
-use Rattle.fwupd_service.specs.Campaigns.{WasPlayed}
+use Rattle.fwupd_service.specs.Campaigns.{ShelvesStand, WasPlayed}
 use Rattle.fwupd_service.specs.Makes.{own_shelves}
 use Rattle.fwupd_service.proofs.MakeShelves.{told-own}
 use Rattle.fwupd_service.proofs.TopLaws.{campaign-told, if-ok}
@@ -26,10 +26,14 @@ returns-in-Ok-outcome-clause-went g c =
     let played : W (own_shelves c.args.clients) (unused [] []) =
     subst (λ (shelves : List ShelfTold). W shelves (unused [] [])) told
     (subst (λ (k : Memory). W (shelves_told files faults c.in-Ok.own.items) k) keeper (if-ok _ _ _ c.play-outcome.ensures.played c.in-Ok-outcome.is)) in
+    let kept : List ShelfTold = shelves_told files faults c.play-outcome.result.1.items in
+    let stand : ShelvesStand out.log (own_shelves c.args.clients) kept =
+    subst (λ (shelves : List ShelfTold). ShelvesStand out.log shelves kept) told (if-ok _ _ _ c.play-outcome.ensures.stand c.in-Ok-outcome.is) in
     let left = c.summed.ensures.left in
     rw (left.log_is, left.opening_is, left.boards_are) (inl (record {
       own = out.keeper;
+      kept = kept;
       keeper_is = left.keeper_is;
-      told = campaign-told (λ (m : Memory). Some m.rows) doubtful (λ (m : Memory). m.faults) (files_for (own_shelves c.args.clients)) out.ran campaign out.opening out.log out.boards (unused [] []) out.keeper _ _ _ c.summed.result.status
-          played c.summed.ensures.reported;
+      told = campaign-told (λ (m : Memory). Some m.rows) doubtful (λ (m : Memory). m.faults) (own_shelves c.args.clients) kept out.ran campaign out.opening out.log out.boards (unused [] []) out.keeper _ _ _ c.summed.result.status
+          stand played c.summed.ensures.reported;
     }))

@@ -1,4 +1,6 @@
+use Rattle.client_plays.specs.Has.{shelves_told}
 use Rattle.fwupd_service.proofs.HouseLaws.{was-played}
+use Rattle.fwupd_service.proofs.ShelfLaws.{shelves-stand}
 use Rattle.fwupd_service.proofs.playing.play_house.Goals as goal
 
 pub returns-clause-played : goal.returns-clause-played
@@ -7,3 +9,9 @@ returns-clause-played g c =
     let ran = c.run_on_threads-house in
     rw (e.opening, e.log, e.keeper) (was-played g.K.Keeper.rows g.K.Keeper.doubt g.K.Keeper.faults _ ran.result.1 c.args.plans.now c.args.scripts.now c.args.house ran.result.0
     ran.ensures.ran c.known.ensures.annals c.known.ensures.house c.legal_once.ensures c.taken_once.ensures c.history_stays.ensures c.requires.new c.into_parts-facts.result.boards e.boards)
+
+pub returns-clause-stand : goal.returns-clause-stand
+returns-clause-stand g c =
+    let e = c.into_parts-facts.ensures in
+    let ran = c.run_on_threads-house in
+    rw e.log (shelves-stand c.args.house ran.result.0 (shelves_told g.P.Shelf.files g.P.Shelf.faults c.args.shelves.items) (shelves_told g.P.Shelf.files g.P.Shelf.faults ran.result.2.items) c.requires.new ran.ensures.kept ran.ensures.told)

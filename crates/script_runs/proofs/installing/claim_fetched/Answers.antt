@@ -1,5 +1,5 @@
 use Rattle.std.proofs.Common.{refl, subst, length}
-use Rattle.std.specs.Prelude.{Ok}
+use Rattle.std.specs.Prelude.{Ok, Some}
 use Rattle.update_log.specs.declared.answer.ClaimAnswer.{ClaimAnswer}
 use Rattle.update_log.specs.Holding.{hold}
 use Rattle.daemon_core.specs.declared.claimed.Claimed.{Claimed}
@@ -12,6 +12,8 @@ use Rattle.shared_daemon.specs.Taking.{Gave}
 use Rattle.claim_runs.proofs.Taking.{claim-runs, served-within}
 use Rattle.script_runs.proofs.EndedPlays.{stopped-held, stopped-off, stopped-own}
 use Rattle.script_runs.proofs.InstallEnds.{claim-behind, claim-ended, claim-stopped, held-back}
+use Rattle.client_plays.specs.Faults.{faults_noted}
+use Rattle.script_runs.proofs.FaultEnds.{claim-none, claim-same, claim-taken, turn-claim, turn-stopped}
 use Rattle.script_runs.proofs.installing.claim_fetched.Goals as goal
 
 pub run_taken-requires-clause-runs : goal.run_taken-requires-clause-runs
@@ -91,3 +93,42 @@ returns-in-Err-clause-ended g c =
     λ files f. claim-stopped g.N.Naming.name.facts files s c.args.ticket c.args.fetched c.give_back.result c.args.pass.now c.claim.new.pass c.give_back.new.pass c.in-Err.ensures.gave.0 c.in-Err.ensures.gave.1
     (stopped-own g.N.Naming.name c.args.daemon.now.id c.args.pass.now c.claim.new.pass c.requires.pass c.claim.ensures.same t (claim_event n c.args.ticket.request c.args.fetched) s.stop t.does)
     c.claim.ensures.same f (λ is. c.give_back.ensures.ended files is)
+
+pub returns-in-Ok-Taken-clause-told : goal.returns-in-Ok-Taken-clause-told
+returns-in-Ok-Taken-clause-told g c =
+    let n = c.args.pass.now.number in
+    let a = c.in-Ok-Taken in
+    let t = a.ensures.turn in
+    let note = note_of c.args.fetched in
+    claim-taken (faults_noted (Some note)) a.taken.entry c.run_taken.result c.args.pass.now c.claim.new.pass c.run_taken.new.pass
+    (turn-claim g.N.Naming.name c.args.daemon.now.id c.args.pass.now c.claim.new.pass c.requires.pass c.claim.ensures.same t c.args.ticket.request note (ClaimAnswer.Entry a.taken.entry)
+    (subst (λ (x : Claimed). AddsOn n (claim_event n c.args.ticket.request c.args.fetched x) t.met c.claim.new.pass.seen) a.field-0-is t.does).1)
+    c.run_taken.ensures.ended
+
+pub returns-in-Ok-Kept-clause-told : goal.returns-in-Ok-Kept-clause-told
+returns-in-Ok-Kept-clause-told g c =
+    let n = c.args.pass.now.number in
+    let a = c.in-Ok-Kept in
+    let t = a.ensures.turn in
+    let note = note_of c.args.fetched in
+    claim-same (faults_noted (Some note)) c.args.pass.now c.claim.new.pass
+    (turn-claim g.N.Naming.name c.args.daemon.now.id c.args.pass.now c.claim.new.pass c.requires.pass c.claim.ensures.same t c.args.ticket.request note (ClaimAnswer.Kept a.field-0-0 a.field-0-1)
+    (subst (λ (x : Claimed). AddsOn n (claim_event n c.args.ticket.request c.args.fetched x) t.met c.claim.new.pass.seen) a.field-0-is t.does).1)
+
+pub returns-in-Ok-Refused-clause-told : goal.returns-in-Ok-Refused-clause-told
+returns-in-Ok-Refused-clause-told g c =
+    let n = c.args.pass.now.number in
+    let a = c.in-Ok-Refused in
+    let t = a.ensures.turn in
+    let note = note_of c.args.fetched in
+    claim-same (faults_noted (Some note)) c.args.pass.now c.claim.new.pass
+    (turn-claim g.N.Naming.name c.args.daemon.now.id c.args.pass.now c.claim.new.pass c.requires.pass c.claim.ensures.same t c.args.ticket.request note (ClaimAnswer.Refused a.field-0-0)
+    (subst (λ (x : Claimed). AddsOn n (claim_event n c.args.ticket.request c.args.fetched x) t.met c.claim.new.pass.seen) a.field-0-is t.does).1)
+
+pub returns-in-Err-clause-told : goal.returns-in-Err-clause-told
+returns-in-Err-clause-told g c =
+    let n = c.args.pass.now.number in
+    let t = c.in-Err.ensures.turn in
+    claim-none (faults_noted (Some (note_of c.args.fetched))) c.args.pass.now c.claim.new.pass c.give_back.new.pass
+    (turn-stopped g.N.Naming.name c.args.daemon.now.id c.args.pass.now c.claim.new.pass c.requires.pass c.claim.ensures.same t (claim_event n c.args.ticket.request c.args.fetched) c.in-Err.stopped.stop t.does)
+    c.give_back.ensures.told

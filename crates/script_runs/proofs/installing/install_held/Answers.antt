@@ -7,8 +7,10 @@ use Rattle.client_plays.proofs.ShelfLaws.{note-fetched}
 use Rattle.daemon_core.specs.declared.hold.Ticket.{Ticket}
 use Rattle.daemon_core.specs.Fetches.{note_of}
 use Rattle.shared_daemon.specs.Entries.{past_seen}
-use Rattle.script_runs.specs.Passes.{Ended}
+use Rattle.script_runs.specs.Passes.{Ended, own}
 use Rattle.script_runs.proofs.Fetches.{fetched-whole, sized-enough, still-held}
+use Rattle.client_plays.specs.Faults.{faults_in}
+use Rattle.client_plays.proofs.FaultLaws.{fetch-counted}
 use Rattle.script_runs.proofs.installing.install_held.Goals as goal
 
 pub fetch-ticket-requires : goal.fetch-ticket-requires
@@ -35,3 +37,9 @@ returns-clause-ended g c =
     (c.claim_fetched.ensures.ended files
     (subst (λ (t : Ticket). IsFetched g.N.Naming.name.facts files t.release (note_of f.result.1)) (sym f.ensures.ticket)
     (note-fetched g.N.Naming.name.facts c.args.pass.now.number c.args.given.ticket.request None files c.args.given f.result.1 c.requires.hold f.ensures.found f.ensures.digest)))
+
+pub returns-clause-told : goal.returns-clause-told
+returns-clause-told g c =
+    let f = c.fetch-ticket in
+    fetch-counted f.result.1 (faults_in (own c.args.pass.now)) (faults_in (own c.claim_fetched.new.pass)) (g.P.Shelf.faults c.args.shelf.now) (g.P.Shelf.faults f.new.shelf)
+    c.claim_fetched.ensures.told f.ensures.cause f.ensures.counts

@@ -9,8 +9,10 @@ use Rattle.daemon_core.specs.declared.hold.Asked.{Asked}
 use Rattle.daemon_core.specs.Holds.{HoldsFor, answer_of}
 use Rattle.shared_daemon.specs.Calls.{AddsOn}
 use Rattle.claim_runs.proofs.Clients.{ask-holds}
-use Rattle.script_runs.specs.Passes.{Ended}
+use Rattle.script_runs.specs.Passes.{Ended, own}
 use Rattle.script_runs.proofs.InstallEnds.{hold-self, install-asked, install-behind, install-stopped}
+use Rattle.client_plays.proofs.FaultLaws.{told-behind, told-same}
+use Rattle.script_runs.proofs.FaultEnds.{turn-quiet, turn-stopped}
 use Rattle.script_runs.proofs.installing.play_install.Goals as goal
 
 pub install_held-requires-clause-held : goal.install_held-requires-clause-held
@@ -65,3 +67,38 @@ returns-in-Err-clause-ended g c =
     subst (λ (x : Played). Ended x (Plays g.N.Naming.name.facts g.N.Naming.name.opening (g.P.Shelf.files c.args.shelf.now) n (Item.Install c.args.request.now)) c.args.pass.now c.ask.new.pass) (sym c.stopped_by.ensures)
     (install-stopped g.N.Naming.name c.args.daemon.now.id (g.P.Shelf.files c.args.shelf.now) c.args.request.now c.args.pass.now c.ask.new.pass c.requires.pass c.ask.ensures.same t g.N.Naming.name.opening c.requires.online
     (λ (asked : Asked). Event.Ask n c.args.request.now None (answer_of asked)) c.in-Err.stop c.requires.free t.does)
+
+pub returns-in-Ok-Held-clause-told : goal.returns-in-Ok-Held-clause-told
+returns-in-Ok-Held-clause-told g c =
+    let n = c.args.pass.now.number in
+    let a = c.in-Ok-Held in
+    let t = a.ensures.turn in
+    told-behind (own c.args.pass.now) (own c.ask.new.pass) (own c.install_held.new.pass) (g.P.Shelf.faults c.args.shelf.now) (g.P.Shelf.faults c.install_held.new.shelf)
+    (turn-quiet g.N.Naming.name c.args.daemon.now.id c.args.pass.now c.ask.new.pass c.requires.pass c.ask.ensures.same t (Event.Ask n c.args.request.now None (answer_of (Asked.Held a.given))) refl refl refl
+    (subst (λ (x : Asked). AddsOn n (Event.Ask n c.args.request.now None (answer_of x)) t.met c.ask.new.pass.seen) a.field-0-is t.does).1)
+    c.install_held.ensures.told c.install_held.ensures.counts
+
+pub returns-in-Ok-Kept-clause-told : goal.returns-in-Ok-Kept-clause-told
+returns-in-Ok-Kept-clause-told g c =
+    let n = c.args.pass.now.number in
+    let a = c.in-Ok-Kept in
+    let t = a.ensures.turn in
+    told-same (own c.args.pass.now) (own c.ask.new.pass) (g.P.Shelf.faults c.args.shelf.now)
+    (turn-quiet g.N.Naming.name c.args.daemon.now.id c.args.pass.now c.ask.new.pass c.requires.pass c.ask.ensures.same t (Event.Ask n c.args.request.now None (AskAnswer.Kept a.field-0-0 a.field-0-1)) refl refl refl
+    (subst (λ (x : Asked). AddsOn n (Event.Ask n c.args.request.now None (answer_of x)) t.met c.ask.new.pass.seen) a.field-0-is t.does).1)
+
+pub returns-in-Ok-Refused-clause-told : goal.returns-in-Ok-Refused-clause-told
+returns-in-Ok-Refused-clause-told g c =
+    let n = c.args.pass.now.number in
+    let a = c.in-Ok-Refused in
+    let t = a.ensures.turn in
+    told-same (own c.args.pass.now) (own c.ask.new.pass) (g.P.Shelf.faults c.args.shelf.now)
+    (turn-quiet g.N.Naming.name c.args.daemon.now.id c.args.pass.now c.ask.new.pass c.requires.pass c.ask.ensures.same t (Event.Ask n c.args.request.now None (AskAnswer.Refused a.field-0-0)) refl refl refl
+    (subst (λ (x : Asked). AddsOn n (Event.Ask n c.args.request.now None (answer_of x)) t.met c.ask.new.pass.seen) a.field-0-is t.does).1)
+
+pub returns-in-Err-clause-told : goal.returns-in-Err-clause-told
+returns-in-Err-clause-told g c =
+    let n = c.args.pass.now.number in
+    let t = c.in-Err.ensures.turn in
+    told-same (own c.args.pass.now) (own c.ask.new.pass) (g.P.Shelf.faults c.args.shelf.now)
+    (turn-stopped g.N.Naming.name c.args.daemon.now.id c.args.pass.now c.ask.new.pass c.requires.pass c.ask.ensures.same t (λ (asked : Asked). Event.Ask n c.args.request.now None (answer_of asked)) c.in-Err.stop t.does)

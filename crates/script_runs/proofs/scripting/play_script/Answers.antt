@@ -4,8 +4,9 @@ use Rattle.std.proofs.lemmas.List.{take_all}
 use Rattle.client_scripts.specs.declared.item.Item.{Item}
 use Rattle.client_plays.specs.Plays.{Plays}
 use Rattle.client_plays.proofs.ListLaws.{taken-here_is, taken-more_is}
-use Rattle.script_runs.specs.Passes.{SoFar}
+use Rattle.script_runs.specs.Passes.{SoFar, own}
 use Rattle.script_runs.proofs.GoingLaws.{same-plays, so_far-more, so_far-nothing, went-all, went-left}
+use Rattle.client_plays.proofs.FaultLaws.{told-both, told-same}
 use Rattle.script_runs.proofs.scripting.play_script.Goals as goal
 
 pub play_next-requires-clause-free : goal.play_next-requires-clause-free
@@ -19,6 +20,7 @@ loop-item-init g c =
       so_far = so_far-nothing false (Plays name.facts name.opening (g.P.Shelf.files c.args.shelf.now) c.args.pass.now.number) c.args.pass.now c.requires.free;
       files = refl;
       counts = omega arith;
+      told = told-same (own c.args.pass.now) (own c.args.pass.now) (g.P.Shelf.faults c.args.shelf.now) refl;
     }
 
 pub loop-item-preserved : goal.loop-item-preserved
@@ -36,6 +38,8 @@ loop-item-preserved g c =
           c.loop-item.invariant.files c.loop-item.invariant.so_far.did.same c.in-Some.ensures.more));
       files = c.in-Some.ensures.files ∙ c.loop-item.invariant.files;
       counts = omega (arith, c.loop-item.invariant.counts, c.in-Some.ensures.counts);
+      told = told-both (own c.args.pass.now) (own c.loop-item.pass) (own c.play_next.new.pass) (g.P.Shelf.faults c.args.shelf.now) (g.P.Shelf.faults c.loop-item.shelf) (g.P.Shelf.faults c.play_next.new.shelf)
+          c.loop-item.invariant.told c.in-Some.ensures.told c.in-Some.ensures.counts;
     }
 
 pub returns-in-None-clause-went : goal.returns-in-None-clause-went
@@ -57,3 +61,8 @@ returns-clause-went g c =
     went-all c.loop-item.wanting plays c.args.items.now c.args.pass.now c.loop-item.pass
     (subst (λ (xs : List Item). SoFar c.loop-item.wanting plays xs c.args.pass.now c.loop-item.pass)
     (take_all c.loop-item.item-index c.args.items.now c.loop-item-test.false) c.loop-item.invariant.so_far)
+
+pub returns-in-None-clause-told : goal.returns-in-None-clause-told
+returns-in-None-clause-told g c =
+    told-both (own c.args.pass.now) (own c.loop-item.pass) (own c.play_next.new.pass) (g.P.Shelf.faults c.args.shelf.now) (g.P.Shelf.faults c.loop-item.shelf) (g.P.Shelf.faults c.play_next.new.shelf)
+    c.loop-item.invariant.told c.in-None.ensures.told c.in-None.ensures.counts

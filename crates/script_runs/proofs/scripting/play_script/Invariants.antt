@@ -1,7 +1,8 @@
 use Rattle.std.proofs.Common.{◌≡◌, ◌≤◌, take}
+use Rattle.client_plays.specs.Faults.{FaultsTold}
 use Rattle.client_plays.specs.Plays.{Plays}
 use Rattle.shared_daemon.specs.Names.{IsPass}
-use Rattle.script_runs.specs.Passes.{SoFar}
+use Rattle.script_runs.specs.Passes.{SoFar, own}
 use Rattle.script_runs.proofs.scripting.play_script.Given as goal
 
 abbrev pub invariant-loop-item : goal.invariant-loop-item
@@ -11,4 +12,5 @@ invariant-loop-item g l = record {
       (take l.item-index l.items) l.initial.pass l.pass;
   files : g.P.Shelf.files l.shelf ≡ g.P.Shelf.files l.initial.shelf;
   counts : g.P.Shelf.faults l.initial.shelf ≤ g.P.Shelf.faults l.shelf;
+  told : FaultsTold (own l.initial.pass) (own l.pass) (g.P.Shelf.faults l.initial.shelf) (g.P.Shelf.faults l.shelf);
 }
