@@ -1,13 +1,14 @@
-//! The program: makes the real input, output, shelves and plugins, hands them to the top call, and ends with
-//! its status.
+//! The program: makes the real input, output, shelves, history and plugins, hands them to the top call, and
+//! ends with its status.
 #![tactic(auto)]
 
 ghost use Rattle.std.specs.Prelude.{◌≡◌, None};
 
 use board_plugins::{Capsule, Flash, Loader, Power};
 use fw_base::NoMemory;
-use fwupd_service::{Ran, Status, run_campaign};
-use history_keeper::{Keeper, MemoryKeeper};
+use fwupd_service::{Ran, Status, keeps_history, run_campaign};
+use history_keeper::{Keeper, KeeperRefusal, MemoryKeeper};
+use history_sqlite::FileKeeper;
 use outer_traits::{FolderShelf, NoGate, ReadSource, WriteSink};
 use plugin_trait::Plugin;
 use std::process::ExitCode;
@@ -19,11 +20,15 @@ use std::{env, io};
 /// The folder of the payloads, in the folder where the program is called.
 const SHELF: &str = "payloads";
 
+/// The file of the history, in the folder where the program is called.
+const HISTORY: &str = "history.db";
+
 /// How many shelves there are, one for each client.
 const SHELVES: u32 = 16;
 
-/// Runs the command of the command line. `host` is the same runtime, of which the shelves are made. `NoMemory`
-/// comes only where the words, the shelves or the plugins couldn't be made.
+/// Runs the command of the command line, over the history where it is one that keeps it. `host` is the same
+/// runtime, of which the history's file and the shelves are made. `NoMemory` comes only where the words, the
+/// shelves or the plugins couldn't be made.
 fn run<R: Runtime + AllocGlobal + Threads + Wait + Sync>(
     rt: &R,
     host: &HostRuntime,
@@ -40,10 +45,30 @@ fn run<R: Runtime + AllocGlobal + Threads + Wait + Sync>(
     for word in &words {
         texts.push(word.as_bytes())?;
     }
-    run_over_nothing(rt, host, &texts)
+    if keeps_history(alloc, &texts)? {
+        run_over_history(rt, host, &texts)
+    } else {
+        run_over_nothing(rt, host, &texts)
+    }
 }
 
-/// Runs over a history in memory, which ends with the program.
+/// Opens the history in its file, and runs over it.
+fn run_over_history<R: Runtime + AllocGlobal + Threads + Wait + Sync>(
+    rt: &R,
+    host: &HostRuntime,
+    words: &[&[u8]],
+) -> Result<Status, NoMemory> {
+    match FileKeeper::open(host, HISTORY) {
+        Ok(history) => {
+            FileKeeper::crosses();
+            run_over(rt, host, words, history)
+        }
+        Err(KeeperRefusal::Fault) => Ok(Status::KeeperFault),
+        Err(KeeperRefusal::NoMemory) => Ok(Status::NoMemory),
+    }
+}
+
+/// Runs a command that keeps no history, over a keeper that stays unused.
 fn run_over_nothing<R: Runtime + AllocGlobal + Threads + Wait + Sync>(
     rt: &R,
     host: &HostRuntime,

@@ -5,6 +5,7 @@
 #![tactic(auto)]
 
 pub mod columns;
+pub mod file_keeper;
 pub mod lasting;
 pub mod refusal;
 pub mod sql_keeper;
@@ -14,5 +15,6 @@ pub mod tables;
 mod tests;
 
 pub use columns::read_row;
+pub use file_keeper::FileKeeper;
 pub use lasting::Lasting;
 pub use sql_keeper::SqlKeeper;

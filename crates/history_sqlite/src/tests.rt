@@ -4,7 +4,7 @@ ghost use Rattle.sqlite.specs.Steps.{over_memory};
 ghost use Rattle.history_sqlite.specs.Keeping.{doubtful};
 ghost use Rattle.history_sqlite.specs.Telling.{told_by};
 
-use crate::SqlKeeper;
+use crate::{FileKeeper, SqlKeeper};
 use fw_base::Name;
 use guid_ids::device_id;
 use history_keeper::{Change, Keeper, KeeperPlan, KeeperRefusal, Row, RowState};
@@ -257,7 +257,7 @@ fn other_tables_and_rows_are_a_fault(rt: HostRuntime) -> Result<(), Fail> {
 
 // Opens the keeper of a file, loads, and adds one row more.
 fn one_more(rt: &HostRuntime, path: &str) -> Result<usize, Fail> {
-    let mut keeper = SqlKeeper::file(rt, path)?;
+    let mut keeper = FileKeeper::open(rt, path)?;
     let rows = keeper.load(rt.alloc())?;
     let entry = (rows.len() % 25) as u32 + 1;
     let tag = [b'a' + entry as u8];
