@@ -7,7 +7,6 @@ use Rattle.history_keeper.specs.declared.row.Row.{Row}
 use Rattle.update_log.specs.declared.event.Event.{Event}
 use Rattle.update_log.specs.declared.facts.BootPlan.{BootPlan}
 use Rattle.update_log.specs.declared.facts.Facts.{Facts}
-use Rattle.update_log.specs.Crashes.{next_boot}
 use Rattle.update_log.specs.Pasts.{boots, is_boot, off}
 use Rattle.daemon_core.specs.Housed.{Housed, past, rows_before}
 use Rattle.daemon_core.specs.Keeping.{keeper_faults}
@@ -16,7 +15,7 @@ use Rattle.client_scripts.specs.declared.item.Item.{Item}
 use Rattle.client_plays.specs.Moments.{began, mine}
 use Rattle.client_plays.specs.Plays.{Plays, TaskPlays}
 use Rattle.client_plays.specs.Scripts.{BootPlayed, EarlierPlayed, PlayedSo, items_of, scripts_in, tasks}
-use Rattle.client_plays.specs.Endings.{HouseBootPlayed, IsCounted, IsFresh, IsIdle}
+use Rattle.client_plays.specs.Endings.{HouseBootPlayed, IsCounted, IsIdle}
 use Rattle.client_plays.specs.Tools.{Files}
 use Rattle.client_plays.proofs.BootLaws.{so-told}
 use Rattle.client_plays.proofs.MomentLaws.{grew-boots}
@@ -171,10 +170,6 @@ pub begun-counted : {K : Type 0} (faults : K → ℕ) (old mid new : Housed K) �
 begun-counted faults old mid new e a b c =
     let none : keeper_faults (past old) ≡ 0 = ap keeper_faults e in
     elim (counted-both faults old mid new a b c) [ inl x ↦ inl (omega arith) | inr x ↦ inr x ]
-
--- A boot that has begun may be played.
-pub begun-fresh : {K : Type 0} (faults : K → ℕ) (plan : BootPlan) (old new : Housed K) → HasBegun faults plan old new → IsFresh (past new)
-begun-fresh faults plan old new b = record { boot = next_boot (past old) plan b.found b.listed; before = past old; are = b.past_is; is = refl }
 
 -- What holds of every boot's scripts holds of those of one, and of none.
 pub scripts-all : (P : List (List Item) → Type 0) (scripts : List (List (List Item))) (n : ℕ) → All P scripts → P [] → P (scripts_in scripts (n + 1))

@@ -4,8 +4,6 @@ pub mod MomentLaws
 pub mod PlayLaws
 pub mod ScriptLaws
 pub mod TurnLaws
-pub mod ItemLaws
-pub mod SettleLaws
 pub mod RestLaws
 pub mod ListLaws
 pub mod BootLaws

@@ -1,17 +1,13 @@
 -- Going through a list of things, over a house.
 use Rattle.std.proofs.Common.{◌≡◌, ◌⊎◌, ℕ, ◌<◌, ◌≤◌, Bool, true, false, List, [], ◌∷◌, ◌++◌, refl, ap, sym, ◌∙◌, subst, inl, inr, arith}
-use Rattle.std.specs.Prelude.{Option, Some, None}
+use Rattle.std.specs.Prelude.{Some, None}
 use Rattle.history_keeper.specs.declared.row.Row.{Row}
-use Rattle.update_log.specs.declared.facts.Facts.{Facts}
 use Rattle.update_log.specs.Pasts.{boots, off}
 use Rattle.daemon_core.specs.Annals.{SameFacts}
 use Rattle.daemon_core.specs.Housed.{Annalled, Housed, past, rows_before, rows_taken}
 use Rattle.daemon_core.specs.Turns.{FaultsCounted}
-use Rattle.client_scripts.specs.declared.item.Item.{Item}
 use Rattle.client_plays.specs.declared.played.Played.{Played}
 use Rattle.client_plays.specs.Moments.{Moment}
-use Rattle.client_plays.specs.Plays.{Plays}
-use Rattle.client_plays.specs.Tools.{Files}
 use Rattle.client_plays.specs.Scripts.{PlayedSo, PlaysAll, PlaysUntil}
 use Rattle.client_plays.specs.Endings.{AtRest, HouseOnceMore, HousePlayed, HouseWent, IsIdle, SoFar}
 use Rattle.client_plays.proofs.MomentLaws.{did-both, did-nothing, grew-boots}
@@ -58,14 +54,6 @@ more-done faults true client Play old new p =
     record { moments = p.ended.moments; did = p.ended.did; more = (inl refl, leaves-whole client Play p.ended.moments p.ended.ends); rest = p.rest }
 more-done faults false client Play old new p =
     record { moments = p.ended.moments; did = p.ended.did; more = (inr refl, p.ended.ends); rest = p.rest }
-
-pub more-wanting : {K : Type 0} (faults : K → ℕ) (wanting : Bool) (client : ℕ) (Play : List Moment → Type 0) (old new : Housed K) → HousePlayed faults Played.NoMemory client Play old new → HouseOnceMore faults (Some true) wanting client Play old new
-more-wanting faults wanting client Play old new p =
-    record { moments = p.ended.moments; did = p.ended.did; more = (inl refl, p.ended.ends); rest = p.rest }
-
-pub more-off : {K : Type 0} (faults : K → ℕ) (wanting : Bool) (client : ℕ) (Play : List Moment → Type 0) (old new : Housed K) → HousePlayed faults Played.Off client Play old new → HouseOnceMore faults None wanting client Play old new
-more-off faults wanting client Play old new p =
-    record { moments = p.ended.moments; did = p.ended.did; more = p.ended.ends; rest = p.rest }
 
 -- Nothing was done yet.
 pub so_far-nothing : {K X : Type 0} (faults : K → ℕ) (wanting : Bool) (client : ℕ) (Play : X → List Moment → Type 0) (h : Housed K) → IsIdle (past h) → SoFar faults wanting client Play [] h h
@@ -121,8 +109,3 @@ still-booted faults wanting client Play done old new s b = subst (λ (n : ℕ). 
 -- The facts and the rows before the log are the same all along.
 pub before-same : (old new : Annalled) → SameFacts old new → rows_before new ≡ rows_before old
 before-same old new s = ap (λ (b : Bool). rows_taken b new.opening) s.loaded ∙ ap (λ (o : List Row). rows_taken old.loaded o) s.opening
-
-pub same-plays : {K : Type 0} (faults : K → ℕ) (told : Option Bool) (wanting : Bool) (files : Files) (client : ℕ) (item : Item) (old mid new : Housed K) → SameFacts old.annals mid.annals → HouseOnceMore faults told wanting client (Plays mid.annals.facts (rows_before mid.annals) files client item) mid new → HouseOnceMore faults told wanting client (Plays old.annals.facts (rows_before old.annals) files client item) mid new
-same-plays faults told wanting files client item old mid new s m =
-    subst (λ (r : List Row). HouseOnceMore faults told wanting client (Plays old.annals.facts r files client item) mid new) (before-same old.annals mid.annals s)
-    (subst (λ (f : Facts). HouseOnceMore faults told wanting client (Plays f (rows_before mid.annals) files client item) mid new) s.facts m)

@@ -3,14 +3,13 @@ use Rattle.std.proofs.Common.{◌≡◌, ◌⊎◌, ℕ, zero, suc, List, [], �
 use Rattle.std.specs.Prelude.{Option, Some, None, IfSome, slice_get}
 use Rattle.fw_facts.specs.declared.release.Release.{Release}
 use Rattle.outer_traits.specs.Shelves.{file_of}
-use Rattle.release_catalogue.specs.declared.reference.ReleaseRef.{ReleaseRef}
 use Rattle.update_log.specs.declared.facts.Facts.{Facts}
 use Rattle.update_log.specs.declared.refusal.FetchNote.{FetchNote}
 use Rattle.update_log.specs.declared.request.Request.{Request}
 use Rattle.daemon_core.specs.declared.fetched.Fetched.{Fetched}
 use Rattle.daemon_core.specs.declared.hold.Hold.{Hold}
 use Rattle.daemon_core.specs.Fetches.{note_of, raw_number}
-use Rattle.daemon_core.specs.Holds.{IsHoldFor, IsReleaseAt}
+use Rattle.daemon_core.specs.Holds.{IsHoldFor}
 use Rattle.install_engine.specs.Answers.{IfWhole, told}
 use Rattle.install_engine.specs.Findings.{Finding, found_of}
 use Rattle.client_plays.specs.Shelves.{IsFetched, files_for, files_of, note_found}
@@ -49,14 +48,6 @@ note-fetched facts client request pending files hold fetched h f w =
       there = h.release_at;
       note_is = note-files files hold h.release fetched h.digest_is h.size_is f w;
     }
-
--- Any shelf may fail.
-fault-files : (files : Files) (release : Release) → IfSome files (λ all. (FetchNote.ShelfFault ≡ FetchNote.ShelfFault) ⊎ (FetchNote.ShelfFault ≡ note_found release.digest (found_of (file_of all release.digest) release.digest release.size)))
-fault-files None release = tt
-fault-files (Some all) release = inl refl
-
-pub fault-fetched : (facts : Facts) (files : Files) (at : ReleaseRef) (release : Release) → IsReleaseAt facts.catalogue at release → IsFetched facts files at FetchNote.ShelfFault
-fault-fetched facts files at release r = record { release = release; there = r; note_is = fault-files files release }
 
 -- The files of each client's shelf, where the shelves stay.
 files-at : (old new : List ShelfTold) (n : ℕ) → ShelvesStay old new → files_of (slice_get new n) ≡ files_of (slice_get old n)

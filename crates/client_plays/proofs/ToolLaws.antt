@@ -7,9 +7,6 @@ pub shelves-here : (s : List ShelfTold) → ShelvesStay s s
 shelves-here [] = tt
 shelves-here (s ∷ rest) = (record { files = refl; counts = omega arith }, shelves-here rest)
 
-pub tools_here : (t : Tools) → ToolsStay t t
-tools_here t = record { plugins = refl; shelves = shelves-here t.shelves }
-
 le-both : (a b c : ℕ) → a ≤ b → b ≤ c → a ≤ c
 le-both a b c x y = omega arith
 
@@ -23,9 +20,6 @@ shelves-both (p ∷ a) (q ∷ b) (r ∷ c) x y = (
   record { files = y.0.files ∙ x.0.files; counts = le-both p.faults q.faults r.faults x.0.counts y.0.counts },
   shelves-both a b c x.1 y.1,
 )
-
-pub tools-both : (a b c : Tools) → ToolsStay a b → ToolsStay b c → ToolsStay a c
-tools-both a b c x y = record { plugins = y.plugins ∙ x.plugins; shelves = shelves-both a.shelves b.shelves c.shelves x.shelves y.shelves }
 
 pub shelves-long : (a b : List ShelfTold) → ShelvesStay a b → length b ≡ length a
 shelves-long [] [] s = refl
@@ -41,12 +35,6 @@ serves-later old new facts now client s t e =
       plugins = subst (λ (n : ℕ). length facts.vetoes ≤ n) (sym t.plugins) s.plugins;
       shelf = subst (λ (n : ℕ). client - 1 < n) (sym (shelves-long old.shelves new.shelves t.shelves)) s.shelf;
     })
-
--- One that can work for the last of so many clients can for each of them, and for the daemon.
-pub serves-each : (tools : Tools) (facts : Facts) (clients client : ℕ) → Serves tools facts clients → client ≤ clients → Serves tools facts client
-serves-each tools facts clients client s l =
-    let within = s.shelf in
-    record { plugins = s.plugins; shelf = omega arith }
 
 -- One that can work for the daemon can for as many clients as it has shelves.
 pub serves-all : (tools : Tools) (facts : Facts) (clients : ℕ) → Serves tools facts 0 → clients ≤ length tools.shelves → Serves tools facts clients

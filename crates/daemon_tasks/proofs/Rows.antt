@@ -15,11 +15,10 @@ use Rattle.update_log.specs.declared.facts.Facts.{Facts}
 use Rattle.update_log.specs.Known.{Fate, Known, fate_stored, known, resumption, row_of, rows, rows_by}
 use Rattle.update_log.specs.Pasts.{is_keeper_fault, time_of}
 use Rattle.daemon_core.proofs.AnnalsKept.{appended-past}
-use Rattle.daemon_core.specs.Annals.{Appended, SameFacts, Unchanged}
+use Rattle.daemon_core.specs.Annals.{Appended, SameFacts}
 use Rattle.daemon_core.specs.Housed.{Annalled, past_in, rows_before}
 use Rattle.daemon_core.specs.declared.stop.Stop.{Stop}
 use Rattle.client_plays.proofs.RestLaws.{before-same}
-use Rattle.client_plays.proofs.TurnLaws.{unmoved}
 use Rattle.plain_runs.specs.declared.outcome.Outcome.{Outcome}
 use Rattle.plain_runs.specs.Ran.{Gained, Ran, StepMade, cut_events, start_events, step_events}
 use Rattle.plain_runs.proofs.Pasts.{grown, past-gained}
@@ -114,9 +113,6 @@ others-appended client entry event old new s a =
     λ other h.
     ap (λ (r : List Row). row_of r other) (rows-over old new (event ∷ past_in old) a.same (appended-past client event old new a))
     ∙ row-spared old.facts (rows_before old) (past_in old) entry event other s h
-
-pub others-unchanged : (entry : ℕ) (old new : Annalled) → Unchanged old new → OthersStay entry old new
-others-unchanged entry old new u = λ other h. ap (λ (r : List Row). row_of r other) (rows-over old new (past_in old) u.same (unmoved old new u))
 
 cut-row : (facts : Facts) (opening : List Row) (cut : Bool) (past : List Event) (other : ℕ) → row_of (rows facts opening (cut_past cut past)) other ≡ row_of (rows facts opening past) other
 cut-row facts opening true past other = refl

@@ -68,10 +68,6 @@ abbrev pub NoneIn : List ℕ → List ℕ → Type 0
 NoneIn entries [] = Unit {0}
 NoneIn entries (other ∷ others) = (list_any (λ e. e == other) entries ≡ false) × NoneIn entries others
 
-none-none : (others : List ℕ) → NoneIn [] others
-none-none [] = tt
-none-none (other ∷ others) = (refl, none-none others)
-
 none-cons : (n entry : ℕ) (entries others : List ℕ) → entry ≡ n → AllAbove (n + 1) others → NoneIn entries others → NoneIn (entry ∷ entries) others
 none-cons n entry entries [] q a k = tt
 none-cons n entry entries (other ∷ others) q a k =

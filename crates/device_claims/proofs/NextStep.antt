@@ -45,9 +45,6 @@ wanted_by detach write attach ops.Cleanup = true
 abbrev next_number : ℕ → Bool → Bool → Bool → ℕ
 next_number last detach write attach = number_or_end (find (λ op. nat_lt last (op_number op) && wanted_by detach write attach op) all_ops)
 
-next_number-is : (t : Trace) → number_or_end (next_step t) ≡ next_number (last_number t.steps) (is_wanted t ops.Detach) (is_wanted t ops.Write) (is_wanted t ops.Attach)
-next_number-is t = refl
-
 -- The earliest and the latest number of a step behind each.
 abbrev pub earliest_behind : Op → ℕ
 earliest_behind ops.Prepare = 2
@@ -88,16 +85,6 @@ next-behind step t =
     let after : Trace = with_step step t in
     let P : ℕ → Type 0 = λ last. Between (earliest_behind step.op) (latest_behind step.op) (next_number last (is_wanted after ops.Detach) (is_wanted after ops.Write) (is_wanted after ops.Attach)) in
     subst P (sym (last_number-push t.steps step)) (behind step.op (is_wanted after ops.Detach) (is_wanted after ops.Write) (is_wanted after ops.Attach))
-
--- A number names its step.
-pub detach-of : (next : Option Op) → number_or_end next ≡ 2 → next ≡ Some ops.Detach
-detach-of None e = absurd (omega arith)
-detach-of (Some ops.Prepare) e = absurd (omega arith)
-detach-of (Some ops.Detach) e = refl
-detach-of (Some ops.Write) e = absurd (omega arith)
-detach-of (Some ops.Attach) e = absurd (omega arith)
-detach-of (Some ops.Reload) e = absurd (omega arith)
-detach-of (Some ops.Cleanup) e = absurd (omega arith)
 
 pub reload-of : (next : Option Op) → number_or_end next ≡ 5 → next ≡ Some ops.Reload
 reload-of None e = absurd (omega arith)

@@ -76,16 +76,3 @@ module _ {K : Type 0} (told : K → Option (List Row)) (doubted : K → Option C
   pub campaign-ends : (status : Status) (ran : Ran) → WasPlayed told doubted faults files ran c scripts opening log boards old new → IsReported status ran.ending ran.wanting log text before after
       → CampaignEnds told files status c opening scripts log new text before after
   campaign-ends status ran p r = subst Ends (sym r.status_is) (written-so r.written ran p r.took)
-
--- The status is a fault of the sink only where writing met one.
-never-sink : (ending : Ending) (want fault : Bool) → played_status ending want fault ≡ statuses.SinkFault → ⊥
-never-sink ending true fault e = cc
-never-sink Ending.Whole false true e = cc
-never-sink Ending.Whole false false e = cc
-never-sink (Ending.BadHistory entry) false fault e = cc
-never-sink Ending.NoMemory false fault e = cc
-
-pub sink-only : (written : Written) (ending : Ending) (want fault : Bool) → written_status written (played_status ending want fault) ≡ statuses.SinkFault → written ≡ writes.SinkFault
-sink-only writes.Whole ending want fault e = absurd (never-sink ending want fault e)
-sink-only writes.SinkFault ending want fault e = refl
-sink-only writes.NoMemory ending want fault e = cc

@@ -12,7 +12,6 @@ use Rattle.update_log.specs.declared.event.Event.{Event}
 use Rattle.update_log.specs.declared.event.Op.{Op}
 use Rattle.update_log.specs.declared.facts.Facts.{Facts}
 use Rattle.update_log.specs.declared.live.LiveEntry.{LiveEntry}
-use Rattle.update_log.specs.Legal.{StartAllowed}
 use Rattle.update_log.specs.Pasts.{boots, off, past_of}
 use Rattle.update_log.specs.Steps.{next_step}
 use Rattle.daemon_core.proofs.AnnalsKept.{appended-past}
@@ -24,12 +23,11 @@ use Rattle.daemon_core.specs.Returns.{ComesHome, StepEnds, new_marks}
 use Rattle.daemon_core.specs.Turns.{WentOff}
 use Rattle.daemon_core.specs.declared.claimed.Taken.{Taken}
 use Rattle.device_claims.specs.Claims.{Noted}
-use Rattle.device_claims.specs.States.{IsNext}
 use Rattle.device_claims.specs.declared.claim.Parts.{Parts}
 use Rattle.install_engine.specs.Runs.{ClaimRuns, StepLeft}
 use Rattle.install_engine.specs.RunsIn.{HomeIn, RunsIn, parts_taken}
 use Rattle.install_engine.proofs.RunDone.{claim-done}
-use Rattle.install_engine.proofs.RunSteps.{claim-ended, claim-home, claim-start, claim-started, home-cut, step-ends, step-home}
+use Rattle.install_engine.proofs.RunSteps.{claim-ended, claim-home, claim-started, home-cut, step-ends, step-home}
 use Rattle.install_engine.proofs.RunTaken.{TakesWith, taken-runs}
 
 -- ---- from annals to the next
@@ -49,9 +47,6 @@ past-kept : (old new : Annalled) → Unchanged old new → past_in new ≡ past_
 past-kept old new u = ap past_of u.log
 
 -- ---- the steps
-
-pub start-in : (a : Annalled) (client : ℕ) (parts : Parts) (op : Op) → RunsIn a client parts None → IsNext op parts.trace → (l : LiveEntry) × StartAllowed a.facts (rows_before a) (past_in a) client parts.entry op l
-start-in a client parts op k n = (k.l, claim-start a.facts a.first (rows_before a) (past_in a) client parts k.number k.l op k.runs n)
 
 pub started-in : (a new : Annalled) (client : ℕ) (parts : Parts) (op : Op) → Runs a → RunsIn a client parts None → Appended client (Event.Start client parts.entry op) a new → RunsIn new client parts (Some op)
 started-in a new client parts op runs k p =

@@ -8,24 +8,17 @@ use Rattle.emulated_boards.specs.declared.mark.Mark.{Mark}
 use Rattle.emulated_boards.specs.declared.fault.BoardFault.{BoardFault}
 use Rattle.update_log.specs.declared.event.Event.{Event}
 use Rattle.update_log.specs.declared.event.Op.{Op}
-use Rattle.update_log.specs.declared.live.LiveEntry.{LiveEntry}
-use Rattle.update_log.specs.Legal.{StartAllowed}
 use Rattle.daemon_core.specs.Annals.{Appended, Runs}
 use Rattle.daemon_core.specs.Housed.{Annalled, past_in, rows_before}
 use Rattle.daemon_core.specs.Returns.{StepEnds, new_marks}
 use Rattle.daemon_core.specs.Turns.{WentOff}
-use Rattle.device_claims.specs.States.{IsNext}
 use Rattle.device_claims.specs.declared.claim.Parts.{Parts}
 use Rattle.install_engine.specs.RunsIn.{HomeIn, RunsIn}
-use Rattle.install_engine.proofs.RunHouse.{ended-in, ends-in, home-between, home-off, home-within, start-in, started-in}
+use Rattle.install_engine.proofs.RunHouse.{ended-in, ends-in, home-between, home-off, home-within, started-in}
 use Rattle.plain_runs.proofs.Logs.{gained-one}
 use Rattle.plain_runs.specs.Ran.{Gained, StepToEnd}
 
 -- ---- the start
-
-pub start-next : (a : Annalled) (client entry : ℕ) (parts : Parts) (op : Op) → parts.entry ≡ entry → RunsIn a client parts None → IsNext op parts.trace → (l : LiveEntry) × StartAllowed a.facts (rows_before a) (past_in a) client entry op l
-start-next a client entry parts op e k n =
-    subst (λ (x : ℕ). (l : LiveEntry) × StartAllowed a.facts (rows_before a) (past_in a) client x op l) e (start-in a client parts op k n)
 
 pub start-runs : (a b : Annalled) (client entry : ℕ) (parts : Parts) (op : Op) → parts.entry ≡ entry → RunsIn a client parts None → Runs a → Appended client (Event.Start client entry op) a b → RunsIn b client parts (Some op)
 start-runs a b client entry parts op e k r p = started-in a b client parts op r k (subst (λ (x : ℕ). Appended client (Event.Start client x op) a b) (sym e) p)

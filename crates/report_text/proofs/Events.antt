@@ -3,7 +3,7 @@ use Rattle.std.proofs.Common.{◌≡◌, ℕ, suc, ◌+◌, ◌<◌, ◌≤◌, 
 use Rattle.std.proofs.Math.Seq.{drop-cons}
 use Rattle.std.proofs.Math.ListN.{drop_of_length-le}
 use Rattle.outer_traits.specs.Sinks.{Took, TookFront}
-use Rattle.outer_traits.proofs.Fronts.{StillToWrite, still_none, took_more, front_first, front_later}
+use Rattle.outer_traits.proofs.Fronts.{StillToWrite, took_more, front_first, front_later}
 use Rattle.update_log.specs.declared.event.Event.{Event}
 use Rattle.report_text.specs.Report.{in_turn}
 use Rattle.client_scripts.proofs.Pieces.{newest_first}
@@ -47,9 +47,3 @@ event_stopped bytes lines log i event a b c lt is s stopped =
     let later : List ℕ = in_turn lines (reverse (take (i + 1) log)) (drop (i + 1) log) in
     let whole : bytes ≡ s.front ++ (mine ++ later) = s.parts ∙ ap (λ (rest : List ℕ). s.front ++ rest) (from_here lines log i event lt is) in
     rw whole (front_later s.front (mine ++ later) a b c s.took (front_first mine later b c stopped))
-
--- all lines were written
-pub events_written : (bytes : List ℕ) (lines : List Event → Event → List ℕ) (log : List Event) (i : ℕ) (a b : Option (List ℕ)) → length log ≤ i
-    → StillToWrite bytes (in_turn lines (reverse (take i log)) (drop i log)) a b → Took bytes a b
-events_written bytes lines log i a b le s =
-    still_none bytes _ a b (ap (in_turn lines (reverse (take i log))) (drop_of_length-le log le)) s

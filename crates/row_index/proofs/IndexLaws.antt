@@ -11,7 +11,7 @@ use Rattle.history_keeper.specs.declared.row.RowState.{RowState}
 use Rattle.history_keeper.specs.Changes.{with_state}
 use Rattle.history_keeper.specs.Histories.{is_unsettled}
 use Rattle.row_index.specs.Rows.{has_tag, waits_on}
-use Rattle.history_keeper.proofs.Numbered.{by_test, get-push, some-same}
+use Rattle.history_keeper.proofs.Numbered.{by_test, get-push, numbered-push, some-same}
 use Rattle.row_index.specs.Indexes.{IsIndexOf, WaitsFromBefore, or_noted, place_of, row_at}
 use Rattle.row_index.proofs.Places.{place-push}
 
@@ -73,17 +73,13 @@ module _ {S : Type 0} where
       → ((other : List ℕ) → get bytes_eq tags' other ≡ or_noted (get bytes_eq tags other) (bytes_eq other row.tag) (length rows))
       → ((device : List ℕ) → get bytes_eq waiting' device ≡ (if is_unsettled row.state && bytes_eq device row.device then Some (length rows) else get bytes_eq waiting device))
       → IsIndexOf (rows ++ row ∷ []) tags' waiting'
-  one-more rows row tags waiting tags' waiting' i e free t w =
+  one-more rows row tags waiting tags' waiting' i next free t w =
       record {
-        numbered = λ at r g. numbered-at at r (get-push rows row r at g);
+        numbered = numbered-push rows row i.numbered next;
         of_tags = λ tag. t tag ∙ ap (λ o. or_noted o (bytes_eq tag row.tag) (length rows)) (i.of_tags tag) ∙ place-push (has_tag tag) rows row;
         of_devices = λ device at r g u. device-at device at r u (get-push rows row r at g);
       }
     where
-      numbered-at : (at : ℕ) (r : Row) → (slice_get rows at ≡ Some r) ⊎ ((at ≡ length rows) × (row ≡ r)) → r.entry ≡ at + 1
-      numbered-at at r (inl g) = i.numbered at r g
-      numbered-at at r (inr g) = let same : row.entry ≡ r.entry = ap (λ (x : Row). x.entry) g.1 in let there : at ≡ length rows = g.0 in omega arith
-
       device-at : (device : List ℕ) (at : ℕ) (r : Row) → waits_on device r ≡ true → (slice_get rows at ≡ Some r) ⊎ ((at ≡ length rows) × (row ≡ r)) → get bytes_eq waiting' device ≡ Some at
       device-at device at r u (inr g) =
           let here : waits_on device row ≡ true = ap (waits_on device) g.1 ∙ u in

@@ -23,12 +23,6 @@ pub changed-grows : (change : Change) (rows : List Row) → length rows ≤ leng
 changed-grows (Change.Add row) rows = omega (arith, length_push rows row)
 changed-grows (Change.Advance entry state reason time) rows = omega (arith, length-map (with_state entry state reason time) rows)
 
-pub rows_by-grows : (fate : Fate) (change : Option Change) (rows : List Row) → length rows ≤ length (rows_by fate change rows)
-rows_by-grows Fate.Made (Some change) rows = changed-grows change rows
-rows_by-grows Fate.Made None rows = omega arith
-rows_by-grows Fate.Doubtful change rows = omega arith
-rows_by-grows Fate.Dropped change rows = omega arith
-
 pub found-grows : (found : Found) (doubt : Option Change) (rows : List Row) → length rows ≤ length (rows_found found doubt rows)
 found-grows Found.Kept (Some change) rows = changed-grows change rows
 found-grows Found.Kept None rows = omega arith

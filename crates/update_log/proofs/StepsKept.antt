@@ -9,20 +9,18 @@ use Rattle.emulated_boards.specs.declared.mark.Mark.{Mark}
 use Rattle.fw_facts.specs.declared.seen.Seen.{Seen}
 use Rattle.fw_facts.specs.declared.view.DeviceView.{DeviceView}
 use Rattle.history_keeper.specs.declared.row.Row.{Row}
-use Rattle.history_keeper.specs.declared.row.RowState.{RowState}
 use Rattle.update_log.proofs.Accepts.{accepts-target}
 use Rattle.update_log.proofs.Lists.{All-both, All-filter, All-find, All-map, All-push, by_test, eqb-other, eqb-self, find-filter, find-filter_none, find-passes, find-push_other, find-push_some}
-use Rattle.update_log.proofs.Rows.{accepted-claim, found-grows, rows_by-grows, rows_by-refused}
+use Rattle.update_log.proofs.Rows.{accepted-claim, found-grows, rows_by-refused}
 use Rattle.update_log.proofs.StrokeFacts.{is_open, last_ended, order-start}
 use Rattle.update_log.specs.Holding.{blocks_fetched, blocks_fetched_if, held, holds, live, live_entry, open_steps, request_held, step_open}
-use Rattle.update_log.specs.Known.{Target, asked, fate_stored, known, rows, seen, target, views}
+use Rattle.update_log.specs.Known.{Target, asked, known, rows, seen, target, views}
 use Rattle.update_log.specs.Legal.{ClaimAllowed, EndAllowed, StartAllowed, next_entry}
 use Rattle.update_log.specs.Once.{InOrder, Stroke, strokes}
 use Rattle.update_log.specs.Pasts.{is_keeper_fault, time_of}
 use Rattle.update_log.specs.Shows.{Campaign, told}
 use Rattle.update_log.specs.Steps.{first_trace, last_number, next_step, op_number, trace, with_step}
 use Rattle.update_log.specs.Verdicts.{case_of, verdict}
-use Rattle.update_log.specs.declared.answer.AskAnswer.{AskAnswer}
 use Rattle.update_log.specs.declared.answer.ClaimAnswer.{ClaimAnswer}
 use Rattle.update_log.specs.declared.answer.ResumeAnswer.{ResumeAnswer}
 use Rattle.update_log.specs.declared.decision.Stage.{Stage}
@@ -68,9 +66,6 @@ strokes-start_same client entry op past = rw (eqb-self entry) refl
 pub strokes-start_other : (client entry other : ℕ) (op : Op) (past : List Event) → (entry == other) ≡ false → strokes other (Event.Start client entry op ∷ past) ≡ strokes other past
 strokes-start_other client entry other op past h = rw h refl
 
-pub strokes-end_same : (client entry : ℕ) (op : Op) (outcome : Result (Unit {0}) BoardFault) (told : List Mark) (seen : Seen) (past : List Event) → strokes entry (Event.End client entry op outcome told seen ∷ past) ≡ Stroke.Ended op ∷ strokes entry past
-strokes-end_same client entry op outcome told seen past = rw (eqb-self entry) refl
-
 pub strokes-end_other : (client entry other : ℕ) (op : Op) (outcome : Result (Unit {0}) BoardFault) (told : List Mark) (seen : Seen) (past : List Event) → (entry == other) ≡ false → strokes other (Event.End client entry op outcome told seen ∷ past) ≡ strokes other past
 strokes-end_other client entry other op outcome told seen past h = rw h refl
 
@@ -83,25 +78,6 @@ steps-boot facts opening past number time limit found boards k =
       fresh = λ e h. k.fresh e (omega (arith, found-grows found (known facts opening past).doubt (known facts opening past).rows));
       live_is = tt;
       open_are = tt;
-      order = k.order;
-    }
-
-pub steps-ask : (facts : Facts) (opening : List Row) (past : List Event) (client : ℕ) (request : Request) (pending : Option ℕ) (answer : AskAnswer) → StepsKept facts opening past → StepsKept facts opening (Event.Ask client request pending answer ∷ past)
-steps-ask facts opening past client request pending answer k =
-    record {
-      fresh = k.fresh;
-      live_is = All-map _ _ (live past) k.live_is (λ l w. record { known = w.known; open_is = w.open_is; traced_to = w.traced_to });
-      open_are = All-map _ _ (open_steps past) k.open_are (λ s w. record { rest = w.rest; started = w.started });
-      order = k.order;
-    }
-
-pub steps-finish : (facts : Facts) (opening : List Row) (past : List Event) (client entry : ℕ) (state : RowState) (stored : Stored) → StepsKept facts opening past → StepsKept facts opening (Event.Finish client entry state stored ∷ past)
-steps-finish facts opening past client entry state stored k =
-    let grows = rows_by-grows (fate_stored stored) (asked facts (time_of past) (live past) (known facts opening past) (Event.Finish client entry state stored)) (known facts opening past).rows in
-    record {
-      fresh = λ e h. k.fresh e (omega (arith, grows));
-      live_is = All-filter _ _ _ (live past) k.live_is (λ l w _. record { known = omega (arith, grows, w.known); open_is = w.open_is; traced_to = w.traced_to });
-      open_are = All-map _ _ (open_steps past) k.open_are (λ s w. record { rest = w.rest; started = w.started });
       order = k.order;
     }
 

@@ -16,7 +16,7 @@ use Rattle.history_keeper.specs.declared.row.Row.{Row}
 use Rattle.history_keeper.specs.declared.row.RowState.{RowState}
 use Rattle.release_catalogue.specs.declared.reference.ReleaseRef.{ReleaseRef}
 use Rattle.update_log.proofs.Accepts.{accepts-target, target-matches, target-met}
-use Rattle.update_log.proofs.Lists.{All-filter, All-find, All-map, All-push, by_test, eqb-other, eqb-self, find-passes, find-push_other}
+use Rattle.update_log.proofs.Lists.{All-find, All-map, All-push, by_test, eqb-other, eqb-self, find-passes, find-push_other}
 use Rattle.update_log.proofs.Openings.{EntriesFrom, bytes-same}
 use Rattle.update_log.proofs.Rows.{accepted-claim, changed-grows, rows_by-refused}
 use Rattle.update_log.proofs.RowsKept.{GoesOn, NextChange, RowsKept, claim-not_kept, fixed, fixed_row, goes_on-fixed, no-tag, not_kept, row_of-past, schedule-not_kept, with_state-fixed}
@@ -211,12 +211,6 @@ taken-end facts opening past client entry op outcome told seen k n =
     w : (strokes entry past ≡ []) ⊎ Taken facts opening past entry → Taken facts opening past entry
     w (inl e) = absurd (n e)
     w (inr t) = t
-
-pub taken-finish : (facts : Facts) (opening : List Row) (past : List Event) (client entry : ℕ) (state : RowState) (stored : Stored) → TakenKept facts opening past → GoesOn (rows facts opening past) (rows facts opening (Event.Finish client entry state stored ∷ past)) → TakenKept facts opening (Event.Finish client entry state stored ∷ past)
-taken-finish facts opening past client entry state stored k g =
-    taken-quiet facts opening past (Event.Finish client entry state stored) k g (λ e. refl) (λ e h. refl) (λ e h. refl)
-    (inr (All-filter _ _ _ (live past) k.live_taken (λ x w h. w)))
-    k.begun
 
 -- no row of the opening is pending past its end
 pub none-pending : (n : ℕ) (rows : List Row) (e : ℕ) → EntriesFrom n rows → n + length rows ≤ e → how_many (is_pending_row e) rows ≡ 0
