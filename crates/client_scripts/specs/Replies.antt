@@ -187,7 +187,7 @@ results_reply views rows (Some view) = row_or_none views (newest_of rows view.sh
 
 -- The device's row that waits for its end.
 abbrev pub unsettled_of : List Row → List ℕ → Option Row
-unsettled_of rows device = find (λ row. is_unsettled row.state && bytes_eq device row.device) rows
+unsettled_of rows device = find (λ row. bytes_eq row.device device && is_unsettled row.state) rows
 
 -- What a client is told that would have a row judged, where there is none to judge.
 abbrev pub waits_or_nothing : Option Row → List ℕ

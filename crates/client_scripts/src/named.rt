@@ -3,13 +3,12 @@ ghost use Rattle.std.specs.Prelude.{◌≡◌, find};
 ghost use Rattle.std.specs.Option.{option_copied};
 ghost use Rattle.std.specs.Str.{bytes_eq};
 ghost use Rattle.device_list.specs.Lists.{names, shows};
-ghost use Rattle.history_keeper.specs.Histories.{is_unsettled};
-ghost use Rattle.client_scripts.specs.Replies.{device_named, newest_of, unsettled_of};
+ghost use Rattle.client_scripts.specs.Replies.{device_named, newest_of};
 
 use device_list::Selector;
 use fw_facts::DeviceView;
 use guid_ids::{DeviceId, Guid};
-use history_keeper::{Row, RowState};
+use history_keeper::Row;
 
 /// The first device that a selector names.
 pub fn device_named<'a>(views: &'a [DeviceView], selector: &Selector) -> Option<&'a DeviceView>
@@ -46,21 +45,4 @@ pub fn newest_of<'a>(rows: &'a [Row], device: &DeviceId) -> Option<&'a Row>
     ensures { option_copied result ≡ newest_of rows.now device.now }
 {
     rows.iter().rev().find(|row| *device == row.device)
-}
-
-/// The row of a device that waits for its end.
-pub fn unsettled_of<'a>(rows: &'a [Row], device: &DeviceId) -> Option<&'a Row>
-    ensures { option_copied result ≡ unsettled_of rows.now device.now }
-{
-    rows.iter()
-        .find(|row| is_unsettled(row.state) && *device == row.device)
-}
-
-fn is_unsettled(state: RowState) -> bool
-    ensures { result ≡ is_unsettled state }
-{
-    match state {
-        RowState::Pending | RowState::NeedsReboot | RowState::Begun => true,
-        RowState::Success | RowState::Failed => false,
-    }
 }

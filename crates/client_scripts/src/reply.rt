@@ -7,8 +7,6 @@ use crate::named::device_named;
 use crate::releases::{put_releases, put_upgrades};
 use crate::rows::{put_history, put_results, put_settle};
 use fw_base::NoMemory;
-use fw_facts::DeviceView;
-use history_keeper::Row;
 use update_log::{CoreState, Facts, Query};
 
 /// Puts what a client is told behind a text: the lines of the reply to its question, over the rows and
@@ -24,7 +22,7 @@ pub fn write_reply(
     ensures stays { OnErr result (out.new.items ≡ out.old.items) }
 {
     let mut text = Vec::new(*out.allocator());
-    put_reply(&mut text, facts, state.views(), state.rows(), query)?;
+    put_reply(&mut text, facts, state, query)?;
     out.extend_from_slice(&text)?;
     Ok(())
 }
@@ -33,18 +31,18 @@ pub fn write_reply(
 pub(crate) fn put_reply(
     out: &mut Vec<u8>,
     facts: &Facts,
-    views: &[DeviceView],
-    rows: &[Row],
+    state: &CoreState,
     query: &Query,
 ) -> Result<(), NoMemory>
-    ensures { OnOk result (out.new.items ≡ out.old.items ++ reply facts.now views.now rows.now query.now) }
+    ensures { OnOk result (out.new.items ≡ out.old.items ++ reply facts.now state.now.views state.now.rows query.now) }
 {
+    let (views, rows) = (state.views(), state.rows());
     match query {
         Query::Devices => Ok(put_devices(out, &facts.machine, rows, views)?),
         Query::Releases(device) => put_releases(out, facts, device_named(views, device)),
         Query::Upgrades(device) => put_upgrades(out, facts, device_named(views, device)),
         Query::History => Ok(put_history(out, views, rows)?),
         Query::Results(device) => Ok(put_results(out, views, rows, device_named(views, device))?),
-        Query::Settle(device) => Ok(put_settle(out, rows, device_named(views, device))?),
+        Query::Settle(device) => Ok(put_settle(out, state, device_named(views, device))?),
     }
 }

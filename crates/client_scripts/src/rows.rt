@@ -4,13 +4,14 @@ ghost use Rattle.std.specs.Option.{option_copied};
 ghost use Rattle.client_scripts.specs.Replies.{asked_text, history_reply, port_or_id, results_reply, row_line, row_text, row_or_none, settle_reply, waits_or_nothing};
 
 use crate::lines::{LINES_MAX, put_left_out, put_no_device, put_none};
-use crate::named::{device_with, newest_of, unsettled_of};
+use crate::named::{device_with, newest_of};
 use crate::parts::put_number;
 use crate::words::state_word;
 use fw_facts::{DeviceView, Seen};
 use guid_ids::DeviceId;
 use history_keeper::Row;
 use std::alloc::AllocError;
+use update_log::CoreState;
 
 /// Puts the lines of the newest rows behind the text.
 pub fn put_history(out: &mut Vec<u8>, views: &[DeviceView], rows: &[Row]) -> Result<(), AllocError>
@@ -120,22 +121,22 @@ fn put_port_or_id(
 /// Puts the line behind the text that a client is told where there is no row to judge.
 pub fn put_settle(
     out: &mut Vec<u8>,
-    rows: &[Row],
+    state: &CoreState,
     view: Option<&DeviceView>,
 ) -> Result<(), AllocError>
-    ensures { OnOk result (out.new.items ≡ out.old.items ++ settle_reply rows.now (option_copied view.entry)) }
+    ensures { OnOk result (out.new.items ≡ out.old.items ++ settle_reply state.now.rows (option_copied view.entry)) }
 {
     match view {
         None => put_no_device(out),
-        Some(view) => put_settle_of(out, rows, view),
+        Some(view) => put_settle_of(out, state, view),
     }
 }
 
-fn put_settle_of(out: &mut Vec<u8>, rows: &[Row], view: &DeviceView) -> Result<(), AllocError>
-    ensures { OnOk result (out.new.items ≡ out.old.items ++ settle_reply rows.now (Some view.now)) }
+fn put_settle_of(out: &mut Vec<u8>, state: &CoreState, view: &DeviceView) -> Result<(), AllocError>
+    ensures { OnOk result (out.new.items ≡ out.old.items ++ settle_reply state.now.rows (Some view.now)) }
 {
     match view.seen {
-        Seen::Home { .. } => put_waits(out, unsettled_of(rows, &view.sheet.device)),
+        Seen::Home { .. } => put_waits(out, state.unsettled_row(&view.sheet.device)),
         Seen::Gone | Seen::Stranger => put_no_device(out),
     }
 }
