@@ -4,7 +4,10 @@ use Rattle.std.specs.Prelude.{Some, None, Result, ⊤}
 use Rattle.block_pool.specs.Views.{SealedBytes}
 use Rattle.emulated_boards.specs.Boards.{BoardState}
 use Rattle.emulated_boards.specs.Conditions.{view_of}
+use Rattle.emulated_boards.specs.Images.{payload_image}
 use Rattle.emulated_boards.specs.declared.fault.BoardFault.{BoardFault}
+use Rattle.emulated_boards.specs.declared.fault.PlannedFault.{PlannedFault}
+use Rattle.emulated_boards.specs.declared.image.Image.{Image}
 use Rattle.emulated_boards.specs.declared.mark.Mark.{Mark}
 use Rattle.update_log.specs.declared.event.Event.{Event}
 use Rattle.update_log.specs.declared.event.Op.{Op}
@@ -16,14 +19,14 @@ use Rattle.daemon_core.specs.Finishes.{IsDone}
 use Rattle.daemon_core.specs.Returns.{ComesHome, StepEnds, new_marks}
 use Rattle.device_claims.specs.States.{IsNext}
 use Rattle.device_claims.specs.declared.claim.Parts.{Parts}
-use Rattle.install_engine.specs.Runs.{ClaimRuns}
+use Rattle.install_engine.specs.Runs.{ClaimRuns, StepLeft}
 use Rattle.install_engine.proofs.RunDone.{claim-done}
 use Rattle.install_engine.proofs.RunSteps.{claim-ended, claim-home, claim-start, claim-started, step-ends, step-home}
 use Rattle.turn_lock.specs.Shown.{LockId, PassView}
 use Rattle.shared_daemon.specs.declared.entry.Entry.{Entry}
 use Rattle.shared_daemon.specs.Calls.{Adds, AddsOn, FoundOff, Took}
 use Rattle.shared_daemon.specs.Entries.{past_seen}
-use Rattle.shared_daemon.specs.Names.{IsLogOf, IsPass, Name}
+use Rattle.shared_daemon.specs.Names.{HasPlan, IsLogOf, IsPass, Name}
 use Rattle.shared_daemon.specs.Others.{IsOwn}
 use Rattle.shared_daemon.specs.Steps.{EndsOwn, GoesHome, MayFinish, MayStart}
 use Rattle.shared_daemon.proofs.Stayed.{marks-met}
@@ -32,6 +35,18 @@ use Rattle.claim_runs.specs.Ran.{Finishes, Gained, IsOver, back_event}
 use Rattle.claim_runs.proofs.Freed.{HasOnly, back-frees, finish-frees, only-so}
 use Rattle.claim_runs.proofs.Kept.{goes-home, home-off, home-stay, off-seen, off-stay, past-added, runs-stay}
 use Rattle.claim_runs.proofs.Logs.{gained-event}
+
+-- The faults that are planned for a board stay, whatever a plugin's step does.
+same-plan : (op : Op) (entry : ℕ) (image : Image) (old : BoardState) (answer : Result ⊤ BoardFault) (new : BoardState) → StepLeft op entry image old answer new → new.plan ≡ old.plan
+same-plan Op.Prepare entry image old answer new s = s.rules.plan
+same-plan Op.Detach entry image old answer new s = s.rules.plan
+same-plan Op.Write entry image old answer new s = s.rules.plan
+same-plan Op.Attach entry image old answer new s = s.rules.plan
+same-plan Op.Reload entry image old answer new s = s.rules.plan
+same-plan Op.Cleanup entry image old answer new s = s.rules.plan
+
+step-planned : (plans : List (List PlannedFault)) (number : ℕ) (op : Op) (entry : ℕ) (image : Image) (old : BoardState) (answer : Result ⊤ BoardFault) (new : BoardState) → StepLeft op entry image old answer new → HasPlan plans number old → HasPlan plans number new
+step-planned plans number op entry image old answer new s p = p ∙ ap Some (sym (same-plan op entry image old answer new s))
 
 -- ---- what may be done
 
@@ -72,36 +87,41 @@ module _ (name : Name) (entry : ℕ) (pass : PassView Entry) where
         comes = subst (λ (x : ℕ). ComesHome name.facts name.first name.opening (past_seen pass.seen) pass.number x k.number k.l [] b payload.count) r.entry_is
             (subst (λ (y : BoardState). ComesHome name.facts name.first name.opening (past_seen pass.seen) pass.number parts.entry k.number k.l [] y payload.count) (sym f)
             (subst (λ (q : SealedBytes). ComesHome name.facts name.first name.opening (past_seen pass.seen) pass.number parts.entry k.number k.l [] parts.board q.count) (sym g) home));
+        planned = subst (λ (y : BoardState). HasPlan name.plans k.number y) (sym f) k.planned;
         done = subst (λ (x : ℕ). IsDone name.facts name.opening (past_seen pass.seen) x d.0) r.entry_is d.1;
       }
 
   -- The board may come home between steps, and behind a plugin's step.
   pub home-between : (parts : Parts) → RunsFor name entry None pass parts → HomeSeen name pass.number entry parts.board parts.payload.count pass.seen
   home-between parts r =
-      let k = r.seen_so in (
-        k.number,
-        k.l,
-        [],
-        subst (λ (x : ℕ). ComesHome name.facts name.first name.opening (past_seen pass.seen) pass.number x k.number k.l [] parts.board parts.payload.count) r.entry_is
-            (claim-home name.facts name.first name.opening (past_seen pass.seen) pass.number parts k.number k.l k.runs),
-      )
+      let k = r.seen_so in
+      record {
+        number = k.number;
+        l = k.l;
+        tail = [];
+        comes = subst (λ (x : ℕ). ComesHome name.facts name.first name.opening (past_seen pass.seen) pass.number x k.number k.l [] parts.board parts.payload.count) r.entry_is
+            (claim-home name.facts name.first name.opening (past_seen pass.seen) pass.number parts k.number k.l k.runs);
+        planned = k.planned;
+      }
 
   pub home-within : (op : Op) (answer : Result ⊤ BoardFault) (now : Parts) → StepToEnd name entry op answer pass now → HomeSeen name pass.number entry now.board now.payload.count pass.seen
   home-within op answer now s =
       let k = s.runs.seen_so in
-      let h = step-home name.facts name.first name.opening (past_seen pass.seen) pass.number s.before k.number k.l op answer now.board k.runs s.left in (
-        k.number,
-        k.l,
-        h.0,
-        subst (λ (x : ℕ). ComesHome name.facts name.first name.opening (past_seen pass.seen) pass.number x k.number k.l h.0 now.board now.payload.count) s.runs.entry_is
-            (subst (λ (q : SealedBytes). ComesHome name.facts name.first name.opening (past_seen pass.seen) pass.number s.before.entry k.number k.l h.0 now.board q.count) (sym s.noted.payload) h.1),
-      )
+      let h = step-home name.facts name.first name.opening (past_seen pass.seen) pass.number s.before k.number k.l op answer now.board k.runs s.left in
+      record {
+        number = k.number;
+        l = k.l;
+        tail = h.0;
+        comes = subst (λ (x : ℕ). ComesHome name.facts name.first name.opening (past_seen pass.seen) pass.number x k.number k.l h.0 now.board now.payload.count) s.runs.entry_is
+            (subst (λ (q : SealedBytes). ComesHome name.facts name.first name.opening (past_seen pass.seen) pass.number s.before.entry k.number k.l h.0 now.board q.count) (sym s.noted.payload) h.1);
+        planned = step-planned name.plans k.number op s.before.entry (payload_image s.before.payload) s.before.board answer now.board s.left k.planned;
+      }
 
 -- ---- what a turn leaves
 
 only-home : (name : Name) (client entry : ℕ) (b : BoardState) (blocks : ℕ) (met : List Entry) → IsLogOf name met → HomeSeen name client entry b blocks met → HasOnly (past_seen met) client entry
-only-home name client entry b blocks met l (number, e, tail, h) =
-    only-so name.facts name.first name.opening (past_seen met) client entry e l.history l.legal h.live h.client_is
+only-home name client entry b blocks met l h =
+    only-so name.facts name.first name.opening (past_seen met) client entry h.l l.history l.legal h.comes.live h.comes.client_is
 
 module _ {did : List Entry → List Entry → Type 0} (name : Name) (lock : LockId) (entry : ℕ) (old new : PassView Entry) (p : IsPass lock name old) (same : new.number ≡ old.number) (t : Took name did old new) where
   -- A step was started.
@@ -115,6 +135,7 @@ module _ {did : List Entry → List Entry → Type 0} (name : Name) (lock : Lock
         l = k.l;
         runs = subst (λ (w : List Event). ClaimRuns name.facts name.first name.opening w old.number parts k.number k.l (Some op)) (sym (past-added old.number (Event.Start old.number parts.entry op) t.met new.seen added))
             (claim-started name.facts name.first name.opening (past_seen t.met) old.number parts k.number k.l op k.runs a.0);
+        planned = k.planned;
       } in
       record { entry_is = r.entry_is; seen_so = subst (λ (n : ℕ). RunsSeen name n parts (Some op) new.seen) (sym same) now }
 
@@ -139,6 +160,7 @@ module _ {did : List Entry → List Entry → Type 0} (name : Name) (lock : Lock
         l = k.l;
         runs = subst (λ (w : List Event). ClaimRuns name.facts name.first name.opening w n now k.number k.l None) (sym (past-added n event t.met new.seen added))
             (claim-ended name.facts name.first name.opening (past_seen t.met) n s.before k.number k.l op answer now a.0 k.runs s.left s.noted);
+        planned = step-planned name.plans k.number op s.before.entry (payload_image s.before.payload) s.before.board answer now.board s.left k.planned;
       } in
       record { entry_is = s.noted.entry ∙ s.runs.entry_is; seen_so = subst (λ (i : ℕ). RunsSeen name i now None new.seen) (sym same) now_so }
 
@@ -172,7 +194,7 @@ module _ {did : List Entry → List Entry → Type 0} (name : Name) (lock : Lock
   went-back b blocks g a =
       let n : ℕ = old.number in
       let past = past-added n (back_event n entry) t.met new.seen a in
-      let met : HomeSeen name n entry b blocks t.met = home-stay name n old.seen t.met p.log t.meets entry b blocks (g.number, g.l, g.tail, g.comes) in
+      let met : HomeSeen name n entry b blocks t.met = home-stay name n old.seen t.met p.log t.meets entry b blocks (record { number = g.number; l = g.l; tail = g.tail; comes = g.comes; planned = g.planned }) in
       let only : HasOnly (past_seen t.met) n entry = only-home name n entry b blocks t.met t.meets.log met in
       let free : IsFree (past_seen new.seen) n = subst (λ (w : List Event). IsFree w n) (sym past) (back-frees (past_seen t.met) n entry only) in
       record {

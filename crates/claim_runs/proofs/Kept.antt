@@ -42,16 +42,19 @@ module _ (name : Name) (client : ℕ) (seen met : List Entry) (l : IsLogOf name 
         number = k.number;
         l = k.l;
         runs = claim-stays name.facts name.first name.opening (past_seen seen) (past_seen met) client parts k.number k.l running l.history m.log.legal same c;
+        planned = k.planned;
       }
 
   -- A board that may come home still may.
   pub home-stay : (entry : ℕ) (b : BoardState) (blocks : ℕ) → HomeSeen name client entry b blocks seen → HomeSeen name client entry b blocks met
-  home-stay entry b blocks (number, e, tail, h) = (
-    number,
-    e,
-    tail,
-    home-stays name.facts name.first name.opening client (past_seen seen) (past_seen met) entry number e tail b blocks (stays name client seen met l m) h,
-  )
+  home-stay entry b blocks h =
+      record {
+        number = h.number;
+        l = h.l;
+        tail = h.tail;
+        comes = home-stays name.facts name.first name.opening client (past_seen seen) (past_seen met) entry h.number h.l h.tail b blocks (stays name client seen met l m) h.comes;
+        planned = h.planned;
+      }
 
   -- A boot that is off still is.
   pub off-stay : off (past_seen seen) ≡ true → off (past_seen met) ≡ true
@@ -64,13 +67,15 @@ off-seen client met log (inr c) = ap (λ (w : List Event). off w) (past-added cl
 
 pub home-off : (name : Name) (client entry : ℕ) (b : BoardState) (blocks : ℕ) (met log : List Entry) → FoundOff client met log → HomeSeen name client entry b blocks met → HomeSeen name client entry b blocks log
 home-off name client entry b blocks met log (inl u) h = subst (λ (l : List Entry). HomeSeen name client entry b blocks l) (sym u.1) h
-home-off name client entry b blocks met log (inr c) (number, e, tail, h) = (
-  number,
-  e,
-  tail,
-  subst (λ (w : List Event). ComesHome name.facts name.first name.opening w client entry number e tail b blocks) (sym (past-added client Event.Cut met log c.1))
-      (home-cut name.facts name.first name.opening (past_seen met) client entry number e tail b blocks h),
-)
+home-off name client entry b blocks met log (inr c) h =
+    record {
+      number = h.number;
+      l = h.l;
+      tail = h.tail;
+      comes = subst (λ (w : List Event). ComesHome name.facts name.first name.opening w client entry h.number h.l h.tail b blocks) (sym (past-added client Event.Cut met log c.1))
+          (home-cut name.facts name.first name.opening (past_seen met) client entry h.number h.l h.tail b blocks h.comes);
+      planned = h.planned;
+    }
 
 pub goes-home : (name : Name) (client entry : ℕ) (b : BoardState) (blocks : ℕ) (seen : List Entry) → HomeSeen name client entry b blocks seen → off (past_seen seen) ≡ true → GoesHome name client entry b blocks seen
-goes-home name client entry b blocks seen (number, e, tail, h) o = record { l = e; number = number; tail = tail; comes = h; off_is = o }
+goes-home name client entry b blocks seen h o = record { l = h.l; number = h.number; tail = h.tail; comes = h.comes; planned = h.planned; off_is = o }

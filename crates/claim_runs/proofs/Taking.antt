@@ -1,14 +1,12 @@
 -- An entry that was taken behind the lock runs.
-use Rattle.std.proofs.Common.{◌≡◌, ℕ, ◌<◌, ◌≤◌, ◌^◌, ◌-◌, Bool, false, nat_lt, List, ◌∷◌, refl, sym, ◌∙◌, subst, arith, length}
+use Rattle.std.proofs.Common.{◌≡◌, ℕ, ◌<◌, ◌≤◌, ◌^◌, ◌-◌, Bool, false, nat_lt, List, ◌∷◌, refl, sym, subst, arith, length}
 use Rattle.std.specs.Prelude.{Option, Some, None, min, option_and_then, position, slice_get}
 use Rattle.std.specs.List.{position_or_len}
 use borrow.Author.Tests.{ltb-true}
 use Rattle.std.proofs.Math.Nat.{min-le_left}
 use Rattle.std.specs.Str.{bytes_eq}
 use Rattle.update_log.specs.declared.answer.ClaimAnswer.{ClaimAnswer}
-use Rattle.update_log.specs.declared.answer.ResumeAnswer.{ResumeAnswer}
 use Rattle.update_log.specs.declared.event.Event.{Event}
-use Rattle.update_log.specs.declared.event.Stored.{Stored}
 use Rattle.update_log.specs.declared.facts.Facts.{Facts}
 use Rattle.update_log.specs.declared.request.Request.{Request}
 use Rattle.update_log.proofs.Lists.{by_test}
@@ -19,23 +17,22 @@ use Rattle.daemon_core.specs.Claims.{IsServedBy, IsTaken}
 use Rattle.daemon_core.specs.Fetches.{note_of, whole_note}
 use Rattle.daemon_core.specs.declared.claimed.Taken.{Taken}
 use Rattle.daemon_core.specs.declared.fetched.Fetched.{Fetched}
-use Rattle.daemon_core.specs.declared.hold.Ticket.{Ticket}
-use Rattle.daemon_core.specs.Resumes.{note_in}
 use Rattle.install_engine.specs.Runs.{ClaimRuns}
 use Rattle.install_engine.specs.RunsIn.{parts_taken}
-use Rattle.install_engine.proofs.RunTaken.{TakesWith, claim-takes, resume-takes, taken-runs}
+use Rattle.install_engine.proofs.RunTaken.{TakesWith, claim-takes, taken-runs}
 use Rattle.turn_lock.specs.Shown.{PassView}
 use Rattle.shared_daemon.specs.declared.entry.Entry.{Entry}
 use Rattle.shared_daemon.specs.Calls.{Adds, AddsOn, Took}
 use Rattle.shared_daemon.specs.Entries.{past_seen}
-use Rattle.shared_daemon.specs.Names.{IsLogOf, Name}
+use Rattle.shared_daemon.specs.Names.{HasPlan, IsLogOf, Name}
+use Rattle.shared_daemon.specs.Taking.{TookEntry}
 use Rattle.claim_runs.specs.Known.{RunsSeen}
 use Rattle.claim_runs.proofs.Kept.{past-added}
 
 -- A claim or a resumption put this event behind the log, and the entry that it took is the client's live one.
 taken-so : (name : Name) (client number : ℕ) (event : Event) (taken : Taken) (met log : List Entry) → IsLogOf name log → Adds client event met log → off (event ∷ past_seen met) ≡ false → TakesWith taken.entry taken.payload event
-    → 0 < boots (event ∷ past_seen met) → IsTaken name.facts name.first name.opening (past_seen log) client taken number → RunsSeen name client (parts_taken taken) None log
-taken-so name client number event taken met log l a on w booted t =
+    → 0 < boots (event ∷ past_seen met) → IsTaken name.facts name.first name.opening (past_seen log) client taken number → HasPlan name.plans number taken.board → RunsSeen name client (parts_taken taken) None log
+taken-so name client number event taken met log l a on w booted t p =
     let g : past_seen log ≡ event ∷ past_seen met = past-added client event met log a in
     let t' : IsTaken name.facts name.first name.opening (event ∷ past_seen met) client taken number = subst (λ (x : List Event). IsTaken name.facts name.first name.opening x client taken number) g t in
     let legal : IsLegalSo name.facts name.first name.opening (event ∷ past_seen met) = subst (λ (x : List Event). IsLegalSo name.facts name.first name.opening x) g l.legal in
@@ -44,33 +41,20 @@ taken-so name client number event taken met log l a on w booted t =
       l = t'.l;
       runs = subst (λ (x : List Event). ClaimRuns name.facts name.first name.opening x client (parts_taken taken) number t'.l None) (sym g)
           (taken-runs name.facts name.first name.opening (past_seen met) event client taken number l.history legal on booted w t');
+      planned = p;
     }
 
 -- What a claim that was taken gave, runs.
-pub claim-runs : {did : List Entry → List Entry → Type 0} (name : Name) (number : ℕ) (request : Request) (fetched : Fetched) (taken : Taken) (old new : PassView Entry) → IsLogOf name new.seen → new.number ≡ old.number → (t : Took name did old new)
+pub claim-runs : {did : List Entry → List Entry → Type 0} (name : Name) (request : Request) (fetched : Fetched) (taken : Taken) (old new : PassView Entry) → IsLogOf name new.seen → new.number ≡ old.number → (t : Took name did old new)
     → AddsOn old.number (Event.Claim old.number request (note_of fetched) (ClaimAnswer.Entry taken.entry)) t.met new.seen → fetched ≡ Fetched.Whole taken.payload
-    → IsTaken name.facts name.first name.opening (past_seen new.seen) old.number taken number → RunsSeen name new.number (parts_taken taken) None new.seen
-claim-runs name number request fetched taken old new l same t a whole is =
+    → TookEntry name old.number taken new.seen → RunsSeen name new.number (parts_taken taken) None new.seen
+claim-runs name request fetched taken old new l same t a whole e =
     let event : Event = Event.Claim old.number request (whole_note taken.payload) (ClaimAnswer.Entry taken.entry) in
     let added : Adds old.number event t.met new.seen = subst (λ (f : Fetched). Adds old.number (Event.Claim old.number request (note_of f) (ClaimAnswer.Entry taken.entry)) t.met new.seen) whole a.1 in
     let g : past_seen new.seen ≡ event ∷ past_seen t.met = past-added old.number event t.met new.seen added in
     let legal : IsLegalSo name.facts name.first name.opening (event ∷ past_seen t.met) = subst (λ (x : List Event). IsLegalSo name.facts name.first name.opening x) g l.legal in
     subst (λ (n : ℕ). RunsSeen name n (parts_taken taken) None new.seen) (sym same)
-    (taken-so name old.number number event taken t.met new.seen l added a.0 (claim-takes old.number taken.entry request taken.payload) (legal.3.1.booted refl) is)
-
--- The same of a resumption.
-pub resume-runs : {did : List Entry → List Entry → Type 0} (name : Name) (number entry : ℕ) (held : Option (Ticket × Fetched)) (ticket : Ticket) (taken : Taken) (old new : PassView Entry) → IsLogOf name new.seen → new.number ≡ old.number → old.number ≡ 0 → (t : Took name did old new)
-    → AddsOn 0 (Event.Resume 0 entry (note_in held) ResumeAnswer.Begun Stored.Yes) t.met new.seen → taken.entry ≡ entry → held ≡ Some (ticket, Fetched.Whole taken.payload)
-    → IsTaken name.facts name.first name.opening (past_seen new.seen) 0 taken number → RunsSeen name new.number (parts_taken taken) None new.seen
-resume-runs name number entry held ticket taken old new l same own t a e whole is =
-    let event : Event = Event.Resume 0 taken.entry (Some (whole_note taken.payload)) ResumeAnswer.Begun Stored.Yes in
-    let noted : Adds 0 (Event.Resume 0 entry (Some (whole_note taken.payload)) ResumeAnswer.Begun Stored.Yes) t.met new.seen =
-    subst (λ (h : Option (Ticket × Fetched)). Adds 0 (Event.Resume 0 entry (note_in h) ResumeAnswer.Begun Stored.Yes) t.met new.seen) whole a.1 in
-    let added : Adds 0 event t.met new.seen = subst (λ (x : ℕ). Adds 0 (Event.Resume 0 x (Some (whole_note taken.payload)) ResumeAnswer.Begun Stored.Yes) t.met new.seen) (sym e) noted in
-    let g : past_seen new.seen ≡ event ∷ past_seen t.met = past-added 0 event t.met new.seen added in
-    let legal : IsLegalSo name.facts name.first name.opening (event ∷ past_seen t.met) = subst (λ (x : List Event). IsLegalSo name.facts name.first name.opening x) g l.legal in
-    subst (λ (n : ℕ). RunsSeen name n (parts_taken taken) None new.seen) (sym (same ∙ own))
-    (taken-so name 0 number event taken t.met new.seen l added a.0 (resume-takes 0 taken.entry Stored.Yes taken.payload) (legal.3.1.booted refl) is)
+    (taken-so name old.number e.number event taken t.met new.seen l added a.0 (claim-takes old.number taken.entry request taken.payload) (legal.3.1.booted refl) e.is e.planned)
 
 -- The place that was found is one of the list.
 place-found : {X : Type 0} (p : X → Bool) (xs : List X) (n : ℕ) → position p xs ≡ Some n → n < length xs

@@ -13,13 +13,15 @@ use Rattle.install_engine.specs.Runs.{ClaimRuns, StepLeft}
 use Rattle.turn_lock.specs.Shown.{PassView}
 use Rattle.shared_daemon.specs.declared.entry.Entry.{Entry}
 use Rattle.shared_daemon.specs.Entries.{past_seen}
-use Rattle.shared_daemon.specs.Names.{Name}
+use Rattle.shared_daemon.specs.Names.{HasPlan, Name}
 
--- A claim of the client runs, by the log that was seen; that step of it is open, or none.
+-- A claim of the client runs, by the log that was seen; that step of it is open, or none. Its board has the
+-- faults planned that its number has.
 pub record RunsSeen (name : Name) (client : ℕ) (parts : Parts) (running : Option Op) (seen : List Entry) : Type 0 where
   pub number : ℕ
   pub l : LiveEntry
   pub runs : ClaimRuns name.facts name.first name.opening (past_seen seen) client parts number l running
+  pub planned : HasPlan name.plans number parts.board
 
 -- A claim of that entry runs, by what the pass saw last: the entry is the live one of the pass's client, and
 -- the claim's trace is that of the log.
@@ -28,9 +30,12 @@ pub record RunsFor (name : Name) (entry : ℕ) (running : Option Op) (pass : Pas
   pub seen_so : RunsSeen name pass.number parts running pass.seen
 
 -- The board of a live entry of the client may come home, with so many blocks.
-abbrev pub HomeSeen : Name → ℕ → ℕ → BoardState → ℕ → List Entry → Type 0
-HomeSeen name client entry board blocks seen =
-    (number : ℕ) × (l : LiveEntry) × (tail : List Mark) × ComesHome name.facts name.first name.opening (past_seen seen) client entry number l tail board blocks
+pub record HomeSeen (name : Name) (client entry : ℕ) (board : BoardState) (blocks : ℕ) (seen : List Entry) : Type 0 where
+  pub number : ℕ
+  pub l : LiveEntry
+  pub tail : List Mark
+  pub comes : ComesHome name.facts name.first name.opening (past_seen seen) client entry number l tail board blocks
+  pub planned : HasPlan name.plans number board
 
 -- A step of the entry is open, and the plugin made it of the claim as it was before: this is its answer,
 -- and the claim as it is now.

@@ -6,7 +6,6 @@ use Rattle.std.specs.Prelude.{◌==◌, slice_get, None}
 use Rattle.history_keeper.specs.declared.row.Row.{Row}
 use Rattle.update_log.specs.declared.facts.Facts.{Facts}
 use Rattle.client_scripts.specs.declared.item.Item.{Item}
-use Rattle.client_plays.specs.Endings.{IsScriptItem}
 use Rattle.client_plays.specs.Moments.{Moment}
 use Rattle.client_plays.specs.Plays.{Leaves, Plays}
 use Rattle.client_plays.specs.Scripts.{PlayedSo, PlaysAll, items_of}
@@ -48,13 +47,6 @@ get-none (x ∷ xs) (suc n) l = get-none xs n (omega arith)
 pub items-beyond : (of_boot : List (List Item)) (client : ℕ) → length of_boot < client → items_of of_boot client ≡ []
 items-beyond of_boot zero l = refl
 items-beyond of_boot (suc n) l = rw (get-none of_boot n (omega arith)) refl
-
--- Each script is one of the boot's.
-pub items-proper : (of_boot : List (List Item)) (client : ℕ) → All (All IsScriptItem) of_boot → All IsScriptItem (items_of of_boot client)
-items-proper of_boot zero all = All-nil IsScriptItem
-items-proper [] (suc n) all = All-nil IsScriptItem
-items-proper (items ∷ rest) (suc zero) all = All-head (All IsScriptItem) items rest all
-items-proper (items ∷ rest) (suc (suc n)) all = items-proper rest (suc n) (All-tail (All IsScriptItem) items rest all)
 
 -- Where nothing was done for want of memory, all was left.
 all-left : {X : Type 0} (client : ℕ) (Play : X → List Moment → Type 0) (xs : List X) → ((x : X) → Leaves client (Play x) []) → PlaysAll true client Play xs []

@@ -21,6 +21,7 @@ use Rattle.client_plays.proofs.RestLaws.{rest-here}
 use Rattle.shared_daemon.specs.Entries.{chronicle, past_seen}
 use Rattle.shared_daemon.specs.Names.{HasNothing, IsLogOf, KeepsName, Name}
 use Rattle.shared_daemon.proofs.Logs.{past-entries}
+use Rattle.shared_daemon.proofs.Planned.{plans-picked}
 use Rattle.shared_daemon.proofs.Seeing.{before-named}
 use Rattle.client_threads.specs.Begins.{CanBegin, name_of}
 use Rattle.client_threads.specs.Clients.{ClientsPlayed, NoClients, PlayedBehind}
@@ -49,13 +50,11 @@ module _ {K : Type 0} (faults : K → ℕ) where
         loaded = b.loaded;
         booted = b.booted;
         boots_are = refl;
+        planned = plans-picked h.places;
         counted = first-counted h b.counted;
         counts = omega arith;
         told = tt;
       })
-
-  pub starts-so : (name : Name) (h : Housed K) → name ≡ name_of faults h → chronicle h ≡ name.start
-  starts-so name h e = sym (ap (λ (n : Name). n.start) e)
 
   pub nothing-out : (h : Housed K) → IsAnnals h.annals → IsIdle (past h) → HasNothing (chronicle h)
   nothing-out h k i =

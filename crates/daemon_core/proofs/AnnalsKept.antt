@@ -4,13 +4,12 @@ use Rattle.fw_facts.specs.declared.seen.Seen.{Seen}
 use Rattle.history_keeper.specs.declared.row.Row.{Row}
 use Rattle.update_log.proofs.Pasts.{past-push}
 use Rattle.update_log.specs.Core.{Stands}
-use Rattle.update_log.specs.CoreAfter.{IsNext}
 use Rattle.update_log.specs.CoreFolds.{AllFaults}
 use Rattle.update_log.specs.Legal.{BootTakes}
 use Rattle.update_log.specs.Pasts.{boots, is_boot, past_of, time_of}
 use Rattle.update_log.specs.declared.event.Event.{Event}
 use Rattle.update_log.specs.declared.facts.Facts.{Facts}
-use Rattle.daemon_core.specs.Annals.{Appended, IsAllowedSo, IsAnnals, IsLegalSo, IsMadeBy, MadeBy, roomier}
+use Rattle.daemon_core.specs.Annals.{Appended, IsAllowedSo, IsAnnals, IsLegalSo, IsMadeBy, MadeBy}
 use Rattle.daemon_core.specs.Housed.{Annalled, past_in, rows_before, rows_taken}
 use Rattle.daemon_core.specs.Owed.{owed}
 
@@ -73,25 +72,5 @@ pub legal-next : (facts : Facts) (first : List Seen) (opening : List Row) (past 
     → IsLegalSo facts first opening (event ∷ past)
 legal-next facts first opening past event l t a = (l.0, l.1, l.2, (l.3, t, a l.0 l.1 l.2))
 
-pub legal-is_next : (facts : Facts) (first : List Seen) (opening : List Row) (past : List Event) (event : Event) → IsLegalSo facts first opening (event ∷ past) → IsNext facts opening past event
-legal-is_next facts first opening past event l = (l.0, l.1, l.3)
-
 pub boots-same : (past : List Event) (event : Event) → is_boot event ≡ false → boots (event ∷ past) ≡ boots past
 boots-same past event h = rw h refl
-
--- More room is no harm.
-pub annals-roomier : (old new : Annalled) → IsAnnals old → new ≡ roomier old new → old.room ≤ new.room → IsAnnals new
-annals-roomier old new k e r =
-    let was = k.room in
-    subst IsAnnals (sym e)
-    (record {
-      legal = k.legal;
-      stands = record { history = k.stands.history; rows = k.stands.rows; views = k.stands.views; boards = k.stands.boards; traces = k.stands.traces; doubt = k.stands.doubt };
-      makers = k.makers;
-      few = k.few;
-      firsts = k.firsts;
-      unloaded = k.unloaded;
-      room = omega (arith, was, r);
-      few_boots = k.few_boots;
-      timely = k.timely;
-    })

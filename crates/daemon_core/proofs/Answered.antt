@@ -2,7 +2,7 @@
 use Rattle.std.proofs.Common.{◌≡◌, ℕ, List, [], ◌∷◌, ◌++◌, ap, ◌∙◌, inl, inr}
 use Rattle.std.specs.Prelude.{Err}
 use Rattle.update_log.specs.declared.event.Event.{Event}
-use Rattle.daemon_core.specs.Annals.{Appended, Entered, Ready, Runs, Unchanged, roomier}
+use Rattle.daemon_core.specs.Annals.{Appended, Entered, Unchanged, roomier}
 use Rattle.daemon_core.specs.Housed.{Annalled}
 use Rattle.daemon_core.specs.Turns.{Turned}
 use Rattle.daemon_core.specs.declared.stop.Stop.{Stop}
@@ -53,6 +53,3 @@ unchanged-appended client event old mid new u a =
       log = a.log ∙ ap (λ (l : List Event). l ++ event ∷ []) u.log;
       makers = a.makers ∙ ap (λ (l : List ℕ). l ++ client ∷ []) u.makers;
     }
-
-pub ready-appended : (client events : ℕ) (event : Event) (old mid new : Annalled) → Ready events old mid → Appended client event mid new → Runs old × Appended client event old new
-ready-appended client events event old mid new r a = (r.runs, unchanged-appended client event old mid new (roomier-same old mid r.same) a)

@@ -32,9 +32,8 @@ use Rattle.history_keeper.specs.declared.change.Change.{Change}
 use Rattle.std.proofs.lemmas.List.{length_push}
 use Rattle.std.specs.Prelude.{sum_by, ◌*◌}
 use Rattle.update_log.specs.Known.{doubt}
-use Rattle.update_log.specs.Legal.{AskAllowed}
 use Rattle.update_log.specs.Pasts.{off}
-use Rattle.daemon_core.specs.Annals.{Appended, IsAllowedSo, IsAnnals}
+use Rattle.daemon_core.specs.Annals.{Appended, IsAnnals}
 use Rattle.daemon_core.specs.House.{IsHouse}
 use Rattle.daemon_core.specs.Housed.{Annalled, Housed, past, past_in, rows_before}
 use Rattle.fw_facts.specs.declared.release.Component.{Component}
@@ -136,10 +135,6 @@ without-none client (x ∷ xs) h =
 pub ask-board : (facts : Facts) (first : List Seen) (opening : List Row) (past : List Event) (client : ℕ) (request : Request) (pending : Option ℕ) (answer : AskAnswer) (number : ℕ) → SameOfBoard facts first opening past (Event.Ask client request pending answer ∷ past) number
 ask-board facts first opening past client request pending answer number =
     record { told = append-nil _; out = refl; opened = refl; marks = refl; booted = λ h. h; seen = refl; before = refl; began = refl; raws = λ entry raw h. h; faults = refl }
-
--- An allowed ask is allowed whatever the plans are.
-pub ask-allowed : (facts : Facts) (first : List Seen) (opening : List Row) (past : List Event) (client : ℕ) (request : Request) (pending : Option ℕ) (answer : AskAnswer) → AskAllowed facts opening past client request pending answer → IsAllowedSo facts first opening past (Event.Ask client request pending answer)
-ask-allowed facts first opening past client request pending answer a = λ c f i. subst (λ (x : Facts). AskAllowed x opening past client request pending answer) (sym f) a
 
 hold-more : (b : Bool) (n : ℕ) → hold_needs b * (n + 1) ≤ hold_needs b * n + 2
 hold-more true n = omega arith

@@ -144,12 +144,3 @@ house-new {K} told doubted facts boards pool keeper h n count new no_doubt capac
       capacity = cap ∙ capacity ∙ sym all;
       free = omega (arith, none, cap, free', all, capacity, free);
     }
-
-reverse_push : (xs : List BoardState) (x : BoardState) → reverse (xs ++ x ∷ []) ≡ x ∷ reverse xs
-reverse_push xs x = reverse-append xs (x ∷ [])
-
--- One board more is taken from the end, and put into its place.
-pub place-turn : (places : List Place) (left rest all : List BoardState) (b : BoardState) → left ≡ rest ++ b ∷ [] → places ++ map place_of (reverse left) ≡ map place_of all → (places ++ place_of b ∷ []) ++ map place_of (reverse rest) ≡ map place_of all
-place-turn places left rest all b e h =
-    append_assoc places (place_of b ∷ []) (map place_of (reverse rest))
-    ∙ sym (ap (λ (x : List BoardState). places ++ map place_of x) (ap reverse e ∙ reverse_push rest b)) ∙ h

@@ -205,9 +205,6 @@ first-itself Seen.Gone = tt
 first-itself Seen.Stranger = tt
 
 module _ (c : Campaign) (opening : List Row) (past : List Event) (event : Event) (number : ℕ) (legal : IsLegal c opening (event ∷ past)) (n : list_any is_began (told c.facts opening (event ∷ past) number) ≡ false) where
-  told_it : List Mark
-  told_it = told_by c.facts (rows c.facts opening past) event number
-
   none-before : list_any is_began (told c.facts opening past number) ≡ false
   none-before = (or-none (list_any is_began (told c.facts opening past number)) (list_any is_began (told_by c.facts (rows c.facts opening past) event number)) (sym (list_any-append is_began (told c.facts opening past number) (told_by c.facts (rows c.facts opening past) event number)) ∙ n)).0
 

@@ -20,10 +20,6 @@ use Rattle.daemon_core.specs.Booting.{AllListed, opened}
 use Rattle.daemon_core.specs.Housed.{Annalled, past_in, rows_before}
 use Rattle.daemon_core.specs.Owed.{owed}
 
--- rows that nobody took
-pub before-none : (old : Annalled) → old.loaded ≡ false → rows_before old ≡ []
-before-none old l = rw l refl
-
 pub annals-opened : (old : Annalled) (all : List Row) (n : ℕ) → IsAnnals old → old.loaded ≡ false → Stands old.facts all (opened all n old).core → IsAnnals (opened all n old)
 annals-opened old all n k l s =
     record {
@@ -33,22 +29,6 @@ annals-opened old all n k l s =
       few = k.few;
       firsts = k.firsts;
       unloaded = λ h. cc;
-      room = k.room;
-      few_boots = k.few_boots;
-      timely = k.timely;
-    }
-
--- rows that are refused
-pub annals-refused : (old : Annalled) (all : List Row) → IsAnnals old → old.loaded ≡ false → IsAnnals (record old { opening = all })
-annals-refused old all k l =
-    let e : rows_before (record old { opening = all }) ≡ rows_before old = rw l refl in
-    record {
-      legal = subst (λ (o : List Row). IsLegalSo old.facts old.first o (past_in old)) (sym e) k.legal;
-      stands = subst (λ (o : List Row). Stands old.facts o old.core) (sym e) k.stands;
-      makers = k.makers;
-      few = k.few;
-      firsts = k.firsts;
-      unloaded = k.unloaded;
       room = k.room;
       few_boots = k.few_boots;
       timely = k.timely;

@@ -12,7 +12,6 @@ use Rattle.update_log.specs.declared.event.Event.{Event}
 use Rattle.update_log.specs.declared.event.Found.{Found}
 use Rattle.update_log.specs.declared.facts.BootPlan.{BootPlan}
 use Rattle.update_log.specs.declared.facts.Facts.{Facts}
-use Rattle.update_log.specs.Holding.{open_steps}
 use Rattle.update_log.specs.Known.{seen}
 use Rattle.update_log.specs.Legal.{Allowed, BoardListed, IsLegal, open_marks, open_on}
 use Rattle.update_log.specs.Shows.{Campaign, FreshShows, HasRaw, IsPrefix, RawAllowed, began_since, home_before, home_or, is_began, told, untold_of}
@@ -46,10 +45,6 @@ fault-boot (Event.Unplug a b c) h = cc
 fault-boot (Event.Plug a b c) h = cc
 fault-boot (Event.GiveBack a b) h = cc
 fault-boot Event.Cut h = cc
-
-faults-open : (past : List Event) → AllFaults past → open_steps past ≡ []
-faults-open [] h = refl
-faults-open (event ∷ past) h = let b : FaultBoot event = fault-boot event h.0 in ap (λ (e : Event). open_steps (e ∷ past)) b.is
 
 -- what is said over either rows
 pub record SaidOver (facts : Facts) (first : List Seen) (before opening : List Row) (past : List Event) (number : ℕ) : Type 0 where

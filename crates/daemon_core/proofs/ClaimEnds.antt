@@ -29,7 +29,7 @@ use Rattle.daemon_core.specs.House.{IsHouse}
 use Rattle.daemon_core.specs.Housed.{Annalled, Housed, Place, past, past_in, rows_before}
 use Rattle.daemon_core.specs.Keeping.{Keeps}
 use Rattle.daemon_core.specs.Owed.{owed}
-use Rattle.daemon_core.specs.Returns.{StepEnds, new_marks, number_of, place_at}
+use Rattle.daemon_core.specs.Returns.{SameBoards, StepEnds, new_marks, number_of, place_at}
 use Rattle.daemon_core.proofs.ClaimAlone.{on-board}
 use Rattle.daemon_core.proofs.ClaimBoards.{end-place_other}
 use Rattle.daemon_core.proofs.ClaimHouse.{IsReady, runs-takes, spent-ready}
@@ -53,6 +53,12 @@ pub length-set : {X : Type 0} (xs : List X) (n : ℕ) (v : X) → length (slice_
 length-set [] n v = refl
 length-set (y ∷ ys) zero v = refl
 length-set (y ∷ ys) (suc n) v = ap suc (length-set ys n v)
+
+-- Each place has the board that it had, where marks were told.
+pub boards-told : (places : List Place) (n marks : ℕ) → SameBoards places (slice_set places n (record (place_at places n) { told = marks }))
+boards-told [] n marks = refl
+boards-told (p ∷ ps) zero marks = refl
+boards-told (p ∷ ps) (suc n) marks = ap (λ (bs : List (Option BoardState)). p.board ∷ bs) (boards-told ps n marks)
 
 pub place-found : (places : List Place) (n : ℕ) → n < length places → slice_get places n ≡ Some (place_at places n)
 place-found [] n h = absurd (omega arith)

@@ -3,15 +3,12 @@ use Rattle.std.proofs.Common.{◌≡◌, ℕ, ◌<◌, ◌≤◌, ◌+◌, Bool,
 use Rattle.std.specs.Prelude.{Option, Some, None, IfSome, IsSome, OnOk, is_err, is_some, unwrap_or, Result, Ok, Err}
 use Rattle.std.specs.Option.{ForSome}
 use Rattle.block_pool.specs.Views.{PoolCounts, SealedBytes}
-use Rattle.emulated_boards.specs.Boards.{BoardState}
 use Rattle.history_keeper.specs.Changes.{IsTimely, Suits, changed}
 use Rattle.history_keeper.specs.declared.change.Change.{Change}
 use Rattle.history_keeper.specs.declared.row.Row.{Row}
 use Rattle.update_log.specs.Boards.{board_with}
 use Rattle.update_log.specs.CoreSteps.{is_taken}
 use Rattle.update_log.specs.Holding.{live_entry}
-use Rattle.update_log.specs.Legal.{next_entry}
-use Rattle.update_log.specs.Pasts.{off}
 use Rattle.update_log.specs.declared.answer.ClaimAnswer.{ClaimAnswer}
 use Rattle.update_log.specs.Verdicts.{case_of}
 use Rattle.update_log.specs.declared.decision.Decision.{Decision}
@@ -40,7 +37,7 @@ use Rattle.update_log.specs.declared.facts.Facts.{Facts}
 use Rattle.daemon_core.proofs.AnnalsKept.{appended-past}
 use Rattle.daemon_core.proofs.ClaimAlone.{on-board}
 use Rattle.daemon_core.proofs.ClaimHouse.{IsReady}
-use Rattle.daemon_core.proofs.ClaimKept.{AddsRow, claim-doubted, claim-fits, claim-keeps, claim-made, claim-ready, claims, gives_entry, house-claimed, house-unclaimed, not-taken}
+use Rattle.daemon_core.proofs.ClaimKept.{AddsRow, claim-doubted, claim-fits, claim-keeps, claim-made, claim-ready, claims, house-claimed, house-unclaimed, not-taken}
 use Rattle.daemon_core.proofs.ClaimTurns.{answers-broken, answers-refused, answers-whole, claim-board, claim-live, claim-same_held, claim-takes_entry, entry-next, store-plan, store-within, takes_event}
 use Rattle.daemon_core.proofs.PuttingOff.{counted-more, counted-same, house-plain, keeps-left, no-doubt, quiet-faults, refusal-other, suits-told}
 
@@ -253,11 +250,6 @@ pub stopped-faults : (A : Type 0) (client events : ℕ) (stop : Stop) (old new :
 stopped-faults A client events Stop.Off old new (inl e) = ap (λ (a : Annalled). keeper_faults (past_in a)) e.1
 stopped-faults A client events Stop.Off old new (inr e) = quiet-faults client Event.Cut old new e.2 refl
 stopped-faults A client events Stop.NoMemory old new e = ap (λ (a : Annalled). keeper_faults (past_in a)) e.1
-
--- What holds where a call went well.
-pub went-well : {X E : Type 0} (result : Result X E) (P : Type 0) → is_err result ≡ false → OnOk result P → P
-went-well (Ok x) P e h = h
-went-well (Err x) P e h = cc
 
 pub same-faults : {K : Type 0} (faults : K → ℕ) (old new : Housed K) → new.keeper ≡ old.keeper → faults old.keeper ≤ faults new.keeper
 same-faults faults old new k = let e = ap faults k in omega (arith, e)

@@ -3,10 +3,8 @@ use Rattle.std.proofs.Common.{◌≡◌, ℕ, List, ◌∷◌, ap, subst, ◌+�
 use Rattle.std.specs.Prelude.{Option, Some, None, ◌==◌, sum_by}
 use Rattle.std.proofs.lemmas.List.Sums.{sum_by_push}
 use Rattle.history_keeper.specs.declared.row.RowState.{RowState}
-use Rattle.release_catalogue.specs.declared.reference.ReleaseRef.{ReleaseRef}
 use Rattle.update_log.proofs.Lists.{All-find}
 use Rattle.update_log.specs.Holding.{blocks_fetched, blocks_fetched_if, held, hold, holds, live, live_entry, without_client, without_entry}
-use Rattle.update_log.specs.declared.answer.AskAnswer.{AskAnswer}
 use Rattle.update_log.specs.declared.answer.ClaimAnswer.{ClaimAnswer}
 use Rattle.update_log.specs.declared.answer.ResumeAnswer.{ResumeAnswer}
 use Rattle.update_log.specs.declared.event.Back.{Back}
@@ -30,12 +28,6 @@ holds-less past client h k e = sum-once (λ (x : Held). x.blocks) (λ (x : Held)
 
 pub live-less : (past : List Event) (entry : ℕ) (l : LiveEntry) → OutOnce past → live_entry past entry ≡ Some l → sum_by (λ (x : LiveEntry). x.blocks) (without_entry entry (live past)) + l.blocks ≡ sum_by (λ (x : LiveEntry). x.blocks) (live past)
 live-less past entry l k e = sum-once (λ (x : LiveEntry). x.blocks) (λ (x : LiveEntry). x.entry == entry) (live past) l e (k.live_once entry)
-
-pub held-asked : (past : List Event) (client : ℕ) (request : Request) (pending : Option ℕ) (blocks : ℕ) (release : ReleaseRef) → hold past client ≡ None → held (Event.Ask client request pending (AskAnswer.Hold blocks release) ∷ past) ≡ held past + blocks
-held-asked past client request pending blocks release n =
-    let same = ap (sum_by (λ (x : Held). x.blocks)) (holds-same past client n) in
-    let pushed = sum_by_push (λ (x : Held). x.blocks) (without_client client (holds past)) (record { client = client; request = request; pending = pending; blocks = blocks; release = release }) in
-    omega (arith, same, pushed)
 
 pub held-given_tag : (past : List Event) (client : ℕ) (tag : List ℕ) (h : Held) → OutOnce past → hold past client ≡ Some h → held (Event.GiveBack client (Back.Tag tag) ∷ past) + h.blocks ≡ held past
 held-given_tag past client tag h k e = omega (arith, holds-less past client h k e)

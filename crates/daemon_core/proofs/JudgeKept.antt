@@ -2,7 +2,6 @@
 use Rattle.std.proofs.Common.{◌≡◌, ℕ, suc, ◌<◌, ◌≤◌, ◌+◌, ◌-◌, ◌^◌, Bool, true, false, List, [], ◌∷◌, length, refl, ap, sym, ◌∙◌, subst, arith, ◌⊎◌, inl, inr}
 use Rattle.std.specs.Prelude.{Option, Some, None, IfSome, if◌then◌else◌, ◌||◌, min, not, ◌==◌, option_map, Any}
 use Rattle.std.specs.Option.{ForSome}
-use Rattle.outer_traits.specs.Faults.{Rose}
 use Rattle.fw_facts.specs.Views.{is_home, version_of, version_shown}
 use Rattle.fw_facts.specs.declared.seen.Seen.{Seen}
 use Rattle.fw_facts.specs.declared.view.DeviceView.{DeviceView}
@@ -28,7 +27,7 @@ use Rattle.daemon_core.specs.Commits.{StoredAs}
 use Rattle.daemon_core.specs.House.{IsHouse}
 use Rattle.daemon_core.specs.Housed.{Annalled, Housed, past, past_in, rows_before}
 use Rattle.daemon_core.specs.Judging.{judged_by, judged_on, must_wait, standing, standing_of}
-use Rattle.daemon_core.specs.Keeping.{HasRows, keeper_faults}
+use Rattle.daemon_core.specs.Keeping.{HasRows}
 use Rattle.daemon_core.specs.Owed.{owed}
 use Rattle.daemon_core.specs.Turns.{FaultsCounted}
 use Rattle.daemon_core.specs.declared.judged.Standing.{Standing}
@@ -169,17 +168,6 @@ judge-ready a client entry version state stored k r b room h s =
 -- Faults are counted.
 pub faults-same : {K : Type 0} (faults : K → ℕ) (old new : Housed K) → past new ≡ past old → faults old.keeper ≤ faults new.keeper → FaultsCounted faults old new
 faults-same faults old new p c = inl (rw p (omega (arith, c)))
-
-rose-or : (old new met : ℕ) → min (old + 1) (2 ^ 64 - 1) ≤ new → (met + 1 + old ≤ met + new) ⊎ (2 ^ 64 - 1 ≤ new)
-rose-or old new met h = grind (arith, h)
-
-pub faults-judged : {K : Type 0} (faults : K → ℕ) (client entry : ℕ) (version : List ℕ) (state : RowState) (stored : Stored) (old new : Housed K) → past new ≡ Event.Judge client entry version state stored ∷ past old → faults old.keeper ≤ faults new.keeper → (stored ≡ Stored.Fault → Rose (faults old.keeper) (faults new.keeper)) → FaultsCounted faults old new
-faults-judged faults client entry version state Stored.Yes old new p c r = inl (rw p (omega (arith, c)))
-faults-judged faults client entry version state Stored.Fault old new p c r =
-    subst (λ (es : List Event). (keeper_faults es + faults old.keeper ≤ keeper_faults (past old) + faults new.keeper) ⊎ (2 ^ 64 - 1 ≤ faults new.keeper)) (sym p)
-    (rose-or (faults old.keeper) (faults new.keeper) (keeper_faults (past old)) (r refl))
-faults-judged faults client entry version state Stored.NoMemory old new p c r = inl (rw p (omega (arith, c)))
-faults-judged faults client entry version state Stored.Unchanged old new p c r = inl (rw p (omega (arith, c)))
 
 -- What wasn't for want of memory was stored, or met a fault.
 pub done-stored : (change : Change) (stored : Stored) (old new : Option (List Row)) (left : Option Change) → StoredAs change stored old new left → (stored ≡ Stored.NoMemory → ⊥) → (stored ≡ Stored.Yes) ⊎ (stored ≡ Stored.Fault)

@@ -60,13 +60,6 @@ off-within past =
     let sum : sum_by (entry_off past) (live past) ≤ sum_by (entry_on past) (live past) = sum-below (entry_off past) (entry_on past) (live past) (λ l. omega arith) in
     omega arith
 
--- and less, where something is out
-pub off-less_held : (past : List Event) (client : ℕ) (h : Held) → hold past client ≡ Some h → owed_by true past + 1 ≤ owed_by false past
-off-less_held past client h e =
-    let sum : sum_by (entry_off past) (live past) ≤ sum_by (entry_on past) (live past) = sum-below (entry_off past) (entry_on past) (live past) (λ l. omega arith) in
-    let some = filter-takes (λ (x : Held). x.client == client) (holds past) h e in
-    omega arith
-
 pub off-less_live : (past : List Event) (entry : ℕ) (l : LiveEntry) → live_entry past entry ≡ Some l → owed_by true past + 1 ≤ owed_by false past
 off-less_live past entry l e =
     let sum : sum_by (entry_off past) (live past) + 1 ≤ sum_by (entry_on past) (live past) = sum-less (entry_off past) (entry_on past) (λ (x : LiveEntry). x.entry == entry) (live past) l (λ x. omega arith) e (omega arith) in
@@ -262,10 +255,6 @@ owed-spends c opening past (Event.Judge client entry version state stored) g k b
 owed-spends c opening past (Event.Unplug client device answer) g k b a s = cc
 owed-spends c opening past (Event.Plug client device answer) g k b a s = cc
 owed-spends c opening past Event.Cut g k b a s = cc
-
--- a cut, where the client has something out
-pub owed-cut_held : (past : List Event) (client : ℕ) (h : Held) → off past ≡ false → hold past client ≡ Some h → owed (Event.Cut ∷ past) + 1 ≤ owed past
-owed-cut_held past client h o e = let less = off-less_held past client h e in let q = owed-when_on past o in omega (arith, less, q)
 
 pub owed-cut_live : (past : List Event) (entry : ℕ) (l : LiveEntry) → off past ≡ false → live_entry past entry ≡ Some l → owed (Event.Cut ∷ past) + 1 ≤ owed past
 owed-cut_live past entry l o e = let less = off-less_live past entry l e in let q = owed-when_on past o in omega (arith, less, q)

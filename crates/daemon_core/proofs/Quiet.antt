@@ -13,7 +13,7 @@ use Rattle.update_log.specs.declared.event.Event.{Event}
 use Rattle.update_log.specs.declared.facts.Facts.{Facts}
 use Rattle.update_log.specs.Holding.{holds, live, open_steps}
 use Rattle.update_log.specs.Known.{Known, known, rows, tells}
-use Rattle.update_log.specs.Pasts.{boots, is_boot, is_keeper_fault}
+use Rattle.update_log.specs.Pasts.{boots, is_keeper_fault}
 use Rattle.update_log.specs.Shows.{raw_of, told_by}
 use Rattle.daemon_core.proofs.PlacesKept.{SameOfBoard}
 use Rattle.daemon_core.specs.Boards.{is_faulty_end}
@@ -114,20 +114,3 @@ quiet-still facts first opening past (Event.End client entry op outcome told see
 quiet-still facts first opening past (Event.Finish client entry state stored) q = cc
 quiet-still facts first opening past (Event.Judge client entry version state stored) q = cc
 quiet-still facts first opening past (Event.GiveBack client what) q = cc
-
--- A quiet event is no boot.
-pub quiet-boot : (event : Event) → is_quiet event ≡ true → is_boot event ≡ false
-quiet-boot (Event.Boot number time limit found boards) q = cc
-quiet-boot (Event.Query client query) q = refl
-quiet-boot (Event.Ask client request pending answer) q = refl
-quiet-boot (Event.Claim client request fetched answer) q = refl
-quiet-boot (Event.Schedule client request answer) q = refl
-quiet-boot (Event.Resume client entry fetched answer stored) q = refl
-quiet-boot (Event.Start client entry op) q = refl
-quiet-boot (Event.End client entry op outcome told seen) q = refl
-quiet-boot (Event.Finish client entry state stored) q = refl
-quiet-boot (Event.Judge client entry version state stored) q = refl
-quiet-boot (Event.Unplug client device answer) q = refl
-quiet-boot (Event.Plug client device answer) q = refl
-quiet-boot (Event.GiveBack client what) q = refl
-quiet-boot Event.Cut q = refl

@@ -14,7 +14,7 @@ use Rattle.update_log.proofs.RowsKept.{is_kept}
 use Rattle.update_log.specs.Holding.{live_entry}
 use Rattle.update_log.specs.Known.{Target, board_of, target}
 use Rattle.update_log.specs.Legal.{ResumeStored}
-use Rattle.update_log.specs.Pasts.{boots, is_fault, is_keeper_fault}
+use Rattle.update_log.specs.Pasts.{boots, is_keeper_fault}
 use Rattle.update_log.specs.Steps.{trace}
 use Rattle.update_log.specs.Verdicts.{Case, case_of, first_refusal, is_that_release, need, on_found, on_present, present, refusals, refused_or}
 use Rattle.update_log.specs.declared.answer.ResumeAnswer.{ResumeAnswer}
@@ -172,10 +172,6 @@ left-as change stored old new left e s = subst (λ (x : Stored). StoredAs change
 
 pub turn-left : (a b : Annalled) (entry : ℕ) (said : Option FetchNote) (held : Option (Ticket × Fetched)) → a ≡ b → MayResume b entry → ResumeTurned entry said (Err (record { stop = Stop.NoMemory; held = held })) b a
 turn-left a b entry said held e m = (m.runs.on, same-unchanged b a e)
-
--- Faults are counted.
-met-stored : (entry : ℕ) (said : Option FetchNote) (answer : ResumeAnswer) (stored : Stored) → met_fault (resumes entry said answer stored) ≡ is_fault stored
-met-stored entry said answer stored = refl
 
 pub faults-resumed : {K : Type 0} (faults : K → ℕ) (entry : ℕ) (said : Option FetchNote) (answer : ResumeAnswer) (stored : Stored) (event : Event) (old new : Housed K) → event ≡ resumes entry said answer stored → Appended 0 event old.annals new.annals → faults old.keeper ≤ faults new.keeper → (stored ≡ Stored.Fault → Rose (faults old.keeper) (faults new.keeper)) → FaultsCounted faults old new
 faults-resumed faults entry said answer Stored.Yes event old new e p c r = counted-same faults old new (quiet-faults 0 event old.annals new.annals p (ap met_fault e)) c

@@ -1,5 +1,5 @@
 -- What a board that comes back has to be.
-use Rattle.std.specs.Prelude.{◌≡◌, ℕ, List, ◌++◌, length, drop, Some, None, unwrap_or, slice_get, slice_set, Result}
+use Rattle.std.specs.Prelude.{◌≡◌, ℕ, List, ◌++◌, length, map, drop, Some, None, unwrap_or, slice_get, slice_set, Result}
 use Rattle.fw_facts.specs.declared.seen.Seen.{Seen}
 use Rattle.emulated_boards.specs.Boards.{BoardState}
 use Rattle.emulated_boards.specs.Conditions.{view_of}
@@ -48,3 +48,7 @@ pub record ComesHome (facts : Facts) (first : List Seen) (opening : List Row) (p
 -- The places with a board that came home.
 abbrev pub places_with : List Place → ℕ → BoardState → List Place
 places_with places number b = slice_set places number (record (place_at places number) { board = Some b })
+
+-- Each place has the board that it had.
+abbrev pub SameBoards : List Place → List Place → Type 0
+SameBoards old new = map (λ place. place.board) new ≡ map (λ place. place.board) old

@@ -5,7 +5,7 @@ use Rattle.update_log.specs.Pasts.{boots}
 use Rattle.daemon_core.specs.Housed.{Housed, past}
 use Rattle.daemon_core.specs.Keeping.{keeper_faults}
 use Rattle.shared_daemon.specs.Entries.{chronicle}
-use Rattle.shared_daemon.specs.Names.{Name}
+use Rattle.shared_daemon.specs.Names.{Name, plans_in}
 
 -- It was booted, each fault of the keeper that its log tells was counted, and nobody has anything out.
 pub record CanBegin {K : Type 0} (faults : K → ℕ) (h : Housed K) : Type 0 where
@@ -21,6 +21,7 @@ name_of faults h =
     record {
       facts = h.annals.facts;
       first = h.annals.first;
+      plans = plans_in h.places;
       opening = h.annals.opening;
       boots = boots (past h);
       start = chronicle h;

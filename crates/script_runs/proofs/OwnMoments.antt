@@ -206,13 +206,6 @@ own-gained lock name old new more p q g =
           ∙ ap (filter (is_of old.number)) (events-made old.number more);
     }
 
--- Where all are the client's, these are all.
-pub own-all : (lock : LockId) (name : Name) (old new : PassView Entry) (more : List Event) → IsPass lock name old → IsPass lock name new → Gained more old new → AllByRecursion (λ event. is_of old.number event ≡ true) more
-    → (moments : List Moment) × (own new ≡ own old ++ moments) × (map (λ (m : Moment). m.event) moments ≡ more)
-own-all lock name old new more p q g a =
-    let k : OwnOf more old new = own-gained lock name old new more p q g in
-    (k.moments, k.own_are, k.events_are ∙ filter-all (is_of old.number) more a)
-
 -- Which events of a run of a claim are the client's own: all but the cut.
 own-own : (client : ℕ) (event : Event) (rest : List Event) → client_of event ≡ Some client → filter (is_of client) (event ∷ rest) ≡ event ∷ filter (is_of client) rest
 own-own client event rest o = filter-in (is_of client) event rest (is_of-own client event o)

@@ -9,7 +9,6 @@ use Rattle.update_log.specs.declared.live.Held.{Held}
 use Rattle.update_log.specs.declared.live.LiveEntry.{LiveEntry}
 use Rattle.history_keeper.specs.declared.change.Change.{Change}
 use Rattle.history_keeper.specs.declared.row.Row.{Row}
-use Rattle.update_log.specs.declared.event.Event.{Event}
 use Rattle.update_log.specs.Holding.{blocks_out, held, hold_of, holds, live}
 use Rattle.update_log.specs.Legal.{IsFree}
 use Rattle.daemon_core.specs.Annals.{IsAnnals}

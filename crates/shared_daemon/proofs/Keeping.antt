@@ -11,7 +11,8 @@ use Rattle.daemon_core.specs.Housed.{Annalled, Housed, past, past_in}
 use Rattle.daemon_core.specs.Keeping.{keeper_faults, met_fault}
 use Rattle.daemon_core.specs.Turns.{FaultsCounted, Turned, WentOff}
 use Rattle.daemon_core.proofs.AnnalsKept.{appended-past, boots-same}
-use Rattle.shared_daemon.specs.Names.{KeepsName, Name}
+use Rattle.shared_daemon.specs.Names.{HavePlans, KeepsName, Name}
+use Rattle.shared_daemon.proofs.Planned.{plans-same}
 
 -- The log stayed, or one event was put behind it that is no boot; and perhaps none that met a fault of the
 -- keeper.
@@ -49,8 +50,8 @@ counted-still end was now counted told first h c more =
     (λ (w : end ≤ counted). inr (omega arith)) h
 
 module _ {K : Type 0} (faults : K → ℕ) (name : Name) (client : ℕ) (old new : Housed K) where
-  pub keeps-counted : KeepsName faults name old → Grew client old.annals new.annals → FaultsCounted faults old new → faults old.keeper ≤ faults new.keeper → KeepsName faults name new
-  keeps-counted n g f c =
+  pub keeps-counted : KeepsName faults name old → Grew client old.annals new.annals → FaultsCounted faults old new → faults old.keeper ≤ faults new.keeper → HavePlans name.plans new.places → KeepsName faults name new
+  keeps-counted n g f c p =
       let s = grew-facts client old.annals new.annals g in
       record {
         facts_are = s.facts ∙ n.facts_are;
@@ -59,16 +60,21 @@ module _ {K : Type 0} (faults : K → ℕ) (name : Name) (client : ℕ) (old new
         loaded = s.loaded ∙ n.loaded;
         booted = n.booted;
         boots_are = grew-boots client old.annals new.annals g ∙ n.boots_are;
+        planned = p;
         counted = counted-still (2 ^ 64 - 1) (keeper_faults (past old)) (keeper_faults (past new)) (faults old.keeper) (faults new.keeper) name.first_faults n.counted f c;
         counts = (let k = n.counts in omega (arith, k, c));
         told = n.told;
       }
 
-  pub keeps-calm : KeepsName faults name old → GrewCalm client old.annals new.annals → new.keeper ≡ old.keeper → KeepsName faults name new
-  keeps-calm n g k =
+  pub keeps-calm : KeepsName faults name old → GrewCalm client old.annals new.annals → new.keeper ≡ old.keeper → HavePlans name.plans new.places → KeepsName faults name new
+  keeps-calm n g k p =
       let e : keeper_faults (past new) ≡ keeper_faults (past old) = calm-faults client old.annals new.annals g in
       let f : faults new.keeper ≡ faults old.keeper = ap faults k in
-      keeps-counted n (calm-grew client old.annals new.annals g) (inl (omega arith)) (omega arith)
+      keeps-counted n (calm-grew client old.annals new.annals g) (inl (omega arith)) (omega arith) p
+
+  -- The places are as before.
+  pub same-plans : KeepsName faults name old → new.places ≡ old.places → HavePlans name.plans new.places
+  same-plans n e = plans-same name.plans old.places new.places e n.planned
 
 -- How each kind of call lets the log grow.
 pub off-calm : (client : ℕ) (old new : Annalled) → WentOff client old new → GrewCalm client old new

@@ -32,10 +32,8 @@ use Rattle.daemon_core.proofs.BoardsQuiet.{goes-so}
 use Rattle.daemon_core.proofs.PlacesKept.{SameOfBoard, board-same}
 use Rattle.daemon_core.specs.Annals.{IsLegalSo, MadeBy}
 use Rattle.daemon_core.specs.Boards.{BoardStands}
-use Rattle.daemon_core.specs.Claims.{IsTaken}
 use Rattle.daemon_core.specs.Finishes.{IsDone}
 use Rattle.daemon_core.specs.Returns.{ComesHome, StepEnds, new_marks, number_of}
-use Rattle.daemon_core.specs.declared.claimed.Taken.{Taken}
 use Rattle.shared_daemon.proofs.OthersBoards.{own-board_same}
 use Rattle.shared_daemon.proofs.OthersEntries.{concerns, live-begun, live-same, step-same, trace-same, untouched}
 use Rattle.shared_daemon.proofs.OthersLists.{IsOther, boots-other, free-other, hold-other, last-other, off-other, time-other}
@@ -278,12 +276,6 @@ closing-same facts first opening past other entry number l k b =
 -- What is carried over, one lemma each.
 
 module _ (facts : Facts) (first : List Seen) (opening : List Row) (client : ℕ) (past other : List Event) where
-  pub boots-stay : Stays facts first opening client past other → boots other ≡ boots past
-  boots-stay s = s.booted
-
-  pub time-stays : Stays facts first opening client past other → time_of other ≡ time_of past
-  time-stays s = s.timed
-
   pub off-stays : Stays facts first opening client past other → off past ≡ true → off other ≡ true
   off-stays s h = s.is_off h
 
@@ -295,9 +287,6 @@ module _ (facts : Facts) (first : List Seen) (opening : List Row) (client : ℕ)
 
   pub free-stays : Stays facts first opening client past other → IsFree past client → IsFree other client
   free-stays s h = s.free h
-
-  pub own-stays : (entry : ℕ) (l : LiveEntry) → Stays facts first opening client past other → IsOwn past client entry l → IsOwn other client entry l
-  own-stays entry l s o = let k = s.own entry l o in record { live = k.live; client_is = o.client_is }
 
   pub start-stays : (entry : ℕ) (op : Op) (l : LiveEntry) → Stays facts first opening client past other → StartAllowed facts opening past client entry op l → StartAllowed facts opening other client entry op l
   start-stays entry op l s a =
@@ -378,20 +367,6 @@ module _ (facts : Facts) (first : List Seen) (opening : List Row) (client : ℕ)
             ∙ ap (λ (ms : List Mark). told facts opening other number ++ ms) (sym m);
         allowed = subst (λ (ms : List Mark). EndAllowed facts first opening other client entry op outcome ms (shown_of b.condition)) (sym m)
             (end-stays entry number op outcome (new_marks facts opening past entry b.journal) (shown_of b.condition) l s o e.board e.allowed);
-      }
-
-  pub taken-stays : (taken : Taken) (number : ℕ) → Stays facts first opening client past other → IsTaken facts first opening past client taken number → IsTaken facts first opening other client taken number
-  taken-stays taken number s t =
-      let c = t.comes in
-      let k = s.own taken.entry t.l (record { live = c.live; client_is = c.client_is }) in
-      record {
-        l = t.l;
-        comes = home-stays taken.entry number t.l [] taken.board taken.payload.count s c;
-        closed = k.step ∙ t.closed;
-        traced = k.traced ∙ t.traced;
-        no_steps = t.no_steps;
-        marks = t.marks;
-        served = t.served;
       }
 
   pub row-stays : (entry : ℕ) → Stays facts first opening client past other → IsSome (row_of (rows facts opening past) entry) → IsSome (row_of (rows facts opening other) entry)

@@ -1,5 +1,5 @@
 -- Resumptions, on the log of a house.
-use Rattle.std.proofs.Common.{◌≡◌, ℕ, false, List, [], refl, ap, sym, ◌∙◌, subst, inl, inr}
+use Rattle.std.proofs.Common.{◌≡◌, ℕ, false, List, refl, sym, ◌∙◌, subst, inl, inr}
 use Rattle.std.specs.Prelude.{Option, Some, None, Result, Ok, Err}
 use Rattle.history_keeper.specs.declared.row.Row.{Row}
 use Rattle.update_log.specs.declared.answer.ResumeAnswer.{ResumeAnswer}
@@ -20,17 +20,18 @@ use Rattle.daemon_core.specs.Annals.{IsAnnals}
 use Rattle.daemon_core.specs.Claims.{IsTaken}
 use Rattle.daemon_core.specs.Fetches.{IsFetchOf, block_count}
 use Rattle.daemon_core.specs.Holds.{held_by}
-use Rattle.daemon_core.specs.Housed.{Annalled, Housed, past}
+use Rattle.daemon_core.specs.Housed.{Annalled, Housed}
 use Rattle.daemon_core.specs.Resumes.{ComesIn, IsPutOff, ResumeGave, ResumeTurned, StoppedBy}
 use Rattle.turn_lock.specs.Lists.{AddsAtMostOne}
 use Rattle.shared_daemon.specs.declared.entry.Entry.{Entry}
 use Rattle.shared_daemon.specs.Calls.{WasSeen}
 use Rattle.shared_daemon.specs.Entries.{chronicle, entries_in, maker_of, past_seen}
-use Rattle.shared_daemon.specs.Names.{KeepsName, Name}
+use Rattle.shared_daemon.specs.Names.{HavePlans, KeepsName, Name}
 use Rattle.shared_daemon.specs.Resumed.{MayResumeRow, ResumedGave, ResumedIn, StoppedIn}
 use Rattle.shared_daemon.proofs.Keeping.{Grew, calm-grew, off-calm}
 use Rattle.shared_daemon.proofs.Logs.{entries-appended, entries-same}
 use Rattle.shared_daemon.proofs.Others as others
+use Rattle.shared_daemon.proofs.Planned.{taken-planned}
 use Rattle.shared_daemon.proofs.Seeing.{from-name, stays, to-name}
 use Rattle.shared_daemon.proofs.Stayed.{pending-met, rows-met}
 use Rattle.shared_daemon.proofs.Turning.{adds-none, adds-off, adds-on, found-off, off-in}
@@ -69,12 +70,20 @@ resumed-adds entry fetched (Ok (Claimed.Kept kept state)) met log t = absurd t
 resumed-adds entry fetched (Ok (Claimed.Refused refusal)) met log t = adds-on 0 (Event.Resume 0 entry fetched (ResumeAnswer.Refused refusal) t.0) met log t.2
 resumed-adds entry fetched (Err stopped) met log t = stopped-adds stopped.stop met log t
 
-pub resumed-gave : {K : Type 0} (faults : K → ℕ) (name : Name) (entry : ℕ) (held : Option (Ticket × Fetched)) (result : Result Claimed ResumeStop) (old new : Housed K) → KeepsName faults name new → IsAnnals new.annals → ResumeGave entry held result old new
+pub resumed-gave : {K : Type 0} (faults : K → ℕ) (name : Name) (entry : ℕ) (held : Option (Ticket × Fetched)) (result : Result Claimed ResumeStop) (old new : Housed K) → KeepsName faults name new → IsAnnals new.annals → HavePlans name.plans old.places → ResumeGave entry held result old new
     → ResumedGave name entry held result (chronicle new)
-resumed-gave faults name entry held (Ok (Claimed.Taken taken)) old new n k g = (g.0, g.1, (g.3.0, to-name faults name new n k (λ f s o p. IsTaken f s o p 0 taken g.3.0) g.3.1))
-resumed-gave faults name entry held (Ok (Claimed.Kept kept state)) old new n k g = absurd g
-resumed-gave faults name entry held (Ok (Claimed.Refused refusal)) old new n k g = tt
-resumed-gave faults name entry held (Err stopped) old new n k g = g.2
+resumed-gave faults name entry held (Ok (Claimed.Taken taken)) old new n k p g = (
+  g.0,
+  g.1,
+  record {
+    number = g.3.0;
+    is = to-name faults name new n k (λ f s o es. IsTaken f s o es 0 taken g.3.0) g.3.1;
+    planned = taken-planned name.plans old.places g.3.0 taken p g.3.3;
+  },
+)
+resumed-gave faults name entry held (Ok (Claimed.Kept kept state)) old new n k p g = absurd g
+resumed-gave faults name entry held (Ok (Claimed.Refused refusal)) old new n k p g = tt
+resumed-gave faults name entry held (Err stopped) old new n k p g = g.2
 
 module _ {K : Type 0} (faults : K → ℕ) (name : Name) (h : Housed K) (entry : ℕ) where
   pub put_off-met : (held : Option (Ticket × Fetched)) → KeepsName faults name h → IsAnnals h.annals → WasSeen name 0 (MayResumeRow name entry held) (chronicle h) → IsPutOff h.annals entry

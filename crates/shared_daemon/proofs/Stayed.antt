@@ -1,6 +1,6 @@
 -- What a client saw to hold still holds of the house that its turn meets.
-use Rattle.std.proofs.Common.{◌≡◌, ℕ, true, List, [], sym, ◌∙◌, subst, IsSome}
-use Rattle.std.specs.Prelude.{Some, Result}
+use Rattle.std.proofs.Common.{◌≡◌, ℕ, true, List, [], ap, sym, ◌∙◌, subst, IsSome}
+use Rattle.std.specs.Prelude.{Option, Some, Result, unwrap_or}
 use Rattle.emulated_boards.specs.Boards.{BoardState}
 use Rattle.emulated_boards.specs.declared.fault.BoardFault.{BoardFault}
 use Rattle.emulated_boards.specs.declared.mark.Mark.{Mark}
@@ -19,11 +19,11 @@ use Rattle.update_log.specs.Pasts.{off}
 use Rattle.daemon_core.specs.Annals.{IsAnnals}
 use Rattle.daemon_core.specs.Finishes.{IsDone}
 use Rattle.daemon_core.specs.Housed.{Housed, past, rows_before}
-use Rattle.daemon_core.specs.Returns.{ComesHome, StepEnds, new_marks}
+use Rattle.daemon_core.specs.Returns.{ComesHome, StepEnds, new_marks, number_of}
 use Rattle.shared_daemon.specs.declared.entry.Entry.{Entry}
 use Rattle.shared_daemon.specs.Calls.{Meets, WasSeen}
 use Rattle.shared_daemon.specs.Entries.{chronicle, past_seen}
-use Rattle.shared_daemon.specs.Names.{IsLogOf, KeepsName, Name}
+use Rattle.shared_daemon.specs.Names.{HasPlan, IsLogOf, KeepsName, Name}
 use Rattle.shared_daemon.specs.Others.{IsOwn}
 use Rattle.shared_daemon.specs.Questions.{MayAsk}
 use Rattle.shared_daemon.specs.Steps.{EndsOwn, GoesHome, MayFinish, MayStart}
@@ -98,6 +98,17 @@ module _ {K : Type 0} (faults : K → ℕ) (name : Name) (client : ℕ) (h : Hou
         from-name faults name h n k (λ f s o p. ComesHome f s o p client entry e.number e.l e.tail b blocks)
             (others.home-stays name.facts name.first name.opening client (past_seen w.seen) (past_seen (chronicle h)) entry e.number e.l e.tail b blocks (seen-stays (GoesHome name client entry b blocks) w) e.comes),
       )
+
+  -- The faults that are planned for the board are those of the place that it comes to.
+  pub finish-planned : (entry : ℕ) (b : BoardState) (blocks : ℕ) → KeepsName faults name h → IsAnnals h.annals → WasSeen name client (MayFinish name client entry b blocks) (chronicle h)
+      → HasPlan name.plans (number_of h.annals.facts (rows_before h.annals) (past h) entry) b
+  unfolding comes-met
+  finish-planned entry b blocks n k w = subst (λ (i : ℕ). HasPlan name.plans i b) (sym (ap (λ (o : Option ℕ). unwrap_or o 0) (comes-met entry b blocks n k w).2.board)) w.holds.planned
+
+  pub back-planned : (entry : ℕ) (b : BoardState) (blocks : ℕ) → KeepsName faults name h → IsAnnals h.annals → WasSeen name client (GoesHome name client entry b blocks) (chronicle h)
+      → HasPlan name.plans (number_of h.annals.facts (rows_before h.annals) (past h) entry) b
+  unfolding back-met
+  back-planned entry b blocks n k w = subst (λ (i : ℕ). HasPlan name.plans i b) (sym (ap (λ (o : Option ℕ). unwrap_or o 0) (back-met entry b blocks n k w).3.board)) w.holds.planned
 
   pub off-met : (entry : ℕ) (b : BoardState) (blocks : ℕ) → KeepsName faults name h → IsAnnals h.annals → WasSeen name client (GoesHome name client entry b blocks) (chronicle h) → off (past h) ≡ true
   off-met entry b blocks n k w =

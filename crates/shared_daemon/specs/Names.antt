@@ -1,5 +1,7 @@
 -- What no turn changes, and what is always true of a log, of a house and of a pass that have a name.
-use Rattle.std.specs.Prelude.{◌≡◌, ◌⊎◌, ◌<◌, ◌≤◌, ◌+◌, ◌-◌, ◌^◌, ℕ, true, false, List, [], length, Option, None, IfSome}
+use Rattle.std.specs.Prelude.{◌≡◌, ◌⊎◌, ◌<◌, ◌≤◌, ◌+◌, ◌-◌, ◌^◌, ℕ, true, false, List, [], length, map, Option, Some, None, IfSome, slice_get}
+use Rattle.emulated_boards.specs.Boards.{BoardState}
+use Rattle.emulated_boards.specs.declared.fault.PlannedFault.{PlannedFault}
 use Rattle.fw_facts.specs.declared.seen.Seen.{Seen}
 use Rattle.history_keeper.specs.Histories.{IsHistory}
 use Rattle.history_keeper.specs.declared.row.Row.{Row}
@@ -7,19 +9,22 @@ use Rattle.update_log.specs.declared.facts.Facts.{Facts}
 use Rattle.update_log.specs.Holding.{holds, live}
 use Rattle.update_log.specs.Pasts.{boots}
 use Rattle.daemon_core.specs.Annals.{IsLegalSo}
-use Rattle.daemon_core.specs.Housed.{Housed, past}
+use Rattle.daemon_core.specs.Housed.{Housed, Place, past}
 use Rattle.daemon_core.specs.Keeping.{keeper_faults}
+use Rattle.daemon_core.specs.Returns.{place_at}
 use Rattle.turn_lock.specs.Lists.{BeginsWith, beyond, made_by}
 use Rattle.turn_lock.specs.Shown.{LockId, LockView, PassView, IsReady}
 use Rattle.shared_daemon.specs.declared.entry.Entry.{Entry}
 use Rattle.shared_daemon.specs.Entries.{AllMade, maker_of, past_seen}
 
--- What no turn changes: the facts, what each first image shows, the rows before the log, how many boots
--- there were, and the log as the daemon began; of the keeper, how many faults it had counted then; and, as
--- the first house met it, how many it had counted, and the rows that it told, if it told them.
+-- What no turn changes: the facts, what each first image shows, the faults that are planned for each board,
+-- by its number, the rows before the log, how many boots there were, and the log as the daemon began; of the
+-- keeper, how many faults it had counted then; and, as the first house met it, how many it had counted, and
+-- the rows that it told, if it told them.
 pub record Name : Type 0 where
   pub facts : Facts
   pub first : List Seen
+  pub plans : List (List PlannedFault)
   pub opening : List Row
   pub boots : ℕ
   pub start : List Entry
@@ -44,6 +49,7 @@ no_name =
     record {
       facts = no_facts;
       first = [];
+      plans = [];
       opening = [];
       boots = 0;
       start = [];
@@ -51,6 +57,22 @@ no_name =
       first_faults = 0;
       told = None;
     }
+
+-- The faults that are planned for this board are those of its number.
+abbrev pub HasPlan : List (List PlannedFault) → ℕ → BoardState → Type 0
+HasPlan plans number board = slice_get plans number ≡ Some board.plan
+
+-- So they are for each board at home.
+abbrev pub HavePlans : List (List PlannedFault) → List Place → Type 0
+HavePlans plans places = (number : ℕ) (board : BoardState) → (place_at places number).board ≡ Some board → HasPlan plans number board
+
+-- The faults that are planned for the boards at home, and none for one that is out.
+abbrev pub plan_of : Option BoardState → List PlannedFault
+plan_of None = []
+plan_of (Some board) = board.plan
+
+abbrev pub plans_in : List Place → List (List PlannedFault)
+plans_in places = map (λ place. plan_of place.board) places
 
 -- A log of this name: it begins with the log as the daemon began, and had no boot since; it is legal, over
 -- rows that are a valid history; and each event was made by its client.
@@ -61,9 +83,9 @@ pub record IsLogOf (name : Name) (log : List Entry) : Type 0 where
   pub made : AllMade log
   pub boots_are : boots (past_seen log) ≡ name.boots
 
--- A house of this name, which was booted. Each fault of the keeper that the log tells was counted by
--- the keeper, or its count stands at its end; that count has not fallen since the daemon began; and the
--- rows that it told at first are those before the log.
+-- A house of this name, which was booted. Each board at home has the faults planned that its number has. Each
+-- fault of the keeper that the log tells was counted by the keeper, or its count stands at its end; that count
+-- has not fallen since the daemon began; and the rows that it told at first are those before the log.
 pub record KeepsName {K : Type 0} (faults : K → ℕ) (name : Name) (h : Housed K) : Type 0 where
   pub facts_are : h.annals.facts ≡ name.facts
   pub first_are : h.annals.first ≡ name.first
@@ -71,6 +93,7 @@ pub record KeepsName {K : Type 0} (faults : K → ℕ) (name : Name) (h : Housed
   pub loaded : h.annals.loaded ≡ true
   pub booted : 0 < name.boots
   pub boots_are : boots (past h) ≡ name.boots
+  pub planned : HavePlans name.plans h.places
   pub counted : (keeper_faults (past h) + name.first_faults ≤ faults h.keeper) ⊎ (2 ^ 64 - 1 ≤ faults h.keeper)
   pub counts : name.start_faults ≤ faults h.keeper
   pub told : IfSome name.told (λ rows. rows ≡ name.opening)

@@ -16,13 +16,13 @@ use Rattle.daemon_core.specs.declared.fetched.Fetched.{Fetched}
 use Rattle.daemon_core.specs.declared.hold.Ticket.{Ticket}
 use Rattle.daemon_core.specs.declared.resumed.ResumeStop.{ResumeStop}
 use Rattle.daemon_core.specs.declared.stop.Stop.{Stop}
-use Rattle.daemon_core.specs.Claims.{IsTaken}
 use Rattle.daemon_core.specs.Fetches.{IsFetchOf, block_count}
 use Rattle.daemon_core.specs.Holds.{held_by}
 use Rattle.shared_daemon.specs.declared.entry.Entry.{Entry}
 use Rattle.shared_daemon.specs.Calls.{AddsNone, AddsOn, FoundOff}
 use Rattle.shared_daemon.specs.Entries.{past_seen}
 use Rattle.shared_daemon.specs.Names.{Name}
+use Rattle.shared_daemon.specs.Taking.{TookEntry}
 
 -- The ticket is of the daemon's open hold, which is of so many blocks, and which this row made; and a
 -- whole payload is that of its release.
@@ -69,7 +69,7 @@ ResumedIn entry fetched (Err stopped) met log = StoppedIn stopped.stop met log
 abbrev pub ResumedGave : Name → ℕ → Option (Ticket × Fetched) → Result Claimed ResumeStop → List Entry → Type 0
 ResumedGave name entry held (Ok (Claimed.Taken taken)) log =
     (taken.entry ≡ entry) × ((ticket : Ticket) × (held ≡ Some (ticket, Fetched.Whole taken.payload)))
-    × ((number : ℕ) × IsTaken name.facts name.first name.opening (past_seen log) 0 taken number)
+    × TookEntry name 0 taken log
 ResumedGave name entry held (Ok (Claimed.Kept kept state)) log = ⊥
 ResumedGave name entry held (Ok (Claimed.Refused refusal)) log = Unit {0}
 ResumedGave name entry held (Err stopped) log = stopped.held ≡ held

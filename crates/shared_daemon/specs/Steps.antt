@@ -12,7 +12,7 @@ use Rattle.daemon_core.specs.Finishes.{IsDone}
 use Rattle.daemon_core.specs.Returns.{ComesHome, StepEnds}
 use Rattle.shared_daemon.specs.declared.entry.Entry.{Entry}
 use Rattle.shared_daemon.specs.Entries.{past_seen}
-use Rattle.shared_daemon.specs.Names.{Name}
+use Rattle.shared_daemon.specs.Names.{HasPlan, Name}
 use Rattle.shared_daemon.specs.Others.{IsOwn}
 
 -- It starts the next step, of which none is open.
@@ -26,13 +26,14 @@ pub record EndsOwn (name : Name) (client entry : ℕ) (op : Op) (outcome : Resul
   pub own : IsOwn (past_seen seen) client entry l
   pub ends : StepEnds name.facts name.first name.opening (past_seen seen) client entry op outcome number board
 
--- It finishes the entry, which has no next step: all marks of its board were told, and as many blocks
--- come back as it holds.
+-- It finishes the entry, which has no next step: all marks of its board were told, its planned faults are
+-- those of its number, and as many blocks come back as it holds.
 pub record MayFinish (name : Name) (client entry : ℕ) (board : BoardState) (blocks : ℕ) (seen : List Entry) : Type 0 where
   pub l : LiveEntry
   pub number : ℕ
   pub closed : RowState
   pub comes : ComesHome name.facts name.first name.opening (past_seen seen) client entry number l [] board blocks
+  pub planned : HasPlan name.plans number board
   pub done : IsDone name.facts name.opening (past_seen seen) entry closed
 
 -- It gives the entry back, where the boot is off: marks of its board may be left untold.
@@ -41,4 +42,5 @@ pub record GoesHome (name : Name) (client entry : ℕ) (board : BoardState) (blo
   pub number : ℕ
   pub tail : List Mark
   pub comes : ComesHome name.facts name.first name.opening (past_seen seen) client entry number l tail board blocks
+  pub planned : HasPlan name.plans number board
   pub off_is : off (past_seen seen) ≡ true

@@ -2,18 +2,25 @@
 use Rattle.std.specs.Prelude.{◌≡◌, ℕ, List, Result, Ok, Err}
 use Rattle.daemon_core.specs.declared.claimed.Claimed.{Claimed}
 use Rattle.daemon_core.specs.declared.claimed.ClaimStop.{ClaimStop}
+use Rattle.daemon_core.specs.declared.claimed.Taken.{Taken}
 use Rattle.daemon_core.specs.declared.fetched.Fetched.{Fetched}
 use Rattle.daemon_core.specs.declared.hold.Ticket.{Ticket}
 use Rattle.daemon_core.specs.Claims.{IsTaken}
 use Rattle.shared_daemon.specs.declared.entry.Entry.{Entry}
 use Rattle.shared_daemon.specs.Entries.{past_seen}
-use Rattle.shared_daemon.specs.Names.{Name}
+use Rattle.shared_daemon.specs.Names.{HasPlan, Name}
 
--- An entry that was taken is the client's live one, with the payload that was fetched. A claim that was
--- stopped hands the ticket and what was fetched back.
+-- An entry that was taken is the client's live one, and its board has the faults planned that its number has.
+pub record TookEntry (name : Name) (client : ℕ) (taken : Taken) (log : List Entry) : Type 0 where
+  pub number : ℕ
+  pub is : IsTaken name.facts name.first name.opening (past_seen log) client taken number
+  pub planned : HasPlan name.plans number taken.board
+
+-- A claim that took an entry has the payload that was fetched. One that was stopped hands the ticket and what
+-- was fetched back.
 abbrev pub Gave : Name → ℕ → Ticket → Fetched → Result Claimed ClaimStop → List Entry → Type 0
 Gave name client ticket fetched (Ok (Claimed.Taken taken)) log =
-    (fetched ≡ Fetched.Whole taken.payload) × ((number : ℕ) × IsTaken name.facts name.first name.opening (past_seen log) client taken number)
+    (fetched ≡ Fetched.Whole taken.payload) × TookEntry name client taken log
 Gave name client ticket fetched (Ok (Claimed.Kept entry state)) log = Unit {0}
 Gave name client ticket fetched (Ok (Claimed.Refused refusal)) log = Unit {0}
 Gave name client ticket fetched (Err stopped) log = (stopped.ticket ≡ ticket) × (stopped.fetched ≡ fetched)

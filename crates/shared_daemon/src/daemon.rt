@@ -76,7 +76,7 @@ impl<K: Keeper, N: Naming> Daemon<K, N> {
 
     /// Ends the daemon, and gives the house back. The passes are all, in the order of their numbers, and
     /// none has anything out. Nobody else put anything behind the log since the daemon began. All boards are
-    /// at home then, and all blocks are free.
+    /// at home then, with the faults planned that they had as it began, and all blocks are free.
     pub fn close(self, passes: Vec<Pass>) -> House<K>
         requires numbers { map (λ p. p.number) passes.items ≡ range_with_len 0 self.seats }
         requires passes { All (IsPass self.id N.name) passes.items }

@@ -3,7 +3,7 @@ ghost use Rattle.std.specs.Prelude.{◌≡◌, ◌≤◌, ◌<◌, ◌+◌, ◌�
 ghost use Rattle.emulated_boards.specs.declared.mark.Mark.{Mark};
 ghost use Rattle.update_log.specs.declared.event.Back.{Back};
 ghost use Rattle.emulated_boards.specs.Conditions.{view_of};
-ghost use Rattle.daemon_core.specs.Returns.{ComesHome, StepEnds, new_marks, number_of, place_at, places_with};
+ghost use Rattle.daemon_core.specs.Returns.{ComesHome, SameBoards, StepEnds, new_marks, number_of, place_at, places_with};
 ghost use Rattle.update_log.specs.declared.event.Event.{Event};
 ghost use Rattle.update_log.specs.declared.live.LiveEntry.{LiveEntry};
 ghost use Rattle.update_log.specs.Legal.{StartAllowed};
@@ -64,7 +64,7 @@ impl<K: Keeper> House<K> {
     }
 
     /// Ends the open step of a live entry, with its answer. The event shows what the board shows, and tells
-    /// the marks of its journal that weren't told yet. It takes no memory.
+    /// the marks of its journal that weren't told yet. All boards at home stay. It takes no memory.
     pub fn end(
         &mut self,
         client: u32,
@@ -76,6 +76,7 @@ impl<K: Keeper> House<K> {
         requires booted { 0 < boots (past self.old) }
         requires ends { (number : ℕ) × StepEnds self.old.annals.facts self.old.annals.first (rows_before self.old.annals) (past self.old) client entry op outcome number board.now }
         ensures turn { Went client (λ _. Event.End client entry op outcome (new_marks self.old.annals.facts (rows_before self.old.annals) (past self.old) entry board.now.journal) (view_of board.now.condition)) result self.old.annals self.new.annals }
+        ensures places { SameBoards self.old.places self.new.places }
         ensures pool { self.new.pool ≡ self.old.pool }
         ensures keeper { self.new.keeper ≡ self.old.keeper }
     {
@@ -99,6 +100,7 @@ impl<K: Keeper> House<K> {
         requires booted { 0 < boots (past self.old) }
         requires ends { (number : ℕ) × StepEnds self.old.annals.facts self.old.annals.first (rows_before self.old.annals) (past self.old) client entry op outcome number board.now }
         ensures appended { Appended client (Event.End client entry op outcome (new_marks self.old.annals.facts (rows_before self.old.annals) (past self.old) entry board.now.journal) (view_of board.now.condition)) self.old.annals self.new.annals }
+        ensures places { SameBoards self.old.places self.new.places }
         ensures pool { self.new.pool ≡ self.old.pool }
         ensures keeper { self.new.keeper ≡ self.old.keeper }
     {

@@ -13,6 +13,6 @@ returns-clause-runs g c =
     let ticket = c.fetch-ticket.result.0 in
     let fetched = c.fetch-ticket.result.1 in
     let gave = subst (λ (a : Claimed). Gave g.N.Naming.name c.args.pass.now.number ticket fetched (Ok a) c.claim.new.pass.seen) c.in-Ok-Taken.field-0-is c.in-Ok-Taken.ensures.gave in
-    claim-runs g.N.Naming.name gave.1.0 ticket.request fetched c.in-Ok-Taken.taken c.args.pass.now c.claim.new.pass c.claim.ensures.pass.log c.claim.ensures.same t
+    claim-runs g.N.Naming.name ticket.request fetched c.in-Ok-Taken.taken c.args.pass.now c.claim.new.pass c.claim.ensures.pass.log c.claim.ensures.same t
     (subst (λ (a : Claimed). AddsOn c.args.pass.now.number (claim_event c.args.pass.now.number ticket.request fetched a) t.met c.claim.new.pass.seen) c.in-Ok-Taken.field-0-is t.does)
-    gave.0 gave.1.1
+    gave.0 gave.1

@@ -2,7 +2,11 @@ use Rattle.std.proofs.Common.{List, ap, ◌∙◌}
 use Rattle.update_log.specs.declared.event.Event.{Event}
 use Rattle.update_log.specs.Holding.{holds, live}
 use Rattle.shared_daemon.proofs.Logs.{past-entries}
+use Rattle.daemon_tests.proofs.Begun.{begins-named}
 use Rattle.daemon_tests.proofs.scenes.named_day.Goals as goal
+
+pub day-requires-clause-name : goal.day-requires-clause-name
+day-requires-clause-name g c = begins-named g.K.Keeper.faults c.args.house c.requires
 
 pub day-requires-clause-nothing : goal.day-requires-clause-nothing
 day-requires-clause-nothing g c =

@@ -22,27 +22,27 @@ run_taken-requires-clause-runs g c =
     let a = c.in-Ok-Taken in
     let t = a.ensures.turn in
     let gave = subst (λ (x : Claimed). Gave g.N.Naming.name n c.args.ticket c.args.fetched (Ok x) c.claim.new.pass.seen) a.field-0-is a.ensures.gave in
-    claim-runs g.N.Naming.name gave.1.0 c.args.ticket.request c.args.fetched a.taken c.args.pass.now c.claim.new.pass c.claim.ensures.pass.log c.claim.ensures.same t
+    claim-runs g.N.Naming.name c.args.ticket.request c.args.fetched a.taken c.args.pass.now c.claim.new.pass c.claim.ensures.pass.log c.claim.ensures.same t
     (subst (λ (x : Claimed). AddsOn n (claim_event n c.args.ticket.request c.args.fetched x) t.met c.claim.new.pass.seen) a.field-0-is t.does)
-    gave.0 gave.1.1
+    gave.0 gave.1
 
 pub run_taken-requires-clause-no_steps : goal.run_taken-requires-clause-no_steps
 run_taken-requires-clause-no_steps g c =
     let a = c.in-Ok-Taken in
     let gave = subst (λ (x : Claimed). Gave g.N.Naming.name c.args.pass.now.number c.args.ticket c.args.fetched (Ok x) c.claim.new.pass.seen) a.field-0-is a.ensures.gave in
-    gave.1.1.no_steps
+    gave.1.is.no_steps
 
 pub run_taken-requires-clause-marks : goal.run_taken-requires-clause-marks
 run_taken-requires-clause-marks g c =
     let a = c.in-Ok-Taken in
     let gave = subst (λ (x : Claimed). Gave g.N.Naming.name c.args.pass.now.number c.args.ticket c.args.fetched (Ok x) c.claim.new.pass.seen) a.field-0-is a.ensures.gave in
-    gave.1.1.marks
+    gave.1.is.marks
 
 pub run_taken-requires-clause-served : goal.run_taken-requires-clause-served
 run_taken-requires-clause-served g c =
     let a = c.in-Ok-Taken in
     let gave = subst (λ (x : Claimed). Gave g.N.Naming.name c.args.pass.now.number c.args.ticket c.args.fetched (Ok x) c.claim.new.pass.seen) a.field-0-is a.ensures.gave in
-    served-within g.N.Naming.name.facts gave.1.0 a.taken.plugin (length c.args.plugins.now) gave.1.1.served c.requires.served
+    served-within g.N.Naming.name.facts gave.1.number a.taken.plugin (length c.args.plugins.now) gave.1.is.served c.requires.served
 
 pub returns-in-Ok-Taken-clause-ended : goal.returns-in-Ok-Taken-clause-ended
 returns-in-Ok-Taken-clause-ended g c =

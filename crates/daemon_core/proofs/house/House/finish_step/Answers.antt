@@ -1,5 +1,6 @@
-use Rattle.std.proofs.Common.{◌≡◌, ◌<◌, ◌≤◌, List, length, drop, true, ap, sym, ◌∙◌, subst}
-use Rattle.std.specs.Prelude.{slice_set, unwrap_or}
+use Rattle.std.proofs.Common.{◌≡◌, ◌<◌, ◌≤◌, List, length, map, drop, true, ap, sym, ◌∙◌, subst}
+use Rattle.std.specs.Prelude.{Option, slice_set, unwrap_or}
+use Rattle.emulated_boards.specs.Boards.{BoardState}
 use Rattle.emulated_boards.specs.declared.mark.Mark.{Mark}
 use Rattle.update_log.specs.declared.event.Event.{Event}
 use Rattle.update_log.specs.Pasts.{boots}
@@ -7,7 +8,7 @@ use Rattle.daemon_core.specs.Annals.{Appended, Runs}
 use Rattle.daemon_core.specs.House.{IsHouse}
 use Rattle.daemon_core.specs.Housed.{Annalled, Housed, Place, past_in}
 use Rattle.daemon_core.specs.Returns.{place_at}
-use Rattle.daemon_core.proofs.ClaimEnds.{EndPlan, EndsIn, end-event_is, end-plan, end-ready, end_event, house-ended}
+use Rattle.daemon_core.proofs.ClaimEnds.{EndPlan, EndsIn, boards-told, end-event_is, end-plan, end-ready, end_event, house-ended}
 use Rattle.daemon_core.proofs.ClaimHouse.{IsReady}
 use Rattle.daemon_core.proofs.house.House.finish_step.Goals as goal
 use Rattle.daemon_core.proofs.house.House.finish_step.Given.{Over}
@@ -97,3 +98,10 @@ returns-clause-appended g c =
     let t : Told g c.before = told g c.before in
     subst (λ (a : Annalled). Appended c.args.client (end_event a c.args.client c.args.entry c.args.op c.args.outcome c.args.board.now) a c.note.new.self) t.same
     (subst (λ (e : Event). Appended c.args.client e c.self.inside.annals c.note.new.self) t.event c.note.ensures.appended)
+
+pub returns-clause-places : goal.returns-clause-places
+returns-clause-places g c =
+    let boards : List Place → List (Option BoardState) = λ ps. map (λ (p : Place). p.board) ps in
+    ap boards (told g c.before).places
+    ∙ boards-told c.self.inside.places.items c.requires.ends.0 (length c.args.board.now.journal)
+    ∙ ap (λ (h : Housed g.row.K.Denot). boards h.places) c.self.view_is

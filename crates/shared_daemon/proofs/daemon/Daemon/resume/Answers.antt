@@ -1,4 +1,4 @@
-use Rattle.std.proofs.Common.{◌≡◌, ℕ, List, ap, sym, ◌∙◌, subst}
+use Rattle.std.proofs.Common.{ℕ, List, ap, sym, ◌∙◌, subst}
 use Rattle.daemon_core.specs.Housed.{Housed}
 use Rattle.daemon_core.specs.Resumes.{note_in}
 use Rattle.shared_daemon.specs.declared.entry.Entry.{Entry}

@@ -2,7 +2,7 @@ use Rattle.std.proofs.Common.{refl, sym, subst}
 use Rattle.std.specs.Prelude.{None}
 use Rattle.update_log.specs.declared.event.Event.{Event}
 use Rattle.shared_daemon.proofs.named.Named.ask.Goals as goal
-use Rattle.shared_daemon.proofs.Keeping.{keeps-calm, turned-calm}
+use Rattle.shared_daemon.proofs.Keeping.{keeps-calm, same-plans, turned-calm}
 use Rattle.shared_daemon.proofs.Seeing.{booted-named}
 use Rattle.shared_daemon.proofs.Turning.{turned-named}
 use Rattle.shared_daemon.proofs.Stayed.{free-met}
@@ -22,7 +22,7 @@ pub ask-requires-clause-free : goal.ask-requires-clause-free
 ask-requires-clause-free g c = free-met g.K.Keeper.faults g.N.Naming.name c.args.client c.self.inside.house c.self.invariant c.known.ensures.annals (subst (λ (h : Housed g.row.K.Denot). WasSeen g.N.Naming.name c.args.client (λ seen. IsFree (past_seen seen) c.args.client) (chronicle h)) (sym c.self.view_is) c.requires)
 
 pub invariant_of-self : goal.invariant_of-self
-invariant_of-self g c = keeps-calm g.K.Keeper.faults g.N.Naming.name c.args.client c.self.inside.house c.ask.new.self c.self.invariant (turned-calm c.args.client (λ (asked : Asked). Event.Ask c.args.client c.args.request.now None (answer_of asked)) c.ask.result c.self.inside.house.annals c.ask.new.self.annals (λ a. refl) (λ a. refl) c.ask.ensures.turn) c.ask.ensures.keeper
+invariant_of-self g c = keeps-calm g.K.Keeper.faults g.N.Naming.name c.args.client c.self.inside.house c.ask.new.self c.self.invariant (turned-calm c.args.client (λ (asked : Asked). Event.Ask c.args.client c.args.request.now None (answer_of asked)) c.ask.result c.self.inside.house.annals c.ask.new.self.annals (λ a. refl) (λ a. refl) c.ask.ensures.turn) c.ask.ensures.keeper (same-plans g.K.Keeper.faults g.N.Naming.name c.args.client c.self.inside.house c.ask.new.self c.self.invariant c.ask.ensures.places)
 
 pub returns-clause-turn : goal.returns-clause-turn
 returns-clause-turn g c = turned-named c.args.client (λ (asked : Asked). Event.Ask c.args.client c.args.request.now None (answer_of asked)) c.ask.result c.args.self.now c.self.inside.house c.ask.new.self c.self.view_is c.known.ensures.annals c.ask.ensures.turn

@@ -2,7 +2,7 @@ use Rattle.std.proofs.Common.{◌≡◌, List, refl, sym, subst}
 use Rattle.std.specs.Prelude.{Some}
 use Rattle.update_log.specs.declared.event.Event.{Event}
 use Rattle.shared_daemon.proofs.named.Named.ask_pending.Goals as goal
-use Rattle.shared_daemon.proofs.Keeping.{keeps-calm, turned-calm}
+use Rattle.shared_daemon.proofs.Keeping.{keeps-calm, same-plans, turned-calm}
 use Rattle.shared_daemon.proofs.Seeing.{booted-named}
 use Rattle.shared_daemon.proofs.Turning.{turned-named}
 use Rattle.shared_daemon.proofs.Stayed.{free-met, rows-met}
@@ -34,7 +34,7 @@ pub invariant_of-self : goal.invariant_of-self
 invariant_of-self g c =
     let row : Row = c.requires.pending.0 in
     let is : row_of (rows g.N.Naming.name.facts g.N.Naming.name.opening (past_seen (chronicle c.args.self.now))) c.args.entry ≡ Some row = c.requires.pending.1 in
-    keeps-calm g.K.Keeper.faults g.N.Naming.name 0 c.self.inside.house c.ask_pending.new.self c.self.invariant (turned-calm 0 (λ (asked : Asked). Event.Ask 0 (request_of_row row) (Some c.args.entry) (answer_of asked)) c.ask_pending.result c.self.inside.house.annals c.ask_pending.new.self.annals (λ a. refl) (λ a. refl) (c.ask_pending.ensures.turn row (subst (λ (all : List Row). row_of all c.args.entry ≡ Some row) (sym (rows-met g.K.Keeper.faults g.N.Naming.name 0 c.self.inside.house c.self.invariant c.known.ensures.annals)) (subst (λ (h : Housed g.row.K.Denot). row_of (rows g.N.Naming.name.facts g.N.Naming.name.opening (past_seen (chronicle h))) c.args.entry ≡ Some row) (sym c.self.view_is) is)))) c.ask_pending.ensures.keeper
+    keeps-calm g.K.Keeper.faults g.N.Naming.name 0 c.self.inside.house c.ask_pending.new.self c.self.invariant (turned-calm 0 (λ (asked : Asked). Event.Ask 0 (request_of_row row) (Some c.args.entry) (answer_of asked)) c.ask_pending.result c.self.inside.house.annals c.ask_pending.new.self.annals (λ a. refl) (λ a. refl) (c.ask_pending.ensures.turn row (subst (λ (all : List Row). row_of all c.args.entry ≡ Some row) (sym (rows-met g.K.Keeper.faults g.N.Naming.name 0 c.self.inside.house c.self.invariant c.known.ensures.annals)) (subst (λ (h : Housed g.row.K.Denot). row_of (rows g.N.Naming.name.facts g.N.Naming.name.opening (past_seen (chronicle h))) c.args.entry ≡ Some row) (sym c.self.view_is) is)))) c.ask_pending.ensures.keeper (same-plans g.K.Keeper.faults g.N.Naming.name 0 c.self.inside.house c.ask_pending.new.self c.self.invariant c.ask_pending.ensures.places)
 
 pub returns-clause-turn : goal.returns-clause-turn
 returns-clause-turn g c = λ row is. turned-named 0 (λ (asked : Asked). Event.Ask 0 (request_of_row row) (Some c.args.entry) (answer_of asked)) c.ask_pending.result c.args.self.now c.self.inside.house c.ask_pending.new.self c.self.view_is c.known.ensures.annals (c.ask_pending.ensures.turn row (subst (λ (all : List Row). row_of all c.args.entry ≡ Some row) (sym (rows-met g.K.Keeper.faults g.N.Naming.name 0 c.self.inside.house c.self.invariant c.known.ensures.annals)) (subst (λ (h : Housed g.row.K.Denot). row_of (rows g.N.Naming.name.facts g.N.Naming.name.opening (past_seen (chronicle h))) c.args.entry ≡ Some row) (sym c.self.view_is) is)))

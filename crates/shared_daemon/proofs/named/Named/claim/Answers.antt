@@ -2,6 +2,7 @@ use Rattle.std.proofs.Common.{◌≡◌, refl, sym, subst}
 use Rattle.std.specs.Prelude.{Some}
 use Rattle.shared_daemon.proofs.named.Named.claim.Goals as goal
 use Rattle.shared_daemon.proofs.Keeping.{keeps-counted, turned-grew}
+use Rattle.shared_daemon.proofs.Planned.{claim-plans}
 use Rattle.shared_daemon.proofs.Seeing.{booted-named}
 use Rattle.shared_daemon.proofs.Turning.{turned-named}
 use Rattle.shared_daemon.proofs.Stayed.{hold-met}
@@ -25,10 +26,10 @@ pub claim-claimed-requires-clause-whole : goal.claim-claimed-requires-clause-who
 claim-claimed-requires-clause-whole g c = subst (λ (f : Facts). IsFetchOf f c.args.ticket.release c.args.fetched) (sym c.self.invariant.facts_are) c.requires.whole
 
 pub invariant_of-self : goal.invariant_of-self
-invariant_of-self g c = (keeps-counted g.K.Keeper.faults g.N.Naming.name c.args.client c.self.inside.house c.claim-claimed.new.self c.self.invariant (turned-grew c.args.client (claim_event c.args.client c.args.ticket.request c.args.fetched) (stopped_by c.claim-claimed.result) c.self.inside.house.annals c.claim-claimed.new.self.annals (λ a. refl) c.claim-claimed.ensures.turn) c.claim-claimed.ensures.faults c.claim-claimed.ensures.counts)
+invariant_of-self g c = (keeps-counted g.K.Keeper.faults g.N.Naming.name c.args.client c.self.inside.house c.claim-claimed.new.self c.self.invariant (turned-grew c.args.client (claim_event c.args.client c.args.ticket.request c.args.fetched) (stopped_by c.claim-claimed.result) c.self.inside.house.annals c.claim-claimed.new.self.annals (λ a. refl) c.claim-claimed.ensures.turn) c.claim-claimed.ensures.faults c.claim-claimed.ensures.counts (claim-plans g.N.Naming.name.plans c.args.client c.args.ticket c.args.fetched c.claim-claimed.result c.self.inside.house c.claim-claimed.new.self c.claim-claimed.ensures.gave c.self.invariant.planned))
 
 pub returns-clause-turn : goal.returns-clause-turn
 returns-clause-turn g c = turned-named c.args.client (claim_event c.args.client c.args.ticket.request c.args.fetched) (stopped_by c.claim-claimed.result) c.args.self.now c.self.inside.house c.claim-claimed.new.self c.self.view_is c.known.ensures.annals c.claim-claimed.ensures.turn
 
 pub returns-clause-gave : goal.returns-clause-gave
-returns-clause-gave g c = gave-named g.K.Keeper.faults g.N.Naming.name c.args.client c.args.ticket c.args.fetched c.claim-claimed.result c.self.inside.house c.claim-claimed.new.self (keeps-counted g.K.Keeper.faults g.N.Naming.name c.args.client c.self.inside.house c.claim-claimed.new.self c.self.invariant (turned-grew c.args.client (claim_event c.args.client c.args.ticket.request c.args.fetched) (stopped_by c.claim-claimed.result) c.self.inside.house.annals c.claim-claimed.new.self.annals (λ a. refl) c.claim-claimed.ensures.turn) c.claim-claimed.ensures.faults c.claim-claimed.ensures.counts) c.known-2.ensures.annals c.claim-claimed.ensures.gave
+returns-clause-gave g c = gave-named g.K.Keeper.faults g.N.Naming.name c.args.client c.args.ticket c.args.fetched c.claim-claimed.result c.self.inside.house c.claim-claimed.new.self (keeps-counted g.K.Keeper.faults g.N.Naming.name c.args.client c.self.inside.house c.claim-claimed.new.self c.self.invariant (turned-grew c.args.client (claim_event c.args.client c.args.ticket.request c.args.fetched) (stopped_by c.claim-claimed.result) c.self.inside.house.annals c.claim-claimed.new.self.annals (λ a. refl) c.claim-claimed.ensures.turn) c.claim-claimed.ensures.faults c.claim-claimed.ensures.counts (claim-plans g.N.Naming.name.plans c.args.client c.args.ticket c.args.fetched c.claim-claimed.result c.self.inside.house c.claim-claimed.new.self c.claim-claimed.ensures.gave c.self.invariant.planned)) c.known-2.ensures.annals c.self.invariant.planned c.claim-claimed.ensures.gave

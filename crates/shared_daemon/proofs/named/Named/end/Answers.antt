@@ -2,6 +2,7 @@ use Rattle.std.proofs.Common.{List, refl, sym, subst}
 use Rattle.update_log.specs.declared.event.Event.{Event}
 use Rattle.shared_daemon.proofs.named.Named.end.Goals as goal
 use Rattle.shared_daemon.proofs.Keeping.{keeps-calm, went-calm}
+use Rattle.shared_daemon.proofs.Planned.{plans-stay}
 use Rattle.shared_daemon.proofs.Seeing.{booted-named, to-name}
 use Rattle.shared_daemon.proofs.Turning.{went-in}
 use Rattle.shared_daemon.proofs.Stayed.{ends-met}
@@ -21,7 +22,7 @@ pub end-requires-clause-ends : goal.end-requires-clause-ends
 end-requires-clause-ends g c = ends-met g.K.Keeper.faults g.N.Naming.name c.args.client c.self.inside.house c.args.entry c.args.op c.args.outcome c.args.board.now c.self.invariant c.known.ensures.annals (subst (λ (h : Housed g.row.K.Denot). WasSeen g.N.Naming.name c.args.client (EndsOwn g.N.Naming.name c.args.client c.args.entry c.args.op c.args.outcome c.args.board.now) (chronicle h)) (sym c.self.view_is) c.requires)
 
 pub invariant_of-self : goal.invariant_of-self
-invariant_of-self g c = keeps-calm g.K.Keeper.faults g.N.Naming.name c.args.client c.self.inside.house c.end.new.self c.self.invariant (went-calm c.args.client (λ (u : Unit {0}). Event.End c.args.client c.args.entry c.args.op c.args.outcome (new_marks c.self.inside.house.annals.facts (rows_before c.self.inside.house.annals) (past c.self.inside.house) c.args.entry c.args.board.now.journal) (view_of c.args.board.now.condition)) c.end.result c.self.inside.house.annals c.end.new.self.annals (λ a. refl) (λ a. refl) c.end.ensures.turn) c.end.ensures.keeper
+invariant_of-self g c = keeps-calm g.K.Keeper.faults g.N.Naming.name c.args.client c.self.inside.house c.end.new.self c.self.invariant (went-calm c.args.client (λ (u : Unit {0}). Event.End c.args.client c.args.entry c.args.op c.args.outcome (new_marks c.self.inside.house.annals.facts (rows_before c.self.inside.house.annals) (past c.self.inside.house) c.args.entry c.args.board.now.journal) (view_of c.args.board.now.condition)) c.end.result c.self.inside.house.annals c.end.new.self.annals (λ a. refl) (λ a. refl) c.end.ensures.turn) c.end.ensures.keeper (plans-stay g.N.Naming.name.plans c.self.inside.house.places c.end.new.self.places c.end.ensures.places c.self.invariant.planned)
 
 pub returns : goal.returns
 returns g c =

@@ -1,8 +1,9 @@
 use Rattle.std.proofs.Common.{sym, subst}
 use Rattle.shared_daemon.proofs.named.Named.finish.Goals as goal
 use Rattle.shared_daemon.proofs.Keeping.{keeps-counted}
+use Rattle.shared_daemon.proofs.Planned.{finish-plans}
 use Rattle.shared_daemon.proofs.Seeing.{booted-named}
-use Rattle.shared_daemon.proofs.Stayed.{comes-met, done-met}
+use Rattle.shared_daemon.proofs.Stayed.{comes-met, done-met, finish-planned}
 use Rattle.daemon_core.specs.Housed.{Housed}
 use Rattle.shared_daemon.specs.Calls.{WasSeen}
 use Rattle.shared_daemon.specs.Entries.{chronicle}
@@ -22,7 +23,7 @@ pub finish-requires-clause-done : goal.finish-requires-clause-done
 finish-requires-clause-done g c = done-met g.K.Keeper.faults g.N.Naming.name c.args.client c.self.inside.house c.args.entry c.args.board c.args.payload.count c.self.invariant c.known.ensures.annals (subst (λ (h : Housed g.row.K.Denot). WasSeen g.N.Naming.name c.args.client (MayFinish g.N.Naming.name c.args.client c.args.entry c.args.board c.args.payload.count) (chronicle h)) (sym c.self.view_is) c.requires)
 
 pub invariant_of-self : goal.invariant_of-self
-invariant_of-self g c = keeps-counted g.K.Keeper.faults g.N.Naming.name c.args.client c.self.inside.house c.finish.new.self c.self.invariant (finished-grew c.args.client c.args.entry (number_of c.self.inside.house.annals.facts (rows_before c.self.inside.house.annals) (past c.self.inside.house) c.args.entry) c.args.board c.args.payload c.finish.result c.self.inside.house c.finish.new.self c.finish.ensures.turn) c.finish.ensures.faults c.finish.ensures.counts
+invariant_of-self g c = keeps-counted g.K.Keeper.faults g.N.Naming.name c.args.client c.self.inside.house c.finish.new.self c.self.invariant (finished-grew c.args.client c.args.entry (number_of c.self.inside.house.annals.facts (rows_before c.self.inside.house.annals) (past c.self.inside.house) c.args.entry) c.args.board c.args.payload c.finish.result c.self.inside.house c.finish.new.self c.finish.ensures.turn) c.finish.ensures.faults c.finish.ensures.counts (finish-plans g.N.Naming.name.plans c.args.client c.args.entry (number_of c.self.inside.house.annals.facts (rows_before c.self.inside.house.annals) (past c.self.inside.house) c.args.entry) c.args.board c.args.payload c.finish.result c.self.inside.house c.finish.new.self c.finish.ensures.turn (finish-planned g.K.Keeper.faults g.N.Naming.name c.args.client c.self.inside.house c.args.entry c.args.board c.args.payload.count c.self.invariant c.known.ensures.annals (subst (λ (h : Housed g.row.K.Denot). WasSeen g.N.Naming.name c.args.client (MayFinish g.N.Naming.name c.args.client c.args.entry c.args.board c.args.payload.count) (chronicle h)) (sym c.self.view_is) c.requires)) c.self.invariant.planned)
 
 pub returns : goal.returns
 returns g c = subst (λ (h : Housed g.row.K.Denot). FinishedIn c.args.client c.args.entry c.args.board c.args.payload c.finish.result (chronicle h) (chronicle c.finish.new.self)) c.self.view_is (finished-in c.args.client c.args.entry (number_of c.self.inside.house.annals.facts (rows_before c.self.inside.house.annals) (past c.self.inside.house) c.args.entry) c.args.board c.args.payload c.finish.result c.self.inside.house c.finish.new.self c.known.ensures.annals c.finish.ensures.turn)

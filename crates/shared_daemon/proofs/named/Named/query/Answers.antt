@@ -1,7 +1,7 @@
 use Rattle.std.proofs.Common.{refl}
 use Rattle.update_log.specs.declared.event.Event.{Event}
 use Rattle.shared_daemon.proofs.named.Named.query.Goals as goal
-use Rattle.shared_daemon.proofs.Keeping.{keeps-calm, turned-calm}
+use Rattle.shared_daemon.proofs.Keeping.{keeps-calm, same-plans, turned-calm}
 use Rattle.shared_daemon.proofs.Seeing.{booted-named}
 use Rattle.shared_daemon.proofs.Turning.{turned-named}
 use Rattle.shared_daemon.proofs.Stayed.{may-ask}
@@ -14,7 +14,7 @@ pub query-requires-clause-allowed : goal.query-requires-clause-allowed
 query-requires-clause-allowed g c = may-ask c.self.inside.house.annals.facts (rows_before c.self.inside.house.annals) (past c.self.inside.house) c.args.query.now c.requires
 
 pub invariant_of-self : goal.invariant_of-self
-invariant_of-self g c = keeps-calm g.K.Keeper.faults g.N.Naming.name c.args.client c.self.inside.house c.query.new.self c.self.invariant (turned-calm c.args.client (λ (u : Unit {0}). Event.Query c.args.client c.args.query.now) c.query.result c.self.inside.house.annals c.query.new.self.annals (λ a. refl) (λ a. refl) c.query.ensures.turn) c.query.ensures.elsewhere.keeper
+invariant_of-self g c = keeps-calm g.K.Keeper.faults g.N.Naming.name c.args.client c.self.inside.house c.query.new.self c.self.invariant (turned-calm c.args.client (λ (u : Unit {0}). Event.Query c.args.client c.args.query.now) c.query.result c.self.inside.house.annals c.query.new.self.annals (λ a. refl) (λ a. refl) c.query.ensures.turn) c.query.ensures.elsewhere.keeper (same-plans g.K.Keeper.faults g.N.Naming.name c.args.client c.self.inside.house c.query.new.self c.self.invariant c.query.ensures.elsewhere.places)
 
 pub returns : goal.returns
 returns g c = turned-named c.args.client (λ (u : Unit {0}). Event.Query c.args.client c.args.query.now) c.query.result c.args.self.now c.self.inside.house c.query.new.self c.self.view_is c.known.ensures.annals c.query.ensures.turn

@@ -5,6 +5,7 @@ use Rattle.shared_daemon.specs.Calls.{WasSeen}
 use Rattle.shared_daemon.specs.Entries.{chronicle}
 use Rattle.shared_daemon.specs.Resumed.{MayResumeRow}
 use Rattle.shared_daemon.proofs.Keeping.{keeps-counted}
+use Rattle.shared_daemon.proofs.Planned.{resume-plans}
 use Rattle.shared_daemon.proofs.Resumptions.{comes-in-met, put_off-met, resumed-gave, resumed-grew, resumed-named}
 use Rattle.shared_daemon.proofs.Seeing.{booted-named}
 use Rattle.shared_daemon.proofs.named.Named.resume.Goals as goal
@@ -26,7 +27,7 @@ pub invariant_of-self : goal.invariant_of-self
 invariant_of-self g c =
     keeps-counted g.K.Keeper.faults g.N.Naming.name 0 c.self.inside.house c.resume-resumed.new.self c.self.invariant
     (resumed-grew c.args.entry (note_in c.args.held) c.resume-resumed.result c.self.inside.house.annals c.resume-resumed.new.self.annals c.resume-resumed.ensures.turn)
-    c.resume-resumed.ensures.faults c.resume-resumed.ensures.counts
+    c.resume-resumed.ensures.faults c.resume-resumed.ensures.counts (resume-plans g.N.Naming.name.plans c.args.entry c.args.held c.resume-resumed.result c.self.inside.house c.resume-resumed.new.self c.resume-resumed.ensures.gave c.self.invariant.planned)
 
 pub returns-clause-turn : goal.returns-clause-turn
 returns-clause-turn g c = resumed-named c.args.entry (note_in c.args.held) c.resume-resumed.result c.args.self.now c.self.inside.house c.resume-resumed.new.self c.self.view_is c.known.ensures.annals c.resume-resumed.ensures.turn
@@ -36,5 +37,5 @@ returns-clause-gave g c =
     resumed-gave g.K.Keeper.faults g.N.Naming.name c.args.entry c.args.held c.resume-resumed.result c.self.inside.house c.resume-resumed.new.self
     (keeps-counted g.K.Keeper.faults g.N.Naming.name 0 c.self.inside.house c.resume-resumed.new.self c.self.invariant
     (resumed-grew c.args.entry (note_in c.args.held) c.resume-resumed.result c.self.inside.house.annals c.resume-resumed.new.self.annals c.resume-resumed.ensures.turn)
-    c.resume-resumed.ensures.faults c.resume-resumed.ensures.counts)
-    c.known-2.ensures.annals c.resume-resumed.ensures.gave
+    c.resume-resumed.ensures.faults c.resume-resumed.ensures.counts (resume-plans g.N.Naming.name.plans c.args.entry c.args.held c.resume-resumed.result c.self.inside.house c.resume-resumed.new.self c.resume-resumed.ensures.gave c.self.invariant.planned))
+    c.known-2.ensures.annals c.self.invariant.planned c.resume-resumed.ensures.gave

@@ -1,7 +1,7 @@
 use Rattle.std.proofs.Common.{refl, sym, subst}
 use Rattle.update_log.specs.declared.event.Event.{Event}
 use Rattle.shared_daemon.proofs.named.Named.start.Goals as goal
-use Rattle.shared_daemon.proofs.Keeping.{keeps-calm, went-calm}
+use Rattle.shared_daemon.proofs.Keeping.{keeps-calm, same-plans, went-calm}
 use Rattle.shared_daemon.proofs.Seeing.{booted-named}
 use Rattle.shared_daemon.proofs.Turning.{went-named}
 use Rattle.shared_daemon.proofs.Stayed.{start-met}
@@ -17,7 +17,7 @@ pub start-requires-clause-next : goal.start-requires-clause-next
 start-requires-clause-next g c = start-met g.K.Keeper.faults g.N.Naming.name c.args.client c.self.inside.house c.args.entry c.args.op c.self.invariant c.known.ensures.annals (subst (λ (h : Housed g.row.K.Denot). WasSeen g.N.Naming.name c.args.client (MayStart g.N.Naming.name c.args.client c.args.entry c.args.op) (chronicle h)) (sym c.self.view_is) c.requires)
 
 pub invariant_of-self : goal.invariant_of-self
-invariant_of-self g c = keeps-calm g.K.Keeper.faults g.N.Naming.name c.args.client c.self.inside.house c.start.new.self c.self.invariant (went-calm c.args.client (λ (u : Unit {0}). Event.Start c.args.client c.args.entry c.args.op) c.start.result c.self.inside.house.annals c.start.new.self.annals (λ a. refl) (λ a. refl) c.start.ensures.turn) c.start.ensures.elsewhere.keeper
+invariant_of-self g c = keeps-calm g.K.Keeper.faults g.N.Naming.name c.args.client c.self.inside.house c.start.new.self c.self.invariant (went-calm c.args.client (λ (u : Unit {0}). Event.Start c.args.client c.args.entry c.args.op) c.start.result c.self.inside.house.annals c.start.new.self.annals (λ a. refl) (λ a. refl) c.start.ensures.turn) c.start.ensures.elsewhere.keeper (same-plans g.K.Keeper.faults g.N.Naming.name c.args.client c.self.inside.house c.start.new.self c.self.invariant c.start.ensures.elsewhere.places)
 
 pub returns : goal.returns
 returns g c = went-named c.args.client (λ (u : Unit {0}). Event.Start c.args.client c.args.entry c.args.op) c.start.result c.args.self.now c.self.inside.house c.start.new.self c.self.view_is c.known.ensures.annals c.start.ensures.turn
