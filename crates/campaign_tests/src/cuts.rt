@@ -1,5 +1,6 @@
 //! Cuts at every event of an install.
-use crate::base::{WELL, document, in_memory};
+use crate::base::{Left, WELL, document, in_memory};
+use crate::databases::in_database;
 use std::alloc::Global;
 use std::sync::Wait;
 use std::test::Fail;
@@ -85,7 +86,16 @@ fn cut_report(alloc: Global, events: usize, rest: &[&str]) -> Result<String, Fai
     Ok(report)
 }
 
-/// What an install with a cut, and a second boot, tells otherwise.
+/// What a run left otherwise than this report and so many writes that began.
+fn left_unlike(alloc: Global, left: &Left, report: &str, begun: usize) -> Result<String, Fail> {
+    let writes = left.begun.len();
+    if writes != begun {
+        return Ok(format!(in alloc; "writes {writes}\n{}", left.text())?);
+    }
+    left.unlike(alloc, "done", &[report])
+}
+
+/// What an install with a cut, and a second boot, tells otherwise, over a history in memory and in a database.
 fn unlike<R: Threads + Wait + Sync>(
     rt: &R,
     alloc: Global,
@@ -100,11 +110,12 @@ fn unlike<R: Threads + Wait + Sync>(
     ];
     let text = document(alloc, &changes)?;
     let left = in_memory(rt, alloc, &text, Vec::new(alloc), &WELL)?;
-    let writes = left.begun.len();
-    if writes != begun {
-        return Ok(format!(in alloc; "writes {writes}\n{}", left.text())?);
+    let told = left_unlike(alloc, &left, report, begun)?;
+    if !told.is_empty() {
+        return Ok(told);
     }
-    left.unlike(alloc, "done", &[report])
+    let left = in_database(rt, alloc, &text, &WELL)?;
+    left_unlike(alloc, &left, report, begun)
 }
 
 /// The power is cut at each event of an install in turn: the write began at most once, and the next boot judges by the

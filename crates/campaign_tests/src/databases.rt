@@ -2,7 +2,7 @@
 ghost use Rattle.std.specs.Prelude.{◌≡◌, None};
 ghost use Rattle.history_sqlite.specs.Keeping.{doubtful};
 
-use crate::base::{Left, WELL, campaign, document, plan, shelves};
+use crate::base::{Left, Outside, WELL, campaign, document, plan, shelves};
 use crate::faults::{AGAIN, BEGIN, BOOT, INSTALL, KEEPER, OLD, TWICE};
 use crate::meeting::Meeting;
 use history_keeper::Keeper;
@@ -20,12 +20,24 @@ fn over<R: Threads + Wait + Sync>(
     alloc: Global,
     text: &str,
     keeper: SqlKeeper<MemStore>,
+    outside: &Outside,
 ) -> Result<(Left, SqlKeeper<MemStore>), Fail>
     requires no_doubt { doubtful keeper ≡ None }
 {
     let meeting = Arc::new(alloc, Meeting::new())?;
-    let shelves = shelves(alloc, &WELL)?;
-    campaign(rt, alloc, text, shelves, keeper, &WELL, &meeting, &NoGate)
+    let shelves = shelves(alloc, outside)?;
+    campaign(rt, alloc, text, shelves, keeper, outside, &meeting, &NoGate)
+}
+
+/// Runs the campaign of a document over a new database.
+pub(crate) fn in_database<R: Threads + Wait + Sync>(
+    rt: &R,
+    alloc: Global,
+    text: &str,
+    outside: &Outside,
+) -> Result<Left, Fail> {
+    let (left, _keeper) = over(rt, alloc, text, SqlKeeper::memory(alloc)?, outside)?;
+    Ok(left)
 }
 
 /// What a run over a database that fails so tells otherwise.
@@ -38,7 +50,7 @@ fn unlike<R: Threads + Wait + Sync>(
     report: &[&str],
 ) -> Result<String, Fail> {
     let keeper = SqlKeeper::planned(alloc, plan(alloc, failing)?)?;
-    let (left, _keeper) = over(rt, alloc, text, keeper)?;
+    let (left, _keeper) = over(rt, alloc, text, keeper, &WELL)?;
     left.unlike(alloc, status, report)
 }
 
@@ -67,13 +79,13 @@ fn each_call_of_the_database_fails(rt: HostRuntime) -> Result<(), Fail> {
 /// What two runs of one document over one database tell otherwise.
 fn second_run_unlike<R: Threads + Wait + Sync>(rt: &R, alloc: Global) -> Result<String, Fail> {
     let text = document(alloc, &[])?;
-    let (left, mut keeper) = over(rt, alloc, &text, SqlKeeper::memory(alloc)?)?;
+    let (left, mut keeper) = over(rt, alloc, &text, SqlKeeper::memory(alloc)?, &WELL)?;
     let told = left.unlike(alloc, "done", &INSTALL)?;
     if !told.is_empty() {
         return Ok(told);
     }
     keeper.reopen()?;
-    let (left, _keeper) = over(rt, alloc, &text, keeper)?;
+    let (left, _keeper) = over(rt, alloc, &text, keeper, &WELL)?;
     left.unlike(alloc, "done", &[BEGIN, BOOT, OLD, AGAIN, "end 2\n"])
 }
 

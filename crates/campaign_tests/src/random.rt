@@ -1,5 +1,6 @@
 //! Campaigns made at random.
-use crate::base::{Outside, WELL, changed, in_memory, with};
+use crate::base::{Left, Outside, WELL, changed, in_memory, with};
+use crate::databases::in_database;
 use crate::dice::Dice;
 use std::alloc::Global;
 use std::sync::Wait;
@@ -149,10 +150,7 @@ fn site(alloc: Global, dice: &mut Dice) -> Result<String, Fail> {
 
 /// The document and what it left, where an entry was written twice, or where the report doesn't end with the number of
 /// events.
-fn wrong<R: Threads + Wait + Sync>(rt: &R, alloc: Global, seed: u64) -> Result<String, Fail> {
-    let text = site(alloc, &mut Dice::new(seed))?;
-    let outside = Outside { shelves: 3, ..WELL };
-    let left = in_memory(rt, alloc, &text, Vec::new(alloc), &outside)?;
+fn fault_of(alloc: Global, text: &str, left: &Left) -> Result<String, Fail> {
     let end = format!(in alloc; "\nend {}\n", left.events)?;
     if left.status.as_str() == "done"
         && !left.wrote_twice()
@@ -161,6 +159,18 @@ fn wrong<R: Threads + Wait + Sync>(rt: &R, alloc: Global, seed: u64) -> Result<S
         return Ok(String::new(alloc));
     }
     Ok(format!(in alloc; "{text}\n{}\n{}", left.status, left.text())?)
+}
+
+/// What is wrong with a campaign, over a history in memory; one of four is run over a database too.
+fn wrong<R: Threads + Wait + Sync>(rt: &R, alloc: Global, seed: u64) -> Result<String, Fail> {
+    let text = site(alloc, &mut Dice::new(seed))?;
+    let outside = Outside { shelves: 3, ..WELL };
+    let left = in_memory(rt, alloc, &text, Vec::new(alloc), &outside)?;
+    let told = fault_of(alloc, &text, &left)?;
+    if !told.is_empty() || seed % 4 > 0 {
+        return Ok(told);
+    }
+    fault_of(alloc, &text, &in_database(rt, alloc, &text, &outside)?)
 }
 
 /// Several boards, boots, cuts, faults and installs that are put off: no entry is written twice.

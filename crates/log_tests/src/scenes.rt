@@ -8,7 +8,7 @@ use fw_facts::{DeviceFlag, DeviceFlags, MachineFacts, MachineTest, Sheet, VetoRu
 use guid_ids::{Guid, device_id, guid_of};
 use history_keeper::{Row, RowState, first_faulty};
 use log_stories::Story;
-use release_catalogue::Catalogue;
+use release_catalogue::{Catalogue, ReleaseRef};
 use serde_json::Value;
 use std::alloc::Global;
 use std::test::Fail;
@@ -33,7 +33,8 @@ pub const SHOWN: u32 = 0x0101_0000;
 pub struct Level(pub u32);
 
 impl Level {
-    fn has(self, number: u32) -> bool {
+    /// Whether the condition with this number hinders.
+    pub fn has(self, number: u32) -> bool {
         self.0 <= number
     }
 }
@@ -207,10 +208,14 @@ pub fn story_over(alloc: Global, level: Level, pool: u32, rows: Vec<Row>) -> Res
     Ok(Story::booted(alloc, facts, rows, &[SHOWN, SHOWN])?)
 }
 
+/// How many blocks the pool has. A release takes two.
+pub fn pool_at(level: Level) -> u32 {
+    if level.has(13) { 1 } else { 2 }
+}
+
 /// The machine is booted, where that much hinders a request.
 pub fn story_at(alloc: Global, level: Level) -> Result<Story, Fail> {
-    let pool = if level.has(13) { 1 } else { 2 };
-    story_over(alloc, level, pool, rows_at(alloc, level)?)
+    story_over(alloc, level, pool_at(level), rows_at(alloc, level)?)
 }
 
 /// A request for a version on the board in a port.
@@ -245,6 +250,21 @@ fn version_at(level: Level) -> &'static str {
         "1.0.0"
     } else {
         "1.2.0"
+    }
+}
+
+/// The release of the version that is asked for, where there is one.
+pub fn release_at(level: Level) -> ReleaseRef {
+    let release = if level.has(8) {
+        1
+    } else if level.has(9) {
+        2
+    } else {
+        0
+    };
+    ReleaseRef {
+        component: 0,
+        release,
     }
 }
 

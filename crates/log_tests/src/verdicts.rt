@@ -1,5 +1,7 @@
 //! The verdict and the plain program decide the same, and what was meant.
-use crate::scenes::{Level, client_at, request, request_at, row, story_at, story_over};
+use crate::scenes::{
+    Level, client_at, pool_at, release_at, request, request_at, row, story_at, story_over,
+};
 use device_list::Selector;
 use fw_base::Name;
 use fw_facts::Problem;
@@ -139,37 +141,47 @@ fn decided(story: &Story, client: u32, request: &Request, stage: Stage) -> u32 {
     }
 }
 
-/// The decision on the ask that so much hinders.
-fn decided_in(story: &Story, level: Level) -> Result<u32, Fail> {
+/// What is decided of the request that so much hinders: at the ask, at the claim of the release that was
+/// found then, and where it is put off.
+fn decided_in(story: &Story, level: Level) -> Result<[u32; 3], Fail> {
     // The check has to be shown each type that a request holds.
     let _named: Option<Selector> = None;
     let request = request_at(level)?;
-    Ok(decided(story, client_at(level), &request, Stage::Ask))
+    let client = client_at(level);
+    let claim = Stage::Claim {
+        release: release_at(level),
+    };
+    Ok([
+        decided(story, client, &request, Stage::Ask),
+        decided(story, client, &request, claim),
+        decided(story, client, &request, Stage::Schedule),
+    ])
 }
 
 /// The same over the machine of that level.
-fn decided_at(alloc: Global, level: Level) -> Result<u32, Fail> {
+fn decided_at(alloc: Global, level: Level) -> Result<[u32; 3], Fail> {
     let story = story_at(alloc, level)?;
     decided_in(&story, level)
 }
 
-/// What is decided where that much hinders a request. A busy device is met below; a payload that isn't
-/// whole and a fault of the keeper are no part of a verdict.
-const LEVELS: [(u32, u32); 14] = [
-    (0, 100),
-    (1, 1),
-    (2, 2),
-    (4, 4),
-    (5, 5),
-    (6, 6),
-    (7, 7),
-    (8, 8),
-    (9, 9),
-    (10, 10),
-    (11, 11),
-    (12, 12),
-    (13, 13),
-    (14, 0),
+/// What is decided where that much hinders a request: only an ask wants room. A busy device, one that is
+/// out of its port, and a full history are met below; a payload that isn't whole and a fault of the keeper
+/// are no part of a verdict.
+const LEVELS: [(u32, [u32; 3]); 14] = [
+    (0, [100, 100, 100]),
+    (1, [1, 1, 1]),
+    (2, [2, 2, 2]),
+    (4, [4, 4, 4]),
+    (5, [5, 5, 5]),
+    (6, [6, 6, 6]),
+    (7, [7, 7, 7]),
+    (8, [8, 8, 8]),
+    (9, [9, 9, 9]),
+    (10, [10, 10, 10]),
+    (11, [11, 11, 11]),
+    (12, [12, 12, 12]),
+    (13, [13, 0, 0]),
+    (14, [0, 0, 0]),
 ];
 
 /// How many levels stand before the first at which something else is decided.
@@ -235,11 +247,44 @@ fn at_each_stage(rt: HostRuntime) -> Result<(), Fail> {
     Ok(())
 }
 
-/// The machine, over one row that was put off by a client.
-fn put_off(alloc: Global, client: u32, digest: [u8; 32]) -> Result<Story, Fail> {
+/// The first board is taken out of its port.
+fn unplug(story: &mut Story) -> Result<(), Fail> {
+    let device = Selector::Port(Name::read(b"usb1")?);
+    story.unplug(2, &device)?;
+    Ok(())
+}
+
+/// At each stage, where the device is one of the machine's, but out of its port.
+const ABSENT: [(Stage, u32); 3] = [
+    (Stage::Ask, 1),
+    (Stage::Claim { release: FOUND }, 1),
+    (Stage::Schedule, 1),
+];
+
+/// How many stages stand before the first at which something else is decided, once the board is out.
+fn absent_decided_in(story: &mut Story) -> Result<usize, Fail> {
+    unplug(story)?;
+    stages_decided_at(story, Level(14), &ABSENT)
+}
+
+/// The same where nothing else hinders.
+fn absent_decided(alloc: Global) -> Result<usize, Fail> {
+    let mut story = story_at(alloc, Level(14))?;
+    absent_decided_in(&mut story)
+}
+
+/// A device that is out of its port is refused as one that isn't there.
+#[test]
+fn a_device_out_of_its_port(rt: HostRuntime) -> Result<(), Fail> {
+    assert_eq!(rt; absent_decided(rt.alloc())?, 3);
+    Ok(())
+}
+
+/// The machine of that level, over one row that was put off by a client.
+fn put_off(alloc: Global, level: Level, client: u32, digest: [u8; 32]) -> Result<Story, Fail> {
     let mut rows = Vec::new(alloc);
     rows.push(row(1, "t1", client, RowState::Pending, digest)?)?;
-    story_over(alloc, Level(14), 2, rows)
+    story_over(alloc, level, pool_at(level), rows)
 }
 
 /// The request of that row.
@@ -265,42 +310,67 @@ fn decided_of_request(story: &Story, stage: Stage) -> Result<u32, Fail> {
     Ok(decided(story, 0, &request, stage))
 }
 
-/// The same of a row of that client and digest.
-fn decided_of_row(alloc: Global, client: u32, digest: [u8; 32], stage: Stage) -> Result<u32, Fail> {
-    let story = put_off(alloc, client, digest)?;
-    decided_of_request(&story, stage)
+/// The same where that much hinders: from level 1 down the board is out of its port.
+fn decided_hindered(story: &mut Story, level: Level, stage: Stage) -> Result<u32, Fail> {
+    if level.has(1) {
+        unplug(story)?;
+    }
+    decided_of_request(story, stage)
 }
 
-const PUT_OFF: [(u32, u8, Stage, u32); 7] = [
-    (2, 10, Stage::Ask, 100),
-    (2, 10, Stage::AskPending { entry: 1 }, 0),
-    (
-        2,
-        10,
-        Stage::Resume {
-            entry: 1,
-            release: FOUND,
-        },
-        0,
-    ),
-    (
-        2,
-        10,
-        Stage::Resume {
-            entry: 1,
-            release: OTHER,
-        },
-        2,
-    ),
-    (2, 11, Stage::AskPending { entry: 1 }, 2),
-    (1, 10, Stage::AskPending { entry: 1 }, 10),
-    (2, 10, Stage::AskPending { entry: 2 }, 4),
+/// A row that was put off: what hinders its request, its client, the bytes of its digest, the stage, and
+/// what is decided.
+type PutOff = (u32, u32, u8, Stage, u32);
+
+/// The same of a row of that client and digest.
+fn decided_of_row(alloc: Global, row: &PutOff) -> Result<u32, Fail> {
+    let (level, client, byte, stage, _) = *row;
+    let mut story = put_off(alloc, Level(level), client, [byte; 32])?;
+    decided_hindered(&mut story, Level(level), stage)
+}
+
+const ASKED: Stage = Stage::AskPending { entry: 1 };
+
+const RESUMED: Stage = Stage::Resume {
+    entry: 1,
+    release: FOUND,
+};
+
+const RESUMED_OTHER: Stage = Stage::Resume {
+    entry: 1,
+    release: OTHER,
+};
+
+/// Its own row doesn't hinder it, nor does its tag; its client's features count, and its digest. That the
+/// pool is too small hinders the ask alone.
+const PUT_OFF: [PutOff; 21] = [
+    (14, 2, 10, Stage::Ask, 100),
+    (14, 2, 10, ASKED, 0),
+    (14, 2, 10, RESUMED, 0),
+    (14, 2, 10, RESUMED_OTHER, 2),
+    (14, 2, 11, ASKED, 2),
+    (14, 2, 11, RESUMED, 2),
+    (14, 1, 10, ASKED, 10),
+    (14, 1, 10, RESUMED, 10),
+    (14, 2, 10, Stage::AskPending { entry: 2 }, 4),
+    (1, 2, 10, ASKED, 1),
+    (1, 2, 10, RESUMED, 1),
+    (5, 2, 10, ASKED, 5),
+    (5, 2, 10, RESUMED, 5),
+    (6, 2, 10, ASKED, 6),
+    (7, 2, 10, RESUMED, 7),
+    (11, 2, 10, ASKED, 11),
+    (11, 2, 10, RESUMED, 11),
+    (12, 2, 10, ASKED, 12),
+    (12, 2, 10, RESUMED, 12),
+    (13, 2, 10, ASKED, 13),
+    (13, 2, 10, RESUMED, 0),
 ];
 
 /// How many rows stand before the first of which something else is decided.
 fn rows_decided(alloc: Global) -> Result<usize, Fail> {
-    for (at, (client, byte, stage, want)) in PUT_OFF.iter().enumerate() {
-        if decided_of_row(alloc, *client, [*byte; 32], *stage)? != *want {
+    for (at, row) in PUT_OFF.iter().enumerate() {
+        if decided_of_row(alloc, row)? != row.4 {
             return Ok(at);
         }
     }
@@ -309,7 +379,7 @@ fn rows_decided(alloc: Global) -> Result<usize, Fail> {
 
 #[test]
 fn a_row_that_was_put_off(rt: HostRuntime) -> Result<(), Fail> {
-    assert_eq!(rt; rows_decided(rt.alloc())?, 7);
+    assert_eq!(rt; rows_decided(rt.alloc())?, 21);
     Ok(())
 }
 
@@ -393,13 +463,14 @@ fn room_over_holds_and_live_entries(rt: HostRuntime) -> Result<(), Fail> {
     Ok(())
 }
 
-/// A history that is full of rows of one device, all settled.
-fn full(alloc: Global) -> Result<Vec<Row>, Fail> {
+/// A history that is full of rows of one device. All are settled but perhaps the last, which has that tag.
+fn full(alloc: Global, tag: &str, last: RowState) -> Result<Vec<Row>, Fail> {
     let mut rows = Vec::new(alloc);
-    for entry in 1..65_537 {
+    for entry in 1..65_536 {
         let tag = format!(in alloc; "r{entry}")?;
         rows.push(row(entry, tag.as_str(), 2, RowState::Success, [10; 32])?)?;
     }
+    rows.push(row(65_536, tag, 2, last, [10; 32])?)?;
     Ok(rows)
 }
 
@@ -410,12 +481,29 @@ const FULL: [(Stage, u32); 3] = [
 ];
 
 fn decided_over_full(alloc: Global) -> Result<usize, Fail> {
-    let story = story_over(alloc, Level(14), 2, full(alloc)?)?;
+    let story = story_over(alloc, Level(14), 2, full(alloc, "last", RowState::Success)?)?;
     stages_decided_at(&story, Level(14), &FULL)
 }
 
 #[test]
 fn a_full_history(rt: HostRuntime) -> Result<(), Fail> {
     assert_eq!(rt; decided_over_full(rt.alloc())?, 3);
+    Ok(())
+}
+
+/// What is decided of the last row of a full history at a stage.
+fn decided_of_last(alloc: Global, stage: Stage) -> Result<u32, Fail> {
+    let story = story_over(alloc, Level(14), 2, full(alloc, "t1", RowState::Pending)?)?;
+    decided_of_request(&story, stage)
+}
+
+/// A row that was put off stands in the history already, so that it may be full.
+#[test]
+fn the_last_row_of_a_full_history(rt: HostRuntime) -> Result<(), Fail> {
+    let resumed = Stage::Resume {
+        entry: 65_536,
+        release: FOUND,
+    };
+    assert_eq!(rt; decided_of_last(rt.alloc(), resumed)?, 0);
     Ok(())
 }

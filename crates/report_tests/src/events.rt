@@ -59,6 +59,11 @@ client 1 entry 4 end write fault-failed 1.1.0 bootloader
 client 1 entry 4 end write fault-torn 0.0.0 bootloader began
 client 1 entry 4 end write fault-gone gone
 client 1 entry 4 end write fault-stranger stranger
+client 1 entry 4 end prepare ok 1.1.0 runtime
+client 1 entry 4 end detach ok 1.1.0 bootloader entered
+client 1 entry 4 end attach ok 1.1.0 runtime left
+client 1 entry 4 end reload fault-failed 1.1.0 runtime
+client 1 entry 4 end cleanup ok 1.1.0 runtime
 client 1 entry 4 finish success
 client 1 entry 4 finish needs-reboot
 client 1 entry 4 finish failed keeper-fault
@@ -283,17 +288,27 @@ fn put_starts(log: &mut Vec<Event>) -> Result<(), Fail> {
 }
 
 fn put_ends(log: &mut Vec<Event>) -> Result<(), Fail> {
-    for (outcome, told, seen) in [
-        (Ok(()), Told::two(BEGAN, ENDED), HOME),
-        (Err(BoardFault::Failed), Told::none(), LOADER),
-        (Err(BoardFault::Torn), Told::one(BEGAN), BROKEN),
-        (Err(BoardFault::Gone), Told::none(), Seen::Gone),
-        (Err(BoardFault::Stranger), Told::none(), Seen::Stranger),
+    for (op, outcome, told, seen) in [
+        (Op::Write, Ok(()), Told::two(BEGAN, ENDED), HOME),
+        (Op::Write, Err(BoardFault::Failed), Told::none(), LOADER),
+        (Op::Write, Err(BoardFault::Torn), Told::one(BEGAN), BROKEN),
+        (Op::Write, Err(BoardFault::Gone), Told::none(), Seen::Gone),
+        (
+            Op::Write,
+            Err(BoardFault::Stranger),
+            Told::none(),
+            Seen::Stranger,
+        ),
+        (Op::Prepare, Ok(()), Told::none(), HOME),
+        (Op::Detach, Ok(()), Told::one(Mark::Entered), LOADER),
+        (Op::Attach, Ok(()), Told::one(Mark::Left), HOME),
+        (Op::Reload, Err(BoardFault::Failed), Told::none(), HOME),
+        (Op::Cleanup, Ok(()), Told::none(), HOME),
     ] {
         log.push(Event::End {
             client: 1,
             entry: 4,
-            op: Op::Write,
+            op,
             outcome,
             told,
             seen,

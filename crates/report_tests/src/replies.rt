@@ -244,10 +244,10 @@ fn each_reply_is_told(rt: HostRuntime) -> Result<(), Fail> {
     Ok(())
 }
 
-/// The lines of 64 rows from that entry downwards, and behind them another.
+/// The lines of the newest 64 of so many rows, and behind them another.
 fn rows_from(alloc: Global, newest: u32, last: &str) -> Result<String, Fail> {
     let mut text = String::new(alloc);
-    for at in 0..64 {
+    for at in 0..newest.min(64) {
         let entry = newest.saturating_sub(at);
         text.push_str(&format!(in alloc; "  {entry} t{entry} usb1 1.0.0 1.1.0 success 0\n")?)?;
     }
@@ -255,10 +255,10 @@ fn rows_from(alloc: Global, newest: u32, last: &str) -> Result<String, Fail> {
     Ok(text)
 }
 
-/// The lines of 64 newer releases, and behind them another.
-fn releases_newer(alloc: Global, last: &str) -> Result<String, Fail> {
+/// The lines of the first 64 of so many newer releases, and behind them others.
+fn releases_newer(alloc: Global, newer: u32, last: &str) -> Result<String, Fail> {
     let mut text = String::new(alloc);
-    for _ in 0..64 {
+    for _ in 0..newer.min(64) {
         text.push_str("  com.example.hub 1.2.0 urgency unknown size 14 newer\n")?;
     }
     text.push_str(last)?;
@@ -270,13 +270,19 @@ fn tells_rows(alloc: Global, story: &Story, newest: u32, last: &str) -> Result<b
     is_told(alloc, story, Ask::History, &rows)
 }
 
-fn tells_releases(alloc: Global, story: &Story, ask: Ask, last: &str) -> Result<bool, Fail> {
-    let releases = releases_newer(alloc, last)?;
+fn tells_releases(
+    alloc: Global,
+    story: &Story,
+    ask: Ask,
+    newer: u32,
+    last: &str,
+) -> Result<bool, Fail> {
+    let releases = releases_newer(alloc, newer, last)?;
     is_told(alloc, story, ask, &releases)
 }
 
-/// So many rows and newer releases, and the lines behind 64 rows or newer releases, and behind 64 of all
-/// releases. The hub has two other releases.
+/// So many rows and newer releases, the lines behind the first 64 of each, and those behind them where all
+/// releases are asked for: the hub has two other releases.
 type Crowd = (u32, &'static str, &'static str);
 
 /// Whether of each list 64 are told, and how many are more.
@@ -285,10 +291,10 @@ fn tells_64(alloc: Global, story: &Story, crowd: &Crowd) -> Result<bool, Fail> {
     if !tells_rows(alloc, story, count, last)? {
         return Ok(false);
     }
-    if !tells_releases(alloc, story, Ask::Upgrades("usb1"), last)? {
+    if !tells_releases(alloc, story, Ask::Upgrades("usb1"), count, last)? {
         return Ok(false);
     }
-    tells_releases(alloc, story, Ask::Releases("usb1"), last_of_all)
+    tells_releases(alloc, story, Ask::Releases("usb1"), count, last_of_all)
 }
 
 /// The same of a machine with so many.
@@ -297,7 +303,17 @@ fn tells_64_of(alloc: Global, crowd: &Crowd) -> Result<bool, Fail> {
     tells_64(alloc, &story, crowd)
 }
 
-const CROWDS: [Crowd; 3] = [
+const CROWDS: [Crowd; 5] = [
+    (
+        62,
+        "",
+        "  com.example.hub 1.1.0 urgency unknown size 14 same\n  com.example.hub 1.0.0 urgency unknown size 14 older\n",
+    ),
+    (
+        63,
+        "",
+        "  com.example.hub 1.1.0 urgency unknown size 14 same\n  more 1\n",
+    ),
     (64, "", "  more 2\n"),
     (65, "  more 1\n", "  more 3\n"),
     (70, "  more 6\n", "  more 8\n"),
@@ -315,6 +331,6 @@ fn crowds_told(alloc: Global) -> Result<usize, Fail> {
 
 #[test]
 fn of_rows_and_releases_64_are_told(rt: HostRuntime) -> Result<(), Fail> {
-    assert_eq!(rt; crowds_told(rt.alloc())?, 3);
+    assert_eq!(rt; crowds_told(rt.alloc())?, 5);
     Ok(())
 }
