@@ -1,4 +1,4 @@
-//! PoolCounts for payloads: a pool of blocks of 4,096 bytes, and the chains that it lends out.
+//! Room for payloads: a pool of blocks of 4,096 bytes, and the chains that it lends out.
 //!
 //! The pool makes all blocks once. From then on a block moves between the pool and the chains that
 //! are out, and nothing here takes memory. Free and lent blocks together stay the capacity. A chain

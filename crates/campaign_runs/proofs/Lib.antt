@@ -1,4 +1,5 @@
 pub mod Present
+pub mod OpeningLaws
 pub mod PlannedLaws
 pub mod FaultBoots
 pub mod RunLaws

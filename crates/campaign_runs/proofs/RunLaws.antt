@@ -23,6 +23,7 @@ use Rattle.client_plays.proofs.RestLaws.{before-same, counted-both}
 use Rattle.campaign_runs.specs.declared.ending.Ending.{Ending}
 use Rattle.campaign_runs.specs.Planned.{BootsPlanned}
 use Rattle.campaign_runs.specs.Runs.{BootMore, CampaignRan, EndedSo, HasBegun, NoneBegan, RanSoFar, StoppedBy}
+use Rattle.campaign_runs.proofs.OpeningLaws.{told-new, told-same}
 use Rattle.campaign_runs.proofs.FaultBoots.{faults-earlier, faults-played}
 use Rattle.campaign_runs.proofs.PlannedLaws.{earlier-grown, planned-grown}
 
@@ -48,8 +49,8 @@ earlier-told before now facts opening files scripts (event ∷ past) h p = (
 )
 
 -- The boots before one that just began.
-earlier-begun : {K : Type 0} (faults : K → ℕ) (wanting : Bool) (files : ℕ → Files) (plan : BootPlan) (scripts : List (List (List Item))) (count : ℕ) (mid begun : Housed K) → HasBegun faults plan mid begun → boots (past mid) ≡ count → BootPlayed wanting mid.annals.facts (rows_before mid.annals) files (scripts_in scripts count) (past mid) → EarlierPlayed wanting mid.annals.facts (rows_before mid.annals) files scripts (past mid) → EarlierPlayed wanting mid.annals.facts (rows_before begun.annals) files scripts (past begun)
-earlier-begun faults wanting files plan scripts count mid begun b n p e =
+earlier-begun : {K : Type 0} (told : K → Option (List Row)) (faults : K → ℕ) (wanting : Bool) (files : ℕ → Files) (plan : BootPlan) (scripts : List (List (List Item))) (count : ℕ) (mid begun : Housed K) → HasBegun told faults plan mid begun → boots (past mid) ≡ count → BootPlayed wanting mid.annals.facts (rows_before mid.annals) files (scripts_in scripts count) (past mid) → EarlierPlayed wanting mid.annals.facts (rows_before mid.annals) files scripts (past mid) → EarlierPlayed wanting mid.annals.facts (rows_before begun.annals) files scripts (past begun)
+earlier-begun told faults wanting files plan scripts count mid begun b n p e =
     let facts = mid.annals.facts in
     let P = λ (o : List Row). BootPlayed wanting facts o files (scripts_in scripts (boots (past mid))) (past mid) × EarlierPlayed wanting facts o files scripts (past mid) in
     let both : P (rows_before begun.annals) =
@@ -61,15 +62,15 @@ earlier-begun faults wanting files plan scripts count mid begun b n p e =
     subst (EarlierPlayed wanting facts (rows_before begun.annals) files scripts) (sym b.past_is) both
 
 -- One boot more was started and played.
-pub run-more : {K : Type 0} (faults : K → ℕ) (before now : Bool) (files : ℕ → Files) (plans : List BootPlan) (scripts : List (List (List Item))) (count : ℕ) (plan : BootPlan) (old mid begun new : Housed K) → slice_get plans count ≡ Some plan → RanSoFar faults before files plans scripts count old mid → HasBegun faults plan mid begun → BootMore faults now before files (scripts_in scripts (count + 1)) begun new → RanSoFar faults now files plans scripts (count + 1) old new
-run-more faults before now files plans scripts count plan old mid begun new at r b m =
+pub run-more : {K : Type 0} (told : K → Option (List Row)) (faults : K → ℕ) (before now : Bool) (files : ℕ → Files) (plans : List BootPlan) (scripts : List (List (List Item))) (count : ℕ) (plan : BootPlan) (old mid begun new : Housed K) → slice_get plans count ≡ Some plan → RanSoFar told faults before files plans scripts count old mid → HasBegun told faults plan mid begun → BootMore faults now before files (scripts_in scripts (count + 1)) begun new → (begun.annals.loaded ≡ false → new ≡ begun) → RanSoFar told faults now files plans scripts (count + 1) old new
+run-more told faults before now files plans scripts count plan old mid begun new at r b m unread =
     let g = m.played.grew in
     let facts : new.annals.facts ≡ mid.annals.facts = m.played.rest.same.facts ∙ b.facts in
     let rows : rows_before new.annals ≡ rows_before begun.annals = before-same begun.annals new.annals m.played.rest.same in
     let n : boots (past begun) ≡ count + 1 = ap boots b.past_is ∙ ap (λ (k : ℕ). k + 1) r.count_is in
     let planned : BootsPlanned plans (past begun) =
     subst (BootsPlanned plans) (sym b.past_is) ((plan, subst (λ (k : ℕ). slice_get plans k ≡ Some plan) (sym r.count_is) at, b.planned), r.planned) in
-    let earlier = earlier-begun faults before files plan scripts count mid begun b r.count_is (midfacts r.played) r.earlier in
+    let earlier = earlier-begun told faults before files plan scripts count mid begun b r.count_is (midfacts r.played) r.earlier in
     let grown = earlier-grown before mid.annals.facts (rows_before begun.annals) files scripts (past begun) (past new) g earlier in
     let E = λ (f : Facts) (o : List Row). EarlierPlayed now f o files scripts (past new) in
     let B = λ (f : Facts) (o : List Row). BootPlayed now f o files (scripts_in scripts (count + 1)) (past new) in
@@ -84,6 +85,8 @@ run-more faults before now files plans scripts count plan old mid begun new at r
       idle = m.played.rest.idle;
       counted = counted-both faults old mid new r.counted (counted-both faults mid begun new b.counted m.played.rest.counted m.played.rest.counts) (le-both _ _ _ b.counts m.played.rest.counts);
       counts = le-both _ _ _ r.counts (le-both _ _ _ b.counts m.played.rest.counts);
+      opening = told-same begun.annals.loaded new.annals.loaded (told begun.keeper) (told new.keeper) (told old.keeper) begun.annals.opening new.annals.opening m.played.rest.same.loaded
+          (λ u. ap (λ (h : Housed _). told h.keeper) (unread u)) m.played.rest.same.opening (b.opening (told old.keeper) r.opening);
     }
   where
     midfacts : BootPlayed before mid.annals.facts (rows_before mid.annals) files (scripts_in scripts count) (past mid) → BootPlayed before mid.annals.facts (rows_before mid.annals) files (scripts_in scripts count) (past mid)
@@ -93,8 +96,8 @@ run-more faults before now files plans scripts count plan old mid begun new at r
     le-both a b c x y = omega arith
 
 -- No boot was begun.
-pub run-stopped : {K : Type 0} (faults : K → ℕ) (wanting : Bool) (files : ℕ → Files) (plans : List BootPlan) (scripts : List (List (List Item))) (count : ℕ) (old mid new : Housed K) → RanSoFar faults wanting files plans scripts count old mid → NoneBegan faults mid new → RanSoFar faults wanting files plans scripts count old new
-run-stopped faults wanting files plans scripts count old mid new r n =
+pub run-stopped : {K : Type 0} (told : K → Option (List Row)) (faults : K → ℕ) (wanting : Bool) (files : ℕ → Files) (plans : List BootPlan) (scripts : List (List (List Item))) (count : ℕ) (old mid new : Housed K) → RanSoFar told faults wanting files plans scripts count old mid → NoneBegan told faults mid new → RanSoFar told faults wanting files plans scripts count old new
+run-stopped told faults wanting files plans scripts count old mid new r n =
     let B = λ (f : Facts) (o : List Row) (p : List Event). BootPlayed wanting f o files (scripts_in scripts count) p in
     let E = λ (f : Facts) (o : List Row) (p : List Event). EarlierPlayed wanting f o files scripts p in
     record {
@@ -109,11 +112,12 @@ run-stopped faults wanting files plans scripts count old mid new r n =
       idle = subst IsIdle (sym n.past_is) r.idle;
       counted = counted-both faults old mid new r.counted n.counted n.counts;
       counts = omega arith;
+      opening = n.opening (told old.keeper) r.opening;
     }
 
 -- Nothing was run yet.
-pub run-none : {K : Type 0} (faults : K → ℕ) (wanting : Bool) (files : ℕ → Files) (plans : List BootPlan) (scripts : List (List (List Item))) (h : Housed K) → past h ≡ [] → RanSoFar faults wanting files plans scripts 0 h h
-run-none faults wanting files plans scripts h e =
+pub run-none : {K : Type 0} (told : K → Option (List Row)) (faults : K → ℕ) (wanting : Bool) (files : ℕ → Files) (plans : List BootPlan) (scripts : List (List (List Item))) (h : Housed K) → past h ≡ [] → h.annals.loaded ≡ false → h.annals.opening ≡ [] → RanSoFar told faults wanting files plans scripts 0 h h
+run-none told faults wanting files plans scripts h e unread blank =
     record {
       facts = refl;
       first = refl;
@@ -124,6 +128,7 @@ run-none faults wanting files plans scripts h e =
       idle = subst IsIdle (sym e) (record { no_hold = refl; no_live = refl });
       counted = inl (omega arith);
       counts = omega arith;
+      opening = told-new h.annals.loaded (told h.keeper) h.annals.opening unread blank;
     }
 
 -- Memory was wanting now, or before.
@@ -188,9 +193,9 @@ stopped-so told Ending.Whole plans count mid new lt s = absurd s
 stopped-so told (Ending.BadHistory entry) plans count mid new lt s = (lt, (mid, s.0, s.1))
 stopped-so told Ending.NoMemory plans count mid new lt s = lt
 
-pub ran-stopped : {K : Type 0} (told : K → Option (List Row)) (faults : K → ℕ) (ending : Ending) (wanting : Bool) (files : ℕ → Files) (plans : List BootPlan) (scripts : List (List (List Item))) (count : ℕ) (old mid new : Housed K) → count < length plans → RanSoFar faults wanting files plans scripts count old mid → NoneBegan faults mid new → StoppedBy told ending mid new → CampaignRan told faults ending wanting files plans scripts old new
+pub ran-stopped : {K : Type 0} (told : K → Option (List Row)) (faults : K → ℕ) (ending : Ending) (wanting : Bool) (files : ℕ → Files) (plans : List BootPlan) (scripts : List (List (List Item))) (count : ℕ) (old mid new : Housed K) → count < length plans → RanSoFar told faults wanting files plans scripts count old mid → NoneBegan told faults mid new → StoppedBy told ending mid new → CampaignRan told faults ending wanting files plans scripts old new
 ran-stopped told faults ending wanting files plans scripts count old mid new lt r n s =
-    record { count = count; ran = run-stopped faults wanting files plans scripts count old mid new r n; ended = stopped-so told ending plans count mid new lt s }
+    record { count = count; ran = run-stopped told faults wanting files plans scripts count old mid new r n; ended = stopped-so told ending plans count mid new lt s }
 
 -- The plan of a boot.
 pub plan-at : (plans : List BootPlan) (n : ℕ) (plan : BootPlan) → plan ≡ get_or plans n plan → n < length plans → slice_get plans n ≡ Some plan

@@ -20,7 +20,8 @@ use Rattle.daemon_core.specs.Reading.{AreTold}
 use Rattle.daemon_core.specs.Turns.{FaultsCounted}
 use Rattle.campaign_runs.specs.declared.ending.Ending.{Ending}
 use Rattle.campaign_runs.specs.Planned.{IsPlanned}
-use Rattle.campaign_runs.specs.Runs.{HasBegun, NoneBegan, StartedSo, ended_by}
+use Rattle.campaign_runs.specs.Runs.{HasBegun, NoneBegan, OpeningTold, StartedSo, ended_by}
+use Rattle.campaign_runs.proofs.OpeningLaws.{told-refused, told-same, told-well}
 use Rattle.campaign_runs.proofs.Present.{started-present}
 
 -- A list as long has something at the same place.
@@ -50,7 +51,7 @@ rows-first : (A : Type 0) (loaded new_loaded : Bool) (opening new_opening : List
 rows-first A true new_loaded opening new_opening Fault e f m = inl (ap (λ (b : Bool). rows_taken b new_opening) e ∙ m)
 rows-first A false new_loaded opening new_opening Fault e f m = inr (f refl)
 
-begun-well : {K : Type 0} (told : K → Option (List Row)) (doubted : K → Option Change) (faults : K → ℕ) (plan : BootPlan) (found : Found) (listed : List BoardSeen) (old new : Housed K) → IsAnnals old.annals → FaultsCounted faults old new → faults old.keeper ≤ faults new.keeper → WentWell told doubted plan found listed old new → HasBegun faults plan old new
+begun-well : {K : Type 0} (told : K → Option (List Row)) (doubted : K → Option Change) (faults : K → ℕ) (plan : BootPlan) (found : Found) (listed : List BoardSeen) (old new : Housed K) → IsAnnals old.annals → FaultsCounted faults old new → faults old.keeper ≤ faults new.keeper → WentWell told doubted plan found listed old new → HasBegun told faults plan old new
 begun-well told doubted faults plan found listed old new k counted counts w =
     record {
       facts = w.noted.grounds.facts;
@@ -62,10 +63,11 @@ begun-well told doubted faults plan found listed old new k counted counts w =
       before = rows-first (IsHistory new.annals.opening × AreTold (told old.keeper) new.annals.opening) old.annals.loaded new.annals.loaded old.annals.opening new.annals.opening (AllFaults (past old)) w.loaded k.unloaded w.opening;
       counted = counted;
       counts = counts;
+      opening = λ came. told-well old.annals.loaded new.annals.loaded (told old.keeper) (told new.keeper) came old.annals.opening new.annals.opening w.loaded w.opening;
     }
 
-begun-fault : {K : Type 0} (faults : K → ℕ) (plan : BootPlan) (listed : List BoardSeen) (old new : Housed K) → FaultsCounted faults old new → faults old.keeper ≤ faults new.keeper → CouldntRead plan listed old new → HasBegun faults plan old new
-begun-fault faults plan listed old new counted counts w =
+begun-fault : {K : Type 0} (told : K → Option (List Row)) (faults : K → ℕ) (plan : BootPlan) (listed : List BoardSeen) (old new : Housed K) → FaultsCounted faults old new → faults old.keeper ≤ faults new.keeper → CouldntRead told plan listed old new → HasBegun told faults plan old new
+begun-fault told faults plan listed old new counted counts w =
     record {
       facts = w.noted.grounds.facts;
       first = w.noted.grounds.first;
@@ -76,10 +78,11 @@ begun-fault faults plan listed old new counted counts w =
       before = inl (rows-same old.annals.loaded new.annals.loaded old.annals.opening new.annals.opening w.loaded (λ t. w.opening));
       counted = counted;
       counts = counts;
+      opening = λ came. told-same old.annals.loaded new.annals.loaded (told old.keeper) (told new.keeper) came old.annals.opening new.annals.opening w.loaded w.stays w.opening;
     }
 
-none-began : {K : Type 0} (faults : K → ℕ) (old new : Housed K) → FaultsCounted faults old new → faults old.keeper ≤ faults new.keeper → NoBoot old new → (old.annals.loaded ≡ true → new.annals.opening ≡ old.annals.opening) → NoneBegan faults old new
-none-began faults old new counted counts n o =
+none-began : {K : Type 0} (told : K → Option (List Row)) (faults : K → ℕ) (old new : Housed K) → FaultsCounted faults old new → faults old.keeper ≤ faults new.keeper → NoBoot told old new → (old.annals.loaded ≡ true → new.annals.opening ≡ old.annals.opening) → ((came : Option (List Row)) → OpeningTold told came old → OpeningTold told came new) → NoneBegan told faults old new
+none-began told faults old new counted counts n o opening =
     record {
       facts = n.grounds.facts;
       first = n.grounds.first;
@@ -87,6 +90,7 @@ none-began faults old new counted counts n o =
       before = rows-same old.annals.loaded new.annals.loaded old.annals.opening new.annals.opening n.loaded o;
       counted = counted;
       counts = counts;
+      opening = opening;
     }
 
 pub started-so : {K : Type 0} (told : K → Option (List Row)) (doubted : K → Option Change) (faults : K → ℕ) (plan : BootPlan) (outcome : Result (Unit {0}) BootStop) (ending : Option Ending) (old new : Housed K) → ending ≡ ended_by outcome → IsAnnals old.annals → FaultsCounted faults old new → faults old.keeper ≤ faults new.keeper → BootTurned told doubted plan outcome old new → StartedSo told faults ending plan old new
@@ -95,6 +99,14 @@ started-so told doubted faults plan outcome ending old new e k counted counts t 
   where
     so : (outcome : Result (Unit {0}) BootStop) → BootTurned told doubted plan outcome old new → StartedSo told faults (ended_by outcome) plan old new
     so (Ok unit) t = begun-well told doubted faults plan t.0 t.1 old new k counted counts t.2
-    so (Err BootStop.KeeperFault) t = begun-fault faults plan t.0 old new counted counts t.1
-    so (Err (BootStop.BadHistory entry)) t = (none-began faults old new counted counts t.none (λ l. (t.later l).0), (k, t))
-    so (Err BootStop.NoMemory) t = (none-began faults old new counted counts t.0 (λ l. t.1), tt)
+    so (Err BootStop.KeeperFault) t = begun-fault told faults plan t.0 old new counted counts t.1
+    so (Err (BootStop.BadHistory entry)) t = (
+      none-began told faults old new counted counts t.none (λ l. (t.later l).0)
+          (λ came. told-refused old.annals.loaded new.annals.loaded (told old.keeper) (told new.keeper) came old.annals.opening new.annals.opening t.none.loaded t.none.stays (λ l. (t.later l).0) (λ u. (t.first u).1)),
+      (k, t),
+    )
+    so (Err BootStop.NoMemory) t = (
+      none-began told faults old new counted counts t.0 (λ l. t.1)
+          (λ came. told-same old.annals.loaded new.annals.loaded (told old.keeper) (told new.keeper) came old.annals.opening new.annals.opening t.0.loaded t.0.stays t.1),
+      tt,
+    )

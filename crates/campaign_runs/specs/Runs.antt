@@ -1,5 +1,5 @@
 -- What the boots of a campaign did to a house.
-use Rattle.std.specs.Prelude.{◌≡◌, ◌⊎◌, ◌≤◌, ◌<◌, ℕ, Bool, true, List, ◌∷◌, length, Option, Some, None, Result, Ok, Err}
+use Rattle.std.specs.Prelude.{◌≡◌, ◌⊎◌, ◌≤◌, ◌<◌, ℕ, Bool, true, MatchBool, List, [], ◌∷◌, length, Option, Some, None, Result, Ok, Err}
 use Rattle.history_keeper.specs.declared.row.Row.{Row}
 use Rattle.update_log.specs.declared.event.BoardSeen.{BoardSeen}
 use Rattle.update_log.specs.declared.event.Found.{Found}
@@ -11,6 +11,7 @@ use Rattle.daemon_core.specs.declared.booting.BootStop.{BootStop}
 use Rattle.daemon_core.specs.Annals.{IsAnnals}
 use Rattle.daemon_core.specs.Boots.{ReadOthers}
 use Rattle.daemon_core.specs.Housed.{Housed, past, rows_before}
+use Rattle.daemon_core.specs.Reading.{AreTold}
 use Rattle.daemon_core.specs.Turns.{FaultsCounted}
 use Rattle.client_scripts.specs.declared.item.Item.{Item}
 use Rattle.client_plays.specs.Endings.{HouseBootPlayed, IsIdle}
@@ -19,9 +20,17 @@ use Rattle.client_plays.specs.Tools.{Files}
 use Rattle.campaign_runs.specs.declared.ending.Ending.{Ending}
 use Rattle.campaign_runs.specs.Planned.{BootsPlanned, IsPlanned}
 
+-- The rows before the log are those that the keeper told as it came, where it told any, once a boot took
+-- them. Until then it tells the same rows still; and what a boot refused, if one did, were these.
+abbrev pub OpeningTold : {K : Type 0} → (K → Option (List Row)) → Option (List Row) → Housed K → Type 0
+OpeningTold told came h =
+    MatchBool h.annals.loaded
+    (AreTold came h.annals.opening)
+    ((told h.keeper ≡ came) × ((h.annals.opening ≡ []) ⊎ AreTold came h.annals.opening))
+
 -- So many boots of a campaign were run: each by its plan, in order, and played. Nobody has anything out,
 -- and each fault of the keeper that the log tells was counted.
-pub record RanSoFar {K : Type 0} (faults : K → ℕ) (wanting : Bool) (files : ℕ → Files) (plans : List BootPlan) (scripts : List (List (List Item))) (count : ℕ) (old new : Housed K) : Type 0 where
+pub record RanSoFar {K : Type 0} (told : K → Option (List Row)) (faults : K → ℕ) (wanting : Bool) (files : ℕ → Files) (plans : List BootPlan) (scripts : List (List (List Item))) (count : ℕ) (old new : Housed K) : Type 0 where
   pub facts : new.annals.facts ≡ old.annals.facts
   pub first : new.annals.first ≡ old.annals.first
   pub count_is : boots (past new) ≡ count
@@ -31,6 +40,7 @@ pub record RanSoFar {K : Type 0} (faults : K → ℕ) (wanting : Bool) (files : 
   pub idle : IsIdle (past new)
   pub counted : FaultsCounted faults old new
   pub counts : faults old.keeper ≤ faults new.keeper
+  pub opening : OpeningTold told (told old.keeper) new
 
 -- How the campaign ended: all boots were run; or a boot read no history that could be the log's; or memory
 -- was wanting for a boot. In the last two the boots before were run.
@@ -42,12 +52,12 @@ EndedSo told Ending.NoMemory plans count new = count < length plans
 -- The boots of a campaign were run, as far as it went.
 pub record CampaignRan {K : Type 0} (told : K → Option (List Row)) (faults : K → ℕ) (ending : Ending) (wanting : Bool) (files : ℕ → Files) (plans : List BootPlan) (scripts : List (List (List Item))) (old new : Housed K) : Type 0 where
   pub count : ℕ
-  pub ran : RanSoFar faults wanting files plans scripts count old new
+  pub ran : RanSoFar told faults wanting files plans scripts count old new
   pub ended : EndedSo told ending plans count new
 
 -- A boot began by its plan: it stands behind the log, and nothing was done in it yet. The rows before the
 -- log are as before, unless no boot before could read the history.
-pub record HasBegun {K : Type 0} (faults : K → ℕ) (plan : BootPlan) (old new : Housed K) : Type 0 where
+pub record HasBegun {K : Type 0} (told : K → Option (List Row)) (faults : K → ℕ) (plan : BootPlan) (old new : Housed K) : Type 0 where
   pub facts : new.annals.facts ≡ old.annals.facts
   pub first : new.annals.first ≡ old.annals.first
   pub found : Found
@@ -57,15 +67,17 @@ pub record HasBegun {K : Type 0} (faults : K → ℕ) (plan : BootPlan) (old new
   pub before : (rows_before new.annals ≡ rows_before old.annals) ⊎ AllFaults (past old)
   pub counted : FaultsCounted faults old new
   pub counts : faults old.keeper ≤ faults new.keeper
+  pub opening : (came : Option (List Row)) → OpeningTold told came old → OpeningTold told came new
 
 -- No boot began.
-pub record NoneBegan {K : Type 0} (faults : K → ℕ) (old new : Housed K) : Type 0 where
+pub record NoneBegan {K : Type 0} (told : K → Option (List Row)) (faults : K → ℕ) (old new : Housed K) : Type 0 where
   pub facts : new.annals.facts ≡ old.annals.facts
   pub first : new.annals.first ≡ old.annals.first
   pub past_is : past new ≡ past old
   pub before : rows_before new.annals ≡ rows_before old.annals
   pub counted : FaultsCounted faults old new
   pub counts : faults old.keeper ≤ faults new.keeper
+  pub opening : (came : Option (List Row)) → OpeningTold told came old → OpeningTold told came new
 
 -- Why none began.
 abbrev pub StoppedBy : {K : Type 0} → (K → Option (List Row)) → Ending → Housed K → Housed K → Type 0
@@ -82,8 +94,8 @@ ended_by (Err BootStop.NoMemory) = Some Ending.NoMemory
 
 -- What became of the start of a boot: it began, or why the campaign ends.
 abbrev pub StartedSo : {K : Type 0} → (K → Option (List Row)) → (K → ℕ) → Option Ending → BootPlan → Housed K → Housed K → Type 0
-StartedSo told faults None plan old new = HasBegun faults plan old new
-StartedSo told faults (Some ending) plan old new = NoneBegan faults old new × StoppedBy told ending old new
+StartedSo told faults None plan old new = HasBegun told faults plan old new
+StartedSo told faults (Some ending) plan old new = NoneBegan told faults old new × StoppedBy told ending old new
 
 -- A boot was played, after others; `before` says that memory was wanting before.
 pub record BootMore {K : Type 0} (faults : K → ℕ) (wanting before : Bool) (files : ℕ → Files) (of_boot : List (List Item)) (old new : Housed K) : Type 0 where

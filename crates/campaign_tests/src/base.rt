@@ -1,15 +1,19 @@
 //! One document, and what a run of it leaves once some pieces of it are changed.
 ghost use Rattle.std.specs.Prelude.{◌≡◌, None};
+ghost use Rattle.history_sqlite.specs.Keeping.{doubtful};
 
-use crate::meeting::Meeting;
+use crate::meeting::{Doors, Meeting, NOBODY, Pair, WaitingShelf};
 use crate::named::{Named, PLAIN, Rules};
+use crate::pasts::{Past, database, plan, rows};
 use daemon_core::HomeBoards;
 use emulated_boards::{Board, Mark};
 use fw_base::{Digest, read_digest};
 use fwupd_service::{Ran, run_campaign};
-use history_keeper::{Keeper, KeeperPlan, MemoryKeeper, Row};
-use outer_traits::{Gate, MemoryShelf, MemorySink, MemorySource, NoGate, Shelf};
+use history_keeper::{Keeper, MemoryKeeper};
+use history_sqlite::SqlKeeper;
+use outer_traits::{MemoryShelf, MemorySink, MemorySource};
 use plugin_trait::Plugin;
+use sqlite::MemStore;
 use std::alloc::Global;
 use std::sync::{Arc, Wait};
 use std::test::Fail;
@@ -67,31 +71,45 @@ pub(crate) fn document(alloc: Global, changes: &[Change]) -> Result<String, Fail
     changed(alloc, DOCUMENT, changes)
 }
 
-/// What a campaign meets outside: how many shelves there are; which calls fail, counted from 1, of the keeper (of
-/// whose failed commit it is said whether its change is made after all), of each shelf, of the source and of the sink;
-/// and the plugins.
+/// Who keeps the history of a campaign.
+#[derive(Clone, Copy, Debug)]
+pub(crate) enum History {
+    Memory,
+    Database,
+}
+
+/// Both keepers: each test runs over one after the other.
+pub(crate) const HISTORIES: [History; 2] = [History::Memory, History::Database];
+
+/// What a campaign meets outside: the rows that the history holds before it; how many shelves there are; which calls
+/// fail, counted from 1, of the keeper (of whose failed commit it is said whether its change is made after all), of each
+/// shelf (where two clients meet, of the asker's alone), of the source and of the sink; the plugins; and who meets.
 #[derive(Clone, Copy)]
 pub(crate) struct Outside<'a> {
+    pub(crate) past: &'a [Past],
     pub(crate) shelves: u32,
     pub(crate) keeper: &'a [(u32, bool)],
     pub(crate) shelf: &'a [u32],
     pub(crate) source: &'a [u32],
     pub(crate) sink: &'a [u32],
     pub(crate) rules: [Rules; 2],
+    pub(crate) pair: Pair,
 }
 
-/// One shelf, no call that fails, and plugins without rules.
+/// A history without rows, one shelf, no call that fails, plugins without rules, and nobody that meets.
 pub(crate) const WELL: Outside = Outside {
+    past: &[],
     shelves: 1,
     keeper: &[],
     shelf: &[],
     source: &[],
     sink: &[],
     rules: PLAIN,
+    pair: NOBODY,
 };
 
-/// A shelf with all files, of which such calls fail.
-pub(crate) fn shelf(alloc: Global, failing: &[u32]) -> Result<MemoryShelf, Fail> {
+/// All files in memory, of which such calls fail.
+fn files(alloc: Global, failing: &[u32]) -> Result<MemoryShelf, Fail> {
     let mut files: Vec<(Digest, Vec<u8>)> = Vec::new(alloc);
     for (name, text) in FILES {
         if let Some(digest) = read_digest(name.as_bytes()) {
@@ -101,35 +119,47 @@ pub(crate) fn shelf(alloc: Global, failing: &[u32]) -> Result<MemoryShelf, Fail>
     Ok(MemoryShelf::new(files, failing.to_vec(alloc)?))
 }
 
-/// The shelves.
-pub(crate) fn shelves(alloc: Global, outside: &Outside) -> Result<Vec<MemoryShelf>, Fail> {
+/// A client's shelf with all files. The asker's waits for the holder.
+fn shelf<'a>(
+    alloc: Global,
+    client: u32,
+    outside: &Outside,
+    meeting: &'a Meeting,
+) -> Result<WaitingShelf<'a>, Fail> {
+    let asker = outside.pair.asker;
+    let failing: &[u32] = if asker == client || asker == 0 {
+        outside.shelf
+    } else {
+        &[]
+    };
+    Ok(WaitingShelf {
+        files: files(alloc, failing)?,
+        meeting: if asker == client { Some(meeting) } else { None },
+    })
+}
+
+/// The clients' shelves.
+fn shelves<'a>(
+    alloc: Global,
+    outside: &Outside,
+    meeting: &'a Meeting,
+) -> Result<Vec<WaitingShelf<'a>>, Fail> {
     let mut shelves = Vec::new(alloc);
-    for _ in 0..outside.shelves {
-        shelves.push(shelf(alloc, outside.shelf)?)?;
+    for client in 1..=outside.shelves {
+        shelves.push(shelf(alloc, client, outside, meeting)?)?;
     }
     Ok(shelves)
 }
 
-/// Which calls of a keeper fail, and whether the change of each is made after all.
-pub(crate) fn plan(alloc: Global, failing: &[(u32, bool)]) -> Result<Vec<KeeperPlan>, Fail> {
-    let mut plan = Vec::new(alloc);
-    for (call, keep) in failing {
-        plan.push(KeeperPlan {
-            call: *call,
-            keep: *keep,
-        })?;
-    }
-    Ok(plan)
-}
-
-/// What a campaign left: its status in words, its report, the number of its events, and the entries whose writes
-/// began, as the boards' journals have them.
+/// What a campaign left: its status in words, its report, the number of its events, the entries whose writes began, as
+/// the boards' journals have them, and whether nobody waited in vain.
 #[derive(Drop)]
 pub(crate) struct Left {
     pub(crate) status: String,
     pub(crate) report: Vec<u8>,
     pub(crate) events: usize,
     pub(crate) begun: Vec<u32>,
+    pub(crate) met: bool,
 }
 
 impl Left {
@@ -194,30 +224,13 @@ fn all_begun(alloc: Global, boards: &Option<HomeBoards>) -> Result<Vec<u32>, Fai
     Ok(begun)
 }
 
-/// Runs the campaign of a document. The keeper comes back.
-pub(crate) fn campaign<
-    R: Threads + Wait + Sync,
-    P: Shelf + Send + Drop,
-    K: Keeper + Send + Drop,
-    G: Gate + Sync,
->(
-    rt: &R,
+/// What a campaign left, and its keeper.
+fn left_by<K: Drop>(
     alloc: Global,
-    document: &str,
-    shelves: Vec<P>,
-    keeper: K,
-    outside: &Outside,
-    meeting: &Arc<Meeting, Global>,
-    gate: &G,
-) -> Result<(Left, K), Fail>
-    requires no_doubt { K.doubt keeper ≡ None }
-{
-    let bytes = document.as_bytes().to_vec(alloc)?;
-    let mut source = MemorySource::new(bytes, 4096, outside.source.to_vec(alloc)?);
-    let mut sink = MemorySink::new(alloc, 1_048_576, outside.sink.to_vec(alloc)?)?;
-    let mut plugins: Vec<Box<dyn Plugin>> = Vec::new(alloc);
-    plugins.push(Box::new(alloc, Named::new(alloc, &outside.rules[0], meeting)?)?)?;
-    plugins.push(Box::new(alloc, Named::new(alloc, &outside.rules[1], meeting)?)?)?;
+    ran: Ran<WaitingShelf<'_>, K>,
+    sink: &MemorySink,
+    meeting: &Meeting,
+) -> Result<(Left, K), Fail> {
     let Ran {
         status,
         log,
@@ -225,7 +238,40 @@ pub(crate) fn campaign<
         boards,
         keeper,
         shelves: _,
-    } = run_campaign(
+    } = ran;
+    let left = Left {
+        status: format!(in alloc; "{status}")?,
+        report: sink.bytes().to_vec(alloc)?,
+        events: log.items().len(),
+        begun: all_begun(alloc, &boards)?,
+        met: meeting.was_kept(),
+    };
+    Ok((left, keeper))
+}
+
+/// Runs the campaign of a document. The keeper comes back.
+fn campaign<R: Threads + Wait + Sync, K: Keeper + Send + Drop>(
+    rt: &R,
+    alloc: Global,
+    document: &str,
+    keeper: K,
+    outside: &Outside,
+    meeting: &Arc<Meeting, Global>,
+) -> Result<(Left, K), Fail>
+    requires no_doubt { K.doubt keeper ≡ None }
+{
+    let shelves = shelves(alloc, outside, meeting)?;
+    let gate = Doors {
+        meeting,
+        pair: outside.pair,
+    };
+    let bytes = document.as_bytes().to_vec(alloc)?;
+    let mut source = MemorySource::new(bytes, 4096, outside.source.to_vec(alloc)?);
+    let mut sink = MemorySink::new(alloc, 1_048_576, outside.sink.to_vec(alloc)?)?;
+    let mut plugins: Vec<Box<dyn Plugin>> = Vec::new(alloc);
+    plugins.push(Box::new(alloc, Named::new(alloc, &outside.rules[0], meeting)?)?)?;
+    plugins.push(Box::new(alloc, Named::new(alloc, &outside.rules[1], meeting)?)?)?;
+    let ran = run_campaign(
         rt,
         alloc,
         &[b"run"],
@@ -233,29 +279,54 @@ pub(crate) fn campaign<
         shelves,
         keeper,
         plugins,
-        gate,
+        &gate,
         &mut sink,
     );
-    let left = Left {
-        status: format!(in alloc; "{status}")?,
-        report: sink.bytes().to_vec(alloc)?,
-        events: log.items().len(),
-        begun: all_begun(alloc, &boards)?,
-    };
-    Ok((left, keeper))
+    left_by(alloc, ran, &sink, meeting)
 }
 
-/// Runs the campaign of a document over these rows, in memory.
-pub(crate) fn in_memory<R: Threads + Wait + Sync>(
+/// Runs the campaign of a document over a keeper in memory.
+fn over_memory<R: Threads + Wait + Sync>(
     rt: &R,
     alloc: Global,
-    text: &str,
-    rows: Vec<Row>,
+    document: &str,
     outside: &Outside,
 ) -> Result<Left, Fail> {
+    let rows = rows(alloc, outside.past)?;
     let keeper = MemoryKeeper::new(rows, plan(alloc, outside.keeper)?);
     let meeting = Arc::new(alloc, Meeting::new())?;
-    let shelves = shelves(alloc, outside)?;
-    let (left, _keeper) = campaign(rt, alloc, text, shelves, keeper, outside, &meeting, &NoGate)?;
+    let (left, _keeper) = campaign(rt, alloc, document, keeper, outside, &meeting)?;
     Ok(left)
+}
+
+/// Runs the campaign of a document over a database. Its keeper comes back.
+pub(crate) fn over_database<R: Threads + Wait + Sync>(
+    rt: &R,
+    alloc: Global,
+    document: &str,
+    keeper: SqlKeeper<MemStore>,
+    outside: &Outside,
+) -> Result<(Left, SqlKeeper<MemStore>), Fail>
+    requires no_doubt { doubtful keeper ≡ None }
+{
+    let meeting = Arc::new(alloc, Meeting::new())?;
+    campaign(rt, alloc, document, keeper, outside, &meeting)
+}
+
+/// Runs the campaign of a document over a history of this kind.
+pub(crate) fn run<R: Threads + Wait + Sync>(
+    rt: &R,
+    alloc: Global,
+    history: History,
+    document: &str,
+    outside: &Outside,
+) -> Result<Left, Fail> {
+    match history {
+        History::Memory => over_memory(rt, alloc, document, outside),
+        History::Database => {
+            let keeper = database(alloc, outside.past, outside.keeper)?;
+            let (left, _keeper) = over_database(rt, alloc, document, keeper, outside)?;
+            Ok(left)
+        }
+    }
 }

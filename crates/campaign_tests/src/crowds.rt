@@ -1,5 +1,5 @@
 //! Sixteen clients that ask for one device at once.
-use crate::base::{Outside, WELL, changed, document, in_memory, with};
+use crate::base::{HISTORIES, History, Outside, WELL, changed, document, run, with};
 use std::alloc::Global;
 use std::sync::Wait;
 use std::test::Fail;
@@ -10,7 +10,7 @@ const CLIENTS: u32 = 16;
 /// How many rounds a campaign has: a boot is a round.
 const ROUNDS: u32 = 32;
 
-/// How many campaigns are run: 1,024 rounds in all.
+/// How many campaigns are run over each history: 1,024 rounds in all.
 const CAMPAIGNS: u32 = 32;
 
 /// The version that is asked for in a round, and the flags that this takes: the old one and the new one by turns.
@@ -99,12 +99,17 @@ fn are_rounds(report: &str) -> bool {
 }
 
 /// How a campaign ended and what it reported, where a round is otherwise.
-fn unlike<R: Threads + Wait + Sync>(rt: &R, alloc: Global, text: &str) -> Result<String, Fail> {
+fn unlike<R: Threads + Wait + Sync>(
+    rt: &R,
+    alloc: Global,
+    history: History,
+    text: &str,
+) -> Result<String, Fail> {
     let outside = Outside {
         shelves: CLIENTS,
         ..WELL
     };
-    let left = in_memory(rt, alloc, text, Vec::new(alloc), &outside)?;
+    let left = run(rt, alloc, history, text, &outside)?;
     let writes = left.begun.len();
     if left.status.as_str() == "done"
         && are_rounds(left.text())
@@ -121,9 +126,11 @@ fn unlike<R: Threads + Wait + Sync>(rt: &R, alloc: Global, text: &str) -> Result
 fn one_of_sixteen_writes(rt: HostRuntime) -> Result<(), Fail> {
     let alloc = rt.alloc();
     let text = site(alloc)?;
-    for _ in 0..CAMPAIGNS {
-        let told = unlike(&rt, alloc, &text)?;
-        assert_eq!(rt; told.as_str(), "");
+    for history in HISTORIES {
+        for _ in 0..CAMPAIGNS {
+            let told = unlike(&rt, alloc, history, &text)?;
+            assert_eq!(rt; told.as_str(), "", "over {history:?}");
+        }
     }
     Ok(())
 }

@@ -1,6 +1,5 @@
 //! Cuts at every event of an install.
-use crate::base::{Left, WELL, document, in_memory};
-use crate::databases::in_database;
+use crate::base::{HISTORIES, History, Left, WELL, document, run};
 use std::alloc::Global;
 use std::sync::Wait;
 use std::test::Fail;
@@ -95,10 +94,11 @@ fn left_unlike(alloc: Global, left: &Left, report: &str, begun: usize) -> Result
     left.unlike(alloc, "done", &[report])
 }
 
-/// What an install with a cut, and a second boot, tells otherwise, over a history in memory and in a database.
+/// What an install with a cut, and a second boot, tells otherwise.
 fn unlike<R: Threads + Wait + Sync>(
     rt: &R,
     alloc: Global,
+    history: History,
     limit: &str,
     report: &str,
     begun: usize,
@@ -109,12 +109,7 @@ fn unlike<R: Threads + Wait + Sync>(
         (r#"]]}]"#, r#"]]},{"time":2000}]"#),
     ];
     let text = document(alloc, &changes)?;
-    let left = in_memory(rt, alloc, &text, Vec::new(alloc), &WELL)?;
-    let told = left_unlike(alloc, &left, report, begun)?;
-    if !told.is_empty() {
-        return Ok(told);
-    }
-    let left = in_database(rt, alloc, &text, &WELL)?;
+    let left = run(rt, alloc, history, &text, &WELL)?;
     left_unlike(alloc, &left, report, begun)
 }
 
@@ -123,10 +118,12 @@ fn unlike<R: Threads + Wait + Sync>(
 #[test]
 fn a_cut_at_each_event(rt: HostRuntime) -> Result<(), Fail> {
     let alloc = rt.alloc();
-    for (limit, events, rest, begun) in CUTS {
-        let report = cut_report(alloc, events, rest)?;
-        let told = unlike(&rt, alloc, limit, &report, begun)?;
-        assert_eq!(rt; told.as_str(), "");
+    for history in HISTORIES {
+        for (limit, events, rest, begun) in CUTS {
+            let report = cut_report(alloc, events, rest)?;
+            let told = unlike(&rt, alloc, history, limit, &report, begun)?;
+            assert_eq!(rt; told.as_str(), "", "over {history:?}");
+        }
     }
     Ok(())
 }

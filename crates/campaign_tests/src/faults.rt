@@ -1,5 +1,5 @@
 //! Calls of the keeper and of the shelf that fail.
-use crate::base::{Change, Outside, WELL, document, in_memory, joined};
+use crate::base::{Change, HISTORIES, History, Outside, WELL, document, joined, run};
 use std::alloc::Global;
 use std::sync::Wait;
 use std::test::Fail;
@@ -50,19 +50,19 @@ pub(crate) const AGAIN: &str = "client 1 ask t1 usb1 1.1.0 kept 1 success\n";
 pub(crate) const INSTALL: [&str; 7] = [BEGIN, BOOT, OLD, ASKED, STEPS, FINISHED, "end 12\n"];
 
 /// The install stands in a second boot too.
-pub(crate) const TWICE: (&str, &str) = (
+const TWICE: (&str, &str) = (
     r#"{"do":"install","tag":"t1","device":"usb1","version":"1.1.0"}]]}"#,
     r#"{"do":"install","tag":"t1","device":"usb1","version":"1.1.0"}]]},{"time":2000,"scripts":[[{"do":"install","tag":"t1","device":"usb1","version":"1.1.0"}]]}"#,
 );
 
 /// A planned failure: the number of a call, and whether the change of a commit is made after all.
-pub(crate) type Plan = &'static [(u32, bool)];
+type Plan = &'static [(u32, bool)];
 
 /// Plans that leave the same, the status, and the report behind its first line. Over two boots with one install each,
 /// the calls are the load of the first boot, the commits of the claim and of the finish, and the reopening and the
 /// load of the second boot. Where the first claim isn't stored, calls 3 and 4 are those of the second boot, and 5 is
 /// the commit of its judgement or of its claim.
-pub(crate) const KEEPER: [(&[Plan], &str, &[&str]); 10] = [
+const KEEPER: [(&[Plan], &str, &[&str]); 10] = [
     (
         &[&[], &[(6, true)]],
         "done",
@@ -188,10 +188,11 @@ const SHELF: [(&[u32], &[&str]); 3] = [
 
 const NO_PAYLOAD: &str = "client 1 claim t1 refused 14 payload shelf-fault\n";
 
-/// What a run over a keeper in memory that fails so tells otherwise.
+/// What a run over a keeper that fails so tells otherwise.
 fn keeper_unlike<R: Threads + Wait + Sync>(
     rt: &R,
     alloc: Global,
+    history: History,
     failing: &[(u32, bool)],
     status: &str,
     report: &[&str],
@@ -201,14 +202,18 @@ fn keeper_unlike<R: Threads + Wait + Sync>(
         keeper: failing,
         ..WELL
     };
-    in_memory(rt, alloc, &text, Vec::new(alloc), &outside)?.unlike(alloc, status, report)
+    run(rt, alloc, history, &text, &outside)?.unlike(alloc, status, report)
 }
 
 /// The first campaign that is told otherwise.
-fn first_keeper_unlike<R: Threads + Wait + Sync>(rt: &R, alloc: Global) -> Result<String, Fail> {
+fn first_keeper_unlike<R: Threads + Wait + Sync>(
+    rt: &R,
+    alloc: Global,
+    history: History,
+) -> Result<String, Fail> {
     for (plans, status, report) in KEEPER {
         for failing in plans {
-            let told = keeper_unlike(rt, alloc, failing, status, report)?;
+            let told = keeper_unlike(rt, alloc, history, failing, status, report)?;
             if !told.is_empty() {
                 return Ok(told);
             }
@@ -220,8 +225,10 @@ fn first_keeper_unlike<R: Threads + Wait + Sync>(rt: &R, alloc: Global) -> Resul
 /// Each call of the keeper fails in turn; a change whose commit failed is kept or lost.
 #[test]
 fn each_call_of_the_keeper_fails(rt: HostRuntime) -> Result<(), Fail> {
-    let told = first_keeper_unlike(&rt, rt.alloc())?;
-    assert_eq!(rt; told.as_str(), "");
+    for history in HISTORIES {
+        let told = first_keeper_unlike(&rt, rt.alloc(), history)?;
+        assert_eq!(rt; told.as_str(), "", "over {history:?}");
+    }
     Ok(())
 }
 
@@ -229,6 +236,7 @@ fn each_call_of_the_keeper_fails(rt: HostRuntime) -> Result<(), Fail> {
 fn shelf_unlike<R: Threads + Wait + Sync>(
     rt: &R,
     alloc: Global,
+    history: History,
     failing: &[u32],
     report: &[&str],
 ) -> Result<String, Fail> {
@@ -237,14 +245,16 @@ fn shelf_unlike<R: Threads + Wait + Sync>(
         shelf: failing,
         ..WELL
     };
-    in_memory(rt, alloc, &text, Vec::new(alloc), &outside)?.unlike(alloc, "done", report)
+    run(rt, alloc, history, &text, &outside)?.unlike(alloc, "done", report)
 }
 
 #[test]
 fn each_call_of_the_shelf_fails(rt: HostRuntime) -> Result<(), Fail> {
-    for (failing, report) in SHELF {
-        let told = shelf_unlike(&rt, rt.alloc(), failing, report)?;
-        assert_eq!(rt; told.as_str(), "");
+    for history in HISTORIES {
+        for (failing, report) in SHELF {
+            let told = shelf_unlike(&rt, rt.alloc(), history, failing, report)?;
+            assert_eq!(rt; told.as_str(), "", "over {history:?}");
+        }
     }
     Ok(())
 }
@@ -278,9 +288,11 @@ const NOTHING: [(&[Change], u32, &[u32], &str); 5] = [
 #[test]
 fn no_campaign_begins(rt: HostRuntime) -> Result<(), Fail> {
     let alloc = rt.alloc();
-    for (changes, shelves, source, status) in NOTHING {
-        let told = nothing_unlike(&rt, alloc, changes, shelves, source, status)?;
-        assert_eq!(rt; told.as_str(), "");
+    for history in HISTORIES {
+        for (changes, shelves, source, status) in NOTHING {
+            let told = nothing_unlike(&rt, alloc, history, changes, shelves, source, status)?;
+            assert_eq!(rt; told.as_str(), "", "over {history:?}");
+        }
     }
     Ok(())
 }
@@ -289,6 +301,7 @@ fn no_campaign_begins(rt: HostRuntime) -> Result<(), Fail> {
 fn nothing_unlike<R: Threads + Wait + Sync>(
     rt: &R,
     alloc: Global,
+    history: History,
     changes: &[Change],
     shelves: u32,
     source: &[u32],
@@ -300,7 +313,7 @@ fn nothing_unlike<R: Threads + Wait + Sync>(
         source,
         ..WELL
     };
-    let left = in_memory(rt, alloc, &text, Vec::new(alloc), &outside)?;
+    let left = run(rt, alloc, history, &text, &outside)?;
     if left.events != 0 {
         return Ok(format!(in alloc; "events {}", left.events)?);
     }
@@ -308,7 +321,11 @@ fn nothing_unlike<R: Threads + Wait + Sync>(
 }
 
 /// What the first campaign whose report stops, at one call after the other, tells otherwise. The last one is told whole.
-fn first_stop_unlike<R: Threads + Wait + Sync>(rt: &R, alloc: Global) -> Result<String, Fail> {
+fn first_stop_unlike<R: Threads + Wait + Sync>(
+    rt: &R,
+    alloc: Global,
+    history: History,
+) -> Result<String, Fail> {
     let text = document(alloc, &[])?;
     let whole = joined(alloc, &INSTALL)?;
     for call in 1..1000 {
@@ -317,7 +334,7 @@ fn first_stop_unlike<R: Threads + Wait + Sync>(rt: &R, alloc: Global) -> Result<
             sink: &failing,
             ..WELL
         };
-        let left = in_memory(rt, alloc, &text, Vec::new(alloc), &outside)?;
+        let left = run(rt, alloc, history, &text, &outside)?;
         if left.status.as_str() != "writing failed" || !whole.starts_with(left.text()) {
             return if call == 1 {
                 Ok(format!(in alloc; "{}\n{}", left.status, left.text())?)
@@ -332,7 +349,9 @@ fn first_stop_unlike<R: Threads + Wait + Sync>(rt: &R, alloc: Global) -> Result<
 /// Each call of the sink fails in turn: what it took is a front of the report.
 #[test]
 fn each_call_of_the_sink_fails(rt: HostRuntime) -> Result<(), Fail> {
-    let told = first_stop_unlike(&rt, rt.alloc())?;
-    assert_eq!(rt; told.as_str(), "");
+    for history in HISTORIES {
+        let told = first_stop_unlike(&rt, rt.alloc(), history)?;
+        assert_eq!(rt; told.as_str(), "", "over {history:?}");
+    }
     Ok(())
 }

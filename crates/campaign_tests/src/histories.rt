@@ -1,40 +1,10 @@
 //! Histories that are full, or that are none.
-use crate::base::{WELL, document, in_memory};
-use fw_base::Name;
-use guid_ids::device_id;
-use history_keeper::{Row, RowState};
+use crate::base::{HISTORIES, History, Outside, WELL, document, run};
+use crate::pasts::Past;
 use std::alloc::Global;
+use std::sync::Wait;
 use std::test::Fail;
-use version_formats::Version;
-
-/// Rows of a device that no board has. The entries are numbered, and of two rows the tag can be the same.
-fn row(alloc: Global, entry: u32, tag: u32) -> Result<Row, Fail> {
-    let tag = format!(in alloc; "old{tag}")?;
-    Ok(Row {
-        entry,
-        tag: Name::read(tag.as_bytes())?,
-        client: 1,
-        device: device_id(b"elsewhere", None),
-        component: Name::read(b"com.example.hub")?,
-        version_old: Version::read(b"1.0.0")?,
-        version_new: Version::read(b"1.1.0")?,
-        digest: [0; 32],
-        flags: 0,
-        state: RowState::Success,
-        reason: 0,
-        time_added: 10,
-        time_changed: 20,
-    })
-}
-
-/// A row for each tag.
-fn rows(alloc: Global, count: u32) -> Result<Vec<Row>, Fail> {
-    let mut rows = Vec::new(alloc);
-    for entry in 1..=count {
-        rows.push(row(alloc, entry, entry)?)?;
-    }
-    Ok(rows)
-}
+use std::thread::Threads;
 
 /// A second board of the same kind, and an install of it.
 const TWO_BOARDS: [(&str, &str); 2] = [
@@ -68,26 +38,73 @@ client 1 claim t2 refused 15 rows-full
 end 14
 ";
 
+/// So many entries, each with its own tag.
+fn numbered(alloc: Global, count: u32) -> Result<Vec<Past>, Fail> {
+    let mut past = Vec::new(alloc);
+    for entry in 1..=count {
+        past.push((entry, entry))?;
+    }
+    Ok(past)
+}
+
+/// What a run over a history with these rows tells otherwise.
+fn unlike<R: Threads + Wait + Sync>(
+    rt: &R,
+    alloc: Global,
+    history: History,
+    past: &[Past],
+    text: &str,
+    status: &str,
+    report: &str,
+) -> Result<String, Fail> {
+    let outside = Outside { past, ..WELL };
+    run(rt, alloc, history, text, &outside)?.unlike(alloc, status, &[report])
+}
+
 /// The history takes one row more, and then no other.
 #[test]
 fn a_history_is_full(rt: HostRuntime) -> Result<(), Fail> {
     let alloc = rt.alloc();
     let text = document(alloc, &TWO_BOARDS)?;
-    let left = in_memory(&rt, alloc, &text, rows(alloc, 65_535)?, &WELL)?;
-    let told = left.unlike(alloc, "done", &[FULL])?;
-    assert_eq!(rt; told.as_str(), "");
+    let past = numbered(alloc, 65_535)?;
+    for history in HISTORIES {
+        let told = unlike(&rt, alloc, history, &past, &text, "done", FULL)?;
+        assert_eq!(rt; told.as_str(), "", "over {history:?}");
+    }
     Ok(())
 }
 
-/// The second row repeats a tag: there is no campaign over such rows.
+/// The report where there is no campaign.
+const NOTHING: &str = "fwupdemu report 1\nend 0\n";
+
+/// The second row repeats a tag: there is no campaign over such rows. A database takes no such row.
 #[test]
 fn a_tag_stands_twice(rt: HostRuntime) -> Result<(), Fail> {
     let alloc = rt.alloc();
     let text = document(alloc, &[])?;
-    let mut rows = rows(alloc, 1)?;
-    rows.push(row(alloc, 2, 1)?)?;
-    let left = in_memory(&rt, alloc, &text, rows, &WELL)?;
-    let told = left.unlike(alloc, "history row 2", &["fwupdemu report 1\nend 0\n"])?;
+    let past = [(1, 1), (2, 1)];
+    let told = unlike(
+        &rt,
+        alloc,
+        History::Memory,
+        &past,
+        &text,
+        "history row 2",
+        NOTHING,
+    )?;
     assert_eq!(rt; told.as_str(), "");
+    Ok(())
+}
+
+/// The second row has the third entry: there is no campaign over such rows.
+#[test]
+fn an_entry_is_missing(rt: HostRuntime) -> Result<(), Fail> {
+    let alloc = rt.alloc();
+    let text = document(alloc, &[])?;
+    let past = [(1, 1), (3, 3)];
+    for history in HISTORIES {
+        let told = unlike(&rt, alloc, history, &past, &text, "history row 2", NOTHING)?;
+        assert_eq!(rt; told.as_str(), "", "over {history:?}");
+    }
     Ok(())
 }

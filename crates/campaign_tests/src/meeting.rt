@@ -62,21 +62,34 @@ impl Meeting {
     }
 }
 
-/// A gate at which the holder meets the asker. Where the plugin holds the write up itself, `holder` is 0.
+/// Two clients that meet: the one that the gate holds up in its write (0 where a plugin holds it up itself), and the one
+/// that asks meanwhile.
+#[derive(Clone, Copy)]
+pub(crate) struct Pair {
+    pub(crate) holder: u32,
+    pub(crate) asker: u32,
+}
+
+/// Nobody meets.
+pub(crate) const NOBODY: Pair = Pair {
+    holder: 0,
+    asker: 0,
+};
+
+/// A gate at which the holder meets the asker.
 #[derive(Drop)]
 pub(crate) struct Doors<'a> {
     pub(crate) meeting: &'a Meeting,
-    pub(crate) holder: u32,
-    pub(crate) asker: u32,
+    pub(crate) pair: Pair,
 }
 
 impl Gate for Doors<'_> {
     fn at(&self, client: u32, entry: u32, op: u8) {
         let _ = entry;
-        if client == self.holder && op == WRITE {
+        if client == self.pair.holder && op == WRITE {
             self.meeting.hold();
         }
-        if client == self.asker && op == PREPARE {
+        if client == self.pair.asker && op == PREPARE {
             self.meeting.meet();
         }
     }

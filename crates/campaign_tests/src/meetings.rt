@@ -1,10 +1,9 @@
 //! Two clients on threads, one of which is held up in its write while the other one asks.
-use crate::base::{Left, Outside, WELL, campaign, changed, shelf, with};
-use crate::meeting::{Doors, Meeting, WaitingShelf};
+use crate::base::{HISTORIES, History, Left, Outside, WELL, changed, run, with};
+use crate::meeting::Pair;
 use crate::named::Rules;
-use history_keeper::MemoryKeeper;
 use std::alloc::Global;
-use std::sync::{Arc, Wait};
+use std::sync::Wait;
 use std::test::Fail;
 use std::thread::Threads;
 
@@ -158,61 +157,41 @@ fn lines_of(alloc: Global, report: &str, client: u32) -> Result<String, Fail> {
     Ok(lines)
 }
 
-/// A shelf for each of the two clients: the asker's waits for the holder.
-fn shelves<'a>(
-    alloc: Global,
-    scene: &Scene,
-    meeting: &'a Meeting,
-) -> Result<Vec<WaitingShelf<'a>>, Fail> {
-    let failing: &[u32] = if scene.4.is_empty() { &[] } else { &[1] };
-    let mut shelves = Vec::new(alloc);
-    for client in 1..3 {
-        if client == scene.0 {
-            shelves.push(WaitingShelf {
-                files: shelf(alloc, &[])?,
-                meeting: None,
-            })?;
-        } else {
-            shelves.push(WaitingShelf {
-                files: shelf(alloc, failing)?,
-                meeting: Some(meeting),
-            })?;
-        }
-    }
-    Ok(shelves)
-}
-
 /// Plays a scene.
 fn play<R: Threads + Wait + Sync>(
     rt: &R,
     alloc: Global,
+    history: History,
     scene: &Scene,
-    meeting: &Arc<Meeting, Global>,
 ) -> Result<Left, Fail> {
     let text = site(alloc, scene)?;
-    let keeper = MemoryKeeper::new(Vec::new(alloc), Vec::new(alloc));
-    let gate = Doors {
-        meeting,
+    let failing: &[u32] = if scene.4.is_empty() { &[] } else { &[1] };
+    let pair = Pair {
         holder: if scene.1 { 0 } else { scene.0 },
         asker: other(scene.0),
     };
     let outside = Outside {
+        shelves: 2,
+        shelf: failing,
         rules: PLUGINS,
+        pair,
         ..WELL
     };
-    let shelves = shelves(alloc, scene, meeting)?;
-    let (left, _keeper) = campaign(rt, alloc, &text, shelves, keeper, &outside, meeting, &gate)?;
-    Ok(left)
+    run(rt, alloc, history, &text, &outside)
 }
 
 /// What a scene tells otherwise.
-fn unlike<R: Threads + Wait + Sync>(rt: &R, alloc: Global, scene: &Scene) -> Result<String, Fail> {
-    let meeting = Arc::new(alloc, Meeting::new())?;
-    let left = play(rt, alloc, scene, &meeting)?;
+fn unlike<R: Threads + Wait + Sync>(
+    rt: &R,
+    alloc: Global,
+    history: History,
+    scene: &Scene,
+) -> Result<String, Fail> {
+    let left = play(rt, alloc, history, scene)?;
     let mut told = lines_of(alloc, left.text(), scene.0)?;
     told.push_str(&lines_of(alloc, left.text(), other(scene.0))?)?;
     let wanted = wanted(alloc, scene)?;
-    if meeting.was_kept() && left.status.as_str() == "done" && told.as_str() == wanted.as_str() {
+    if left.met && left.status.as_str() == "done" && told.as_str() == wanted.as_str() {
         return Ok(String::new(alloc));
     }
     Ok(format!(in alloc; "{}\n{told}", left.status)?)
@@ -222,9 +201,11 @@ fn unlike<R: Threads + Wait + Sync>(rt: &R, alloc: Global, scene: &Scene) -> Res
 /// device to a refusal.
 #[test]
 fn a_client_goes_on_while_another_one_writes(rt: HostRuntime) -> Result<(), Fail> {
-    for scene in SCENES {
-        let told = unlike(&rt, rt.alloc(), &scene)?;
-        assert_eq!(rt; told.as_str(), "");
+    for history in HISTORIES {
+        for scene in SCENES {
+            let told = unlike(&rt, rt.alloc(), history, &scene)?;
+            assert_eq!(rt; told.as_str(), "", "over {history:?}");
+        }
     }
     Ok(())
 }

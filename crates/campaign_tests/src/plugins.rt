@@ -1,5 +1,5 @@
 //! Plugins with rules.
-use crate::base::{Outside, WELL, document, in_memory};
+use crate::base::{HISTORIES, History, Outside, WELL, document, run};
 use crate::named::Rules;
 use std::alloc::Global;
 use std::sync::Wait;
@@ -91,6 +91,7 @@ fn rules(named: Named) -> Rules {
 fn unlike<R: Threads + Wait + Sync>(
     rt: &R,
     alloc: Global,
+    history: History,
     rules: [Rules; 2],
     plugin: &str,
     status: &str,
@@ -104,15 +105,17 @@ fn unlike<R: Threads + Wait + Sync>(
         ],
     )?;
     let outside = Outside { rules, ..WELL };
-    in_memory(rt, alloc, &text, Vec::new(alloc), &outside)?.unlike(alloc, status, report)
+    run(rt, alloc, history, &text, &outside)?.unlike(alloc, status, report)
 }
 
 #[test]
 fn plugins_keep_their_rules(rt: HostRuntime) -> Result<(), Fail> {
-    for (first, second, plugin, status, report) in RULES {
-        let plugins = [rules(first), rules(second)];
-        let told = unlike(&rt, rt.alloc(), plugins, plugin, status, report)?;
-        assert_eq!(rt; told.as_str(), "");
+    for history in HISTORIES {
+        for (first, second, plugin, status, report) in RULES {
+            let plugins = [rules(first), rules(second)];
+            let told = unlike(&rt, rt.alloc(), history, plugins, plugin, status, report)?;
+            assert_eq!(rt; told.as_str(), "", "over {history:?}");
+        }
     }
     Ok(())
 }

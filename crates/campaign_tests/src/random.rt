@@ -1,13 +1,12 @@
 //! Campaigns made at random.
-use crate::base::{Left, Outside, WELL, changed, in_memory, with};
-use crate::databases::in_database;
+use crate::base::{HISTORIES, History, Left, Outside, WELL, changed, run, with};
 use crate::dice::Dice;
 use std::alloc::Global;
 use std::sync::Wait;
 use std::test::Fail;
 use std::thread::Threads;
 
-/// How many campaigns are run.
+/// How many campaigns are run over each history.
 const CAMPAIGNS: u64 = 200;
 
 const SITE: &str =
@@ -161,24 +160,27 @@ fn fault_of(alloc: Global, text: &str, left: &Left) -> Result<String, Fail> {
     Ok(format!(in alloc; "{text}\n{}\n{}", left.status, left.text())?)
 }
 
-/// What is wrong with a campaign, over a history in memory; one of four is run over a database too.
-fn wrong<R: Threads + Wait + Sync>(rt: &R, alloc: Global, seed: u64) -> Result<String, Fail> {
+/// What is wrong with a campaign.
+fn wrong<R: Threads + Wait + Sync>(
+    rt: &R,
+    alloc: Global,
+    history: History,
+    seed: u64,
+) -> Result<String, Fail> {
     let text = site(alloc, &mut Dice::new(seed))?;
     let outside = Outside { shelves: 3, ..WELL };
-    let left = in_memory(rt, alloc, &text, Vec::new(alloc), &outside)?;
-    let told = fault_of(alloc, &text, &left)?;
-    if !told.is_empty() || seed % 4 > 0 {
-        return Ok(told);
-    }
-    fault_of(alloc, &text, &in_database(rt, alloc, &text, &outside)?)
+    let left = run(rt, alloc, history, &text, &outside)?;
+    fault_of(alloc, &text, &left)
 }
 
 /// Several boards, boots, cuts, faults and installs that are put off: no entry is written twice.
 #[test]
 fn no_entry_is_written_twice(rt: HostRuntime) -> Result<(), Fail> {
-    for seed in 0..CAMPAIGNS {
-        let told = wrong(&rt, rt.alloc(), seed)?;
-        assert_eq!(rt; told.as_str(), "");
+    for history in HISTORIES {
+        for seed in 0..CAMPAIGNS {
+            let told = wrong(&rt, rt.alloc(), history, seed)?;
+            assert_eq!(rt; told.as_str(), "", "over {history:?}");
+        }
     }
     Ok(())
 }

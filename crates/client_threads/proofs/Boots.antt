@@ -8,15 +8,17 @@ use Rattle.daemon_core.specs.Annals.{SameFacts}
 use Rattle.daemon_core.specs.Housed.{Housed, past, rows_before}
 use Rattle.daemon_core.specs.Turns.{FaultsCounted}
 use Rattle.client_scripts.specs.declared.item.Item.{Item}
-use Rattle.client_plays.specs.Endings.{HouseBootPlayed, HouseWent, IsCounted, IsFresh}
+use Rattle.client_plays.specs.Endings.{HouseBootPlayed, HouseWent, IsCounted, IsFresh, IsIdle}
 use Rattle.client_plays.specs.Moments.{Moment, began, mine}
-use Rattle.client_plays.specs.Plays.{Plays, TaskPlays}
+use Rattle.client_plays.specs.Plays.{Plays, Task, TaskPlays}
 use Rattle.client_plays.specs.Scripts.{PlayedSo, items_of, tasks}
 use Rattle.client_plays.specs.Tools.{Files}
-use Rattle.client_plays.proofs.MomentLaws.{grew-began, grew-boots, grew-both, grew-off, mine-boot}
-use Rattle.client_plays.proofs.RestLaws.{before-same, rest-both}
+use Rattle.client_plays.proofs.MomentLaws.{grew-began, grew-boots, grew-both, grew-nothing, grew-off, mine-boot}
+use Rattle.client_plays.proofs.PlayLaws.{task-unplayed}
+use Rattle.client_plays.proofs.RestLaws.{before-same, rest-both, rest-here, so-left}
+use Rattle.client_plays.proofs.ScriptLaws.{until-nothing}
 use Rattle.client_threads.specs.Clients.{ClientsPlayed, NoClients}
-use Rattle.client_threads.proofs.Plays.{still-played}
+use Rattle.client_threads.proofs.Plays.{left-off, still-played}
 
 -- Nobody did anything in a boot that has just begun.
 fresh-mine : (past : List Event) (client : ℕ) → IsFresh past → mine client past ≡ []
@@ -32,6 +34,22 @@ or-one false b e = cc
 or-other : (a b : Bool) → b ≡ true → (a || b) ≡ true
 or-other true b e = refl
 or-other false b e = e
+
+-- Nothing was done in a boot that was off from the first.
+pub boot-off : {K : Type 0} (faults : K → ℕ) (files : ℕ → Files) (of_boot : List (List Item)) (h : Housed K) → IsIdle (past h) → IsFresh (past h) → off (past h) ≡ true → HouseBootPlayed faults false files of_boot h h
+boot-off faults files of_boot h i f o =
+    let facts = h.annals.facts in
+    let opening = rows_before h.annals in
+    let all : List Task = tasks facts opening (began (past h)) in
+    record {
+      played = record {
+        daemon = subst (λ (m : List Moment). PlayedSo (off (past h)) false 0 (TaskPlays facts (files 0)) all m) (sym (fresh-mine (past h) 0 f))
+            (so-left (off (past h)) false 0 (TaskPlays facts (files 0)) all [] o (until-nothing false 0 (TaskPlays facts (files 0)) all (task-unplayed facts (files 0) 0)));
+        clients = λ client c. left-off facts opening (files client) client (items_of of_boot client) (mine client (past h)) (off (past h)) false o (fresh-mine (past h) client f);
+      };
+      grew = grew-nothing (past h);
+      rest = rest-here faults h i;
+    }
 
 module _ {K : Type 0} (faults : K → ℕ) (now : Bool) (files : Files) (old mid : Housed K) (h : HouseWent faults now 0 (TaskPlays old.annals.facts files) (tasks old.annals.facts (rows_before old.annals) (began (past old))) old mid) where
   -- After the tasks.

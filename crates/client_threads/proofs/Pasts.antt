@@ -72,3 +72,7 @@ faults-off (event ∷ past) a b = fault-off event past a.0
 pub on-loaded : (loaded : Bool) (past : List Event) → (loaded ≡ false → AllFaults past) → 0 < boots past → off past ≡ false → loaded ≡ true
 on-loaded true past h b o = refl
 on-loaded false past h b o = let bad : true ≡ false = sym (faults-off past (h refl) b) ∙ o in cc
+
+-- And where none took them, the boot is off.
+pub on-unread : (loaded : Bool) (past : List Event) → (loaded ≡ false → AllFaults past) → 0 < boots past → off past ≡ false → loaded ≡ false → ⊥
+on-unread loaded past h b o u = let bad : true ≡ false = sym (on-loaded loaded past h b o) ∙ u in cc

@@ -1,5 +1,5 @@
 //! A boot: the daemon's tasks on the plain house, and then the clients behind the daemon's lock.
-ghost use Rattle.std.specs.Prelude.{◌≡◌, ◌+◌, ◌≤◌, ◌<◌, [], All, length, map, vec_capacity};
+ghost use Rattle.std.specs.Prelude.{◌≡◌, ◌+◌, ◌≤◌, ◌<◌, [], false, All, length, map, vec_capacity};
 ghost use Rattle.std.specs.List.{range_with_len};
 ghost use Rattle.update_log.specs.Pasts.{boots};
 ghost use Rattle.daemon_core.specs.Annals.{IsAnnals};
@@ -158,7 +158,8 @@ fn play_clients<R: Threads + Wait + Sync, K: Keeper + Send, P: Shelf + Send, G: 
 }
 
 /// Plays a boot that has just begun: the daemon does its tasks, and then each client plays its script, on a
-/// thread of its own. Says whether memory was wanting, for which something was left.
+/// thread of its own. In a boot that is off from the first, as one that couldn't read the history, nothing is
+/// done. Says whether memory was wanting, for which something was left.
 pub(crate) fn play_boot<
     R: Threads + Wait + Sync,
     K: Keeper + Send,
@@ -180,10 +181,16 @@ pub(crate) fn play_boot<
     requires proper { All (All IsScriptItem) of_boot.now }
     requires few { length of_boot.now ≤ 16 }
     requires serves { Serves (tools_of P.files P.faults (length plugins.now) shelves.old.items) house.annals.facts (length of_boot.now) }
+    ensures unread { house.annals.loaded ≡ false → result.0 ≡ house }
     ensures played { HouseBootPlayed K.faults result.1 (files_for (shelves_told P.files P.faults shelves.old.items)) of_boot.now house result.0 }
     ensures kept { ShelvesStay (shelves_told P.files P.faults shelves.old.items) (shelves_told P.files P.faults shelves.new.items) }
     ensures told { ShelvesCount (past house) (past result.0) (shelves_told P.files P.faults shelves.old.items) (shelves_told P.files P.faults shelves.new.items) }
 {
+    let is_off = house.is_off();
+    if is_off {
+        return (house, false);
+    }
+    house.known();
     let mut house = house;
     let now = do_tasks_first(alloc, &mut house, shelves, plugins);
     let (house, wanting) = play_clients(rt, alloc, house, shelves, of_boot, plugins, gate);

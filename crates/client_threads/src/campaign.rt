@@ -1,5 +1,5 @@
 //! A campaign by a worker whose clients run on threads.
-ghost use Rattle.std.specs.Prelude.{◌≡◌, ◌≤◌, ◌<◌, ◌-◌, ◌^◌, [], All, length};
+ghost use Rattle.std.specs.Prelude.{◌≡◌, ◌≤◌, ◌<◌, ◌-◌, ◌^◌, [], false, All, length};
 ghost use Rattle.update_log.specs.Legal.{IsLegal};
 ghost use Rattle.daemon_core.specs.Housed.{past, rows_before};
 ghost use Rattle.client_plays.specs.Endings.{IsScriptItem};
@@ -37,6 +37,8 @@ pub fn run_on_threads<R: Threads + Wait + Sync, K: Keeper + Send, P: Shelf + Sen
     scripts: &[Listed<Listed<Item>>],
 ) -> (House<K>, Ran, Vec<P>)
     requires new { house.annals.core.log ≡ [] }
+    requires unread { house.annals.loaded ≡ false }
+    requires blank { house.annals.opening ≡ [] }
     requires serves { Serves (tools_of P.files P.faults (length plugins.items) shelves.items) house.annals.facts 0 }
     requires few { length plans.now < 2 ^ 32 - 1 }
     requires timely { All (λ plan. plan.time ≤ 2 ^ 63 - 1) plans.now }

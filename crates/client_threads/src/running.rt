@@ -1,5 +1,5 @@
 //! The boots of a campaign, one after the other.
-ghost use Rattle.std.specs.Prelude.{◌≡◌, ◌≤◌, ◌<◌, ◌+◌, ◌-◌, ◌^◌, [], All, length};
+ghost use Rattle.std.specs.Prelude.{◌≡◌, ◌≤◌, ◌<◌, ◌+◌, ◌-◌, ◌^◌, [], false, All, length};
 ghost use Rattle.update_log.specs.Pasts.{boots};
 ghost use Rattle.daemon_core.specs.Housed.{past};
 ghost use Rattle.client_plays.specs.Endings.{IsCounted, IsFresh, IsIdle, IsScriptItem};
@@ -43,6 +43,7 @@ fn play_next<R: Threads + Wait + Sync, K: Keeper + Send, P: Shelf + Send, G: Gat
     requires proper { All (All IsScriptItem) of_boot.now }
     requires few { length of_boot.now ≤ 16 }
     requires serves { Serves (tools_of P.files P.faults (length plugins.now) shelves.old.items) house.annals.facts (length of_boot.now) }
+    ensures unread { house.annals.loaded ≡ false → result.0 ≡ house }
     ensures more { BootMore K.faults result.1 wanting (files_for (shelves_told P.files P.faults shelves.old.items)) of_boot.now house result.0 }
     ensures kept { ShelvesStay (shelves_told P.files P.faults shelves.old.items) (shelves_told P.files P.faults shelves.new.items) }
     ensures told { ShelvesCount (past house) (past result.0) (shelves_told P.files P.faults shelves.old.items) (shelves_told P.files P.faults shelves.new.items) }
@@ -80,6 +81,8 @@ pub(crate) fn run_boots<
     scripts: &[Listed<Listed<Item>>],
 ) -> (House<K>, Ran)
     requires new { house.annals.core.log ≡ [] }
+    requires unread { house.annals.loaded ≡ false }
+    requires blank { house.annals.opening ≡ [] }
     requires few { length plans.now < 2 ^ 32 - 1 }
     requires timely { All (λ plan. plan.time ≤ 2 ^ 63 - 1) plans.now }
     requires proper { All (All (All IsScriptItem)) scripts.now }

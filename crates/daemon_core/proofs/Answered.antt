@@ -34,6 +34,20 @@ same-unchanged old new e =
       makers = ap (λ (a : Annalled). a.makers) e;
     }
 
+-- Two that changed nothing, one after the other.
+pub unchanged-on : (old mid new : Annalled) → Unchanged old mid → Unchanged mid new → Unchanged old new
+unchanged-on old mid new u v =
+    record {
+      same = record {
+        facts = v.same.facts ∙ u.same.facts;
+        first = v.same.first ∙ u.same.first;
+        opening = v.same.opening ∙ u.same.opening;
+        loaded = v.same.loaded ∙ u.same.loaded;
+      };
+      log = v.log ∙ u.log;
+      makers = v.makers ∙ u.makers;
+    }
+
 -- A turn that didn't begin.
 pub stopped : (A : Type 0) {B : Type 0} (client events : ℕ) (event : B → Event) (stop : Stop) (old new : Annalled) → Entered {A = A} client events (Err stop) old new → Turned client event (Err stop) old new
 stopped A client events event Stop.Off old new (inl e) = inl (e.0, same-unchanged old new e.1)

@@ -117,8 +117,8 @@ module _ {K : Type 0} (tells : K → Option (List Row)) (doubts : K → Option C
           timely = t;
         }
 
-    pub none-noted : mid.annals.loaded ≡ old.annals.loaded → NoBoot old mid
-    none-noted l = record { grounds = grounds; log = same-log.log; makers = same-log.makers; loaded = l; places = places ∙ elsewhere.places }
+    pub none-noted : mid.annals.loaded ≡ old.annals.loaded → (old.annals.loaded ≡ false → tells mid.keeper ≡ tells old.keeper) → NoBoot tells old mid
+    none-noted l s = record { grounds = grounds; log = same-log.log; makers = same-log.makers; loaded = l; places = places ∙ elsewhere.places; stays = s }
 
     pub faults-none : FaultsCounted faults old mid
     faults-none = inl (let e : keeper_faults (past mid) ≡ keeper_faults (past old) = ap keeper_faults same-past in let c = counted in omega (arith, e, c))
@@ -165,9 +165,9 @@ module _ {K : Type 0} (tells : K → Option (List Row)) (doubts : K → Option C
       opening-new = b.appended.same.opening
 
 -- what a boot did that found no room
-pub turn-no_room : {K : Type 0} (faults : K → ℕ) (old room : Housed K) → room.annals ≡ roomier old.annals room.annals → SameElsewhere old room
-    → (NoBoot old room × (room.annals.opening ≡ old.annals.opening)) × FaultsCounted faults old room × (faults old.keeper ≤ faults room.keeper)
-turn-no_room faults old room e s =
+pub turn-no_room : {K : Type 0} (tells : K → Option (List Row)) (faults : K → ℕ) (old room : Housed K) → room.annals ≡ roomier old.annals room.annals → SameElsewhere old room
+    → (NoBoot tells old room × (room.annals.opening ≡ old.annals.opening)) × FaultsCounted faults old room × (faults old.keeper ≤ faults room.keeper)
+turn-no_room tells faults old room e s =
     let l = same-roomier old.annals room.annals e in
     let k : faults room.keeper ≡ faults old.keeper = ap faults s.keeper in
     let p : keeper_faults (past room) ≡ keeper_faults (past old) = ap (λ (es : List Event). keeper_faults (past_of es)) l.log in (
@@ -178,6 +178,7 @@ turn-no_room faults old room e s =
           makers = l.makers;
           loaded = ap (λ (a : Annalled). a.loaded) e;
           places = s.places;
+          stays = λ _. ap tells s.keeper;
         },
         ap (λ (a : Annalled). a.opening) e,
       ),
@@ -198,11 +199,12 @@ module _ {K : Type 0} (tells : K → Option (List Row)) (doubts : K → Option C
   pub turn-none : (refused : NoMemory)
       → (room.annals.loaded ≡ false → FirstRead tells doubts faults (Err refused) room.annals mid.annals room.keeper mid.keeper)
       → (room.annals.loaded ≡ true → (mid.annals ≡ room.annals) × LaterRead tells doubts faults (Err refused) room.annals.core.rows room.annals.core.doubt room.keeper mid.keeper)
-      → (NoBoot old mid × (mid.annals.opening ≡ old.annals.opening)) × FaultsCounted faults old mid × (faults old.keeper ≤ faults mid.keeper)
+      → (NoBoot tells old mid × (mid.annals.opening ≡ old.annals.opening)) × FaultsCounted faults old mid × (faults old.keeper ≤ faults mid.keeper)
   turn-none refused first later =
       let same : mid.annals ≡ room.annals = by_test room.annals.loaded _ (λ t. (later t).0) (λ l. (first l).same) in (
         (
-          none-noted tells doubts faults old room mid new plan roomy elsewhere places pool counts (Err refused) first later (ap (λ (a : Annalled). a.loaded) same ∙ loaded-was),
+          none-noted tells doubts faults old room mid new plan roomy elsewhere places pool counts (Err refused) first later (ap (λ (a : Annalled). a.loaded) same ∙ loaded-was)
+              (λ l. (first (loaded-was ∙ l)).told_stay ∙ ap tells elsewhere.keeper),
           ap (λ (a : Annalled). a.opening) same ∙ opening-was,
         ),
         faults-none tells doubts faults old room mid new plan roomy elsewhere places pool counts (Err refused) first later,
@@ -217,7 +219,8 @@ module _ {K : Type 0} (tells : K → Option (List Row)) (doubts : K → Option C
   turn-others entry first later =
       let loaded : mid.annals.loaded ≡ room.annals.loaded = by_test room.annals.loaded _ (λ t. ap (λ (a : Annalled). a.loaded) (later t).0) (λ l. ap (λ (a : Annalled). a.loaded) (first l).same) in (
         record {
-          none = none-noted tells doubts faults old room mid new plan roomy elsewhere places pool counts (Ok (Loaded.Bad entry)) first later (loaded ∙ loaded-was);
+          none = none-noted tells doubts faults old room mid new plan roomy elsewhere places pool counts (Ok (Loaded.Bad entry)) first later (loaded ∙ loaded-was)
+              (λ l. (first (loaded-was ∙ l)).told_stay ∙ ap tells elsewhere.keeper);
           first = λ l.
               let f = first (loaded-was ∙ l) in
               (record { at = f.at; faulty = f.faulty; entry_is = f.entry_is }, subst (λ (k : K). AreTold (tells k) mid.annals.opening) elsewhere.keeper f.told_are);
@@ -241,7 +244,7 @@ module _ {K : Type 0} (tells : K → Option (List Row)) (doubts : K → Option C
   pub turn-fault : (first : room.annals.loaded ≡ false → FirstRead tells doubts faults (Ok Loaded.Fault) room.annals mid.annals room.keeper mid.keeper)
       → (later : room.annals.loaded ≡ true → (mid.annals ≡ room.annals) × LaterRead tells doubts faults (Ok Loaded.Fault) room.annals.core.rows room.annals.core.doubt room.keeper mid.keeper)
       → (b : BoardsStarted plan Found.Fault mid.annals new.annals mid.places new.places) → new.keeper ≡ mid.keeper → new.pool ≡ mid.pool
-      → ((listed : List BoardSeen) × CouldntRead plan listed old new) × FaultsCounted faults old new × (faults old.keeper ≤ faults new.keeper)
+      → ((listed : List BoardSeen) × CouldntRead tells plan listed old new) × FaultsCounted faults old new × (faults old.keeper ≤ faults new.keeper)
   turn-fault first later b keeper pool_new =
       let same : mid.annals ≡ room.annals = by_test room.annals.loaded _ (λ t. (later t).0) (λ l. (first l).0.same) in
       let rose : Rose (faults room.keeper) (faults mid.keeper) = by_test room.annals.loaded _ (λ t. (later t).1.1) (λ l. (first l).1) in (
@@ -251,6 +254,7 @@ module _ {K : Type 0} (tells : K → Option (List Row)) (doubts : K → Option C
             noted = noted tells doubts faults old room mid new plan roomy elsewhere places pool counts (Ok Loaded.Fault) first later Found.Fault b keeper pool_new;
             loaded = b.appended.same.loaded ∙ ap (λ (a : Annalled). a.loaded) same ∙ loaded-was;
             opening = b.appended.same.opening ∙ ap (λ (a : Annalled). a.opening) same ∙ opening-was;
+            stays = λ l. ap tells keeper ∙ (first (loaded-was ∙ l)).0.told_stay ∙ ap tells elsewhere.keeper;
           },
         ),
         faults-fault tells doubts faults old room mid new plan roomy elsewhere places pool counts (Ok Loaded.Fault) first later Found.Fault b keeper pool_new refl rose,

@@ -1,5 +1,5 @@
 -- What a claim is answered.
-use Rattle.std.proofs.Common.{◌≡◌, ℕ, ◌<◌, ◌≤◌, ◌+◌, ◌^◌, ◌-◌, Bool, true, false, List, [], ◌∷◌, ◌++◌, length, refl, ap, sym, ◌∙◌, subst, arith, ◌⊎◌, inl, inr}
+use Rattle.std.proofs.Common.{◌≡◌, ℕ, ◌<◌, ◌≤◌, ◌+◌, true, false, List, [], length, ap, sym, ◌∙◌, subst, arith, inl, inr}
 use Rattle.std.specs.Prelude.{Option, Some, None, IfSome, unwrap_or, Result, Ok, Err}
 use Rattle.block_pool.specs.Views.{PoolCounts, SealedBytes}
 use Rattle.emulated_boards.specs.Boards.{BoardState}
@@ -15,17 +15,17 @@ use Rattle.daemon_core.specs.declared.claimed.Taken.{Taken}
 use Rattle.daemon_core.specs.declared.fetched.Fetched.{Fetched}
 use Rattle.daemon_core.specs.declared.hold.Ticket.{Ticket}
 use Rattle.daemon_core.specs.declared.stop.Stop.{Stop}
-use Rattle.daemon_core.specs.Annals.{Appended, IsAnnals, Ready, Runs, Unchanged, roomier}
+use Rattle.daemon_core.specs.Annals.{Appended, IsAnnals, Ready, roomier}
 use Rattle.daemon_core.specs.Boards.{BoardStands}
 use Rattle.daemon_core.specs.Claims.{ClaimGave, IsToStore, MayClaim, RoomierBoard, RoomierPlaces, place_given, places_without, plugin_at}
 use Rattle.daemon_core.specs.Fetches.{IsPayloadOf, block_count}
 use Rattle.daemon_core.specs.Holds.{held_by}
 use Rattle.daemon_core.specs.House.{IsHouse}
-use Rattle.daemon_core.specs.Housed.{Annalled, Housed, Place, past, past_in, rows_before}
+use Rattle.daemon_core.specs.Housed.{Annalled, Housed, past, past_in, rows_before}
 use Rattle.daemon_core.specs.Keeping.{keeper_faults}
 use Rattle.daemon_core.specs.Returns.{place_at}
 use Rattle.daemon_core.specs.Turns.{FaultsCounted, Turned}
-use Rattle.daemon_core.proofs.Answered.{roomier-same, unchanged-appended}
+use Rattle.daemon_core.proofs.Answered.{roomier-same, unchanged-appended, unchanged-on}
 use Rattle.daemon_core.proofs.ClaimRoom.{board-itself, board-on, places-same, room-at, room-on, room-out}
 use Rattle.daemon_core.proofs.ClaimTurns.{claim-board, claim-taken, takes_event}
 
@@ -37,19 +37,6 @@ entered-may old mid client blocks ticket r n h p =
     let m : MayClaim (roomier old mid) client ticket blocks =
     record { loaded = r.loaded; runs = record { on = r.runs.on; below = r.runs.below }; booted = n; held_is = h; asked = p; room = r.room; row_room = r.row_room } in
     subst (λ (a : Annalled). MayClaim a client ticket blocks) (sym r.same) m
-
-unchanged-on : (old mid new : Annalled) → Unchanged old mid → Unchanged mid new → Unchanged old new
-unchanged-on old mid new u v =
-    record {
-      same = record {
-        facts = v.same.facts ∙ u.same.facts;
-        first = v.same.first ∙ u.same.first;
-        opening = v.same.opening ∙ u.same.opening;
-        loaded = v.same.loaded ∙ u.same.loaded;
-      };
-      log = v.log ∙ u.log;
-      makers = v.makers ∙ u.makers;
-    }
 
 -- What came of the turn since, came of all of it.
 pub turned-after : {A : Type 0} (client events : ℕ) (event : A → Event) (result : Result A Stop) (old mid new : Annalled) → Ready events old mid → Turned client event result mid new → Turned client event result old new

@@ -36,6 +36,7 @@ pub mod MovesBack
 pub mod CommitKept
 pub mod ClaimFinish
 pub mod JudgeKept
+pub mod JudgeRoom
 pub mod SettleKept
 pub mod GivenUp
 pub mod PuttingOff

@@ -28,13 +28,15 @@ pub record BootNoted {K : Type 0} (plan : BootPlan) (found : Found) (listed : Li
   pub makers : new.annals.makers ≡ old.annals.makers ++ 0 ∷ []
   pub started : AllStarted plan old.places new.places listed
 
--- Nothing was put behind the log, and no board was started.
-pub record NoBoot {K : Type 0} (old new : Housed K) : Type 0 where
+-- Nothing was put behind the log, and no board was started. While no boot took the rows, the keeper tells
+-- those that it told.
+pub record NoBoot {K : Type 0} (told : K → Option (List Row)) (old new : Housed K) : Type 0 where
   pub grounds : SameGrounds old new
   pub log : new.annals.core.log ≡ old.annals.core.log
   pub makers : new.annals.makers ≡ old.annals.makers
   pub loaded : new.annals.loaded ≡ old.annals.loaded
   pub places : new.places ≡ old.places
+  pub stays : old.annals.loaded ≡ false → told new.keeper ≡ told old.keeper
 
 -- A boot that went well. The first one took the rows that the keeper has for those before the log, and
 -- the keeper has the rows of the log, without a doubt.
@@ -45,11 +47,12 @@ pub record WentWell {K : Type 0} (told : K → Option (List Row)) (doubted : K �
   pub opening : MatchBool old.annals.loaded (new.annals.opening ≡ old.annals.opening) (IsHistory new.annals.opening × AreTold (told old.keeper) new.annals.opening)
   pub keeps : HasRows told doubted new.keeper new.annals.core.rows None
 
--- A boot that couldn't read the history.
-pub record CouldntRead {K : Type 0} (plan : BootPlan) (listed : List BoardSeen) (old new : Housed K) : Type 0 where
+-- A boot that couldn't read the history. While no boot took the rows, the keeper tells those that it told.
+pub record CouldntRead {K : Type 0} (told : K → Option (List Row)) (plan : BootPlan) (listed : List BoardSeen) (old new : Housed K) : Type 0 where
   pub noted : BootNoted plan Found.Fault listed old new
   pub loaded : new.annals.loaded ≡ old.annals.loaded
   pub opening : new.annals.opening ≡ old.annals.opening
+  pub stays : old.annals.loaded ≡ false → told new.keeper ≡ told old.keeper
 
 -- The first row that breaks a rule has that place.
 pub record BreaksAt (entry : ℕ) (rows : List Row) : Type 0 where
@@ -60,7 +63,7 @@ pub record BreaksAt (entry : ℕ) (rows : List Row) : Type 0 where
 -- A boot that read no valid history, while none had gone well, or later other rows than the log's, from a
 -- keeper that doesn't tell its rows.
 pub record ReadOthers {K : Type 0} (told : K → Option (List Row)) (entry : ℕ) (old new : Housed K) : Type 0 where
-  pub none : NoBoot old new
+  pub none : NoBoot told old new
   pub first : old.annals.loaded ≡ false → BreaksAt entry new.annals.opening × AreTold (told old.keeper) new.annals.opening
   pub later : old.annals.loaded ≡ true → (new.annals.opening ≡ old.annals.opening) × (told new.keeper ≡ None)
       × ((loaded : List Row) × AreOthers entry loaded old.annals.core.rows old.annals.core.doubt)
@@ -68,9 +71,9 @@ pub record ReadOthers {K : Type 0} (told : K → Option (List Row)) (entry : ℕ
 -- What a boot did, by its answer.
 abbrev pub BootTurned : {A K : Type 0} → (K → Option (List Row)) → (K → Option Change) → BootPlan → Result A BootStop → Housed K → Housed K → Type 0
 BootTurned told doubted plan (Ok _) old new = (found : Found) × (listed : List BoardSeen) × WentWell told doubted plan found listed old new
-BootTurned told doubted plan (Err BootStop.KeeperFault) old new = (listed : List BoardSeen) × CouldntRead plan listed old new
+BootTurned told doubted plan (Err BootStop.KeeperFault) old new = (listed : List BoardSeen) × CouldntRead told plan listed old new
 BootTurned told doubted plan (Err (BootStop.BadHistory entry)) old new = ReadOthers told entry old new
-BootTurned told doubted plan (Err BootStop.NoMemory) old new = NoBoot old new × (new.annals.opening ≡ old.annals.opening)
+BootTurned told doubted plan (Err BootStop.NoMemory) old new = NoBoot told old new × (new.annals.opening ≡ old.annals.opening)
 
 -- A boot that found this can be put behind the log: no client has anything out, there is room for it and
 -- for its boards, and its time and number fit.

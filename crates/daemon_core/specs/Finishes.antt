@@ -25,6 +25,10 @@ pub record IsDone (facts : Facts) (opening : List Row) (past : List Event) (entr
   pub done : next_op facts opening past entry ≡ None
   pub closing : closing facts opening past entry ≡ Some closed
 
+-- To give a row another state takes no memory, whatever the row, the state, the reason and the time.
+abbrev pub AdvancesForFree : (Change → Type 0) → Type 0
+AdvancesForFree takes_none = (entry reason time : ℕ) (state : RowState) → takes_none (Change.Advance entry state reason time)
+
 -- What became of the row: nothing is stored where it stays begun, and else the change.
 abbrev pub ClosedAs : {K : Type 0} → (K → Option (List Row)) → (K → Option Change) → RowState → Change → Stored → K → K → Type 0
 ClosedAs told doubted RowState.Begun change stored old new = (stored ≡ Stored.Unchanged) × (new ≡ old)

@@ -64,18 +64,21 @@ pub record FirstRefused {K : Type 0} (told : K → Option (List Row)) (doubted :
   pub entry_is : entry ≡ place_told at
   pub same : new ≡ record old { opening = new.opening }
   pub told_are : AreTold (told before) new.opening
+  pub told_stay : told after ≡ told before
   pub no_doubt : doubted after ≡ None
 
-pub record NothingRead {K : Type 0} (doubted : K → Option Change) (old new : Annalled) (after : K) : Type 0 where
+-- They couldn't be read: all is as before, and the keeper tells the rows that it told.
+pub record NothingRead {K : Type 0} (told : K → Option (List Row)) (doubted : K → Option Change) (old new : Annalled) (before after : K) : Type 0 where
   pub same : new ≡ old
+  pub told_stay : told after ≡ told before
   pub no_doubt : doubted after ≡ None
 
 -- The rows before the log were read.
 abbrev pub FirstRead : {K : Type 0} → (K → Option (List Row)) → (K → Option Change) → (K → ℕ) → Result Loaded NoMemory → Annalled → Annalled → K → K → Type 0
 FirstRead told doubted faults (Ok (Loaded.Found found)) old new before after = FirstTaken told doubted found old new before after
 FirstRead told doubted faults (Ok (Loaded.Bad entry)) old new before after = FirstRefused told doubted entry old new before after
-FirstRead told doubted faults (Ok Loaded.Fault) old new before after = NothingRead doubted old new after × Rose (faults before) (faults after)
-FirstRead told doubted faults (Err refused) old new before after = NothingRead doubted old new after
+FirstRead told doubted faults (Ok Loaded.Fault) old new before after = NothingRead told doubted old new before after × Rose (faults before) (faults after)
+FirstRead told doubted faults (Err refused) old new before after = NothingRead told doubted old new before after
 
 -- The keeper was reopened, and has the rows of the log with what was found, or is as before.
 pub record LaterFound {K : Type 0} (told : K → Option (List Row)) (doubted : K → Option Change) (found : Found) (rows : List Row) (doubt : Option Change) (after : K) : Type 0 where

@@ -1,2 +1,4 @@
 pub mod Plays
 pub mod Begun
+pub mod Kept
+pub mod Own

@@ -1,4 +1,5 @@
-//! Tests of the daemon behind its lock by its public calls: two clients, used from one thread.
+//! Tests of the daemon behind its lock by its public calls, used from one thread: two clients, and the daemon's
+//! own turns.
 //!
 //! They stand in a crate of their own, since a crate that has tests is proved a second time with them.
 #![tactic(auto)]
@@ -7,6 +8,14 @@
 mod clients;
 #[cfg(test)]
 mod days;
+#[cfg(test)]
+mod noted;
+#[cfg(test)]
+mod own_day;
+#[cfg(test)]
+mod own_turns;
+#[cfg(test)]
+mod put_off;
 #[cfg(test)]
 mod scenes;
 #[cfg(test)]

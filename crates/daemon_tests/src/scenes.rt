@@ -29,7 +29,8 @@ use version_formats::{Format, Version};
 
 const OLD: &[u8] = b"EMU1 01000000\n";
 
-const NEW: &[u8] = b"EMU1 01010000\n";
+/// The payload of version 1.1.0.
+pub const NEW: &[u8] = b"EMU1 01010000\n";
 
 /// What a test is about.
 #[derive(Clone, Copy)]
@@ -143,16 +144,17 @@ fn catalogue(alloc: Global, wants_parent: bool) -> Result<Catalogue, Fail> {
     Ok(Catalogue::of(alloc, components)?)
 }
 
-fn facts(alloc: Global, scene: &Scene) -> Result<Facts, Fail>
+/// The facts of a machine with these two boards, and of a pool of so many blocks.
+pub fn facts(alloc: Global, wants_parent: bool, pool: u32) -> Result<Facts, Fail>
     ensures sheets { IfOk result (λ facts. length facts.sheets ≡ 2) }
-    ensures pool { IfOk result (λ facts. facts.pool ≡ scene.now.pool) }
+    ensures pool { IfOk result (λ facts. facts.pool ≡ pool) }
 {
     let mut vetoes = Vec::new(alloc);
     vetoes.push(PluginVetoes {
         plugin: Name::read(b"flash")?,
         rules: Listed::of(Vec::new(alloc)),
     })?;
-    let catalogue = catalogue(alloc, scene.wants_parent)?;
+    let catalogue = catalogue(alloc, wants_parent)?;
     let sheets = sheets(alloc)?;
     Ok(Facts {
         machine: MachineFacts {
@@ -166,7 +168,7 @@ fn facts(alloc: Global, scene: &Scene) -> Result<Facts, Fail>
         features: Listed::of(Vec::new(alloc)),
         vetoes: Listed::of(vetoes),
         sheets: Listed::of(sheets),
-        pool: scene.pool,
+        pool,
     })
 }
 
@@ -176,7 +178,8 @@ fn new_board(alloc: Global) -> Board
     Board::new(alloc, OLD, Vec::new(alloc))
 }
 
-fn boards(alloc: Global) -> Result<Vec<Board>, Fail>
+/// The two boards, as they are made.
+pub fn boards(alloc: Global) -> Result<Vec<Board>, Fail>
     ensures count { IfOk result (λ boards. length boards.items ≡ 2) }
     ensures fresh { IfOk result (λ boards. (number : ℕ) (b : BoardState) → slice_get boards.items number ≡ Some b → IsNewBoard b) }
 {
@@ -187,7 +190,7 @@ fn boards(alloc: Global) -> Result<Vec<Board>, Fail>
 }
 
 /// A house of these facts and boards, booted once.
-fn booted<R: Abort, K: Keeper>(
+pub fn booted<R: Abort, K: Keeper>(
     rt: &R,
     alloc: Global,
     facts: Facts,
@@ -249,7 +252,8 @@ fn request(tag: &[u8], port: &str) -> Result<Request, Fail> {
     })
 }
 
-fn shelf(alloc: Global) -> Result<MemoryShelf, Fail> {
+/// A shelf with the payload of version 1.1.0.
+pub fn shelf(alloc: Global) -> Result<MemoryShelf, Fail> {
     let mut files = Vec::new(alloc);
     let bytes = Vec::from_slice(alloc, NEW)?;
     files.push((Sha256::digest(NEW), bytes))?;
@@ -265,7 +269,7 @@ pub fn refused<R: Abort + Wait, G: Gate>(
 ) -> Result<Refusal, Fail>
     requires { scene.now.pool ≤ 16384 }
 {
-    let facts = facts(alloc, scene)?;
+    let facts = facts(alloc, scene.wants_parent, scene.pool)?;
     let boards = boards(alloc)?;
     let first = request(b"t1", "usb1")?;
     let second = request(b"t2", scene.second)?;

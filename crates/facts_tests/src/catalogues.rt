@@ -150,7 +150,7 @@ const COMPONENT: Frame = Frame {
     place: "",
 };
 
-const COMPONENTS: [(&str, &str); 17] = [
+const COMPONENTS: [(&str, &str); 19] = [
     ("{}", "document 0 0 0 components: wrong-kind"),
     ("[]", "read"),
     ("[3]", "components 0 0 0 entry: wrong-kind"),
@@ -184,6 +184,14 @@ const COMPONENTS: [(&str, &str); 17] = [
     (
         r#"[{"id":"a","provides":[],"custom":{"LVFS::UpdateProtocol":""}}]"#,
         "components 0 0 0 custom: wrong-kind",
+    ),
+    (
+        r#"[{"id":"a","provides":[],"custom":{"LVFS::VersionFormat":"a b"}}]"#,
+        "components 0 0 0 custom: wrong-kind",
+    ),
+    (
+        r#"[{"id":"a","provides":[],"requires":[{"tag":"client","text":"a"},{"tag":"client","text":"b"},{"tag":"parent"}]}]"#,
+        "components 0 2 0 tag: wrong-kind",
     ),
     (
         r#"[{"id":"a","provides":[],"custom":{"x":""}}]"#,
@@ -273,7 +281,8 @@ const REQUIREMENT: Frame = Frame {
     place: "components 0 1 0 ",
 };
 
-const REQUIREMENTS: [(&str, &str); 24] = [
+// Seven GUIDs are 252 bytes, and a pattern has up to 255.
+const REQUIREMENTS: [(&str, &str); 29] = [
     ("3", "entry: wrong-kind"),
     ("{}", "tag: missing"),
     (r#"{"tag":1}"#, "tag: wrong-kind"),
@@ -309,8 +318,28 @@ const REQUIREMENTS: [(&str, &str); 24] = [
         "version: bad-pattern 0",
     ),
     (
+        r#"{"tag":"id","text":"a","compare":"regex","version":"a[b-a]"}"#,
+        "version: bad-pattern 2",
+    ),
+    (
         r#"{"tag":"id","text":"a","compare":"glob","version":"*.2"}"#,
         "read",
+    ),
+    (
+        r#"{"tag":"id","text":"a","compare":"glob","version":"GGGGGGGaaa"}"#,
+        "read",
+    ),
+    (
+        r#"{"tag":"id","text":"a","compare":"glob","version":"GGGGGGGaaaa"}"#,
+        "version: wrong-kind",
+    ),
+    (
+        r#"{"tag":"id","text":"a","compare":"regex","version":"GGGGGGGaaa"}"#,
+        "read",
+    ),
+    (
+        r#"{"tag":"id","text":"a","compare":"regex","version":"GGGGGGGaaaa"}"#,
+        "version: wrong-kind",
     ),
     (r#"{"tag":"firmware"}"#, "compare: missing"),
     (
@@ -523,6 +552,25 @@ fn scanned(catalogue: &Catalogue, guids: &[Guid], version: &Version) -> Option<R
     None
 }
 
+/// The plain program: all releases of each component that provides one of the GUIDs.
+fn scanned_all(
+    alloc: Global,
+    catalogue: &Catalogue,
+    guids: &[Guid],
+) -> Result<Vec<ReleaseRef>, Fail> {
+    let mut all = Vec::new(alloc);
+    for (component, found) in catalogue.components().iter().enumerate() {
+        if found.provides.items().iter().any(|own| guids.contains(own)) {
+            for release in 0..found.releases.items().len() {
+                if let Some(place) = place(component, release) {
+                    all.push(place)?;
+                }
+            }
+        }
+    }
+    Ok(all)
+}
+
 fn place(component: usize, release: usize) -> Option<ReleaseRef> {
     Some(ReleaseRef {
         component: u32::try_from(component).ok()?,
@@ -583,6 +631,8 @@ fn a_scan_finds_the_same(rt: HostRuntime) -> Result<(), Fail> {
         let version = Version::read(version.as_bytes())?;
         let found = catalogue.find(&guids, &version);
         assert_eq!(rt; found, scanned(&catalogue, &guids, &version));
+        let all = catalogue.releases_for(alloc, &guids)?;
+        assert_eq!(rt; all, scanned_all(alloc, &catalogue, &guids)?);
         if found.is_some() {
             hits = hits.saturating_add(1);
         }

@@ -49,6 +49,11 @@ const ROWS: [Row; 9] = [
     (b"child", b"child", Some(b"busy"), Some(0x0100_0000), None),
 ];
 
+const PAIR: [Row; 2] = [
+    (b"hub", b"hub", None, Some(0x010a_0000), None),
+    (b"busy", b"busy", None, Some(0x0100_0000), Some(4)),
+];
+
 fn name(text: &[u8]) -> Result<Name, Fail> {
     Ok(Name::read(text)?)
 }
@@ -141,9 +146,9 @@ struct Scene {
 }
 
 impl Scene {
-    fn new(alloc: Global) -> Result<Scene, Fail> {
+    fn of(alloc: Global, rows: &[Row]) -> Result<Scene, Fail> {
         let mut views = Vec::new(alloc);
-        for row in &ROWS {
+        for row in rows {
             views.push(view(alloc, row)?)?;
         }
         Ok(Scene {
@@ -174,7 +179,7 @@ impl Scene {
 /// Looks at each requirement alone.
 fn look(rt: &(impl Abort + AllocGlobal), device: usize, rows: Vec<Expected>) -> Result<(), Fail> {
     let alloc = rt.alloc();
-    let scene = Scene::new(alloc)?;
+    let scene = Scene::of(alloc, &ROWS)?;
     for (number, (requirement, cause)) in rows.into_iter().enumerate() {
         let list = vec![in alloc; requirement]?;
         let unmet = cause.map(|cause| Unmet { index: 0, cause });
@@ -380,6 +385,20 @@ fn the_first_device_with_a_guid_counts(rt: HostRuntime) -> Result<(), Fail> {
     look(&rt, HUB, rows)
 }
 
+#[test]
+fn the_second_of_two_devices_is_being_updated(rt: HostRuntime) -> Result<(), Fail> {
+    let alloc = rt.alloc();
+    let scene = Scene::of(alloc, &PAIR)?;
+    let guid = guid_of(b"busy");
+    let list = vec![in alloc; Requirement::Device { guid, test: None }]?;
+    let unmet = Unmet {
+        index: 0,
+        cause: UnmetCause::DeviceInUse { entry: 4 },
+    };
+    assert_eq!(rt; scene.first_unmet(HUB, list.as_slice()), Some(Some(unmet)));
+    Ok(())
+}
+
 // The hub's parent is absent, and its parent's parent is there. The stray's parent is in no port, and
 // the last device's is being updated.
 #[test]
@@ -455,7 +474,7 @@ fn the_client_has_its_features(rt: HostRuntime) -> Result<(), Fail> {
 #[test]
 fn the_least_index_is_named(rt: HostRuntime) -> Result<(), Fail> {
     let alloc = rt.alloc();
-    let scene = Scene::new(alloc)?;
+    let scene = Scene::of(alloc, &ROWS)?;
     let third = Unmet {
         index: 2,
         cause: UnmetCause::NoSuchDevice,

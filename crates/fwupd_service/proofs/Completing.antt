@@ -1,19 +1,22 @@
 -- That a run which nothing keeps from it does all that it is for.
 use Rattle.std.proofs.Common.{◌≡◌, ℕ, ◌<◌, ◌≤◌, ◌++◌, ◌+◌, true, false, List, [], length, map, refl, ap, sym, ◌∙◌, subst, inl, inr, arith}
 use Rattle.std.proofs.lemmas.List.{append-nil, length-append}
-use Rattle.std.specs.Prelude.{Option, Some, None, Result, Ok, Err}
+use Rattle.std.specs.Prelude.{◌-◌, ◌^◌, Option, Some, None, MatchOption, Result, Ok, Err}
 use Rattle.fw_facts.specs.declared.machine.MachineFacts.{MachineFacts}
 use Rattle.history_keeper.proofs.Prefixes.{history_front}
-use Rattle.history_keeper.specs.Memories.{Memory}
 use Rattle.history_keeper.specs.declared.change.Change.{Change}
 use Rattle.history_keeper.specs.declared.row.Row.{Row}
+use Rattle.history_keeper.specs.Histories.{IsHistory}
 use Rattle.outer_traits.specs.Sources.{AtEnd, Came}
 use Rattle.plugin_order.specs.Arranged.{CanBeArranged, HasCause}
 use Rattle.plugin_order.specs.declared.arrangement.OrderFault.{OrderFault}
 use Rattle.plugin_order.specs.declared.arrangement.OrderFault.TheVariants as faults
 use Rattle.plugin_order.specs.declared.sheet.PluginSheet.{PluginSheet}
+use Rattle.update_log.specs.declared.event.Event.{Event}
 use Rattle.update_log.specs.declared.facts.PluginVetoes.{PluginVetoes}
+use Rattle.update_log.specs.Pasts.{past_of}
 use Rattle.daemon_core.specs.House.{shown_by}
+use Rattle.daemon_core.specs.Keeping.{keeper_faults}
 use Rattle.client_plays.specs.Shelves.{files_for}
 use Rattle.client_plays.specs.Tools.{Files, ShelfTold}
 use Rattle.campaign_runs.specs.Planned.{with_plans}
@@ -30,11 +33,13 @@ use Rattle.made_outputs.specs.Summed.{summary}
 use Rattle.report_text.specs.Report.{report}
 use Rattle.run_status.specs.declared.status.Status.{Status}
 use Rattle.run_status.specs.declared.status.Status.TheVariants as statuses
-use Rattle.fwupd_service.specs.Campaigns.{IsBadHistory}
+use Rattle.fwupd_service.specs.Campaigns.{IsBadHistory, IsOpening}
 use Rattle.fwupd_service.specs.Complete.{GivesSite, HistoryHeld, MakeDone, RunDone, SiteWentWhole}
 use Rattle.fwupd_service.specs.Ends.{CampaignEnds}
-use Rattle.fwupd_service.specs.Makes.{MadeOrNothing, MakeBegan, MakeEnds, order_status, own_shelves}
-use Rattle.fwupd_service.specs.Tops.{Left, RunEnds, Went, stop_status}
+use Rattle.fwupd_service.specs.Makes.{BlamesNoHistory, MadeOrNothing, MakeBegan, MakeEnds, order_status, own_shelves}
+use Rattle.fwupd_service.specs.Telling.{any_fault}
+use Rattle.fwupd_service.specs.Tops.{CampaignTold, Left, RunEnds, Went, stop_status}
+use Rattle.fwupd_service.proofs.FaultsTold.{counted-none, no-fault-told}
 
 -- ---- what came of the input
 
@@ -84,6 +89,12 @@ arranged-well sheets (faults.Cycle shown) can (names, inl s) = can.order s.plugi
 arranged-well sheets (faults.Cycle shown) can (names, inr (order, s)) = can.better s.plugins s.cycle
 arranged-well sheets faults.NoMemory can h = absurd h
 
+-- The rows before a log are a valid history where the keeper came with one.
+valid-opening : (came : Option (List Row)) (opening : List Row) (log : List Event) → MatchOption came (IsHistory opening) IsHistory → IsOpening came opening log → IsHistory opening
+valid-opening None opening log v o = v
+valid-opening (Some all) opening log v (inl e) = subst IsHistory (sym e) v
+valid-opening (Some all) opening log v (inr (e, none)) = subst IsHistory (sym e) (history_front all 0 v)
+
 too-many : (asked asked' most shelves : ℕ) → asked ≡ asked' → asked' ≤ most → (shelves ≡ most) × (most < asked) → ⊥
 too-many asked asked' most shelves e w h = let m : most < asked = h.1 in omega (arith, e, w, m)
 
@@ -104,36 +115,47 @@ module _ {K : Type 0} (told : K → Option (List Row)) (doubted : K → Option C
 
   -- What a campaign came to that was played.
   ended : (files : ℕ → Files) (sheets : List PluginSheet) (vetoes : MachineFacts → List PluginVetoes) (site : Site) (campaign : Campaign) (left : Left K) (text : Campaign → List ℕ) (before after : Option (List ℕ)) (status : Status)
-      → IsCampaignOf site sheets (vetoes site.machine) campaign → HistoryHeld left
+      → IsCampaignOf site sheets (vetoes site.machine) campaign → IsHistory left.opening → any_fault left.log ≡ false
       → CampaignEnds told files status (with_plans campaign.facts (map shown_by campaign.boards.items) campaign.boots) left.opening campaign.scripts left.log left.keeper (text campaign) before after
       → RunDone told left.keeper (SiteWentWhole files sheets vetoes site left text before after) status
-  ended files sheets vetoes site campaign left text before after statuses.Done s held e = record { campaign = campaign; settled = s; whole = e.1 }
-  ended files sheets vetoes site campaign left text before after statuses.KeeperFault s held e =
-      let bad : true ≡ false = sym e.0 ∙ held.no_fault in cc
-  ended files sheets vetoes site campaign left text before after (statuses.BadHistory entry) s held e = bad e.bad
+  ended files sheets vetoes site campaign left text before after statuses.Done s valid quiet e = record { campaign = campaign; settled = s; whole = e.1 }
+  ended files sheets vetoes site campaign left text before after statuses.KeeperFault s valid quiet e =
+      let bad : true ≡ false = sym e.0 ∙ quiet in cc
+  ended files sheets vetoes site campaign left text before after (statuses.BadHistory entry) s valid quiet e = bad e.bad
     where
       bad : IsBadHistory told entry campaign.facts left.opening left.log left.keeper → told left.keeper ≡ None
-      bad (inl (all, b)) = absurd (b.faulty.breaks (history_front left.opening (b.at + 1) held.valid))
-      bad (inr (valid, silent, others)) = silent
-  ended files sheets vetoes site campaign left text before after statuses.SinkFault s held e = tt
-  ended files sheets vetoes site campaign left text before after statuses.NoMemory s held e = tt
-  ended files sheets vetoes site campaign left text before after statuses.SourceFault s held e = tt
-  ended files sheets vetoes site campaign left text before after _ s held e = absurd e
+      bad (inl (all, b)) = absurd (b.faulty.breaks (history_front left.opening (b.at + 1) valid))
+      bad (inr (v, silent, others)) = silent
+  ended files sheets vetoes site campaign left text before after statuses.SinkFault s valid quiet e = tt
+  ended files sheets vetoes site campaign left text before after statuses.NoMemory s valid quiet e = tt
+  ended files sheets vetoes site campaign left text before after statuses.SourceFault s valid quiet e = tt
+  ended files sheets vetoes site campaign left text before after _ s valid quiet e = absurd e
 
   pub run-complete : (shelves now : List ShelfTold) (sheets : List PluginSheet) (vetoes : MachineFacts → List PluginVetoes) (status : Status) (keeper : K) (left : Left K) (old new before after : Option (List ℕ)) (site : Site)
       → RunEnds told doubted faults shelves now sheets vetoes status keeper left old new before after
-      → GivesSite (length shelves) old site → CanBeArranged sheets → HistoryHeld left
+      → GivesSite (length shelves) old site → CanBeArranged sheets → HistoryHeld told faults keeper left
       → RunDone told left.keeper (SiteWentWhole (files_for shelves) sheets vetoes site left (λ campaign. report campaign.facts left.opening left.log) before after) status
   run-complete shelves now sheets vetoes status keeper left old new before after site ends given can held = at ends
     where
       Complete : Type 0
       Complete = SiteWentWhole (files_for shelves) sheets vetoes site left (λ campaign. report campaign.facts left.opening left.log) before after
 
+      Told : Campaign → Type 0
+      Told campaign = CampaignTold told doubted faults shelves now status campaign keeper left (report campaign.facts left.opening left.log) before after
+
+      valid : (campaign : Campaign) → Told campaign → IsHistory left.opening
+      valid campaign w = valid-opening (told keeper) left.opening left.log held.valid w.keeper_stands.opening_is
+
+      quiet : (campaign : Campaign) → Told campaign → any_fault left.log ≡ false
+      quiet campaign w =
+          no-fault-told (with_plans campaign.facts (map shown_by campaign.boards.items) campaign.boots) left.opening left.log w.true_log.legal
+          (counted-none (2 ^ 64 - 1) (keeper_faults (past_of left.log)) (faults keeper) (faults left.keeper) w.keeper_stands.counted held.no_fault held.counting)
+
       went : (campaign : Campaign) → IsOpened (limits.Shelves (length shelves)) sheets vetoes old new campaign → Went told doubted faults shelves now status campaign keeper left (report campaign.facts left.opening left.log) before after → RunDone told left.keeper Complete status
       went campaign o (inl w) =
           let same : o.site ≡ site = site-same (length shelves) sheets old new site given o.bytes o.site o.came o.states.read o.states.stated in
           let settled : IsCampaignOf site sheets (vetoes site.machine) campaign = subst (λ (x : Site). IsCampaignOf x sheets (vetoes x.machine) campaign) same o.settled in
-          ended (files_for shelves) sheets vetoes site campaign left (λ c. report c.facts left.opening left.log) before after status settled held w.ends
+          ended (files_for shelves) sheets vetoes site campaign left (λ c. report c.facts left.opening left.log) before after status settled (valid campaign w) (quiet campaign w) w.ends
       went campaign o (inr (e, nothing)) = subst (RunDone told left.keeper Complete) (sym e) tt
 
       at : RunEnds told doubted faults shelves now sheets vetoes status keeper left old new before after → RunDone told left.keeper Complete status
@@ -146,26 +168,22 @@ fault-status sheets Complete (faults.DuplicateName name) can h = arranged-well s
 fault-status sheets Complete (faults.Cycle shown) can h = arranged-well sheets (faults.Cycle shown) can h
 fault-status sheets Complete faults.NoMemory can h = tt
 
--- The same of `make`, whose keeper tells its rows.
+-- The same of `make`, whose status blames no history.
 module _ {K : Type 0} (boards clients : ℕ) (sheets : List PluginSheet) (vetoes : MachineFacts → List PluginVetoes) where
   -- A generated campaign that was played came to no more than that.
-  summed : (status : Status) (campaign : Campaign) (left : Left K) (own : Memory) (before after : Option (List ℕ)) → IsCampaignOf (made_site boards clients) sheets (vetoes (made_site boards clients).machine) campaign → HistoryHeld left
-      → CampaignEnds (λ (m : Memory). Some m.rows) (files_for (own_shelves clients)) status (with_plans campaign.facts (map shown_by campaign.boards.items) campaign.boots) left.opening campaign.scripts left.log own (summary boards clients left.log) before after
+  summed : (status : Status) (campaign : Campaign) (left : Left K) (own : List Row) (before after : Option (List ℕ)) → IsCampaignOf (made_site boards clients) sheets (vetoes (made_site boards clients).machine) campaign → BlamesNoHistory status
+      → CampaignEnds (λ (rows : List Row). Some rows) (files_for (own_shelves clients)) status (with_plans campaign.facts (map shown_by campaign.boards.items) campaign.boots) left.opening campaign.scripts left.log own (summary boards clients left.log) before after
       → MakeDone (SiteWentWhole (files_for (own_shelves clients)) sheets vetoes (made_site boards clients) left (λ _. summary boards clients left.log) before after) status
-  summed statuses.Done campaign left own before after s held e = record { campaign = campaign; settled = s; whole = e.1 }
-  summed statuses.KeeperFault campaign left own before after s held e = let bad : true ≡ false = sym e.0 ∙ held.no_fault in cc
-  summed (statuses.BadHistory entry) campaign left own before after s held e = bad e.bad
-    where
-      bad : IsBadHistory (λ (m : Memory). Some m.rows) entry campaign.facts left.opening left.log own → ⊥
-      bad (inl (all, b)) = b.faulty.breaks (history_front left.opening (b.at + 1) held.valid)
-      bad (inr (valid, silent, others)) = cc
-  summed statuses.SinkFault campaign left own before after s held e = tt
-  summed statuses.NoMemory campaign left own before after s held e = tt
-  summed _ campaign left own before after s held e = absurd e
+  summed statuses.Done campaign left own before after s n e = record { campaign = campaign; settled = s; whole = e.1 }
+  summed statuses.KeeperFault campaign left own before after s n e = absurd n
+  summed (statuses.BadHistory entry) campaign left own before after s n e = absurd n
+  summed statuses.SinkFault campaign left own before after s n e = tt
+  summed statuses.NoMemory campaign left own before after s n e = tt
+  summed _ campaign left own before after s n e = absurd e
 
-  pub make-complete : (status : Status) (keeper : K) (left : Left K) (before after : Option (List ℕ)) → MakeEnds boards clients sheets vetoes status keeper left before after → CanBeArranged sheets → HistoryHeld left
+  pub make-complete : (status : Status) (keeper : K) (left : Left K) (before after : Option (List ℕ)) → MakeEnds boards clients sheets vetoes status keeper left before after → CanBeArranged sheets
       → MakeDone (SiteWentWhole (files_for (own_shelves clients)) sheets vetoes (made_site boards clients) left (λ _. summary boards clients left.log) before after) status
-  make-complete status keeper left before after ends can held = at ends
+  make-complete status keeper left before after ends can = at ends
     where
       Complete : Type 0
       Complete = SiteWentWhole (files_for (own_shelves clients)) sheets vetoes (made_site boards clients) left (λ _. summary boards clients left.log) before after
@@ -174,7 +192,7 @@ module _ {K : Type 0} (boards clients : ℕ) (sheets : List PluginSheet) (vetoes
       began b = of b.went
         where
           of : MadeOrNothing boards clients status b.campaign keeper left before after → MakeDone Complete status
-          of (inl w) = summed status b.campaign left w.own before after b.settled held w.told.ends
+          of (inl w) = summed status b.campaign left w.own before after b.settled w.no_blame w.told.ends
           of (inr (e, nothing)) = subst (MakeDone Complete) (sym e) tt
 
       at : MakeEnds boards clients sheets vetoes status keeper left before after → MakeDone Complete status

@@ -13,7 +13,6 @@ use Rattle.campaign_runs.specs.declared.ending.Ending.{Ending}
 use Rattle.campaign_runs.specs.declared.ending.Ran.{Ran}
 use Rattle.campaign_runs.specs.Promises.{PlayedBoots}
 use Rattle.run_status.specs.declared.status.Status.{Status}
-use Rattle.run_status.specs.declared.status.Status.TheVariants as statuses
 use Rattle.fwupd_service.specs.declared.reporting.Written.{Written}
 use Rattle.fwupd_service.specs.declared.reporting.Written.TheVariants as writes
 use Rattle.fwupd_service.specs.Campaigns.{EndsAt, WasPlayed}

@@ -1,7 +1,8 @@
 -- What is true of a house whose campaign was run.
 use Rattle.std.proofs.Common.{◌≡◌, ◌⊎◌, ℕ, zero, suc, ◌≤◌, ◌+◌, Bool, true, false, List, [], ◌∷◌, map, Option, Some, None, refl, sym, ap, subst, ◌∙◌, inl, inr, arith}
-use Rattle.std.specs.Prelude.{slice_get, ◌-◌, ◌^◌}
+use Rattle.std.specs.Prelude.{slice_get, ◌-◌, ◌^◌, IfSome, MatchBool}
 use Rattle.std.proofs.lemmas.List.{length-map}
+use Rattle.std.proofs.lemmas.Option.{IfSome_then}
 use Rattle.emulated_boards.specs.Boards.{BoardState}
 use Rattle.fw_facts.specs.declared.seen.Seen.{Seen}
 use Rattle.history_keeper.specs.declared.change.Change.{Change}
@@ -25,7 +26,7 @@ use Rattle.daemon_core.specs.House.{IsHouse}
 use Rattle.daemon_core.specs.Housed.{Annalled, Housed, Place, past, rows_before, rows_taken}
 use Rattle.daemon_core.specs.Keeping.{Keeps, keeper_faults}
 use Rattle.daemon_core.specs.Parts.{BoardsOf, IsBoardOf}
-use Rattle.daemon_core.specs.Reading.{AreOthers}
+use Rattle.daemon_core.specs.Reading.{AreOthers, AreTold}
 use Rattle.daemon_core.specs.Turns.{FaultsCounted}
 use Rattle.daemon_core.proofs.BootOpenings.{legal-over, place-over, said-over}
 use Rattle.client_scripts.specs.declared.item.Item.{Item}
@@ -35,10 +36,10 @@ use Rattle.campaign_runs.specs.declared.ending.Ending.{Ending}
 use Rattle.campaign_runs.specs.declared.ending.Ran.{Ran}
 use Rattle.campaign_runs.specs.Planned.{with_plans}
 use Rattle.campaign_runs.specs.Promises.{PlayedBoots}
-use Rattle.campaign_runs.specs.Runs.{CampaignRan, EndedSo}
+use Rattle.campaign_runs.specs.Runs.{CampaignRan, EndedSo, OpeningTold}
 use Rattle.campaign_runs.proofs.FaultBoots.{faults-earlier, faults-played}
 use Rattle.campaign_runs.proofs.LegalLaws.{legal-in}
-use Rattle.fwupd_service.specs.Campaigns.{EndsAt, IsBadHistory, IsTrueLog, KeeperStands, WasPlayed}
+use Rattle.fwupd_service.specs.Campaigns.{EndsAt, IsBadHistory, IsOpening, IsTrueLog, IsUntouched, KeeperStands, WasPlayed}
 
 by_test : (b : Bool) (G : Type 0) → (b ≡ true → G) → (b ≡ false → G) → G
 by_test true G f g = f refl
@@ -51,6 +52,37 @@ before-is a t = ap (λ (b : Bool). rows_taken b a.opening) t
 -- What holds over the rows before the log holds over the opening, if it does so of boots that read nothing.
 lift : (a : Annalled) (P : List Row → Type 0) → (a.loaded ≡ false → P a.opening) → P (rows_before a) → P a.opening
 lift a P unread p = by_test a.loaded (P a.opening) (λ t. subst P (before-is a t) p) unread
+
+-- What holds of each value holds of one that may be missing.
+for-some : {X : Type 0} (o : Option X) (P : X → Type 0) → ((x : X) → P x) → IfSome o P
+for-some None P each = tt
+for-some (Some x) P each = each x
+
+-- The rows before the log, by what the keeper that came told.
+opening-told : {K : Type 0} (told : K → Option (List Row)) (came : Option (List Row)) (h : Housed K) → (h.annals.loaded ≡ false → AllFaults (past h)) → OpeningTold told came h → IsOpening came h.annals.opening h.annals.core.log
+opening-told told came h none o =
+    by_test h.annals.loaded (IsOpening came opening h.annals.core.log)
+    (λ t. taken (subst O t o))
+    (λ f. untaken (none f) (subst O f o).1)
+  where
+    opening : List Row
+    opening = h.annals.opening
+
+    O : Bool → Type 0
+    O b = MatchBool b (AreTold came opening) ((told h.keeper ≡ came) × ((opening ≡ []) ⊎ AreTold came opening))
+
+    taken : AreTold came opening → IsOpening came opening h.annals.core.log
+    taken a = IfSome_then came a (λ all e. inl e)
+
+    untaken : AllFaults (past h) → (opening ≡ []) ⊎ AreTold came opening → IsOpening came opening h.annals.core.log
+    untaken all (inl e) = for-some came _ (λ rows. inr (e, all))
+    untaken all (inr a) = taken a
+
+-- While no boot took them the keeper tells what it told.
+told-stays : {K : Type 0} (told : K → Option (List Row)) (came : Option (List Row)) (h : Housed K) → h.annals.loaded ≡ false → OpeningTold told came h → told h.keeper ≡ came
+told-stays told came h f o =
+    let O = λ (b : Bool). MatchBool b (AreTold came h.annals.opening) ((told h.keeper ≡ came) × ((h.annals.opening ≡ []) ⊎ AreTold came h.annals.opening)) in
+    (subst O f o).0
 
 -- The element of a list that was mapped.
 record MapsTo {X Y : Type 0} (f : X → Y) (xs : List X) (n : ℕ) (y : Y) : Type 0 where
@@ -131,7 +163,7 @@ module _ {K : Type 0} (told : K → Option (List Row)) (doubted : K → Option C
 
   -- ---- the keeper
 
-  keeps-opening : (AllFaults (past h) × (doubted h.keeper ≡ None)) ⊎ Keeps told doubted h.keeper (rows facts opening (past h)) (doubt facts opening (past h))
+  keeps-opening : IsUntouched told doubted h.annals.core.log old.keeper h.keeper ⊎ Keeps told doubted h.keeper (rows facts opening (past h)) (doubt facts opening (past h))
   keeps-opening =
       by_test h.annals.loaded _
       (λ t.
@@ -139,7 +171,7 @@ module _ {K : Type 0} (told : K → Option (List Row)) (doubted : K → Option C
       inr (subst (λ (x : List Row). Keeps told doubted h.keeper (rows facts x (past h)) (doubt facts x (past h))) o
       (subst (λ (x : List Row). Keeps told doubted h.keeper x (doubt facts (rows_before h.annals) (past h))) a.stands.rows
       (subst (λ (x : Option Change). Keeps told doubted h.keeper h.annals.core.rows x) a.stands.doubt (k.kept t)))))
-      (λ f. inl (all-faults f, k.unloaded f))
+      (λ f. inl (record { none = all-faults f; told_are = told-stays told (told old.keeper) h f r.ran.opening; no_doubt = k.unloaded f }))
 
   counted-from : old.annals.core.log ≡ [] → FaultsCounted faults old h → (keeper_faults (past h) + faults old.keeper ≤ faults h.keeper) ⊎ (2 ^ 64 - 1 ≤ faults h.keeper)
   counted-from n (inl l) =
@@ -148,7 +180,12 @@ module _ {K : Type 0} (told : K → Option (List Row)) (doubted : K → Option C
   counted-from n (inr l) = inr l
 
   keeper-stands : old.annals.core.log ≡ [] → KeeperStands told doubted faults facts opening h.annals.core.log old.keeper h.keeper
-  keeper-stands n = record { keeps = keeps-opening; counted = counted-from n r.ran.counted; counts = r.ran.counts }
+  keeper-stands n = record {
+    keeps = keeps-opening;
+    opening_is = opening-told told (told old.keeper) h all-faults r.ran.opening;
+    counted = counted-from n r.ran.counted;
+    counts = r.ran.counts;
+  }
 
   -- ---- what was played
 
@@ -164,7 +201,7 @@ module _ {K : Type 0} (told : K → Option (List Row)) (doubted : K → Option C
   }
 
   -- the rows and the change in doubt before the boot that read others
-  others-opening : (entry : ℕ) (loaded : List Row) (mid : Housed K) → IsAnnals mid.annals → NoBoot mid h → h.annals.loaded ≡ true → h.annals.opening ≡ mid.annals.opening → AreOthers entry loaded mid.annals.core.rows mid.annals.core.doubt
+  others-opening : (entry : ℕ) (loaded : List Row) (mid : Housed K) → IsAnnals mid.annals → NoBoot told mid h → h.annals.loaded ≡ true → h.annals.opening ≡ mid.annals.opening → AreOthers entry loaded mid.annals.core.rows mid.annals.core.doubt
       → AreOthers entry loaded (rows facts opening (past h)) (doubt facts opening (past h))
   others-opening entry loaded mid m n t o others =
       let before : rows_before mid.annals ≡ opening = before-is mid.annals (sym n.loaded ∙ t) ∙ sym o in

@@ -5,4 +5,6 @@ pub mod StartLaws
 pub mod TopLaws
 pub mod MakeWords
 pub mod MakeShelves
+pub mod FaultsTold
+pub mod Unfailing
 pub mod Completing

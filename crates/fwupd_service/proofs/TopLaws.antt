@@ -1,5 +1,5 @@
 -- What a run comes to.
-use Rattle.std.proofs.Common.{◌≡◌, ℕ, List, [], ◌∷◌, map, Option, Some, refl, subst, arith}
+use Rattle.std.proofs.Common.{◌≡◌, ℕ, List, [], ◌∷◌, map, Option, Some, None, refl, subst, arith}
 use Rattle.std.specs.Prelude.{Result, Ok, Err, IfOk, IfErr}
 use Rattle.emulated_boards.specs.Boards.{BoardState}
 use Rattle.history_keeper.specs.declared.change.Change.{Change}
@@ -11,8 +11,11 @@ use Rattle.client_plays.specs.Tools.{ShelfTold, ShelvesStay}
 use Rattle.campaign_runs.specs.declared.ending.Ran.{Ran}
 use Rattle.campaign_runs.specs.Planned.{with_plans}
 use Rattle.site_types.specs.declared.campaign.Campaign.{Campaign}
+use Rattle.command_words.specs.declared.command.Command.{Command}
+use Rattle.command_words.specs.declared.command.Command.TheVariants as commands
 use Rattle.run_status.specs.declared.status.Status.{Status}
 use Rattle.fwupd_service.specs.Campaigns.{ShelvesStand, WasPlayed}
+use Rattle.fwupd_service.specs.Commands.{KeepsShelves}
 use Rattle.fwupd_service.specs.Ends.{IsReported}
 use Rattle.fwupd_service.specs.Tops.{CampaignTold}
 use Rattle.fwupd_service.proofs.EndLaws.{campaign-ends}
@@ -23,6 +26,15 @@ if-ok {A = A} {E = E} P r x h e = subst (λ (r : Result A E). IfOk r P) e h
 
 pub if-err : {A E : Type 0} (P : E → Type 0) (r : Result A E) (x : E) → IfErr r P → r ≡ Err x → P x
 if-err {A = A} {E = E} P r x h e = subst (λ (r : Result A E). IfErr r P) e h
+
+-- Shelves that came back are kept by any command.
+pub keeps-same : {P : Type 0} (command : Option Command) (old new : List P) → new ≡ old → KeepsShelves command old new
+keeps-same None old new e = e
+keeps-same (Some commands.Run) old new e = tt
+keeps-same (Some commands.Check) old new e = e
+keeps-same (Some (commands.Explain port version)) old new e = e
+keeps-same (Some (commands.Ids texts)) old new e = e
+keeps-same (Some (commands.Make boards clients)) old new e = e
 
 -- Shelves that nobody used stay.
 pub stay-same : (shelves : List ShelfTold) → ShelvesStay shelves shelves

@@ -1,5 +1,5 @@
 -- What a campaign needs to begin.
-use Rattle.std.specs.Prelude.{◌≡◌, ◌≤◌, ◌<◌, ◌-◌, ◌^◌, ℕ, List, [], length, All, Some, slice_get}
+use Rattle.std.specs.Prelude.{◌≡◌, ◌≤◌, ◌<◌, ◌-◌, ◌^◌, ℕ, false, List, [], length, All, Some, slice_get}
 use Rattle.fw_facts.specs.declared.seen.Seen.{Seen}
 use Rattle.emulated_boards.specs.Boards.{BoardState}
 use Rattle.update_log.specs.declared.facts.Facts.{Facts}
@@ -25,9 +25,11 @@ pub record IsReadyFor (shelves plugins : ℕ) (campaign : Campaign) : Type 0 whe
   pub each : All (λ of_boot. length of_boot ≤ shelves) campaign.scripts
   pub plugins_are : length campaign.facts.vetoes ≤ plugins
 
--- A house of these facts, before its first boot, with this keeper.
+-- A house of these facts, before its first boot, with this keeper: no boot read any rows.
 pub record IsBegun {K : Type 0} (facts : Facts) (first : List Seen) (keeper : K) (h : Housed K) : Type 0 where
   pub facts_are : h.annals.facts ≡ facts
   pub first_are : h.annals.first ≡ first
   pub log : h.annals.core.log ≡ []
+  pub loaded : h.annals.loaded ≡ false
+  pub opening : h.annals.opening ≡ []
   pub keeper_is : h.keeper ≡ keeper

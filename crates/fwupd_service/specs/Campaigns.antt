@@ -1,5 +1,5 @@
 -- What is true of a campaign that was played, however it ended.
-use Rattle.std.specs.Prelude.{◌≡◌, ◌⊎◌, ◌≤◌, ◌<◌, ◌+◌, ◌-◌, ◌^◌, ℕ, List, length, map, Option, Some, None, slice_get}
+use Rattle.std.specs.Prelude.{◌≡◌, ◌⊎◌, ◌≤◌, ◌<◌, ◌+◌, ◌-◌, ◌^◌, ℕ, List, [], length, map, Option, Some, None, IfSome, slice_get}
 use Rattle.emulated_boards.specs.Boards.{BoardState}
 use Rattle.outer_traits.specs.Faults.{RoseBy}
 use Rattle.history_keeper.specs.declared.change.Change.{Change}
@@ -39,10 +39,24 @@ pub record IsTrueLog (c : Campaign) (opening : List Row) (log : List Event) (boa
   pub stays : IsHistory opening → IsHistory (rows c.facts opening (past_of log))
   pub board_faults : (number : ℕ) (b : BoardState) → slice_get boards number ≡ Some b → faulty_ends c.facts opening (past_of log) number ≤ b.faults
 
--- The keeper has the rows of the log, and its doubt is the log's, or it was opened again since; while no boot
--- could read the history it has no doubt. Each fault of the keeper that the log tells was counted by it.
+-- No boot could read the history: the keeper tells the rows that it told as it came, and has no doubt.
+pub record IsUntouched {K : Type 0} (told : K → Option (List Row)) (doubted : K → Option Change) (log : List Event) (old new : K) : Type 0 where
+  pub none : AllFaults (past_of log)
+  pub told_are : told new ≡ told old
+  pub no_doubt : doubted new ≡ None
+
+-- The rows before the log are those that the keeper told as it came, where it told any; or there are none,
+-- and no boot could read the history. So rows that a first boot refused are the keeper's own, since no row
+-- breaks no rule.
+abbrev pub IsOpening : Option (List Row) → List Row → List Event → Type 0
+IsOpening came opening log = IfSome came (λ all. (opening ≡ all) ⊎ ((opening ≡ []) × AllFaults (past_of log)))
+
+-- The keeper has the rows of the log, and its doubt is the log's, or it was opened again since; or no boot
+-- could read the history, and the keeper is untouched. The rows before the log are its own. Each fault of
+-- the keeper that the log tells was counted by it.
 pub record KeeperStands {K : Type 0} (told : K → Option (List Row)) (doubted : K → Option Change) (faults : K → ℕ) (facts : Facts) (opening : List Row) (log : List Event) (old new : K) : Type 0 where
-  pub keeps : (AllFaults (past_of log) × (doubted new ≡ None)) ⊎ Keeps told doubted new (rows facts opening (past_of log)) (doubt facts opening (past_of log))
+  pub keeps : IsUntouched told doubted log old new ⊎ Keeps told doubted new (rows facts opening (past_of log)) (doubt facts opening (past_of log))
+  pub opening_is : IsOpening (told old) opening log
   pub counted : (keeper_faults (past_of log) + faults old ≤ faults new) ⊎ (2 ^ 64 - 1 ≤ faults new)
   pub counts : faults old ≤ faults new
 

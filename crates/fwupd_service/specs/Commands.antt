@@ -28,6 +28,15 @@ keeps_history (Some (commands.Explain port version)) = false
 keeps_history (Some (commands.Ids texts)) = false
 keeps_history (Some (commands.Make boards clients)) = false
 
+-- The shelves are those that came, but under `run`, whose clients fetch from them.
+abbrev pub KeepsShelves : {P : Type 0} → Option Command → List P → List P → Type 0
+KeepsShelves None old new = new ≡ old
+KeepsShelves (Some commands.Run) old new = Unit {0}
+KeepsShelves (Some commands.Check) old new = new ≡ old
+KeepsShelves (Some (commands.Explain port version)) old new = new ≡ old
+KeepsShelves (Some (commands.Ids texts)) old new = new ≡ old
+KeepsShelves (Some (commands.Make boards clients)) old new = new ≡ old
+
 -- No campaign began, and the keeper is as it came.
 pub record NothingHappened {K : Type 0} (keeper : K) (left : Left K) : Type 0 where
   pub log : left.log ≡ []

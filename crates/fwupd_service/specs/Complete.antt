@@ -1,5 +1,5 @@
 -- When `run` and `make` do all that they are for: nothing but what is named here keeps them from it.
-use Rattle.std.specs.Prelude.{◌≡◌, ◌≤◌, ℕ, false, List, length, map, Option, Some, None, Ok}
+use Rattle.std.specs.Prelude.{◌≡◌, ◌≤◌, ◌<◌, ◌-◌, ◌^◌, ℕ, List, length, map, Option, Some, None, MatchOption, Ok}
 use Rattle.fw_facts.specs.declared.machine.MachineFacts.{MachineFacts}
 use Rattle.history_keeper.specs.declared.change.Change.{Change}
 use Rattle.history_keeper.specs.declared.row.Row.{Row}
@@ -23,7 +23,6 @@ use Rattle.run_status.specs.declared.status.Status.{Status}
 use Rattle.run_status.specs.declared.status.Status.TheVariants as statuses
 use Rattle.fwupd_service.specs.Ends.{WentWhole}
 use Rattle.fwupd_service.specs.Makes.{MakeEnds, own_shelves}
-use Rattle.fwupd_service.specs.Telling.{any_fault}
 use Rattle.fwupd_service.specs.Tops.{Left, RunEnds}
 
 -- The whole input is no longer than a document may be and states this site, whose clients are no more than
@@ -35,10 +34,12 @@ pub record GivesSite (shelves : ℕ) (input : Option (List ℕ)) (site : Site) :
   pub states : stated bytes ≡ Ok site
   pub clients : asked_for site ≤ shelves
 
--- The history held: the rows before the log are a valid one, and the log tells no fault of the keeper.
-pub record HistoryHeld {K : Type 0} (left : Left K) : Type 0 where
-  pub valid : IsHistory left.opening
-  pub no_fault : any_fault left.log ≡ false
+-- The history held: the rows that the keeper told as it came are a valid one, or, where it told none, those
+-- before the log are; and it failed at nothing: its count of faults, which isn't at its end, is as it was.
+pub record HistoryHeld {K : Type 0} (told : K → Option (List Row)) (faults : K → ℕ) (keeper : K) (left : Left K) : Type 0 where
+  pub valid : MatchOption (told keeper) (IsHistory left.opening) IsHistory
+  pub no_fault : faults left.keeper ≡ faults keeper
+  pub counting : faults keeper < 2 ^ 64 - 1
 
 -- The campaign of that site was played whole: all its boots were run, each script was played, as far as its
 -- boot didn't go off, and the text of its log was written whole.
@@ -63,7 +64,7 @@ abbrev pub RunCompletes : {K : Type 0} → (K → Option (List Row)) → (K → 
 RunCompletes {K = K} told doubted faults =
     (shelves now : List ShelfTold) (sheets : List PluginSheet) (vetoes : MachineFacts → List PluginVetoes) (status : Status) (keeper : K) (left : Left K) (old new before after : Option (List ℕ)) (site : Site)
     → RunEnds told doubted faults shelves now sheets vetoes status keeper left old new before after
-    → GivesSite (length shelves) old site → CanBeArranged sheets → HistoryHeld left
+    → GivesSite (length shelves) old site → CanBeArranged sheets → HistoryHeld told faults keeper left
     → RunDone told left.keeper (SiteWentWhole (files_for shelves) sheets vetoes site left (λ campaign. report campaign.facts left.opening left.log) before after) status
 
 -- All was done, or else memory was wanting, or the output failed.
@@ -73,10 +74,10 @@ MakeDone Complete statuses.NoMemory = Unit {0}
 MakeDone Complete statuses.SinkFault = Unit {0}
 MakeDone Complete _ = ⊥
 
--- `make` is complete: where the plugins can be arranged and the history held, the campaign of the generated
--- site was played whole and its summary was written, but for those causes.
+-- `make` is complete: where the plugins can be arranged, the campaign of the generated site was played whole
+-- and its summary was written, but for those causes. Its history is in its own memory, and holds.
 abbrev pub MakeCompletes : Type 0 → Type 0
 MakeCompletes K =
     (boards clients : ℕ) (sheets : List PluginSheet) (vetoes : MachineFacts → List PluginVetoes) (status : Status) (keeper : K) (left : Left K) (before after : Option (List ℕ))
-    → MakeEnds boards clients sheets vetoes status keeper left before after → CanBeArranged sheets → HistoryHeld left
+    → MakeEnds boards clients sheets vetoes status keeper left before after → CanBeArranged sheets
     → MakeDone (SiteWentWhole (files_for (own_shelves clients)) sheets vetoes (made_site boards clients) left (λ campaign. summary boards clients left.log) before after) status

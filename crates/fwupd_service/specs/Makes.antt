@@ -1,7 +1,7 @@
 -- What `make` comes to.
-use Rattle.std.specs.Prelude.{◌≡◌, ◌⊎◌, ℕ, List, [], ◌∷◌, replicate, Option, Some}
+use Rattle.std.specs.Prelude.{◌≡◌, ◌⊎◌, ℕ, false, List, [], ◌∷◌, replicate, Option, Some, None}
 use Rattle.fw_facts.specs.declared.machine.MachineFacts.{MachineFacts}
-use Rattle.history_keeper.specs.Memories.{Memory, doubtful, unused}
+use Rattle.history_keeper.specs.declared.row.Row.{Row}
 use Rattle.plugin_order.specs.declared.sheet.PluginSheet.{PluginSheet}
 use Rattle.plugin_order.specs.declared.arrangement.OrderFault.{OrderFault}
 use Rattle.plugin_order.specs.declared.arrangement.OrderFault.TheVariants as faults
@@ -16,6 +16,7 @@ use Rattle.campaign_inputs.specs.Settled.{IsCampaignOf}
 use Rattle.made_outputs.specs.Summed.{summary}
 use Rattle.run_status.specs.declared.status.Status.{Status}
 use Rattle.run_status.specs.declared.status.Status.TheVariants as statuses
+use Rattle.fwupd_service.specs.Telling.{any_fault}
 use Rattle.fwupd_service.specs.Tops.{CampaignTold, Left, NothingBegan}
 
 -- How a status tells that plugins can't be arranged.
@@ -37,13 +38,24 @@ own_shelf = record { files = Some own_files; faults = 0 }
 abbrev pub own_shelves : ℕ → List ShelfTold
 own_shelves clients = replicate clients own_shelf
 
--- The generated campaign was played over a keeper of its own, without rows, and shelves of its own, and its
--- output is the summary. `kept` is what is known of those shelves afterwards. The keeper that came is as it was.
+-- The status doesn't blame the history: no keeper was at fault, and no boot read a bad history.
+abbrev pub BlamesNoHistory : Status → Type 0
+BlamesNoHistory statuses.KeeperFault = ⊥
+BlamesNoHistory (statuses.BadHistory entry) = ⊥
+BlamesNoHistory _ = Unit {0}
+
+-- The generated campaign was played over a keeper of its own, which tells its rows, has none at first, is in
+-- no doubt and counts no fault, and over shelves of its own; its output is the summary. So there are no rows
+-- before the log, it tells no fault of a keeper, and the status blames no history. `own` is the rows of that
+-- keeper afterwards, and `kept` what is known of those shelves. The keeper that came is as it was.
 pub record MadeWent {K : Type 0} (boards clients : ℕ) (status : Status) (campaign : Campaign) (keeper : K) (left : Left K) (before after : Option (List ℕ)) : Type 0 where
-  pub own : Memory
+  pub own : List Row
   pub kept : List ShelfTold
   pub keeper_is : left.keeper ≡ keeper
-  pub told : CampaignTold (λ (m : Memory). Some m.rows) doubtful (λ (m : Memory). m.faults) (own_shelves clients) kept status campaign (unused [] [])
+  pub no_rows : left.opening ≡ []
+  pub no_fault : any_fault left.log ≡ false
+  pub no_blame : BlamesNoHistory status
+  pub told : CampaignTold (λ (rows : List Row). Some rows) (λ _. None) (λ _. 0) (own_shelves clients) kept status campaign []
       (record { log = left.log; opening = left.opening; boards = left.boards; keeper = own }) (summary boards clients left.log) before after
 
 abbrev pub MadeOrNothing : {K : Type 0} → ℕ → ℕ → Status → Campaign → K → Left K → Option (List ℕ) → Option (List ℕ) → Type 0

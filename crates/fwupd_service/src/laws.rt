@@ -10,8 +10,8 @@ pub fn run_completes<K: Keeper>()
     ensures { RunCompletes K.rows K.doubt K.faults }
 {}
 
-/// Where the plugins can be arranged and the history held, `make` plays the whole campaign of the generated
-/// site and writes its summary, but for want of memory or a fault of the output.
+/// Where the plugins can be arranged, `make` plays the whole campaign of the generated site and writes its
+/// summary, but for want of memory or a fault of the output.
 pub fn make_completes<K: Keeper>()
     ensures { MakeCompletes K }
 {}

@@ -10,6 +10,7 @@ mod keeping;
 pub mod laws;
 mod make;
 mod others;
+mod own_keeper;
 mod playing;
 pub mod ran;
 pub mod reporting;

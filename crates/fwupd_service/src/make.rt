@@ -7,12 +7,12 @@ ghost use Rattle.made_outputs.specs.Summed.{summary};
 ghost use Rattle.fwupd_service.specs.Ends.{IsLeft, IsReported};
 ghost use Rattle.fwupd_service.specs.Makes.{MadeOrNothing, MakeEnds, order_status, own_memory};
 
+use crate::own_keeper::OwnKeeper;
 use crate::playing::{Played, play};
 use crate::ran::Ran;
 use crate::reporting::{status_of, write_summed};
 use campaign_inputs::{Ready, make_campaign};
 use fw_base::NoMemory;
-use history_keeper::MemoryKeeper;
 use outer_traits::{Gate, MemoryShelf, Sink};
 use plugin_order::OrderFault;
 use plugin_trait::Plugin;
@@ -114,7 +114,7 @@ fn make_ready<R: Threads + Wait + Sync, P, K, T: Sink, G: Gate + Sync>(
         Ok(own) => own,
         Err(NoMemory) => return Ran::nothing(alloc, Status::NoMemory, shelves, keeper),
     };
-    let own_keeper = MemoryKeeper::new(Vec::new(alloc), Vec::new(alloc));
+    let own_keeper = OwnKeeper::new(alloc);
     let (outcome, _own) = play(rt, alloc, ready, own, own_keeper, gate);
     match outcome {
         Ok(played) => summed(alloc, boards, clients, played, shelves, keeper, out),
@@ -127,7 +127,7 @@ fn summed<P, K, T: Sink>(
     alloc: Global,
     boards: u32,
     clients: u32,
-    played: Played<MemoryKeeper>,
+    played: Played<OwnKeeper>,
     shelves: Vec<P>,
     keeper: K,
     out: &mut T,

@@ -1,5 +1,5 @@
 //! A campaign is played on a new house, by clients on threads.
-ghost use Rattle.std.specs.Prelude.{◌≡◌, ◌≤◌, ◌<◌, ◌-◌, ◌^◌, ℕ, [], None, Some, All, length, map, slice_get, IfOk, IfErr};
+ghost use Rattle.std.specs.Prelude.{◌≡◌, ◌≤◌, ◌<◌, ◌-◌, ◌^◌, ℕ, [], false, None, Some, All, length, map, slice_get, IfOk, IfErr};
 ghost use Rattle.emulated_boards.specs.Boards.{BoardState};
 ghost use Rattle.daemon_core.specs.House.{IsNewBoard, shown_by};
 ghost use Rattle.client_plays.specs.Endings.{IsScriptItem};
@@ -51,6 +51,8 @@ fn play_house<R: Threads + Wait + Sync, P: Shelf + Send, K: Keeper + Send, G: Ga
     scripts: &[Listed<Listed<Item>>],
 ) -> (Played<K>, Vec<P>)
     requires new { house.annals.core.log ≡ [] }
+    requires unread { house.annals.loaded ≡ false }
+    requires blank { house.annals.opening ≡ [] }
     requires serves { Serves (tools_of P.files P.faults (length plugins.items) shelves.items) house.annals.facts 0 }
     requires few { length plans.now < 2 ^ 32 - 1 }
     requires timely { All (λ plan. plan.time ≤ 2 ^ 63 - 1) plans.now }

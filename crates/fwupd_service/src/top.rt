@@ -5,7 +5,7 @@ ghost use Rattle.client_plays.specs.Tools.{ShelvesStay};
 ghost use Rattle.client_plays.specs.Has.{shelves_told};
 ghost use Rattle.site_making.specs.Settled.{vetoes_of};
 ghost use Rattle.command_words.specs.Commands.{command_of};
-ghost use Rattle.fwupd_service.specs.Commands.{CommandEnds, CommandFits, WordsEnd};
+ghost use Rattle.fwupd_service.specs.Commands.{CommandEnds, CommandFits, KeepsShelves, WordsEnd};
 
 use crate::make::make;
 use crate::others::{run_check, run_explain, run_ids};
@@ -58,8 +58,9 @@ pub fn run_campaign<
     ensures sink_fault { result.status ≡ Status.SinkFault → Rose (T.faults out.old) (T.faults out.new) }
     ensures source_counts { S.faults source.old ≤ S.faults source.new }
     ensures sink_counts { T.faults out.old ≤ T.faults out.new }
-    // The shelves come back, each with its files.
+    // The shelves come back, each with its files, and but for `run` they are those that came.
     ensures shelves { ShelvesStay (shelves_told P.files P.faults shelves.items) (shelves_told P.files P.faults result.shelves.items) }
+    ensures own_shelves { KeepsShelves (command_of (map (λ word. word.now) words.now)) shelves.items result.shelves.items }
 {
     match read_words(alloc, words) {
         Ok(command) => obey(
@@ -102,6 +103,7 @@ fn obey<
     ensures source_counts { S.faults source.old ≤ S.faults source.new }
     ensures sink_counts { T.faults out.old ≤ T.faults out.new }
     ensures shelves { ShelvesStay (shelves_told P.files P.faults shelves.items) (shelves_told P.files P.faults result.shelves.items) }
+    ensures own_shelves { KeepsShelves (Some command.now) shelves.items result.shelves.items }
 {
     match command {
         Command::Run => run(rt, alloc, source, shelves, keeper, plugins, gate, out),

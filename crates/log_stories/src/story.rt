@@ -70,8 +70,9 @@ impl Story {
         let opening = Vec::from_slice(alloc, &rows)?;
         let boards = boards_shown(alloc, raws)?;
         let mut state = CoreState::new(alloc, &facts)?;
-        state.reserve(1)?;
         state.set_rows(rows);
+        // This makes the index of the rows too, so that what is decided from here on goes by it.
+        state.reserve(1)?;
         boot(&facts, &mut state, boards, raws);
         Ok(Story {
             facts,

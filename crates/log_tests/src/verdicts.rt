@@ -463,6 +463,49 @@ fn room_over_holds_and_live_entries(rt: HostRuntime) -> Result<(), Fail> {
     Ok(())
 }
 
+/// What is decided of a request of client 1 for the board that is being updated. Its version is an older one, and a
+/// requirement doesn't hold for this client either.
+fn decided_busy(story: &Story, stage: Stage) -> Result<u32, Fail> {
+    let _named: Option<Selector> = None;
+    let request = request("t2", "usb1", "1.0.0")?;
+    Ok(decided(story, 1, &request, stage))
+}
+
+/// The release of that version.
+const OLDER: Stage = Stage::Claim {
+    release: ReleaseRef {
+        component: 0,
+        release: 2,
+    },
+};
+
+/// What is decided of it at an ask, at a claim, and where it is put off.
+fn decided_at_each_stage(story: &Story) -> Result<[u32; 3], Fail> {
+    let ask = decided_busy(story, Stage::Ask)?;
+    let claim = decided_busy(story, OLDER)?;
+    let schedule = decided_busy(story, Stage::Schedule)?;
+    Ok([ask, claim, schedule])
+}
+
+/// Whether it is refused for its version, and while client 2 has claimed the board, for that at each stage.
+fn busy_is_first(alloc: Global) -> Result<bool, Fail> {
+    let mut story = story_over(alloc, Level(14), 4, Vec::new(alloc))?;
+    if decided_at_each_stage(&story)? != [9, 9, 9] {
+        return Ok(false);
+    }
+    if hold(&mut story)? && story.claim(2, &FETCHED)? {
+        Ok(decided_at_each_stage(&story)? == [3, 3, 3])
+    } else {
+        Ok(false)
+    }
+}
+
+#[test]
+fn a_device_in_use_hinders_first(rt: HostRuntime) -> Result<(), Fail> {
+    assert!(rt; busy_is_first(rt.alloc())?);
+    Ok(())
+}
+
 /// A history that is full of rows of one device. All are settled but perhaps the last, which has that tag.
 fn full(alloc: Global, tag: &str, last: RowState) -> Result<Vec<Row>, Fail> {
     let mut rows = Vec::new(alloc);

@@ -53,7 +53,8 @@ impl Catalogue {
         }
     }
 
-    /// The same, with the fault's place in words of the document.
+    /// The same, with the fault as the readers of fields keep it: its spot in the value, from which the place is
+    /// told.
     pub fn read(alloc: Global, value: &Value) -> Result<Catalogue, ReadStop>
         ensures { Gives (λ catalogue. catalogue) result (components_at (view value.now)) }
     {

@@ -1,7 +1,8 @@
-//! The catalogue of components, and what is wrong with a document that should have one.
+//! The catalogue of components: read from a JSON value with the first fault and its place, and searched for
+//! the releases that fit a device.
 //!
-//! This part has the place of a release, and the places and reasons of faults in a document, which
-//! the reader of the whole document shares.
+//! The readers of single fields (`kinds`, `defaults`, `entries`) and the places and reasons of faults serve
+//! the reader of the whole document too.
 #![tactic(auto)]
 
 pub mod catalogue;

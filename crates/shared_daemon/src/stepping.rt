@@ -1,14 +1,15 @@
 //! The steps of a live entry, its finish, and what is given back.
-ghost use Rattle.std.specs.Prelude.{◌≡◌, [], List, ℕ, Some, true};
+ghost use Rattle.std.specs.Prelude.{◌≡◌, ◌≢◌, [], List, ℕ, IfOk, Some, true};
 ghost use Rattle.emulated_boards.specs.declared.mark.Mark.{Mark};
 ghost use Rattle.emulated_boards.specs.Conditions.{view_of};
 ghost use Rattle.history_keeper.specs.declared.row.RowState.{RowState};
 ghost use Rattle.update_log.specs.declared.event.Back.{Back};
 ghost use Rattle.update_log.specs.declared.event.Event.{Event};
+ghost use Rattle.update_log.specs.declared.event.Stored.{Stored};
 ghost use Rattle.update_log.specs.declared.live.LiveEntry.{LiveEntry};
 ghost use Rattle.update_log.specs.Legal.{StartAllowed};
 ghost use Rattle.update_log.specs.Pasts.{off};
-ghost use Rattle.daemon_core.specs.Finishes.{IsDone};
+ghost use Rattle.daemon_core.specs.Finishes.{AdvancesForFree, IsDone};
 ghost use Rattle.daemon_core.specs.Returns.{ComesHome, StepEnds, new_marks};
 ghost use Rattle.shared_daemon.specs.Calls.{Adds, FinishedIn, Took, WasSeen, WentIn};
 ghost use Rattle.shared_daemon.specs.Entries.{chronicle, past_seen};
@@ -57,7 +58,8 @@ impl<K: Keeper, N: Naming> Named<K, N> {
         payload: Payload,
     ) -> Result<Finished, FinishStop>
         requires { WasSeen N.name client (MayFinish N.name client entry board payload.count) (chronicle self.old) }
-        ensures { FinishedIn client entry board payload result (chronicle self.old) (chronicle self.new) }
+        ensures turn { FinishedIn client entry board payload result (chronicle self.old) (chronicle self.new) }
+        ensures memory { AdvancesForFree K.takes_none → IfOk result (λ finished. finished.stored ≢ Stored.NoMemory) }
     {
         self.house.known();
         self.house.finish(client, entry, board, payload)
@@ -111,7 +113,8 @@ impl<K: Keeper, N: Naming> Daemon<K, N> {
     }
 
     /// Finishes a live entry of the client that has no next step: its board comes home, and its blocks go
-    /// to the pool. It takes no memory but the keeper's.
+    /// to the pool. It takes no memory but the keeper's, and none where the keeper needs none to give a row
+    /// another state.
     pub fn finish<R: Wait>(
         &self,
         rt: &R,
@@ -125,6 +128,7 @@ impl<K: Keeper, N: Naming> Daemon<K, N> {
         ensures pass { IsPass self.now.id N.name pass.new }
         ensures same { pass.new.number ≡ pass.old.number }
         ensures turn { Took N.name (FinishedIn pass.old.number entry board payload result) pass.old pass.new }
+        ensures memory { AdvancesForFree K.takes_none → IfOk result (λ finished. finished.stored ≢ Stored.NoMemory) }
     {
         let mut turn = self.enter(rt, pass);
         let answer = turn.state().finish(pass.number(), entry, board, payload);

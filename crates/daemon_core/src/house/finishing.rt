@@ -1,5 +1,5 @@
 //! The finish of a live entry.
-ghost use Rattle.std.specs.Prelude.{◌≡◌, ◌≢◌, ◌≤◌, ◌<◌, ◌+◌, ◌-◌, ◌^◌, ◌∷◌, [], ℕ, true, None, Any, length};
+ghost use Rattle.std.specs.Prelude.{◌≡◌, ◌≢◌, ◌≤◌, ◌<◌, ◌+◌, ◌-◌, ◌^◌, ◌∷◌, [], ℕ, true, None, Any, IfOk, length};
 ghost use Rattle.std.specs.Option.{ForSome};
 ghost use Rattle.outer_traits.specs.Faults.{Rose};
 ghost use Rattle.history_keeper.specs.declared.change.Change.{Change};
@@ -11,7 +11,7 @@ ghost use Rattle.update_log.specs.Known.{reason_of};
 ghost use Rattle.update_log.specs.Legal.{closing_stored};
 ghost use Rattle.update_log.specs.Pasts.{boots, time_of};
 ghost use Rattle.daemon_core.specs.Housed.{past_in};
-ghost use Rattle.daemon_core.specs.Finishes.{ClosedAs, FinishedSo, IsDone};
+ghost use Rattle.daemon_core.specs.Finishes.{AdvancesForFree, ClosedAs, FinishedSo, IsDone};
 ghost use Rattle.daemon_core.specs.Returns.{ComesHome, number_of, places_with};
 
 use super::House;
@@ -32,7 +32,7 @@ impl<K: Keeper> House<K> {
 
     /// Finishes a live entry that has no next step: its row gets the state in which the entry ends, its
     /// board comes home, and its blocks go to the pool. Of want of memory the row stays begun. It takes no
-    /// memory but the keeper's.
+    /// memory but the keeper's, and none where the keeper needs none to give a row another state.
     pub fn finish(
         &mut self,
         client: u32,
@@ -44,6 +44,7 @@ impl<K: Keeper> House<K> {
         requires comes { (number : ℕ) × (l : LiveEntry) × ComesHome self.old.annals.facts self.old.annals.first (rows_before self.old.annals) (past self.old) client entry number l [] board payload.count }
         requires done { (closed : RowState) × IsDone self.old.annals.facts (rows_before self.old.annals) (past self.old) entry closed }
         ensures turn { FinishedSo client entry (number_of self.old.annals.facts (rows_before self.old.annals) (past self.old) entry) board payload result self.old self.new }
+        ensures memory { AdvancesForFree K.takes_none → IfOk result (λ finished. finished.stored ≢ Stored.NoMemory) }
         ensures faults { FaultsCounted K.faults self.old self.new }
         ensures counts { K.faults self.old.keeper ≤ K.faults self.new.keeper }
     {
@@ -63,6 +64,7 @@ impl<K: Keeper> House<K> {
         ensures appended { Appended client (Event.Finish client entry result.state result.stored) self.old.annals self.new.annals }
         ensures places { self.new.places ≡ places_with self.old.places (number_of self.old.annals.facts (rows_before self.old.annals) (past self.old) entry) board }
         ensures pool { self.new.pool.free ≡ self.old.pool.free + payload.count }
+        ensures memory { AdvancesForFree K.takes_none → result.stored ≢ Stored.NoMemory }
         ensures faults { FaultsCounted K.faults self.old self.new }
         ensures counts { K.faults self.old.keeper ≤ K.faults self.new.keeper }
     {
@@ -92,6 +94,7 @@ fn store<K: Keeper>(annals: &Annals, keeper: &mut K, entry: u32, closed: RowStat
     requires suits { ForSome (K.rows keeper.old) (λ all. Any (λ row. row.entry ≡ entry) all) }
     requires timely { time_of (past_in annals.now) ≤ 2 ^ 63 - 1 }
     ensures stored { ClosedAs K.rows K.doubt closed (Change.Advance entry closed (reason_of annals.now.core.rows entry) (time_of (past_in annals.now))) result keeper.old keeper.new }
+    ensures memory { AdvancesForFree K.takes_none → result ≢ Stored.NoMemory }
     ensures cause { result ≡ Stored.Fault → Rose (K.faults keeper.old) (K.faults keeper.new) }
     ensures counts { K.faults keeper.old ≤ K.faults keeper.new }
 {

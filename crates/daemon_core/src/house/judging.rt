@@ -1,21 +1,23 @@
 //! Judgements.
-ghost use Rattle.std.specs.Prelude.{◌≡◌, ◌≤◌, ◌<◌, ◌+◌, true, Some, IsSome};
+ghost use Rattle.std.specs.Prelude.{◌≡◌, ◌≤◌, ◌<◌, ◌+◌, true, false, Some, IsSome};
 ghost use Rattle.update_log.specs.declared.event.Event.{Event};
 ghost use Rattle.update_log.specs.Known.{row_of};
-ghost use Rattle.update_log.specs.Pasts.{boots};
+ghost use Rattle.update_log.specs.Pasts.{boots, off};
 
 use super::House;
 use super::keeping::commit;
 use crate::judged::{Judged, Standing};
 use crate::standing::{advance, standing_of};
 use crate::stop::Stop;
+use fw_base::NoMemory;
 use history_keeper::{Keeper, RowState};
 use update_log::{Event, Stored};
 use version_formats::Version;
 
 impl<K: Keeper> House<K> {
     ghost use Rattle.daemon_core.specs.declared.judged.Standing.{Standing};
-    ghost use Rattle.daemon_core.specs.Annals.{Runs};
+    ghost use Rattle.daemon_core.specs.Annals.{Runs, roomier};
+    ghost use Rattle.daemon_core.specs.House.{SameElsewhere};
     ghost use Rattle.daemon_core.specs.Housed.{past};
     ghost use Rattle.daemon_core.specs.Judging.{JudgeTurned, standing_of};
     ghost use Rattle.daemon_core.specs.Owed.{owed};
@@ -80,8 +82,37 @@ impl<K: Keeper> House<K> {
         Ok(Judged::Done { state, stored })
     }
 
+    // Makes room for one event more. With it the rows get their index back, which they lose where a boot
+    // takes them: else each row that is judged before a turn began would be sought among all.
+    fn reserve(&mut self) -> Result<(), NoMemory>
+        ensures same { self.new.annals ≡ roomier self.old.annals self.new.annals }
+        ensures elsewhere { SameElsewhere self.old self.new }
+    {
+        self.annals.reserve(1)
+    }
+
+    // Judges the row of an entry as it stands.
+    fn judge_standing(&mut self, client: u32, entry: u32) -> Result<Judged, Stop>
+        requires on { off (past self.old) ≡ false }
+        requires booted { 0 < boots (past self.old) }
+        requires row { IsSome (row_of self.old.annals.core.rows entry) }
+        ensures turn { JudgeTurned client entry result self.old.annals self.new.annals }
+        ensures places { self.new.places ≡ self.old.places }
+        ensures pool { self.new.pool ≡ self.old.pool }
+        ensures faults { FaultsCounted K.faults self.old self.new }
+        ensures counts { K.faults self.old.keeper ≤ K.faults self.new.keeper }
+    {
+        match standing_of(self.annals.core(), entry) {
+            Standing::Settled => Ok(Judged::Settled),
+            Standing::Waits => Ok(Judged::Waits),
+            Standing::Absent => Ok(Judged::Absent),
+            Standing::Judged { version, state } => self.judge_done(client, entry, version, state),
+        }
+    }
+
     /// Judges the row of an entry by the version that its device shows. The entry has a row. Only a
     /// judgement that is done is put behind the log: any other answer ends no boot whose limit is reached.
+    /// Room for it is made first, so that memory may be wanting whatever the row's state.
     pub fn judge(&mut self, client: u32, entry: u32) -> Result<Judged, Stop>
         requires booted { 0 < boots (past self.old) }
         requires row { IsSome (row_of self.old.annals.core.rows entry) }
@@ -94,11 +125,7 @@ impl<K: Keeper> House<K> {
         if self.is_off() {
             return Err(Stop::Off);
         }
-        match standing_of(self.annals.core(), entry) {
-            Standing::Settled => Ok(Judged::Settled),
-            Standing::Waits => Ok(Judged::Waits),
-            Standing::Absent => Ok(Judged::Absent),
-            Standing::Judged { version, state } => self.judge_done(client, entry, version, state),
-        }
+        self.reserve()?;
+        self.judge_standing(client, entry)
     }
 }

@@ -1,14 +1,29 @@
-use Rattle.std.proofs.Common.{Bool, length, sym, subst, refl}
+use Rattle.std.proofs.Common.{Bool, length, sym, subst, refl, ◌∙◌}
 use Rattle.client_plays.specs.Endings.{HouseBootPlayed}
 use Rattle.client_plays.specs.Has.{shelves_told}
 use Rattle.client_plays.specs.Shelves.{files_for}
 use Rattle.client_plays.proofs.ShelfLaws.{files-stay}
-use Rattle.client_plays.proofs.ToolLaws.{shelves-both}
-use Rattle.client_threads.proofs.Boots.{boot-played, no-clients_yet, still-booted, still-counted}
+use Rattle.client_plays.proofs.ToolLaws.{shelves-both, shelves-here}
+use Rattle.client_threads.proofs.Boots.{boot-off, boot-played, no-clients_yet, still-booted, still-counted}
+use Rattle.client_threads.proofs.Pasts.{on-unread}
 use Rattle.client_threads.proofs.Shelves.{enough-stay}
 use Rattle.daemon_core.specs.Housed.{past}
-use Rattle.client_plays.proofs.ShelfCounts.{shelves-count_both}
+use Rattle.client_plays.proofs.ShelfCounts.{shelves-count_both, shelves-count_here}
 use Rattle.client_threads.proofs.boot.play_boot.Goals as goal
+
+pub returns-then-is_off-clause-played : goal.returns-then-is_off-clause-played
+returns-then-is_off-clause-played g c =
+    boot-off g.K.Keeper.faults (files_for (shelves_told g.P.Shelf.files g.P.Shelf.faults c.args.shelves.now.items)) c.args.of_boot.now c.args.house c.requires.idle c.requires.fresh (sym c.is_off-is_off.ensures ∙ c.if-is_off.true)
+
+pub returns-then-is_off-clause-kept : goal.returns-then-is_off-clause-kept
+returns-then-is_off-clause-kept g c = shelves-here (shelves_told g.P.Shelf.files g.P.Shelf.faults c.args.shelves.now.items)
+
+pub returns-then-is_off-clause-told : goal.returns-then-is_off-clause-told
+returns-then-is_off-clause-told g c = shelves-count_here (past c.args.house) (shelves_told g.P.Shelf.files g.P.Shelf.faults c.args.shelves.now.items)
+
+pub returns-clause-unread : goal.returns-clause-unread
+returns-clause-unread g c = λ u.
+    absurd (on-unread c.args.house.annals.loaded (past c.args.house) c.known.ensures.annals.unloaded c.requires.booted (sym c.is_off-is_off.ensures ∙ c.if-is_off.false) u)
 
 pub play_clients-house-requires-clause-booted : goal.play_clients-house-requires-clause-booted
 play_clients-house-requires-clause-booted g c κs within =

@@ -7,3 +7,6 @@ pub returns-clause-more : goal.returns-clause-more
 returns-clause-more g c =
     boot-either g.K.Keeper.faults c.either.result c.args.wanting c.play_boot-played.result.1 (files_for (shelves_told g.P.Shelf.files g.P.Shelf.faults c.args.shelves.now.items)) c.args.of_boot.now
     c.args.house c.play_boot-played.result.0 c.either.ensures c.play_boot-played.ensures.played
+
+pub returns-clause-unread : goal.returns-clause-unread
+returns-clause-unread g c = c.play_boot-played.ensures.unread

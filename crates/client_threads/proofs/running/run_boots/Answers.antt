@@ -44,14 +44,14 @@ play_next-played-requires-clause-serves g c κs within =
 
 pub loop-number-init : goal.loop-number-init
 loop-number-init g c = record {
-  ran = run-none g.K.Keeper.faults false (files_for (shelves_told g.P.Shelf.files g.P.Shelf.faults c.args.shelves.now.items)) c.args.plans.now c.args.scripts.now c.args.house (ap past_of c.requires.new);
+  ran = run-none g.K.Keeper.rows g.K.Keeper.faults false (files_for (shelves_told g.P.Shelf.files g.P.Shelf.faults c.args.shelves.now.items)) c.args.plans.now c.args.scripts.now c.args.house (ap past_of c.requires.new) c.requires.unread c.requires.blank;
   kept = shelves-here (shelves_told g.P.Shelf.files g.P.Shelf.faults c.args.shelves.now.items);
   told = shelves-count_here (past c.args.house) (shelves_told g.P.Shelf.files g.P.Shelf.faults c.args.shelves.now.items);
 }
 
 pub loop-number-preserved : goal.loop-number-preserved
 loop-number-preserved g c = record {
-  ran = run-more g.K.Keeper.faults c.loop-number.wanting c.play_next-played.result.1 (files_for (shelves_told g.P.Shelf.files g.P.Shelf.faults c.args.shelves.now.items)) c.args.plans.now c.args.scripts.now c.loop-number.number
+  ran = run-more g.K.Keeper.rows g.K.Keeper.faults c.loop-number.wanting c.play_next-played.result.1 (files_for (shelves_told g.P.Shelf.files g.P.Shelf.faults c.args.shelves.now.items)) c.args.plans.now c.args.scripts.now c.loop-number.number
       c.index-plans-number.result c.args.house c.loop-number.house c.start_boot.new.house c.play_next-played.result.0
       (plan-at c.args.plans.now c.loop-number.number c.index-plans-number.result c.index-plans-number.is c.loop-number-test.true)
       c.loop-number.invariant.ran c.in-None.ensures
@@ -59,16 +59,17 @@ loop-number-preserved g c = record {
       c.scripts_of-of_boot.ensures
       (same-files g.K.Keeper.faults c.play_next-played.result.1 c.loop-number.wanting (files_for (shelves_told g.P.Shelf.files g.P.Shelf.faults c.loop-number.shelves.items)) (files_for (shelves_told g.P.Shelf.files g.P.Shelf.faults c.args.shelves.now.items)) c.scripts_of-of_boot.result.now
       c.start_boot.new.house c.play_next-played.result.0
-      (files-stay (shelves_told g.P.Shelf.files g.P.Shelf.faults c.args.shelves.now.items) (shelves_told g.P.Shelf.files g.P.Shelf.faults c.loop-number.shelves.items) c.loop-number.invariant.kept) c.play_next-played.ensures.more));
+      (files-stay (shelves_told g.P.Shelf.files g.P.Shelf.faults c.args.shelves.now.items) (shelves_told g.P.Shelf.files g.P.Shelf.faults c.loop-number.shelves.items) c.loop-number.invariant.kept) c.play_next-played.ensures.more))
+      c.play_next-played.ensures.unread;
   kept = shelves-both (shelves_told g.P.Shelf.files g.P.Shelf.faults c.args.shelves.now.items) (shelves_told g.P.Shelf.files g.P.Shelf.faults c.loop-number.shelves.items) (shelves_told g.P.Shelf.files g.P.Shelf.faults c.play_next-played.new.shelves.items)
       c.loop-number.invariant.kept c.play_next-played.ensures.kept;
-  told = boot-counted g.K.Keeper.faults c.index-plans-number.result c.args.house c.loop-number.house c.start_boot.new.house c.play_next-played.result.0
+  told = boot-counted g.K.Keeper.rows g.K.Keeper.faults c.index-plans-number.result c.args.house c.loop-number.house c.start_boot.new.house c.play_next-played.result.0
       (shelves_told g.P.Shelf.files g.P.Shelf.faults c.args.shelves.now.items) (shelves_told g.P.Shelf.files g.P.Shelf.faults c.loop-number.shelves.items) (shelves_told g.P.Shelf.files g.P.Shelf.faults c.play_next-played.new.shelves.items)
       c.loop-number.invariant.kept c.play_next-played.ensures.kept c.in-None.ensures c.loop-number.invariant.told c.play_next-played.ensures.told;
 }
 
 pub returns-in-Some-clause-told : goal.returns-in-Some-clause-told
 returns-in-Some-clause-told g c =
-    stop-counted g.K.Keeper.faults c.args.house c.loop-number.house c.start_boot.new.house
+    stop-counted g.K.Keeper.rows g.K.Keeper.faults c.args.house c.loop-number.house c.start_boot.new.house
     (shelves_told g.P.Shelf.files g.P.Shelf.faults c.args.shelves.now.items) (shelves_told g.P.Shelf.files g.P.Shelf.faults c.loop-number.shelves.items)
     c.loop-number.invariant.kept c.in-Some.ensures.0 c.loop-number.invariant.told

@@ -8,7 +8,7 @@ use Rattle.client_threads.proofs.running.run_boots.Given as goal
 
 abbrev pub invariant-loop-number : goal.invariant-loop-number
 invariant-loop-number g l = record {
-  ran : RanSoFar g.K.Keeper.faults l.wanting (files_for (shelves_told g.P.Shelf.files g.P.Shelf.faults l.fn.shelves.items)) l.plans l.scripts l.number l.fn.house l.house;
+  ran : RanSoFar g.K.Keeper.rows g.K.Keeper.faults l.wanting (files_for (shelves_told g.P.Shelf.files g.P.Shelf.faults l.fn.shelves.items)) l.plans l.scripts l.number l.fn.house l.house;
   kept : ShelvesStay (shelves_told g.P.Shelf.files g.P.Shelf.faults l.fn.shelves.items) (shelves_told g.P.Shelf.files g.P.Shelf.faults l.shelves.items);
   told : ShelvesCount (past l.fn.house) (past l.house) (shelves_told g.P.Shelf.files g.P.Shelf.faults l.fn.shelves.items) (shelves_told g.P.Shelf.files g.P.Shelf.faults l.shelves.items);
 }

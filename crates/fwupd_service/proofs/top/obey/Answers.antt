@@ -1,5 +1,5 @@
-use Rattle.std.proofs.Common.{refl}
-use Rattle.fwupd_service.proofs.TopLaws.{stay-same}
+use Rattle.std.proofs.Common.{Some, refl}
+use Rattle.fwupd_service.proofs.TopLaws.{keeps-same, stay-same}
 use Rattle.fwupd_service.proofs.top.obey.Goals as goal
 
 pub returns-in-Make-clause-shelves : goal.returns-in-Make-clause-shelves
@@ -19,3 +19,18 @@ returns-in-Make-clause-ends g c = rw c.in-Make.is (refl, c.make.ensures.ends)
 
 pub returns-in-Explain-clause-ends : goal.returns-in-Explain-clause-ends
 returns-in-Explain-clause-ends g c = rw c.in-Explain.is c.run_explain.ensures.ends
+
+pub returns-in-Make-clause-own_shelves : goal.returns-in-Make-clause-own_shelves
+returns-in-Make-clause-own_shelves g c = keeps-same (Some c.args.command.now) _ _ c.make.ensures.shelves
+
+pub returns-in-Check-clause-own_shelves : goal.returns-in-Check-clause-own_shelves
+returns-in-Check-clause-own_shelves g c = keeps-same (Some c.args.command.now) _ _ c.run_check.ensures.shelves
+
+pub returns-in-Explain-clause-own_shelves : goal.returns-in-Explain-clause-own_shelves
+returns-in-Explain-clause-own_shelves g c = keeps-same (Some c.args.command.now) _ _ c.run_explain.ensures.shelves
+
+pub returns-in-Ids-clause-own_shelves : goal.returns-in-Ids-clause-own_shelves
+returns-in-Ids-clause-own_shelves g c = keeps-same (Some c.args.command.now) _ _ c.run_ids.ensures.shelves
+
+pub returns-in-Run-clause-own_shelves : goal.returns-in-Run-clause-own_shelves
+returns-in-Run-clause-own_shelves g c = rw c.in-Run.is tt

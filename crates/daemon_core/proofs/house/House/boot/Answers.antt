@@ -9,7 +9,7 @@ use Rattle.daemon_core.proofs.house.House.boot.Goals as goal
 
 pub returns-in_default : goal.returns-in_default
 returns-in_default g c =
-    let t = turn-no_room g.K.Keeper.faults c.args.self.now c.make_room.new.self c.make_room.ensures.same c.make_room.ensures.elsewhere in
+    let t = turn-no_room g.K.Keeper.rows g.K.Keeper.faults c.args.self.now c.make_room.new.self c.make_room.ensures.same c.make_room.ensures.elsewhere in
     record { turn = t.0; faults = t.1; counts = t.2 }
 
 pub read-requires : goal.read-requires

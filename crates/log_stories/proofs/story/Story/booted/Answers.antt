@@ -14,10 +14,11 @@ boot-requires c =
       each = c.requires.each;
       shown = c.in_ok-boards.ensures;
       stands =
-          subst (λ (rs : List Row). Stands c.args.facts rs c.set_rows.new.self) (sym (ap (λ (k : Core). k.rows) same))
-          (c.set_rows.ensures.stands c.args.facts [] (stands-reserved c.args.facts [] c.in_ok-state.state c.reserve.new.self reserved c.in_ok-state.ensures.stands));
-      empty = ap (λ (k : Core). k.log) same ∙ ap (λ (k : Core). k.log) reserved ∙ c.in_ok-state.ensures.empty;
-      room = let r = c.in_ok-reserve.ensures.room in let e = ap (λ (k : Core). k.room) same in omega (arith, r, e);
+          let rows_are = ap (λ (k : Core). k.rows) reserved ∙ ap (λ (k : Core). k.rows) same in
+          subst (λ (rs : List Row). Stands c.args.facts rs c.reserve.new.self) (sym rows_are)
+          (stands-reserved c.args.facts c.args.rows.items c.set_rows.new.self c.reserve.new.self reserved (c.set_rows.ensures.stands c.args.facts [] c.in_ok-state.ensures.stands));
+      empty = ap (λ (k : Core). k.log) reserved ∙ ap (λ (k : Core). k.log) same ∙ c.in_ok-state.ensures.empty;
+      room = let r = c.in_ok-reserve.ensures.room in r;
     }
 
 pub invariant_of-result : goal.invariant_of-result
@@ -25,7 +26,8 @@ invariant_of-result c =
     let copied = c.in_ok-opening.ensures.items in
     let read = c.deref.ensures.value in
     let put = ap (λ (k : Core). k.rows) c.set_rows.ensures.same in
-    let same : c.set_rows.new.self.rows ≡ c.in_ok-opening.opening.items = cc in
+    let kept = ap (λ (k : Core). k.rows) c.in_ok-reserve.ensures.same in
+    let same : c.reserve.new.self.rows ≡ c.in_ok-opening.opening.items = cc in
     record {
       runs = subst (λ (rs : List Row). RunsOn c.args.facts rs (past_of c.boot.new.state.log)) same c.boot.ensures.runs;
       stands = subst (λ (rs : List Row). Stands c.args.facts rs c.boot.new.state) same c.boot.ensures.stands;

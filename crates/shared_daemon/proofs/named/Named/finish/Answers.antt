@@ -25,5 +25,5 @@ finish-requires-clause-done g c = done-met g.K.Keeper.faults g.N.Naming.name c.a
 pub invariant_of-self : goal.invariant_of-self
 invariant_of-self g c = keeps-counted g.K.Keeper.faults g.N.Naming.name c.args.client c.self.inside.house c.finish.new.self c.self.invariant (finished-grew c.args.client c.args.entry (number_of c.self.inside.house.annals.facts (rows_before c.self.inside.house.annals) (past c.self.inside.house) c.args.entry) c.args.board c.args.payload c.finish.result c.self.inside.house c.finish.new.self c.finish.ensures.turn) c.finish.ensures.faults c.finish.ensures.counts (finish-plans g.N.Naming.name.plans c.args.client c.args.entry (number_of c.self.inside.house.annals.facts (rows_before c.self.inside.house.annals) (past c.self.inside.house) c.args.entry) c.args.board c.args.payload c.finish.result c.self.inside.house c.finish.new.self c.finish.ensures.turn (finish-planned g.K.Keeper.faults g.N.Naming.name c.args.client c.self.inside.house c.args.entry c.args.board c.args.payload.count c.self.invariant c.known.ensures.annals (subst (λ (h : Housed g.row.K.Denot). WasSeen g.N.Naming.name c.args.client (MayFinish g.N.Naming.name c.args.client c.args.entry c.args.board c.args.payload.count) (chronicle h)) (sym c.self.view_is) c.requires)) c.self.invariant.planned)
 
-pub returns : goal.returns
-returns g c = subst (λ (h : Housed g.row.K.Denot). FinishedIn c.args.client c.args.entry c.args.board c.args.payload c.finish.result (chronicle h) (chronicle c.finish.new.self)) c.self.view_is (finished-in c.args.client c.args.entry (number_of c.self.inside.house.annals.facts (rows_before c.self.inside.house.annals) (past c.self.inside.house) c.args.entry) c.args.board c.args.payload c.finish.result c.self.inside.house c.finish.new.self c.known.ensures.annals c.finish.ensures.turn)
+pub returns-clause-turn : goal.returns-clause-turn
+returns-clause-turn g c = subst (λ (h : Housed g.row.K.Denot). FinishedIn c.args.client c.args.entry c.args.board c.args.payload c.finish.result (chronicle h) (chronicle c.finish.new.self)) c.self.view_is (finished-in c.args.client c.args.entry (number_of c.self.inside.house.annals.facts (rows_before c.self.inside.house.annals) (past c.self.inside.house) c.args.entry) c.args.board c.args.payload c.finish.result c.self.inside.house c.finish.new.self c.known.ensures.annals c.finish.ensures.turn)

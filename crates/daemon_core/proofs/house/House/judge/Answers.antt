@@ -1,0 +1,14 @@
+use Rattle.std.proofs.Common.{sym, ◌∙◌}
+use Rattle.daemon_core.proofs.JudgeRoom.{judged-after, off-same, row-there}
+use Rattle.daemon_core.proofs.house.House.judge.Goals as goal
+
+pub judge_standing-requires-clause-on : goal.judge_standing-requires-clause-on
+judge_standing-requires-clause-on g c = off-same c.args.self.now.annals c.reserve.new.self.annals c.reserve.ensures.same ∙ sym c.is_off.ensures ∙ c.if-is_off.false
+
+pub judge_standing-requires-clause-row : goal.judge_standing-requires-clause-row
+judge_standing-requires-clause-row g c = row-there c.args.self.now.annals c.reserve.new.self.annals c.reserve.ensures.same c.args.entry c.requires.row
+
+pub returns-clause-turn : goal.returns-clause-turn
+returns-clause-turn g c =
+    judged-after c.args.self.now.annals c.reserve.new.self.annals c.reserve.ensures.same c.args.client c.args.entry c.judge_standing.result
+    c.judge_standing.new.self.annals c.judge_standing.ensures.turn

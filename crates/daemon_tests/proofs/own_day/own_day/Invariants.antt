@@ -1,0 +1,5 @@
+use Rattle.daemon_tests.specs.Begins.{name_of}
+use Rattle.daemon_tests.proofs.own_day.own_day.Given as goal
+
+abbrev pub ghosts-day : goal.ghosts-day
+ghosts-day g a = record { name = name_of g.K.Keeper.faults a.house }

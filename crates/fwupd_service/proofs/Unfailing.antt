@@ -1,0 +1,72 @@
+-- That the campaign of `make` meets no fault of a keeper: its own counts none, and begins without rows.
+use Rattle.std.proofs.Common.{◌≡◌, ℕ, ◌<◌, true, false, List, [], length, map, Option, Some, None, refl, sym, ap, ◌∙◌, inl, inr, arith, lit<}
+use Rattle.std.specs.Prelude.{◌-◌, ◌^◌}
+use Rattle.history_keeper.specs.declared.row.Row.{Row}
+use Rattle.update_log.specs.declared.event.Event.{Event}
+use Rattle.update_log.specs.Pasts.{past_of}
+use Rattle.update_log.specs.Shows.{Campaign}
+use Rattle.daemon_core.specs.Boots.{BreaksAt}
+use Rattle.daemon_core.specs.House.{shown_by}
+use Rattle.daemon_core.specs.Keeping.{keeper_faults}
+use Rattle.client_scripts.specs.declared.item.Item.{Item}
+use Rattle.client_plays.specs.Shelves.{files_for}
+use Rattle.client_plays.specs.Tools.{Files, ShelfTold}
+use Rattle.campaign_runs.specs.Planned.{with_plans}
+use Rattle.site_types.specs.declared.campaign.Campaign as sites
+use Rattle.made_outputs.specs.Summed.{summary}
+use Rattle.run_status.specs.declared.status.Status.{Status}
+use Rattle.run_status.specs.declared.status.Status.TheVariants as statuses
+use Rattle.fwupd_service.specs.Campaigns.{IsBadHistory, IsOpening}
+use Rattle.fwupd_service.specs.Ends.{CampaignEnds}
+use Rattle.fwupd_service.specs.Makes.{BlamesNoHistory, MadeWent, own_shelves}
+use Rattle.fwupd_service.specs.Telling.{any_fault}
+use Rattle.fwupd_service.specs.Tops.{CampaignTold, Left}
+use Rattle.fwupd_service.proofs.FaultsTold.{counted-none, no-fault-told}
+
+-- ---- its own keeper begins without rows, so there are none before the log
+
+none-opened : (opening : List Row) (log : List Event) → IsOpening (Some []) opening log → opening ≡ []
+none-opened opening log (inl e) = e
+none-opened opening log (inr (e, none)) = e
+
+-- No row breaks no rule.
+none-breaks : (entry : ℕ) (opening : List Row) → opening ≡ [] → BreaksAt entry opening → ⊥
+none-breaks entry opening e b =
+    let none : length opening ≡ 0 = ap length e in
+    let within : b.at < length opening = b.faulty.within in
+    omega (arith, none, within)
+
+-- ---- so its status blames no history
+
+-- Over a keeper that tells its rows, with no rows before the log, no boot read a bad history.
+none-bad : {K : Type 0} (told : K → Option (List Row)) (keeper : K) (all : List Row) (entry : ℕ) (c : Campaign) (opening : List Row) (log : List Event) → told keeper ≡ Some all → opening ≡ [] → IsBadHistory told entry c.facts opening log keeper → ⊥
+none-bad told keeper all entry c opening log t o (inl (faults, b)) = none-breaks entry opening o b
+none-bad told keeper all entry c opening log t o (inr (valid, silent, others)) = cc
+
+no-blame : {K : Type 0} (told : K → Option (List Row)) (keeper : K) (all : List Row) (files : ℕ → Files) (status : Status) (c : Campaign) (opening : List Row) (scripts : List (List (List Item))) (log : List Event) (text : List ℕ) (before after : Option (List ℕ))
+    → told keeper ≡ Some all → opening ≡ [] → any_fault log ≡ false → CampaignEnds told files status c opening scripts log keeper text before after → BlamesNoHistory status
+no-blame told keeper all files statuses.KeeperFault c opening scripts log text before after t o f e = let bad : true ≡ false = sym e.0 ∙ f in cc
+no-blame told keeper all files (statuses.BadHistory entry) c opening scripts log text before after t o f e = none-bad told keeper all entry c opening log t o e.bad
+no-blame told keeper all files _ c opening scripts log text before after t o f e = tt
+
+-- ---- the generated campaign
+
+pub made-went : {K : Type 0} (boards clients : ℕ) (status : Status) (campaign : sites.Campaign) (keeper : K) (left : Left K) (own : List Row) (kept : List ShelfTold) (before after : Option (List ℕ)) → left.keeper ≡ keeper
+    → CampaignTold (λ (rows : List Row). Some rows) (λ _. None) (λ _. 0) (own_shelves clients) kept status campaign []
+    (record { log = left.log; opening = left.opening; boards = left.boards; keeper = own }) (summary boards clients left.log) before after
+    → MadeWent boards clients status campaign keeper left before after
+made-went boards clients status campaign keeper left own kept before after k told =
+    let c = with_plans campaign.facts (map shown_by campaign.boards.items) campaign.boots in
+    let stands = told.keeper_stands in
+    let no_rows : left.opening ≡ [] = none-opened left.opening left.log stands.opening_is in
+    let no_fault : any_fault left.log ≡ false = no-fault-told c left.opening left.log told.true_log.legal (counted-none (2 ^ 64 - 1) (keeper_faults (past_of left.log)) 0 0 stands.counted refl (lit< tt)) in
+    record {
+      own = own;
+      kept = kept;
+      keeper_is = k;
+      no_rows = no_rows;
+      no_fault = no_fault;
+      no_blame =
+          no-blame (λ (rows : List Row). Some rows) own own (files_for (own_shelves clients)) status c left.opening campaign.scripts left.log (summary boards clients left.log) before after refl no_rows no_fault told.ends;
+      told = told;
+    }
