@@ -1,5 +1,5 @@
--- A row that is read from the columns of a row is that row.
-use Rattle.std.proofs.Common.{◌≡◌, ◌⊎◌, inl, inr, ℕ, ◌^◌, pos, Bool, true, false, nat_lt, ◌==◌, if◌then◌else◌, List, [], ◌∷◌, map, length, position, Option, Some, None, Result, Ok, Err, refl, ap}
+-- A row that is read from the columns of a row is that row. One is read, where its texts are names and versions.
+use Rattle.std.proofs.Common.{◌≡◌, ◌⊎◌, inl, inr, ℕ, ◌<◌, ◌^◌, pos, Bool, true, false, nat_lt, ◌==◌, if◌then◌else◌, List, [], ◌∷◌, map, length, position, Option, Some, None, Result, Ok, Err, refl, ap, arith}
 use Rattle.std.specs.Result.{result_ok}
 use Rattle.fw_base.specs.Names.{name_read, name_unless, is_no_name_byte}
 use Rattle.version_formats.specs.Versions.{version_read, version_unless, is_no_version_byte}
@@ -7,7 +7,7 @@ use Rattle.sqlite.specs.declared.types.Value.TheVariants.{Int, Text, Blob}
 use Rattle.history_keeper.specs.declared.row.Row.{Row}
 use Rattle.history_keeper.specs.declared.row.RowState.{RowState}
 use Rattle.history_keeper.specs.declared.row.RowState.TheVariants.{Pending, Success, Failed, NeedsReboot, Begun}
-use Rattle.history_sqlite.specs.Columns.{◌>>=◌, columns_of, row_read, number_in, bytes_in, name_in, version_in, state_in, state_number}
+use Rattle.history_sqlite.specs.Columns.{◌>>=◌, columns_of, row_read, HasTexts, number_in, bytes_in, name_in, version_in, state_in, state_number}
 
 step : {A B : Type 0} (o : Option A) (a : A) (f : A → Option B) (b : B) → (o ≡ None) ⊎ (o ≡ Some a) → (o >>= f) ≡ Some b → f a ≡ Some b
 step o a f b (inl none) h = absurd (let e = rw none at h in cc)
@@ -49,12 +49,12 @@ name_same t x h = unless_name (position is_no_name_byte t) t x (tested (nat_lt 6
 version_same : (t x : List ℕ) → version_in (Text t) ≡ Some x → x ≡ t
 version_same t x h = unless_version (position is_no_version_byte t) t x (tested (nat_lt 64 (length t)) _ _ x (tested (length t == 0) _ _ x (ok_same (version_read t) x h)))
 
-state_same : (s x : RowState) → state_in (Int (pos (state_number s))) ≡ Some x → x ≡ s
-state_same Pending x h = cc
-state_same Success x h = cc
-state_same Failed x h = cc
-state_same NeedsReboot x h = cc
-state_same Begun x h = cc
+state_given : (s : RowState) → state_in (Int (pos (state_number s))) ≡ Some s
+state_given Pending = refl
+state_given Success = refl
+state_given Failed = refl
+state_given NeedsReboot = refl
+state_given Begun = refl
 
 some_same : {A : Type 0} (a b : A) → Some a ≡ Some b → b ≡ a
 some_same a b h = cc
@@ -70,7 +70,7 @@ read_back row r h0 =
     let h7 = step (version_in (Text row.version_new)) row.version_new _ r (none_or (version_in (Text row.version_new)) row.version_new (version_same row.version_new)) h6 in
     let h8 = step (bytes_in 32 (Blob row.digest)) row.digest _ r (none_or (bytes_in 32 (Blob row.digest)) row.digest (bytes_same 32 row.digest)) h7 in
     let h9 = step (number_in (2 ^ 8) (Int (pos row.flags))) row.flags _ r (none_or (number_in (2 ^ 8) (Int (pos row.flags))) row.flags (number_same (2 ^ 8) row.flags)) h8 in
-    let h10 = step (state_in (Int (pos (state_number row.state)))) row.state _ r (none_or (state_in (Int (pos (state_number row.state)))) row.state (state_same row.state)) h9 in
+    let h10 = step (state_in (Int (pos (state_number row.state)))) row.state _ r (inr (state_given row.state)) h9 in
     let h11 = step (number_in (2 ^ 8) (Int (pos row.reason))) row.reason _ r (none_or (number_in (2 ^ 8) (Int (pos row.reason))) row.reason (number_same (2 ^ 8) row.reason)) h10 in
     let h12 = step (number_in (2 ^ 64) (Int (pos row.time_added))) row.time_added _ r (none_or (number_in (2 ^ 64) (Int (pos row.time_added))) row.time_added (number_same (2 ^ 64) row.time_added)) h11 in
     let h13 = step (number_in (2 ^ 64) (Int (pos row.time_changed))) row.time_changed _ r (none_or (number_in (2 ^ 64) (Int (pos row.time_changed))) row.time_changed (number_same (2 ^ 64) row.time_changed)) h12 in
@@ -86,3 +86,45 @@ all_back (row ∷ rows) (r ∷ read) h =
     let a = read_back row r first in
     let b = all_back rows read rest in
     rw (a, b)
+
+next : {A B : Type 0} (o : Option A) (a : A) (f : A → Option B) (b : Option B) → o ≡ Some a → f a ≡ b → (o >>= f) ≡ b
+next o a f b some then_b = rw some then_b
+
+number_given : (end n : ℕ) → n < end → number_in end (Int (pos n)) ≡ Some n
+number_given end n below = grind arith
+
+bytes_given : (size : ℕ) (b : List ℕ) → length b ≡ size → bytes_in size (Blob b) ≡ Some b
+bytes_given size b sized = grind arith
+
+name_given : (t : List ℕ) → name_read t ≡ Ok t → name_in (Text t) ≡ Some t
+name_given t read = ap result_ok read
+
+version_given : (t : List ℕ) → version_read t ≡ Ok t → version_in (Text t) ≡ Some t
+version_given t read = ap result_ok read
+
+-- The numbers are in the ranges of their types, and the bytes are as many as theirs have.
+pub record HasRanges (row : Row) : Type 0 where
+  pub entry : row.entry < 2 ^ 32
+  pub client : row.client < 2 ^ 32
+  pub device : length row.device ≡ 20
+  pub digest : length row.digest ≡ 32
+  pub flags : row.flags < 2 ^ 8
+  pub reason : row.reason < 2 ^ 8
+  pub time_added : row.time_added < 2 ^ 64
+  pub time_changed : row.time_changed < 2 ^ 64
+
+pub is_read_back : (row : Row) → HasRanges row → HasTexts row → row_read (columns_of row) ≡ Some row
+is_read_back row ranges texts =
+    next _ row.entry _ _ (number_given (2 ^ 32) row.entry ranges.entry)
+    (next _ row.tag _ _ (name_given row.tag texts.tag)
+    (next _ row.client _ _ (number_given (2 ^ 32) row.client ranges.client)
+    (next _ row.device _ _ (bytes_given 20 row.device ranges.device)
+    (next _ row.component _ _ (name_given row.component texts.component)
+    (next _ row.version_old _ _ (version_given row.version_old texts.version_old)
+    (next _ row.version_new _ _ (version_given row.version_new texts.version_new)
+    (next _ row.digest _ _ (bytes_given 32 row.digest ranges.digest)
+    (next _ row.flags _ _ (number_given (2 ^ 8) row.flags ranges.flags)
+    (next _ row.state _ _ (state_given row.state)
+    (next _ row.reason _ _ (number_given (2 ^ 8) row.reason ranges.reason)
+    (next _ row.time_added _ _ (number_given (2 ^ 64) row.time_added ranges.time_added)
+    (next _ row.time_changed _ _ (number_given (2 ^ 64) row.time_changed ranges.time_changed) refl))))))))))))

@@ -1,5 +1,5 @@
 -- A row as the columns of the table, and back.
-use Rattle.std.specs.Prelude.{ℕ, pos, nat_lt, ◌==◌, ◌^◌, if◌then◌else◌, List, [], ◌∷◌, length, Option, Some, None}
+use Rattle.std.specs.Prelude.{◌≡◌, ℕ, pos, nat_lt, ◌==◌, ◌^◌, if◌then◌else◌, List, [], ◌∷◌, length, Option, Some, None, Ok}
 use Rattle.std.specs.Result.{result_ok}
 use Rattle.fw_base.specs.Names.{name_read}
 use Rattle.version_formats.specs.Versions.{version_read}
@@ -91,3 +91,10 @@ row_read columns = do
   time_added ← number_in (2 ^ 64) (column columns 11)
   time_changed ← number_in (2 ^ 64) (column columns 12)
   Some (record { entry = entry; tag = tag; client = client; device = device; component = component; version_old = version_old; version_new = version_new; digest = digest; flags = flags; state = state; reason = reason; time_added = time_added; time_changed = time_changed })
+
+-- A row's tag and component are names, and its versions are versions: each reader gives back what it reads.
+pub record HasTexts (row : Row) : Type 0 where
+  pub tag : name_read row.tag ≡ Ok row.tag
+  pub component : name_read row.component ≡ Ok row.component
+  pub version_old : version_read row.version_old ≡ Ok row.version_old
+  pub version_new : version_read row.version_new ≡ Ok row.version_new

@@ -7,6 +7,7 @@
 pub mod columns;
 pub mod file_keeper;
 pub mod lasting;
+pub mod laws;
 pub mod refusal;
 pub mod sql_keeper;
 pub mod statements;
