@@ -1,7 +1,8 @@
 -- One boot more.
-use Rattle.std.proofs.Common.{◌≡◌, ℕ, ◌<◌, ◌≤◌, ◌+◌, Bool, true, false, ◌||◌, List, [], ◌∷◌, length, get_or, refl, ap, sym, ◌∙◌, subst, inl, inr, arith, add-one}
+use Rattle.std.proofs.Common.{◌≡◌, ℕ, ◌<◌, ◌≤◌, ◌+◌, Bool, true, false, ◌||◌, List, [], ◌∷◌, ◌++◌, length, get_or, refl, ap, sym, ◌∙◌, subst, inl, inr, arith, add-one}
 use Rattle.std.proofs.lemmas.List.Elements.{All-get_or}
 use Rattle.std.proofs.lemmas.Option.{slice_get_cases, slice_get-get_or}
+use Rattle.std.specs.List.{list_any}
 use Rattle.std.specs.Prelude.{All, Option, Some, slice_get, unwrap_or}
 use Rattle.history_keeper.specs.declared.row.Row.{Row}
 use Rattle.update_log.specs.declared.event.Event.{Event}
@@ -9,10 +10,10 @@ use Rattle.update_log.specs.declared.facts.BootPlan.{BootPlan}
 use Rattle.update_log.specs.declared.facts.Facts.{Facts}
 use Rattle.update_log.specs.Pasts.{boots, is_boot, off}
 use Rattle.daemon_core.specs.Housed.{Housed, past, rows_before}
-use Rattle.daemon_core.specs.Keeping.{keeper_faults}
+use Rattle.daemon_core.specs.Keeping.{keeper_faults, last_faulted}
 use Rattle.daemon_core.specs.Turns.{FaultsCounted}
 use Rattle.client_scripts.specs.declared.item.Item.{Item}
-use Rattle.client_plays.specs.Moments.{began, mine}
+use Rattle.client_plays.specs.Moments.{Grew, began, mine}
 use Rattle.client_plays.specs.Plays.{Plays, TaskPlays}
 use Rattle.client_plays.specs.Scripts.{BootPlayed, EarlierPlayed, PlayedSo, items_of, scripts_in, tasks}
 use Rattle.client_plays.specs.Endings.{HouseBootPlayed, IsCounted, IsIdle}
@@ -22,7 +23,7 @@ use Rattle.client_plays.proofs.MomentLaws.{grew-boots}
 use Rattle.client_plays.proofs.RestLaws.{before-same, counted-both}
 use Rattle.campaign_runs.specs.declared.ending.Ending.{Ending}
 use Rattle.campaign_runs.specs.Planned.{BootsPlanned}
-use Rattle.campaign_runs.specs.Runs.{BootMore, CampaignRan, EndedSo, HasBegun, NoneBegan, RanSoFar, StoppedBy}
+use Rattle.campaign_runs.specs.Runs.{BootMore, CampaignRan, EndedSo, HasBegun, NoneBegan, RanSoFar, ReadLast, StoppedBy}
 use Rattle.campaign_runs.proofs.OpeningLaws.{told-new, told-same}
 use Rattle.campaign_runs.proofs.FaultBoots.{faults-earlier, faults-played}
 use Rattle.campaign_runs.proofs.PlannedLaws.{earlier-grown, planned-grown}
@@ -130,6 +131,21 @@ run-none told faults wanting files plans scripts h e unread blank =
       counts = omega arith;
       opening = told-new h.annals.loaded (told h.keeper) h.annals.opening unread blank;
     }
+
+-- The last boot is that which was played.
+faulted-more : (more past : List Event) → list_any is_boot more ≡ false → last_faulted (more ++ past) ≡ last_faulted past
+faulted-more [] past b = refl
+faulted-more (event ∷ more) past b =
+    by_test (is_boot event) _
+    (λ t. let bad : true ≡ false = rw t at b in cc)
+    (λ f. rw f (faulted-more more past (rw f at b)))
+
+pub grew-faulted : (old new : List Event) → Grew old new → last_faulted new ≡ last_faulted old
+grew-faulted old new g = ap last_faulted g.are ∙ faulted-more g.more old g.no_boot
+
+pub run-read : {K : Type 0} (told : K → Option (List Row)) (faults : K → ℕ) (now before : Bool) (files : ℕ → Files) (of_boot : List (List Item)) (plan : BootPlan) (mid begun new : Housed K) → HasBegun told faults plan mid begun → BootMore faults now before files of_boot begun new → ReadLast new
+run-read told faults now before files of_boot plan mid begun new b m f =
+    m.played.rest.same.reopened ∙ b.read (sym (grew-faulted (past begun) (past new) m.played.grew) ∙ f)
 
 -- Memory was wanting now, or before.
 or-first : (a b : Bool) → a ≡ true → (a || b) ≡ true

@@ -16,6 +16,7 @@ use Rattle.daemon_core.specs.Annals.{IsAnnals}
 use Rattle.daemon_core.specs.Booting.{AllStarted}
 use Rattle.daemon_core.specs.Boots.{BootTurned, CouldntRead, NoBoot, WentWell}
 use Rattle.daemon_core.specs.Housed.{Housed, Place, past, rows_taken}
+use Rattle.daemon_core.specs.Keeping.{last_faulted}
 use Rattle.daemon_core.specs.Reading.{AreTold}
 use Rattle.daemon_core.specs.Turns.{FaultsCounted}
 use Rattle.campaign_runs.specs.declared.ending.Ending.{Ending}
@@ -60,6 +61,7 @@ begun-well told doubted faults plan found listed old new k counted counts w =
       listed = listed;
       past_is = ap past_of w.noted.log ∙ past-push old.annals.core.log (next_boot (past old) plan found listed);
       planned = planned-so plan old.places new.places listed w.noted.started;
+      read = λ _. w.reopened;
       before = rows-first (IsHistory new.annals.opening × AreTold (told old.keeper) new.annals.opening) old.annals.loaded new.annals.loaded old.annals.opening new.annals.opening (AllFaults (past old)) w.loaded k.unloaded w.opening;
       counted = counted;
       counts = counts;
@@ -75,6 +77,9 @@ begun-fault told faults plan listed old new counted counts w =
       listed = listed;
       past_is = ap past_of w.noted.log ∙ past-push old.annals.core.log (next_boot (past old) plan Found.Fault listed);
       planned = planned-so plan old.places new.places listed w.noted.started;
+      read = λ f.
+          let e : last_faulted (past new) ≡ true = ap last_faulted (ap past_of w.noted.log ∙ past-push old.annals.core.log (next_boot (past old) plan Found.Fault listed)) in
+          let bad : true ≡ false = sym e ∙ f in cc;
       before = inl (rows-same old.annals.loaded new.annals.loaded old.annals.opening new.annals.opening w.loaded (λ t. w.opening));
       counted = counted;
       counts = counts;

@@ -1,5 +1,5 @@
 -- What the boots of a campaign did to a house.
-use Rattle.std.specs.Prelude.{◌≡◌, ◌⊎◌, ◌≤◌, ◌<◌, ℕ, Bool, true, MatchBool, List, [], ◌∷◌, length, Option, Some, None, Result, Ok, Err}
+use Rattle.std.specs.Prelude.{◌≡◌, ◌⊎◌, ◌≤◌, ◌<◌, ℕ, Bool, true, false, MatchBool, List, [], ◌∷◌, length, Option, Some, None, Result, Ok, Err}
 use Rattle.history_keeper.specs.declared.row.Row.{Row}
 use Rattle.update_log.specs.declared.event.BoardSeen.{BoardSeen}
 use Rattle.update_log.specs.declared.event.Found.{Found}
@@ -11,6 +11,7 @@ use Rattle.daemon_core.specs.declared.booting.BootStop.{BootStop}
 use Rattle.daemon_core.specs.Annals.{IsAnnals}
 use Rattle.daemon_core.specs.Boots.{ReadOthers}
 use Rattle.daemon_core.specs.Housed.{Housed, past, rows_before}
+use Rattle.daemon_core.specs.Keeping.{last_faulted}
 use Rattle.daemon_core.specs.Reading.{AreTold}
 use Rattle.daemon_core.specs.Turns.{FaultsCounted}
 use Rattle.client_scripts.specs.declared.item.Item.{Item}
@@ -28,6 +29,10 @@ OpeningTold told came h =
     (AreTold came h.annals.opening)
     ((told h.keeper ≡ came) × ((h.annals.opening ≡ []) ⊎ AreTold came h.annals.opening))
 
+-- Where the last boot read the history, nobody opened the keeper again since.
+abbrev pub ReadLast : {K : Type 0} → Housed K → Type 0
+ReadLast h = last_faulted (past h) ≡ false → h.annals.reopened ≡ false
+
 -- So many boots of a campaign were run: each by its plan, in order, and played. Nobody has anything out,
 -- and each fault of the keeper that the log tells was counted.
 pub record RanSoFar {K : Type 0} (told : K → Option (List Row)) (faults : K → ℕ) (wanting : Bool) (files : ℕ → Files) (plans : List BootPlan) (scripts : List (List (List Item))) (count : ℕ) (old new : Housed K) : Type 0 where
@@ -42,10 +47,11 @@ pub record RanSoFar {K : Type 0} (told : K → Option (List Row)) (faults : K �
   pub counts : faults old.keeper ≤ faults new.keeper
   pub opening : OpeningTold told (told old.keeper) new
 
--- How the campaign ended: all boots were run; or a boot read no history that could be the log's; or memory
+-- How the campaign ended: all boots were run, and the keeper wasn't opened again but by a last one that couldn't
+-- read the history; or a boot read no history that could be the log's; or memory
 -- was wanting for a boot. In the last two the boots before were run.
 abbrev pub EndedSo : {K : Type 0} → (K → Option (List Row)) → Ending → List BootPlan → ℕ → Housed K → Type 0
-EndedSo told Ending.Whole plans count new = count ≡ length plans
+EndedSo told Ending.Whole plans count new = (count ≡ length plans) × ReadLast new
 EndedSo told (Ending.BadHistory entry) plans count new = (count < length plans) × ((mid : Housed _) × IsAnnals mid.annals × ReadOthers told entry mid new)
 EndedSo told Ending.NoMemory plans count new = count < length plans
 
@@ -65,6 +71,7 @@ pub record HasBegun {K : Type 0} (told : K → Option (List Row)) (faults : K �
   pub past_is : past new ≡ next_boot (past old) plan found listed ∷ past old
   pub planned : IsPlanned plan plan.time plan.limit listed
   pub before : (rows_before new.annals ≡ rows_before old.annals) ⊎ AllFaults (past old)
+  pub read : ReadLast new
   pub counted : FaultsCounted faults old new
   pub counts : faults old.keeper ≤ faults new.keeper
   pub opening : (came : Option (List Row)) → OpeningTold told came old → OpeningTold told came new

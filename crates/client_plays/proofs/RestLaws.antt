@@ -21,6 +21,7 @@ same-both old mid new a b =
       first = b.first ∙ a.first;
       opening = b.opening ∙ a.opening;
       loaded = b.loaded ∙ a.loaded;
+      reopened = b.reopened ∙ a.reopened;
     }
 
 pub counted-both : {K : Type 0} (faults : K → ℕ) (old mid new : Housed K) → FaultsCounted faults old mid → FaultsCounted faults mid new → faults mid.keeper ≤ faults new.keeper → FaultsCounted faults old new
@@ -43,7 +44,7 @@ pub rest-here : {K : Type 0} (faults : K → ℕ) (h : Housed K) → IsIdle (pas
 rest-here faults h i =
     record {
       idle = i;
-      same = record { facts = refl; first = refl; opening = refl; loaded = refl };
+      same = record { facts = refl; first = refl; opening = refl; loaded = refl; reopened = refl };
       counted = inl (omega arith);
       counts = omega arith;
     }

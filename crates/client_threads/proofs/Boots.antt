@@ -17,6 +17,8 @@ use Rattle.client_plays.proofs.MomentLaws.{grew-began, grew-boots, grew-both, gr
 use Rattle.client_plays.proofs.PlayLaws.{task-unplayed}
 use Rattle.client_plays.proofs.RestLaws.{before-same, rest-both, rest-here, so-left}
 use Rattle.client_plays.proofs.ScriptLaws.{until-nothing}
+use Rattle.campaign_runs.specs.Runs.{ReadLast}
+use Rattle.campaign_runs.proofs.RunLaws.{grew-faulted}
 use Rattle.client_threads.specs.Clients.{ClientsPlayed, NoClients}
 use Rattle.client_threads.proofs.Plays.{left-off, still-played}
 
@@ -66,6 +68,9 @@ module _ {K : Type 0} (faults : K → ℕ) (now : Bool) (files : Files) (old mid
 
   pub still-booted : 0 < boots (past old) → 0 < boots (past mid)
   still-booted b = subst (λ (n : ℕ). 0 < n) (sym (grew-boots (past old) (past mid) h.went.did.grew)) b
+
+  pub still-read : ReadLast old → ReadLast mid
+  still-read r f = h.rest.same.reopened ∙ r (sym (grew-faulted (past old) (past mid) h.went.did.grew) ∙ f)
 
   -- After the clients.
   module _ (wanting : Bool) (told then : ℕ → Files) (of_boot : List (List Item)) (new : Housed K) (f : IsFresh (past old)) (first : told 0 ≡ files) (same : (client : ℕ) → then client ≡ told client) (p : ClientsPlayed faults wanting then of_boot mid new) where

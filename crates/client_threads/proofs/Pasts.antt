@@ -1,11 +1,12 @@
 -- What a past says that grew, and one that a boot began.
-use Rattle.std.proofs.Common.{◌≡◌, ℕ, ◌≤◌, ◌<◌, ◌+◌, Bool, true, false, List, [], ◌∷◌, ◌++◌, reverse, refl, ap, sym, ◌∙◌, arith}
+use Rattle.std.proofs.Common.{◌≡◌, ℕ, ◌≤◌, ◌<◌, ◌+◌, Bool, true, false, ◌||◌, List, [], ◌∷◌, ◌++◌, reverse, refl, ap, sym, ◌∙◌, arith}
 use Rattle.std.proofs.lemmas.List.{reverse-append}
 use Rattle.std.specs.List.{list_any}
 use Rattle.update_log.proofs.Lists.{by_test}
 use Rattle.update_log.specs.declared.event.Event.{Event}
 use Rattle.update_log.specs.CoreFolds.{AllFaults, is_fault_boot}
-use Rattle.update_log.specs.Pasts.{boots, is_boot, off, past_of}
+use Rattle.update_log.specs.Pasts.{boots, is_boot, off, past_of, puts_off}
+use Rattle.daemon_core.specs.Keeping.{last_faulted, met_fault}
 use Rattle.client_plays.specs.Moments.{Grew}
 use Rattle.shared_daemon.specs.declared.entry.Entry.{Entry}
 use Rattle.shared_daemon.specs.Entries.{events, past_seen}
@@ -76,3 +77,31 @@ on-loaded false past h b o = let bad : true ≡ false = sym (faults-off past (h 
 -- And where none took them, the boot is off.
 pub on-unread : (loaded : Bool) (past : List Event) → (loaded ≡ false → AllFaults past) → 0 < boots past → off past ≡ false → loaded ≡ false → ⊥
 on-unread loaded past h b o u = let bad : true ≡ false = sym (on-loaded loaded past h b o) ∙ u in cc
+
+-- A boot that isn't off read the history.
+boot-met : (event : Event) → is_boot event ≡ true → puts_off event ≡ met_fault event
+boot-met (Event.Boot number time limit found boards) b = refl
+boot-met (Event.Query client query) b = cc
+boot-met (Event.Ask client request pending answer) b = cc
+boot-met (Event.Claim client request fetched answer) b = cc
+boot-met (Event.Schedule client request answer) b = cc
+boot-met (Event.Resume client entry fetched answer stored) b = cc
+boot-met (Event.Start client entry op) b = cc
+boot-met (Event.End client entry op outcome told seen) b = cc
+boot-met (Event.Finish client entry state stored) b = cc
+boot-met (Event.Judge client entry version state stored) b = cc
+boot-met (Event.Unplug client device answer) b = cc
+boot-met (Event.Plug client device answer) b = cc
+boot-met (Event.GiveBack client what) b = cc
+boot-met Event.Cut b = cc
+
+or-left : (a b : Bool) → (a || b) ≡ false → b ≡ false
+or-left true b e = cc
+or-left false b e = e
+
+pub on-read : (past : List Event) → off past ≡ false → last_faulted past ≡ false
+on-read [] o = refl
+on-read (event ∷ past) o =
+    by_test (is_boot event) _
+    (λ t. rw t (sym (boot-met event t) ∙ rw t at o))
+    (λ f. rw f (on-read past (or-left (puts_off event) (off past) (rw f at o))))

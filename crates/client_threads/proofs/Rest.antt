@@ -23,17 +23,18 @@ use Rattle.shared_daemon.specs.Names.{HasNothing, IsLogOf, KeepsName, Name}
 use Rattle.shared_daemon.proofs.Logs.{past-entries}
 use Rattle.shared_daemon.proofs.Planned.{plans-picked}
 use Rattle.shared_daemon.proofs.Seeing.{before-named}
+use Rattle.campaign_runs.specs.Runs.{ReadLast}
 use Rattle.client_threads.specs.Begins.{CanBegin, name_of}
 use Rattle.client_threads.specs.Clients.{ClientsPlayed, NoClients, PlayedBehind}
-use Rattle.client_threads.proofs.Pasts.{log-grew, on-loaded}
+use Rattle.client_threads.proofs.Pasts.{log-grew, on-loaded, on-read}
 use Rattle.client_threads.proofs.ShelfFaults.{count-closed}
 use Rattle.client_threads.proofs.Plays.{items-beyond, left-off, left-wanting, nothing-so}
 
 module _ {K : Type 0} (faults : K → ℕ) where
   -- A daemon may begin round a house that was booted, and isn't off.
-  pub can-begin : (h : Housed K) → IsAnnals h.annals → 0 < boots (past h) → off (past h) ≡ false → IsCounted faults h → IsIdle (past h) → CanBegin faults h
-  can-begin h k b o c i =
-      record { loaded = on-loaded h.annals.loaded (past h) k.unloaded b o; booted = b; counted = c; idle = i }
+  pub can-begin : (h : Housed K) → IsAnnals h.annals → 0 < boots (past h) → off (past h) ≡ false → IsCounted faults h → IsIdle (past h) → ReadLast h → CanBegin faults h
+  can-begin h k b o c i r =
+      record { loaded = on-loaded h.annals.loaded (past h) k.unloaded b o; reopened = r (on-read (past h) o); booted = b; counted = c; idle = i }
 
   first-counted : (h : Housed K) → IsCounted faults h → (keeper_faults (past h) + (faults h.keeper - keeper_faults (past h)) ≤ faults h.keeper) ⊎ (2 ^ 64 - 1 ≤ faults h.keeper)
   first-counted h (inl c) = inl (omega arith)
@@ -48,6 +49,7 @@ module _ {K : Type 0} (faults : K → ℕ) where
         first_are = refl;
         opening_is = refl;
         loaded = b.loaded;
+        reopened = b.reopened;
         booted = b.booted;
         boots_are = refl;
         planned = plans-picked h.places;
@@ -78,6 +80,7 @@ module _ {K : Type 0} (faults : K → ℕ) where
           first = n.first_are ∙ ap (λ (x : Name). x.first) e;
           opening = n.opening_is ∙ ap (λ (x : Name). x.opening) e;
           loaded = n.loaded ∙ sym b.loaded;
+          reopened = n.reopened ∙ sym b.reopened;
         }
 
     counted-so : (first start : ℕ) → first ≡ faults old.keeper - keeper_faults (past old) → (keeper_faults (past new) + first ≤ faults new.keeper) ⊎ (2 ^ 64 - 1 ≤ faults new.keeper) → FaultsCounted faults old new

@@ -1,5 +1,5 @@
 -- A house round which a daemon may begin, and the name that it has then.
-use Rattle.std.specs.Prelude.{◌≡◌, ◌<◌, ◌-◌, ℕ, true, None}
+use Rattle.std.specs.Prelude.{◌≡◌, ◌<◌, ◌-◌, ℕ, true, false, None}
 use Rattle.update_log.specs.Pasts.{boots}
 use Rattle.daemon_core.specs.Housed.{Housed, past}
 use Rattle.daemon_core.specs.Keeping.{keeper_faults}
@@ -7,10 +7,11 @@ use Rattle.client_plays.specs.Endings.{IsCounted, IsIdle}
 use Rattle.shared_daemon.specs.Entries.{chronicle}
 use Rattle.shared_daemon.specs.Names.{Name, plans_in}
 
--- It was booted, and took the rows that it loaded; each fault of the keeper that its log tells was counted;
+-- It was booted, and took the rows that it loaded; its last boot read the history; each fault of the keeper that its log tells was counted;
 -- and nobody has anything out.
 pub record CanBegin {K : Type 0} (faults : K → ℕ) (h : Housed K) : Type 0 where
   pub loaded : h.annals.loaded ≡ true
+  pub reopened : h.annals.reopened ≡ false
   pub booted : 0 < boots (past h)
   pub counted : IsCounted faults h
   pub idle : IsIdle (past h)

@@ -12,6 +12,7 @@ ghost use Rattle.client_plays.specs.Faults.{ShelvesCount};
 ghost use Rattle.client_plays.specs.Has.{shelves_told, tools_of};
 ghost use Rattle.client_plays.specs.Shelves.{files_for};
 ghost use Rattle.client_plays.specs.Tools.{Serves, ShelvesStay};
+ghost use Rattle.campaign_runs.specs.Runs.{ReadLast};
 ghost use Rattle.client_threads.specs.Begins.{CanBegin, name_of};
 ghost use Rattle.client_threads.specs.Clients.{ClientsPlayed, NoClients, PlayedBehind};
 
@@ -138,6 +139,7 @@ fn play_clients<R: Threads + Wait + Sync, K: Keeper + Send, P: Shelf + Send, G: 
     requires booted { 0 < boots (past house) }
     requires idle { IsIdle (past house) }
     requires counted { IsCounted K.faults house }
+    requires read { ReadLast house }
     requires none { NoClients (past house) }
     requires few { length of_boot.now ≤ 16 }
     requires proper { All (All IsScriptItem) of_boot.now }
@@ -178,6 +180,7 @@ pub(crate) fn play_boot<
     requires idle { IsIdle (past house) }
     requires fresh { IsFresh (past house) }
     requires counted { IsCounted K.faults house }
+    requires read { ReadLast house }
     requires proper { All (All IsScriptItem) of_boot.now }
     requires few { length of_boot.now ≤ 16 }
     requires serves { Serves (tools_of P.files P.faults (length plugins.now) shelves.old.items) house.annals.facts (length of_boot.now) }

@@ -8,7 +8,7 @@ ghost use Rattle.client_plays.specs.Has.{shelves_told, tools_of};
 ghost use Rattle.client_plays.specs.Scripts.{scripts_in};
 ghost use Rattle.client_plays.specs.Shelves.{files_for};
 ghost use Rattle.client_plays.specs.Tools.{Serves, ShelvesStay};
-ghost use Rattle.campaign_runs.specs.Runs.{BootMore, CampaignRan};
+ghost use Rattle.campaign_runs.specs.Runs.{BootMore, CampaignRan, ReadLast};
 
 use crate::boot::play_boot;
 use crate::dealing::either;
@@ -40,6 +40,7 @@ fn play_next<R: Threads + Wait + Sync, K: Keeper + Send, P: Shelf + Send, G: Gat
     requires idle { IsIdle (past house) }
     requires fresh { IsFresh (past house) }
     requires counted { IsCounted K.faults house }
+    requires read { ReadLast house }
     requires proper { All (All IsScriptItem) of_boot.now }
     requires few { length of_boot.now ≤ 16 }
     requires serves { Serves (tools_of P.files P.faults (length plugins.now) shelves.old.items) house.annals.facts (length of_boot.now) }
@@ -93,6 +94,7 @@ pub(crate) fn run_boots<
     ensures kept { ShelvesStay (shelves_told P.files P.faults shelves.old.items) (shelves_told P.files P.faults shelves.new.items) }
     ensures told { ShelvesCount (past house) (past result.0) (shelves_told P.files P.faults shelves.old.items) (shelves_told P.files P.faults shelves.new.items) }
 {
+    house.known();
     let mut wanting = false;
     for (number, plan) in plans.iter().enumerate() {
         match start_boot(alloc, &mut house, plan) {

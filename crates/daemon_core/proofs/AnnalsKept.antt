@@ -62,6 +62,7 @@ annals-after client event old new k a n =
           subst (λ (f : Facts). length new.first ≡ length f.sheets) (sym a.same.facts)
           (subst (λ (s : List Seen). length s ≡ length old.facts.sheets) (sym a.same.first) k.firsts);
       unloaded = λ h. subst AllFaults (sym p) (n.unloaded (sym a.same.loaded ∙ h));
+      unopened = λ h. a.same.reopened ∙ k.unopened (sym a.same.loaded ∙ h);
       room = omega (arith, q, room, owes);
       few_boots = subst (λ (es : List Event). boots es < 2 ^ 32) (sym p) n.few_boots;
       timely = subst (λ (es : List Event). time_of es ≤ 2 ^ 63 - 1) (sym p) n.timely;

@@ -16,6 +16,7 @@ roomier-same old new e =
         first = ap (λ (a : Annalled). a.first) e;
         opening = ap (λ (a : Annalled). a.opening) e;
         loaded = ap (λ (a : Annalled). a.loaded) e;
+        reopened = ap (λ (a : Annalled). a.reopened) e;
       };
       log = ap (λ (a : Annalled). a.core.log) e;
       makers = ap (λ (a : Annalled). a.makers) e;
@@ -29,6 +30,7 @@ same-unchanged old new e =
         first = ap (λ (a : Annalled). a.first) e;
         opening = ap (λ (a : Annalled). a.opening) e;
         loaded = ap (λ (a : Annalled). a.loaded) e;
+        reopened = ap (λ (a : Annalled). a.reopened) e;
       };
       log = ap (λ (a : Annalled). a.core.log) e;
       makers = ap (λ (a : Annalled). a.makers) e;
@@ -43,6 +45,7 @@ unchanged-on old mid new u v =
         first = v.same.first ∙ u.same.first;
         opening = v.same.opening ∙ u.same.opening;
         loaded = v.same.loaded ∙ u.same.loaded;
+        reopened = v.same.reopened ∙ u.same.reopened;
       };
       log = v.log ∙ u.log;
       makers = v.makers ∙ u.makers;
@@ -63,6 +66,7 @@ unchanged-appended client event old mid new u a =
         first = a.same.first ∙ u.same.first;
         opening = a.same.opening ∙ u.same.opening;
         loaded = a.same.loaded ∙ u.same.loaded;
+        reopened = a.same.reopened ∙ u.same.reopened;
       };
       log = a.log ∙ ap (λ (l : List Event). l ++ event ∷ []) u.log;
       makers = a.makers ∙ ap (λ (l : List ℕ). l ++ client ∷ []) u.makers;

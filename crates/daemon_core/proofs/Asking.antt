@@ -37,7 +37,7 @@ use Rattle.daemon_core.specs.Annals.{Appended, IsAnnals}
 use Rattle.daemon_core.specs.House.{IsHouse}
 use Rattle.daemon_core.specs.Housed.{Annalled, Housed, past, past_in, rows_before}
 use Rattle.fw_facts.specs.declared.release.Component.{Component}
-use Rattle.daemon_core.specs.Keeping.{Keeps}
+use Rattle.daemon_core.specs.Keeping.{KeepsSo}
 use Rattle.daemon_core.specs.Owed.{hold_needs, owed}
 use Rattle.daemon_core.proofs.HouseKept.{house-next}
 use Rattle.daemon_core.proofs.PlacesKept.{SameOfBoard, place-same}
@@ -168,8 +168,8 @@ house-held told doubted client request pending blocks release old new pool h o k
           (ask-board old.annals.facts old.annals.first (rows_before old.annals) (past old) client request pending (AskAnswer.Hold blocks release) number) (h.places number place e);
       loaded = l;
       kept =
-          subst (λ (x : List Row). Keeps told doubted old.keeper x (doubt old.annals.facts (rows_before old.annals) (past old))) o.stands.rows
-          (subst (λ (x : Option Change). Keeps told doubted old.keeper old.annals.core.rows x) o.stands.doubt (h.kept l));
+          subst (λ (x : List Row). KeepsSo old.annals.reopened told doubted old.keeper x (doubt old.annals.facts (rows_before old.annals) (past old))) o.stands.rows
+          (subst (λ (x : Option Change). KeepsSo old.annals.reopened told doubted old.keeper old.annals.core.rows x) o.stands.doubt (h.kept l));
       capacity = cap;
       free = omega (arith, more, was, free);
     })

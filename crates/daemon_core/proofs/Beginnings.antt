@@ -47,6 +47,7 @@ annals-blank a b few firsts s =
       few = few;
       firsts = firsts;
       unloaded = λ _. subst AllFaults (sym p) tt;
+      unopened = λ _. b.reopened;
       room = omega (arith, o);
       few_boots = omega (arith, n);
       timely = omega (arith, t);

@@ -1,5 +1,5 @@
 -- The annals over other rows, and behind a boot.
-use Rattle.std.proofs.Common.{◌≡◌, ℕ, true, false, ◌+◌, ◌≤◌, List, [], ◌∷◌, refl, ap, sym, ◌∙◌, arith, subst}
+use Rattle.std.proofs.Common.{◌≡◌, ℕ, Bool, true, false, ◌+◌, ◌≤◌, List, [], ◌∷◌, refl, ap, sym, ◌∙◌, arith, subst}
 use Rattle.std.specs.Prelude.{Option, min}
 use Rattle.history_keeper.specs.declared.change.Change.{Change}
 use Rattle.history_keeper.specs.declared.row.Row.{Row}
@@ -15,9 +15,11 @@ use Rattle.update_log.specs.Legal.{FoundAllowed}
 use Rattle.update_log.specs.Pasts.{boots, is_found_fault}
 use Rattle.daemon_core.proofs.BootLegal.{boot-legal}
 use Rattle.daemon_core.proofs.BootOpenings.{legal-over}
-use Rattle.daemon_core.specs.Annals.{IsAnnals, IsLegalSo}
+use Rattle.daemon_core.proofs.KeptSo.{still-none}
+use Rattle.daemon_core.specs.Annals.{Appended, IsAnnals, IsLegalSo}
 use Rattle.daemon_core.specs.Booting.{AllListed, opened}
 use Rattle.daemon_core.specs.Housed.{Annalled, past_in, rows_before}
+use Rattle.daemon_core.specs.Keeping.{still_reopened}
 use Rattle.daemon_core.specs.Owed.{owed}
 
 pub annals-opened : (old : Annalled) (all : List Row) (n : ℕ) → IsAnnals old → old.loaded ≡ false → Stands old.facts all (opened all n old).core → IsAnnals (opened all n old)
@@ -29,10 +31,49 @@ annals-opened old all n k l s =
       few = k.few;
       firsts = k.firsts;
       unloaded = λ h. cc;
+      unopened = λ h. cc;
       room = k.room;
       few_boots = k.few_boots;
       timely = k.timely;
     }
+
+-- the annals, whether the keeper counts as opened again or not
+pub annals-reopened : (a : Annalled) (b : Bool) → (a.loaded ≡ false → b ≡ false) → IsAnnals a → IsAnnals (record a { reopened = b })
+annals-reopened a b u k =
+    record {
+      legal = k.legal;
+      stands = k.stands;
+      makers = k.makers;
+      few = k.few;
+      firsts = k.firsts;
+      unloaded = k.unloaded;
+      unopened = u;
+      room = k.room;
+      few_boots = k.few_boots;
+      timely = k.timely;
+    }
+
+-- the annals, once it is noted what their boot found
+pub annals-found : (found : Found) (a new : Annalled) → new ≡ record a { reopened = still_reopened found a.reopened } → IsAnnals a → IsAnnals new
+annals-found found a new e k = subst IsAnnals (sym e) (annals-reopened a (still_reopened found a.reopened) (λ u. still-none found a.reopened (k.unopened u)) k)
+
+-- a boot behind the log, and what is noted of the keeper then
+pub boot-noted : (event : Event) (found : Found) (old noted new : Annalled) → Appended 0 event old noted → new ≡ record noted { reopened = still_reopened found noted.reopened }
+    → Appended 0 event old (record new { reopened = old.reopened }) × (new.reopened ≡ still_reopened found old.reopened)
+boot-noted event found old noted new a e = (
+  record {
+    same = record {
+      facts = ap (λ (x : Annalled). x.facts) e ∙ a.same.facts;
+      first = ap (λ (x : Annalled). x.first) e ∙ a.same.first;
+      opening = ap (λ (x : Annalled). x.opening) e ∙ a.same.opening;
+      loaded = ap (λ (x : Annalled). x.loaded) e ∙ a.same.loaded;
+      reopened = refl;
+    };
+    log = ap (λ (x : Annalled). x.core.log) e ∙ a.log;
+    makers = ap (λ (x : Annalled). x.makers) e ∙ a.makers;
+  },
+  ap (λ (x : Annalled). x.reopened) e ∙ ap (still_reopened found) a.same.reopened,
+)
 
 -- a boot may come
 pub boot-legal_in : (old : Annalled) (plan : BootPlan) (found : Found) (boards : List BoardSeen) → IsAnnals old → AllListed old.facts old.first (rows_before old) (past_in old) plan boards → FoundAllowed found old.core.doubt
@@ -55,11 +96,11 @@ boot-faults old plan found boards k h l = (h l, k.unloaded l)
 -- the annals as they are made over rows that are taken
 pub annals-taken : (old : Annalled) (opening all : List Row) (core : Core) (cap : ℕ) → IsAnnals old → old.loaded ≡ false → opening ≡ all
     → core ≡ record old.core { rows = all; row_room = core.row_room } → min old.core.room cap ≡ old.room → Stands old.facts all core
-    → IsAnnals (record { facts = old.facts; first = old.first; opening = opening; loaded = true; core = core; makers = old.makers; room = min core.room cap })
+    → IsAnnals (record { facts = old.facts; first = old.first; opening = opening; loaded = true; reopened = old.reopened; core = core; makers = old.makers; room = min core.room cap })
 annals-taken old opening all core cap k l same e r s =
-    subst (λ (x : Core). IsAnnals (record { facts = old.facts; first = old.first; opening = opening; loaded = true; core = x; makers = old.makers; room = min x.room cap })) (sym e)
-    (subst (λ (o : List Row). IsAnnals (record { facts = old.facts; first = old.first; opening = o; loaded = true; core = record old.core { rows = all; row_room = core.row_room }; makers = old.makers; room = min old.core.room cap })) (sym same)
-    (subst (λ (n : ℕ). IsAnnals (record { facts = old.facts; first = old.first; opening = all; loaded = true; core = record old.core { rows = all; row_room = core.row_room }; makers = old.makers; room = n })) (sym r)
+    subst (λ (x : Core). IsAnnals (record { facts = old.facts; first = old.first; opening = opening; loaded = true; reopened = old.reopened; core = x; makers = old.makers; room = min x.room cap })) (sym e)
+    (subst (λ (o : List Row). IsAnnals (record { facts = old.facts; first = old.first; opening = o; loaded = true; reopened = old.reopened; core = record old.core { rows = all; row_room = core.row_room }; makers = old.makers; room = min old.core.room cap })) (sym same)
+    (subst (λ (n : ℕ). IsAnnals (record { facts = old.facts; first = old.first; opening = all; loaded = true; reopened = old.reopened; core = record old.core { rows = all; row_room = core.row_room }; makers = old.makers; room = n })) (sym r)
     (annals-opened old all core.row_room k l (subst (Stands old.facts all) e s))))
 
 -- what the event of a boot is

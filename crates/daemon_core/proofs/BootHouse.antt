@@ -1,5 +1,5 @@
 -- A house behind a boot.
-use Rattle.std.proofs.Common.{◌≡◌, ℕ, true, false, ◌+◌, ◌≤◌, List, [], ◌∷◌, ◌++◌, refl, ap, sym, ◌∙◌, arith, length, length-append, subst}
+use Rattle.std.proofs.Common.{◌≡◌, ℕ, Bool, true, false, ◌+◌, ◌≤◌, List, [], ◌∷◌, ◌++◌, refl, ap, sym, ◌∙◌, arith, length, length-append, subst}
 use Rattle.std.proofs.Common.{take}
 use Rattle.std.proofs.Math.Seq.{take-length}
 use Rattle.std.proofs.lemmas.List.{take-append-le}
@@ -24,7 +24,7 @@ use Rattle.update_log.specs.Known.{doubt_found, rows, rows_found}
 use Rattle.update_log.specs.Legal.{BoardListed, is_absent, open_marks, open_on}
 use Rattle.update_log.specs.Shows.{IsPrefix, digest_of, marks, told}
 use Rattle.daemon_core.proofs.AnnalsKept.{appended-before, appended-past}
-use Rattle.daemon_core.proofs.BootAnnals.{boot-rows}
+use Rattle.daemon_core.proofs.BootAnnals.{annals-reopened, boot-rows}
 use Rattle.daemon_core.proofs.BootOpenings.{place-over, said-over}
 use Rattle.daemon_core.proofs.BootPlaces.{listed-so, place-started}
 use Rattle.daemon_core.proofs.HouseKept.{appended-doubt, appended-rows}
@@ -33,7 +33,7 @@ use Rattle.daemon_core.specs.Boards.{BoardIsHome, BoardStands, PlaceStands}
 use Rattle.daemon_core.specs.Booting.{AllCanStart, AllListed, AllStarted, BoardsStarted, CanBeStarted, PlacesStand, opened}
 use Rattle.daemon_core.specs.House.{IsHouse}
 use Rattle.daemon_core.specs.Housed.{Annalled, Place, past_in, rows_before}
-use Rattle.daemon_core.specs.Keeping.{Keeps}
+use Rattle.daemon_core.specs.Keeping.{KeepsSo, still_reopened}
 
 pub take-front : {X : Type 0} (n : ℕ) (xs ys : List X) → n ≡ length xs → take n (xs ++ ys) ≡ xs
 take-front n xs ys e = rw e (take-append-le (length xs) xs ys (omega arith) ∙ take-length xs)
@@ -146,16 +146,18 @@ pub house-booted : {K : Type 0} (tells : K → Option (List Row)) (doubts : K �
     → IsAnnals mid → IsAnnals new → PlacesStand mid places → live (past_in mid) ≡ [] → holds (past_in mid) ≡ [] → BoardsStarted plan found mid new places after
     → pool.capacity ≡ mid.facts.pool → pool.free + held (past_in mid) ≡ mid.facts.pool
     → (mid.loaded ≡ false → doubts keeper ≡ None)
-    → (mid.loaded ≡ true → Keeps tells doubts keeper (rows_found found mid.core.doubt mid.core.rows) (doubt_found found mid.core.doubt))
+    → (mid.loaded ≡ true → KeepsSo (still_reopened found mid.reopened) tells doubts keeper (rows_found found mid.core.doubt mid.core.rows) (doubt_found found mid.core.doubt))
     → IsHouse tells doubts (record { annals = new; places = after; pool = pool; keeper = keeper })
 house-booted tells doubts mid new places after pool keeper plan found k kn p l hs b c f u t =
-    let s = stand-after 0 (next_boot (past_in mid) plan found b.listed) mid new after b.appended (b.started.places ∙ p.count)
+    let noted : Annalled = record new { reopened = mid.reopened } in
+    let ka : IsAnnals noted = annals-reopened new mid.reopened (λ u. k.unopened (sym b.appended.same.loaded ∙ u)) kn in
+    let s = stand-after 0 (next_boot (past_in mid) plan found b.listed) mid noted after b.appended (b.started.places ∙ p.count)
     (all-stand mid places after plan b.listed k.legal p l b.started found) in
-    let past : past_in new ≡ next_boot (past_in mid) plan found b.listed ∷ past_in mid = appended-past 0 (next_boot (past_in mid) plan found b.listed) mid new b.appended in
+    let past : past_in new ≡ next_boot (past_in mid) plan found b.listed ∷ past_in mid = appended-past 0 (next_boot (past_in mid) plan found b.listed) mid noted b.appended in
     let facts = b.appended.same.facts in
     let loaded = b.appended.same.loaded in
-    let r : new.core.rows ≡ rows_found found mid.core.doubt mid.core.rows = appended-rows 0 (next_boot (past_in mid) plan found b.listed) mid new b.appended kn ∙ boot-rows mid plan found b.listed k in
-    let d : new.core.doubt ≡ doubt_found found mid.core.doubt = appended-doubt 0 (next_boot (past_in mid) plan found b.listed) mid new b.appended kn ∙ ap (doubt_found found) (sym k.stands.doubt) in
+    let r : new.core.rows ≡ rows_found found mid.core.doubt mid.core.rows = appended-rows 0 (next_boot (past_in mid) plan found b.listed) mid noted b.appended ka ∙ boot-rows mid plan found b.listed k in
+    let d : new.core.doubt ≡ doubt_found found mid.core.doubt = appended-doubt 0 (next_boot (past_in mid) plan found b.listed) mid noted b.appended ka ∙ ap (doubt_found found) (sym k.stands.doubt) in
     let none : held (past_in mid) ≡ 0 = ap (λ x. blocks_out x (live (past_in mid))) hs ∙ ap (blocks_out []) l in
     let none_now : held (past_in new) ≡ 0 = ap held past in
     record {
@@ -163,8 +165,9 @@ house-booted tells doubts mid new places after pool keeper plan found k kn p l h
       places = s.each;
       unloaded = λ e. u (sym loaded ∙ e);
       kept = λ e.
-          subst (λ (x : List Row). Keeps tells doubts keeper x new.core.doubt) (sym r)
-          (subst (λ (x : Option Change). Keeps tells doubts keeper (rows_found found mid.core.doubt mid.core.rows) x) (sym d) (t (sym loaded ∙ e)));
+          subst (λ (x : Bool). KeepsSo x tells doubts keeper new.core.rows new.core.doubt) (sym b.reopened)
+          (subst (λ (x : List Row). KeepsSo (still_reopened found mid.reopened) tells doubts keeper x new.core.doubt) (sym r)
+          (subst (λ (x : Option Change). KeepsSo (still_reopened found mid.reopened) tells doubts keeper (rows_found found mid.core.doubt mid.core.rows) x) (sym d) (t (sym loaded ∙ e))));
       capacity = c ∙ ap (λ (x : Facts). x.pool) (sym facts);
       free = ap (λ n. pool.free + n) (none_now ∙ sym none) ∙ f ∙ ap (λ (x : Facts). x.pool) (sym facts);
     }

@@ -1,5 +1,5 @@
 -- A house that read the history.
-use Rattle.std.proofs.Common.{◌≡◌, ℕ, true, false, List, refl, sym, ◌∙◌, ◌⊎◌, inl, inr, ◌+◌, ◌≤◌, arith, length, subst}
+use Rattle.std.proofs.Common.{◌≡◌, ℕ, Bool, true, false, List, refl, sym, ◌∙◌, ◌⊎◌, inl, inr, ◌+◌, ◌≤◌, arith, length, subst}
 use Rattle.std.specs.Prelude.{Some, None, Option, IfSome, Result, Ok, Err}
 use Rattle.fw_base.specs.declared.memory.NoMemory.{NoMemory}
 use Rattle.history_keeper.specs.declared.change.Change.{Change}
@@ -15,12 +15,13 @@ use Rattle.update_log.proofs.Lists.{by_test}
 use Rattle.update_log.specs.declared.event.Found.{Found}
 use Rattle.update_log.specs.Known.{doubt_found, rows_found}
 use Rattle.daemon_core.proofs.BootHouse.{stand-over}
+use Rattle.daemon_core.proofs.KeptSo.{so-has}
 use Rattle.daemon_core.specs.Annals.{IsAnnals}
 use Rattle.daemon_core.specs.Boards.{PlaceStands}
 use Rattle.daemon_core.specs.Booting.{PlacesStand, opened}
 use Rattle.daemon_core.specs.House.{IsHouse}
 use Rattle.daemon_core.specs.Housed.{Annalled, Housed, past_in, rows_before}
-use Rattle.daemon_core.specs.Keeping.{HasRows, Keeps}
+use Rattle.daemon_core.specs.Keeping.{HasRows, KeepsSo, still_reopened}
 use Rattle.daemon_core.specs.Reading.{CanBoot, CanBootAfter, FirstRead, LaterRead}
 use Rattle.daemon_core.specs.declared.reading.Loaded.{Loaded}
 
@@ -62,12 +63,13 @@ found-one Found.Fault change rows = omega arith
 
 module _ {K : Type 0} (tells : K → Option (List Row)) (doubts : K → Option Change) (faults : K → ℕ) (old : Housed K) (keeper : K) (h : IsHouse tells doubts old) (k : IsAnnals old.annals) where
   -- a house whose keeper has these rows still
-  house-kept : (old.annals.loaded ≡ false → doubts keeper ≡ None) → (old.annals.loaded ≡ true → Keeps tells doubts keeper old.annals.core.rows old.annals.core.doubt) → IsHouse tells doubts (record old { keeper = keeper })
-  house-kept u t = record { count = h.count; places = h.places; unloaded = u; kept = t; capacity = h.capacity; free = h.free }
+  house-kept : (b : Bool) → (old.annals.loaded ≡ false → doubts keeper ≡ None) → (old.annals.loaded ≡ true → KeepsSo b tells doubts keeper old.annals.core.rows old.annals.core.doubt)
+      → IsHouse tells doubts (record { annals = record old.annals { reopened = b }; places = old.places; pool = old.pool; keeper = keeper })
+  house-kept b u t = record { count = h.count; places = h.places; unloaded = u; kept = t; capacity = h.capacity; free = h.free }
 
-  house-same : (new : Annalled) → new ≡ old.annals → (old.annals.loaded ≡ false → doubts keeper ≡ None) → (old.annals.loaded ≡ true → Keeps tells doubts keeper old.annals.core.rows old.annals.core.doubt)
+  house-same : (b : Bool) (new : Annalled) → new ≡ record old.annals { reopened = b } → (old.annals.loaded ≡ false → doubts keeper ≡ None) → (old.annals.loaded ≡ true → KeepsSo b tells doubts keeper old.annals.core.rows old.annals.core.doubt)
       → IsHouse tells doubts (record { annals = new; places = old.places; pool = old.pool; keeper = keeper })
-  house-same new e u t = subst (λ (a : Annalled). IsHouse tells doubts (record { annals = a; places = old.places; pool = old.pool; keeper = keeper })) (sym e) (house-kept u t)
+  house-same b new e u t = subst (λ (a : Annalled). IsHouse tells doubts (record { annals = a; places = old.places; pool = old.pool; keeper = keeper })) (sym e) (house-kept b u t)
 
   stood : PlacesStand old.annals old.places
   stood = record { count = h.count; each = h.places }
@@ -80,7 +82,7 @@ module _ {K : Type 0} (tells : K → Option (List Row)) (doubts : K → Option C
         count = h.count;
         places = s.each;
         unloaded = λ e. cc;
-        kept = λ e. inl (subst (λ (d : Option Change). HasRows tells doubts keeper all d) (sym none) r);
+        kept = λ e. so-has old.annals.reopened tells doubts keeper all old.annals.core.doubt (subst (λ (d : Option Change). HasRows tells doubts keeper all d) (sym none) r);
         capacity = h.capacity;
         free = h.free;
       }
@@ -97,7 +99,7 @@ module _ {K : Type 0} (tells : K → Option (List Row)) (doubts : K → Option C
         free = h.free;
       }
 
-  not-loaded : old.annals.loaded ≡ false → old.annals.loaded ≡ true → Keeps tells doubts keeper old.annals.core.rows old.annals.core.doubt
+  not-loaded : old.annals.loaded ≡ false → old.annals.loaded ≡ true → KeepsSo old.annals.reopened tells doubts keeper old.annals.core.rows old.annals.core.doubt
   not-loaded l t = let bad : true ≡ false = sym t ∙ l in cc
 
   not-unloaded : old.annals.loaded ≡ true → old.annals.loaded ≡ false → doubts keeper ≡ None
@@ -111,20 +113,20 @@ module _ {K : Type 0} (tells : K → Option (List Row)) (doubts : K → Option C
   house-first (Ok (Loaded.Bad entry)) new l r =
       subst (λ (a : Annalled). IsHouse tells doubts (record { annals = a; places = old.places; pool = old.pool; keeper = keeper })) (sym r.same)
       (house-refused new.opening l r.no_doubt)
-  house-first (Ok Loaded.Fault) new l r = house-same new r.0.same (λ _. r.0.no_doubt) (not-loaded l)
-  house-first (Err refused) new l r = house-same new r.same (λ _. r.no_doubt) (not-loaded l)
+  house-first (Ok Loaded.Fault) new l r = house-same old.annals.reopened new r.0.same (λ _. r.0.no_doubt) (not-loaded l)
+  house-first (Err refused) new l r = house-same old.annals.reopened new r.same (λ _. r.no_doubt) (not-loaded l)
 
-  house-later : (result : Result Loaded NoMemory) (new : Annalled) → old.annals.loaded ≡ true → new ≡ old.annals → LaterRead tells doubts faults result old.annals.core.rows old.annals.core.doubt old.keeper keeper
+  house-later : (result : Result Loaded NoMemory) (new : Annalled) → old.annals.loaded ≡ true → new ≡ record old.annals { reopened = true } → LaterRead tells doubts faults result old.annals.core.rows old.annals.core.doubt old.keeper keeper
       → IsHouse tells doubts (record { annals = new; places = old.places; pool = old.pool; keeper = keeper })
   house-later (Ok (Loaded.Found found)) new t e r =
-      house-same new e (not-unloaded t) (λ _. inr (record { rows_are = told-cases (tells keeper) found old.annals.core.doubt old.annals.core.rows r.keeps.rows_are; no_doubt = r.keeps.doubt_is }))
-  house-later (Ok (Loaded.Bad entry)) new t e r = house-same new e (not-unloaded t) (λ _. r.keeps)
-  house-later (Ok Loaded.Fault) new t e r = house-same new e (not-unloaded t) (λ _. r.0)
-  house-later (Err refused) new t e r = house-same new e (not-unloaded t) (λ _. r)
+      house-same true new e (not-unloaded t) (λ _. inr (record { rows_are = told-cases (tells keeper) found old.annals.core.doubt old.annals.core.rows r.keeps.rows_are; no_doubt = r.keeps.doubt_is }))
+  house-later (Ok (Loaded.Bad entry)) new t e r = house-same true new e (not-unloaded t) (λ _. r.keeps)
+  house-later (Ok Loaded.Fault) new t e r = house-same true new e (not-unloaded t) (λ _. r.0)
+  house-later (Err refused) new t e r = house-same true new e (not-unloaded t) (λ _. r)
 
   pub house-read : (result : Result Loaded NoMemory) (new : Annalled)
       → (old.annals.loaded ≡ false → FirstRead tells doubts faults result old.annals new old.keeper keeper)
-      → (old.annals.loaded ≡ true → (new ≡ old.annals) × LaterRead tells doubts faults result old.annals.core.rows old.annals.core.doubt old.keeper keeper)
+      → (old.annals.loaded ≡ true → (new ≡ record old.annals { reopened = true }) × LaterRead tells doubts faults result old.annals.core.rows old.annals.core.doubt old.keeper keeper)
       → IsHouse tells doubts (record { annals = new; places = old.places; pool = old.pool; keeper = keeper })
   house-read result new first later =
       by_test old.annals.loaded _
@@ -133,11 +135,12 @@ module _ {K : Type 0} (tells : K → Option (List Row)) (doubts : K → Option C
 
   -- so a boot may be put behind the log
   module _ (room : 1 ≤ old.annals.core.row_room) where
-    can-same : (found : Found) → CanBoot tells doubts found (record old { keeper = keeper }) → (new : Annalled) → new ≡ old.annals → CanBoot tells doubts found (record { annals = new; places = old.places; pool = old.pool; keeper = keeper })
-    can-same found b new e = subst (λ (a : Annalled). CanBoot tells doubts found (record { annals = a; places = old.places; pool = old.pool; keeper = keeper })) (sym e) b
+    can-same : (b : Bool) (found : Found) → CanBoot tells doubts found (record { annals = record old.annals { reopened = b }; places = old.places; pool = old.pool; keeper = keeper }) → (new : Annalled) → new ≡ record old.annals { reopened = b }
+        → CanBoot tells doubts found (record { annals = new; places = old.places; pool = old.pool; keeper = keeper })
+    can-same b found c new e = subst (λ (a : Annalled). CanBoot tells doubts found (record { annals = a; places = old.places; pool = old.pool; keeper = keeper })) (sym e) c
 
-    can-fault : (old.annals.loaded ≡ true → Keeps tells doubts keeper old.annals.core.rows old.annals.core.doubt) → CanBoot tells doubts Found.Fault (record old { keeper = keeper })
-    can-fault t = record { allowed = tt; unloaded = λ _. refl; keeps = t; row = omega arith }
+    can-fault : (b : Bool) → (old.annals.loaded ≡ true → KeepsSo b tells doubts keeper old.annals.core.rows old.annals.core.doubt) → CanBoot tells doubts Found.Fault (record { annals = record old.annals { reopened = b }; places = old.places; pool = old.pool; keeper = keeper })
+    can-fault b t = record { allowed = tt; unloaded = λ _. refl; keeps = t; row = omega arith }
 
     can-open : (all : List Row) (n : ℕ) → old.annals.loaded ≡ false → HasRows tells doubts keeper all None → CanBoot tells doubts Found.Plain (record { annals = opened all n old.annals; places = old.places; pool = old.pool; keeper = keeper })
     can-open all n l r =
@@ -145,7 +148,7 @@ module _ {K : Type 0} (tells : K → Option (List Row)) (doubts : K → Option C
         record {
           allowed = subst (FoundAllowed Found.Plain) (sym none) tt;
           unloaded = λ e. cc;
-          keeps = λ e. inl (subst (λ (d : Option Change). HasRows tells doubts keeper all d) (sym none) r);
+          keeps = λ e. subst (λ (d : Option Change). HasRows tells doubts keeper all d) (sym none) r;
           row = omega arith;
         }
 
@@ -156,26 +159,28 @@ module _ {K : Type 0} (tells : K → Option (List Row)) (doubts : K → Option C
         (subst (λ (a : Annalled). CanBoot tells doubts Found.Plain (record { annals = a; places = old.places; pool = old.pool; keeper = keeper })) (sym r.opened_so)
         (can-open new.opening new.core.row_room l r.keeps))
     can-first (Ok (Loaded.Bad entry)) new l r = tt
-    can-first (Ok Loaded.Fault) new l r = can-same Found.Fault (can-fault (not-loaded l)) new r.0.same
+    can-first (Ok Loaded.Fault) new l r = can-same old.annals.reopened Found.Fault (can-fault old.annals.reopened (not-loaded l)) new r.0.same
     can-first (Err refused) new l r = tt
 
-    can-later : (result : Result Loaded NoMemory) (new : Annalled) → old.annals.loaded ≡ true → new ≡ old.annals → LaterRead tells doubts faults result old.annals.core.rows old.annals.core.doubt old.keeper keeper
+    can-later : (result : Result Loaded NoMemory) (new : Annalled) → old.annals.loaded ≡ true → new ≡ record old.annals { reopened = true } → LaterRead tells doubts faults result old.annals.core.rows old.annals.core.doubt old.keeper keeper
         → CanBootAfter tells doubts result (record { annals = new; places = old.places; pool = old.pool; keeper = keeper })
     can-later (Ok (Loaded.Found found)) new t e r =
         let none : doubt_found found old.annals.core.doubt ≡ None = found-none found old.annals.core.doubt r.allowed r.well in
-        can-same found (record {
+        can-same true found (record {
           allowed = r.allowed;
           unloaded = λ l. let bad : true ≡ false = sym t ∙ l in cc;
-          keeps = λ _. inl (subst (λ (d : Option Change). HasRows tells doubts keeper (rows_found found old.annals.core.doubt old.annals.core.rows) d) (sym none) r.keeps);
+          keeps = λ _.
+              so-has (still_reopened found true) tells doubts keeper (rows_found found old.annals.core.doubt old.annals.core.rows) (doubt_found found old.annals.core.doubt)
+              (subst (λ (d : Option Change). HasRows tells doubts keeper (rows_found found old.annals.core.doubt old.annals.core.rows) d) (sym none) r.keeps);
           row = (let one = found-one found old.annals.core.doubt old.annals.core.rows in omega (arith, one, room));
         }) new e
     can-later (Ok (Loaded.Bad entry)) new t e r = tt
-    can-later (Ok Loaded.Fault) new t e r = can-same Found.Fault (can-fault (λ _. r.0)) new e
+    can-later (Ok Loaded.Fault) new t e r = can-same true Found.Fault (can-fault true (λ _. r.0)) new e
     can-later (Err refused) new t e r = tt
 
     pub can-boot : (result : Result Loaded NoMemory) (new : Annalled)
         → (old.annals.loaded ≡ false → FirstRead tells doubts faults result old.annals new old.keeper keeper)
-        → (old.annals.loaded ≡ true → (new ≡ old.annals) × LaterRead tells doubts faults result old.annals.core.rows old.annals.core.doubt old.keeper keeper)
+        → (old.annals.loaded ≡ true → (new ≡ record old.annals { reopened = true }) × LaterRead tells doubts faults result old.annals.core.rows old.annals.core.doubt old.keeper keeper)
         → CanBootAfter tells doubts result (record { annals = new; places = old.places; pool = old.pool; keeper = keeper })
     can-boot result new first later =
         by_test old.annals.loaded _

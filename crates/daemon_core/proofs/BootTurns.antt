@@ -17,6 +17,7 @@ use Rattle.update_log.specs.Holding.{holds, live}
 use Rattle.update_log.specs.Known.{rows_found}
 use Rattle.update_log.specs.Pasts.{boots, is_found_fault, past_of}
 use Rattle.daemon_core.proofs.AnnalsKept.{appended-past}
+use Rattle.daemon_core.proofs.KeptSo.{still-read}
 use Rattle.daemon_core.specs.Annals.{roomier}
 use Rattle.daemon_core.specs.Booting.{AllStarted, BoardsStarted, opened}
 use Rattle.daemon_core.specs.Boots.{BootNoted, CouldntRead, IsReady, NoBoot, ReadOthers, SameGrounds, WentWell}
@@ -45,6 +46,10 @@ same-itself : (old new : Annalled) → new ≡ old → SameLog old new
 same-itself old new e =
     record { facts = ap (λ (a : Annalled). a.facts) e; first = ap (λ (a : Annalled). a.first) e; log = ap (λ (a : Annalled). a.core.log) e; makers = ap (λ (a : Annalled). a.makers) e }
 
+same-reopened : (old new : Annalled) → new ≡ record old { reopened = true } → SameLog old new
+same-reopened old new e =
+    record { facts = ap (λ (a : Annalled). a.facts) e; first = ap (λ (a : Annalled). a.first) e; log = ap (λ (a : Annalled). a.core.log) e; makers = ap (λ (a : Annalled). a.makers) e }
+
 same-opened : (old new : Annalled) (all : List Row) (n : ℕ) → new ≡ opened all n old → SameLog old new
 same-opened old new all n e =
     record { facts = ap (λ (a : Annalled). a.facts) e; first = ap (λ (a : Annalled). a.first) e; log = ap (λ (a : Annalled). a.core.log) e; makers = ap (λ (a : Annalled). a.makers) e }
@@ -69,7 +74,7 @@ module _ {K : Type 0} (tells : K → Option (List Row)) (doubts : K → Option C
   -- what reading left
   module _ (result : Result Loaded NoMemory)
       (first : room.annals.loaded ≡ false → FirstRead tells doubts faults result room.annals mid.annals room.keeper mid.keeper)
-      (later : room.annals.loaded ≡ true → (mid.annals ≡ room.annals) × LaterRead tells doubts faults result room.annals.core.rows room.annals.core.doubt room.keeper mid.keeper) where
+      (later : room.annals.loaded ≡ true → (mid.annals ≡ record room.annals { reopened = true }) × LaterRead tells doubts faults result room.annals.core.rows room.annals.core.doubt room.keeper mid.keeper) where
     first-same : (r : Result Loaded NoMemory) → FirstRead tells doubts faults r room.annals mid.annals room.keeper mid.keeper → SameLog room.annals mid.annals
     first-same (Ok (Loaded.Found found)) f = same-opened room.annals mid.annals mid.annals.opening mid.annals.core.row_room f.opened_so
     first-same (Ok (Loaded.Bad entry)) f = same-refused room.annals mid.annals mid.annals.opening f.same
@@ -78,7 +83,7 @@ module _ {K : Type 0} (tells : K → Option (List Row)) (doubts : K → Option C
 
     pub same-log : SameLog old.annals mid.annals
     same-log = same-trans old.annals room.annals mid.annals (same-roomier old.annals room.annals roomy)
-        (by_test room.annals.loaded _ (λ t. same-itself room.annals mid.annals (later t).0) (λ l. first-same result (first l)))
+        (by_test room.annals.loaded _ (λ t. same-reopened room.annals mid.annals (later t).0) (λ l. first-same result (first l)))
 
     pub same-past : past mid ≡ past old
     same-past = ap past_of same-log.log
@@ -135,7 +140,7 @@ module _ {K : Type 0} (tells : K → Option (List Row)) (doubts : K → Option C
           }
 
       past-new : past new ≡ next_boot (past mid) plan found b.listed ∷ past mid
-      past-new = appended-past 0 (next_boot (past mid) plan found b.listed) mid.annals new.annals b.appended
+      past-new = appended-past 0 (next_boot (past mid) plan found b.listed) mid.annals (record new.annals { reopened = mid.annals.reopened }) b.appended
 
       pub counts-new : faults old.keeper ≤ faults new.keeper
       counts-new = subst (λ (k : K). faults old.keeper ≤ faults k) (sym keeper) counted
@@ -198,14 +203,15 @@ module _ {K : Type 0} (tells : K → Option (List Row)) (doubts : K → Option C
   -- want of memory
   pub turn-none : (refused : NoMemory)
       → (room.annals.loaded ≡ false → FirstRead tells doubts faults (Err refused) room.annals mid.annals room.keeper mid.keeper)
-      → (room.annals.loaded ≡ true → (mid.annals ≡ room.annals) × LaterRead tells doubts faults (Err refused) room.annals.core.rows room.annals.core.doubt room.keeper mid.keeper)
+      → (room.annals.loaded ≡ true → (mid.annals ≡ record room.annals { reopened = true }) × LaterRead tells doubts faults (Err refused) room.annals.core.rows room.annals.core.doubt room.keeper mid.keeper)
       → (NoBoot tells old mid × (mid.annals.opening ≡ old.annals.opening)) × FaultsCounted faults old mid × (faults old.keeper ≤ faults mid.keeper)
   turn-none refused first later =
-      let same : mid.annals ≡ room.annals = by_test room.annals.loaded _ (λ t. (later t).0) (λ l. (first l).same) in (
+      let loaded : mid.annals.loaded ≡ room.annals.loaded = by_test room.annals.loaded _ (λ t. ap (λ (a : Annalled). a.loaded) (later t).0) (λ l. ap (λ (a : Annalled). a.loaded) (first l).same) in
+      let opening : mid.annals.opening ≡ room.annals.opening = by_test room.annals.loaded _ (λ t. ap (λ (a : Annalled). a.opening) (later t).0) (λ l. ap (λ (a : Annalled). a.opening) (first l).same) in (
         (
-          none-noted tells doubts faults old room mid new plan roomy elsewhere places pool counts (Err refused) first later (ap (λ (a : Annalled). a.loaded) same ∙ loaded-was)
+          none-noted tells doubts faults old room mid new plan roomy elsewhere places pool counts (Err refused) first later (loaded ∙ loaded-was)
               (λ l. (first (loaded-was ∙ l)).told_stay ∙ ap tells elsewhere.keeper),
-          ap (λ (a : Annalled). a.opening) same ∙ opening-was,
+          opening ∙ opening-was,
         ),
         faults-none tells doubts faults old room mid new plan roomy elsewhere places pool counts (Err refused) first later,
         counted tells doubts faults old room mid new plan roomy elsewhere places pool counts,
@@ -214,7 +220,7 @@ module _ {K : Type 0} (tells : K → Option (List Row)) (doubts : K → Option C
   -- other rows
   pub turn-others : (entry : ℕ)
       → (room.annals.loaded ≡ false → FirstRead tells doubts faults (Ok (Loaded.Bad entry)) room.annals mid.annals room.keeper mid.keeper)
-      → (room.annals.loaded ≡ true → (mid.annals ≡ room.annals) × LaterRead tells doubts faults (Ok (Loaded.Bad entry)) room.annals.core.rows room.annals.core.doubt room.keeper mid.keeper)
+      → (room.annals.loaded ≡ true → (mid.annals ≡ record room.annals { reopened = true }) × LaterRead tells doubts faults (Ok (Loaded.Bad entry)) room.annals.core.rows room.annals.core.doubt room.keeper mid.keeper)
       → ReadOthers tells entry old mid × FaultsCounted faults old mid × (faults old.keeper ≤ faults mid.keeper)
   turn-others entry first later =
       let loaded : mid.annals.loaded ≡ room.annals.loaded = by_test room.annals.loaded _ (λ t. ap (λ (a : Annalled). a.loaded) (later t).0) (λ l. ap (λ (a : Annalled). a.loaded) (first l).same) in (
@@ -242,18 +248,19 @@ module _ {K : Type 0} (tells : K → Option (List Row)) (doubts : K → Option C
 
   -- a boot that couldn't read
   pub turn-fault : (first : room.annals.loaded ≡ false → FirstRead tells doubts faults (Ok Loaded.Fault) room.annals mid.annals room.keeper mid.keeper)
-      → (later : room.annals.loaded ≡ true → (mid.annals ≡ room.annals) × LaterRead tells doubts faults (Ok Loaded.Fault) room.annals.core.rows room.annals.core.doubt room.keeper mid.keeper)
+      → (later : room.annals.loaded ≡ true → (mid.annals ≡ record room.annals { reopened = true }) × LaterRead tells doubts faults (Ok Loaded.Fault) room.annals.core.rows room.annals.core.doubt room.keeper mid.keeper)
       → (b : BoardsStarted plan Found.Fault mid.annals new.annals mid.places new.places) → new.keeper ≡ mid.keeper → new.pool ≡ mid.pool
       → ((listed : List BoardSeen) × CouldntRead tells plan listed old new) × FaultsCounted faults old new × (faults old.keeper ≤ faults new.keeper)
   turn-fault first later b keeper pool_new =
-      let same : mid.annals ≡ room.annals = by_test room.annals.loaded _ (λ t. (later t).0) (λ l. (first l).0.same) in
+      let loaded : mid.annals.loaded ≡ room.annals.loaded = by_test room.annals.loaded _ (λ t. ap (λ (a : Annalled). a.loaded) (later t).0) (λ l. ap (λ (a : Annalled). a.loaded) (first l).0.same) in
+      let opening : mid.annals.opening ≡ room.annals.opening = by_test room.annals.loaded _ (λ t. ap (λ (a : Annalled). a.opening) (later t).0) (λ l. ap (λ (a : Annalled). a.opening) (first l).0.same) in
       let rose : Rose (faults room.keeper) (faults mid.keeper) = by_test room.annals.loaded _ (λ t. (later t).1.1) (λ l. (first l).1) in (
         (
           b.listed,
           record {
             noted = noted tells doubts faults old room mid new plan roomy elsewhere places pool counts (Ok Loaded.Fault) first later Found.Fault b keeper pool_new;
-            loaded = b.appended.same.loaded ∙ ap (λ (a : Annalled). a.loaded) same ∙ loaded-was;
-            opening = b.appended.same.opening ∙ ap (λ (a : Annalled). a.opening) same ∙ opening-was;
+            loaded = b.appended.same.loaded ∙ loaded ∙ loaded-was;
+            opening = b.appended.same.opening ∙ opening ∙ opening-was;
             stays = λ l. ap tells keeper ∙ (first (loaded-was ∙ l)).0.told_stay ∙ ap tells elsewhere.keeper;
           },
         ),
@@ -264,7 +271,7 @@ module _ {K : Type 0} (tells : K → Option (List Row)) (doubts : K → Option C
   -- one that went well
   module _ (found : Found)
       (first : room.annals.loaded ≡ false → FirstRead tells doubts faults (Ok (Loaded.Found found)) room.annals mid.annals room.keeper mid.keeper)
-      (later : room.annals.loaded ≡ true → (mid.annals ≡ room.annals) × LaterRead tells doubts faults (Ok (Loaded.Found found)) room.annals.core.rows room.annals.core.doubt room.keeper mid.keeper)
+      (later : room.annals.loaded ≡ true → (mid.annals ≡ record room.annals { reopened = true }) × LaterRead tells doubts faults (Ok (Loaded.Found found)) room.annals.core.rows room.annals.core.doubt room.keeper mid.keeper)
       (b : BoardsStarted plan found mid.annals new.annals mid.places new.places) (keeper : new.keeper ≡ mid.keeper) (pool_new : new.pool ≡ mid.pool)
       (rows_are : new.annals.core.rows ≡ rows_found found mid.annals.core.doubt mid.annals.core.rows) where
     was-read : is_found_fault found ≡ false
@@ -301,6 +308,7 @@ module _ {K : Type 0} (tells : K → Option (List Row)) (doubts : K → Option C
           noted = noted tells doubts faults old room mid new plan roomy elsewhere places pool counts (Ok (Loaded.Found found)) first later found b keeper pool_new;
           read = was-read;
           loaded = b.appended.same.loaded ∙ now-loaded;
+          reopened = b.reopened ∙ still-read found mid.annals.reopened was-read;
           opening = opened-well;
           keeps = subst (λ (k : K). HasRows tells doubts k new.annals.core.rows None) (sym keeper) (subst (λ (rs : List Row). HasRows tells doubts mid.keeper rs None) (sym rows_are) mid-keeps);
         },

@@ -27,7 +27,7 @@ use Rattle.daemon_core.specs.Annals.{Appended, IsAllowedSo, IsAnnals, Runs}
 use Rattle.daemon_core.specs.Boards.{BoardIsHome, PlaceStands, is_out}
 use Rattle.daemon_core.specs.House.{IsHouse}
 use Rattle.daemon_core.specs.Housed.{Annalled, Housed, Place, past, past_in, rows_before}
-use Rattle.daemon_core.specs.Keeping.{Keeps}
+use Rattle.daemon_core.specs.Keeping.{KeepsSo}
 use Rattle.daemon_core.specs.Owed.{owed}
 use Rattle.daemon_core.specs.Returns.{SameBoards, StepEnds, new_marks, number_of, place_at}
 use Rattle.daemon_core.proofs.ClaimAlone.{on-board}
@@ -164,8 +164,8 @@ house-ended told doubted client entry op outcome number b old new h o k a loaded
       places = λ m place e. at m place (get-set old.places number m (record (place_at old.places number) { told = length b.journal }) place e);
       loaded = loaded;
       kept =
-          subst (λ (x : List Row). Keeps told doubted old.keeper x (doubt old.annals.facts (rows_before old.annals) (past old))) o.stands.rows
-          (subst (λ (x : Option Change). Keeps told doubted old.keeper old.annals.core.rows x) o.stands.doubt (h.kept loaded));
+          subst (λ (x : List Row). KeepsSo old.annals.reopened told doubted old.keeper x (doubt old.annals.facts (rows_before old.annals) (past old))) o.stands.rows
+          (subst (λ (x : Option Change). KeepsSo old.annals.reopened told doubted old.keeper old.annals.core.rows x) o.stands.doubt (h.kept loaded));
       capacity = refl;
       free = h.free;
     })

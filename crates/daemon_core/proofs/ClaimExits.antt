@@ -27,7 +27,7 @@ use Rattle.daemon_core.specs.Claims.{IsToStore, MayAnswer, MayClaim, claim_event
 use Rattle.daemon_core.specs.Fetches.{IsPayloadOf, is_payload, note_of, whole_note}
 use Rattle.daemon_core.specs.House.{IsHouse}
 use Rattle.daemon_core.specs.Housed.{Annalled, Housed, Place, past, past_in, rows_before}
-use Rattle.daemon_core.specs.Keeping.{HasRows, Keeps, keeper_faults, met_fault}
+use Rattle.daemon_core.specs.Keeping.{HasRows, keeper_faults, met_fault}
 use Rattle.daemon_core.specs.Turns.{FaultsCounted, Turned}
 use Rattle.daemon_core.proofs.Answered.{same-unchanged}
 use Rattle.daemon_core.specs.PutOff.{IsAccept}
@@ -39,7 +39,9 @@ use Rattle.daemon_core.proofs.ClaimAlone.{on-board}
 use Rattle.daemon_core.proofs.ClaimHouse.{IsReady}
 use Rattle.daemon_core.proofs.ClaimKept.{AddsRow, claim-doubted, claim-fits, claim-keeps, claim-made, claim-ready, claims, house-claimed, house-unclaimed, not-taken}
 use Rattle.daemon_core.proofs.ClaimTurns.{answers-broken, answers-refused, answers-whole, claim-board, claim-live, claim-same_held, claim-takes_entry, entry-next, store-plan, store-within, takes_event}
-use Rattle.daemon_core.proofs.PuttingOff.{counted-more, counted-same, house-plain, keeps-left, no-doubt, quiet-faults, refusal-other, suits-told}
+use Rattle.daemon_core.proofs.CommitKept.{house-unstored}
+use Rattle.daemon_core.proofs.PuttingOff.{counted-more, counted-same, house-plain, quiet-faults, refusal-other, suits-told}
+use Rattle.daemon_core.proofs.KeptSo.{so-has}
 
 -- What holds of the annals of the call holds of those inside.
 pub may-over : (a b : Annalled) (client blocks : ℕ) (ticket : Ticket) → a ≡ b → MayClaim b client ticket blocks → MayClaim a client ticket blocks
@@ -127,7 +129,7 @@ pub house-failed : {K : Type 0} (told : K → Option (List Row)) (doubted : K �
 house-failed told doubted client ticket payload row number event h new keeper pool w k k' s e a kept cap free =
     house-unclaimed told doubted client payload.count ticket (whole_note payload) (ClaimAnswer.Refused Refusal.KeeperFault) h new pool keeper w k k'
     (subst (λ (x : Event). Appended client x h.annals new) (sym e) a) s.may (may-fault h.annals client ticket payload row number s) refl
-    (claim-doubted told doubted h.annals client ticket (whole_note payload) row keeper k s.store.added kept) cap free
+    (so-has h.annals.reopened told doubted keeper _ _ (claim-doubted told doubted h.annals client ticket (whole_note payload) row keeper k s.store.added kept)) cap free
 
 -- The entry is live then.
 pub took-live : (a new : Annalled) (client entry : ℕ) (ticket : Ticket) (payload : SealedBytes) (row : Row) (number : ℕ) (event : Event) → IsAnnals a → Storing a client ticket payload row number → takes_event client ticket payload row ≡ event → Appended client event a new → entry ≡ row.entry → IsSome (live_entry (past_in new) entry)
@@ -201,18 +203,7 @@ broken-answers a client ticket fetched note answer e n w h =
 -- ---- a claim for which the keeper wanted memory
 
 pub house-left : {K : Type 0} (told : K → Option (List Row)) (doubted : K → Option Change) (client : ℕ) (ticket : Ticket) (payload : SealedBytes) (row : Row) (number : ℕ) (h : Housed K) (keeper : K) → IsHouse told doubted h → IsAnnals h.annals → Storing h.annals client ticket payload row number → (told keeper ≡ told h.keeper) × (doubted keeper ≡ None) → IsHouse told doubted (record h { keeper = keeper })
-house-left told doubted client ticket payload row number h keeper w k s c =
-    let d : h.annals.core.doubt ≡ None = k.stands.doubt ∙ no-doubt h.annals k s.may.runs.on in
-    record {
-      count = w.count;
-      places = w.places;
-      unloaded = λ u. c.1;
-      kept = λ l.
-          subst (λ (x : Option Change). Keeps told doubted keeper h.annals.core.rows x) (sym d)
-          (inl (keeps-left told doubted h.keeper keeper h.annals.core.rows None (store-plain told doubted client ticket payload row number h w k s) c));
-      capacity = w.capacity;
-      free = w.free;
-    }
+house-left told doubted client ticket payload row number h keeper w k s c = house-unstored told doubted h h.annals keeper refl w k s.may.loaded s.may.runs.on c
 
 pub turn-left : (a b : Annalled) (client blocks : ℕ) (ticket : Ticket) (event : Claimed → Event) → a ≡ b → MayClaim b client ticket blocks → Turned client event (Err Stop.NoMemory) b a
 turn-left a b client blocks ticket event e m = (m.runs.on, same-unchanged b a e)

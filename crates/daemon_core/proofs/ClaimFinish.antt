@@ -26,7 +26,7 @@ use Rattle.daemon_core.specs.Commits.{StoredAs}
 use Rattle.daemon_core.specs.Finishes.{ClosedAs, IsDone}
 use Rattle.daemon_core.specs.House.{IsHouse}
 use Rattle.daemon_core.specs.Housed.{Annalled, Housed, past, past_in, rows_before}
-use Rattle.daemon_core.specs.Keeping.{HasRows, Keeps, keeper_faults}
+use Rattle.daemon_core.specs.Keeping.{HasRows, keeper_faults}
 use Rattle.daemon_core.specs.Returns.{place_at, places_with}
 use Rattle.daemon_core.proofs.ClaimAlone.{row-on}
 use Rattle.daemon_core.proofs.ClaimDone.{finish-ends}
@@ -37,6 +37,7 @@ use Rattle.daemon_core.proofs.CommitKept.{house-clear, on-no_doubt, stored-keeps
 use Rattle.daemon_core.proofs.Held.{held-finished}
 use Rattle.daemon_core.proofs.HeldOnce.{out-once}
 use Rattle.daemon_core.proofs.HouseKept.{house-next}
+use Rattle.daemon_core.proofs.KeptSo.{so-has}
 
 -- What is done, over annals.
 abbrev pub DoneIn : Annalled → ℕ → RowState → Type 0
@@ -80,17 +81,17 @@ closed-unchanged told doubted RowState.NeedsReboot change stored old new s = sto
 
 -- The keeper's rows once the change was stored, or wasn't.
 after-stored : {K : Type 0} (told : K → Option (List Row)) (doubted : K → Option Change) (old new : K) (all : List Row) (entry : ℕ) (closed : RowState) (reason time : ℕ) (stored : Stored) → HasRows told doubted old all None → StoredAs (Change.Advance entry closed reason time) stored (told old) (told new) (doubted new)
-    → Keeps told doubted new (rows_by (fate_stored stored) (Some (Change.Advance entry (closing_stored closed stored) reason time)) all) (doubt_by (fate_stored stored) (Some (Change.Advance entry (closing_stored closed stored) reason time)) None)
+    → HasRows told doubted new (rows_by (fate_stored stored) (Some (Change.Advance entry (closing_stored closed stored) reason time)) all) (doubt_by (fate_stored stored) (Some (Change.Advance entry (closing_stored closed stored) reason time)) None)
 after-stored told doubted old new all entry closed reason time Stored.Yes h s = stored-keeps told doubted old new all (Change.Advance entry closed reason time) Stored.Yes h s
 after-stored told doubted old new all entry closed reason time Stored.Fault h s = stored-keeps told doubted old new all (Change.Advance entry closed reason time) Stored.Fault h s
 after-stored told doubted old new all entry closed reason time Stored.NoMemory h s = stored-keeps told doubted old new all (Change.Advance entry closed reason time) Stored.NoMemory h s
 after-stored told doubted old new all entry closed reason time Stored.Unchanged h s = absurd s
 
-after-none : {K : Type 0} (told : K → Option (List Row)) (doubted : K → Option Change) (old new : K) (all : List Row) (change : Change) (stored : Stored) → HasRows told doubted old all None → stored ≡ Stored.Unchanged → new ≡ old → Keeps told doubted new (rows_by (fate_stored stored) (Some change) all) (doubt_by (fate_stored stored) (Some change) None)
-after-none told doubted old new all change stored h e n = rw (e, n) (inl h)
+after-none : {K : Type 0} (told : K → Option (List Row)) (doubted : K → Option Change) (old new : K) (all : List Row) (change : Change) (stored : Stored) → HasRows told doubted old all None → stored ≡ Stored.Unchanged → new ≡ old → HasRows told doubted new (rows_by (fate_stored stored) (Some change) all) (doubt_by (fate_stored stored) (Some change) None)
+after-none told doubted old new all change stored h e n = rw (e, n) h
 
 pub after-closed : {K : Type 0} (told : K → Option (List Row)) (doubted : K → Option Change) (old new : K) (all : List Row) (entry : ℕ) (closed : RowState) (reason time : ℕ) (stored : Stored) → HasRows told doubted old all None → ClosedAs told doubted closed (Change.Advance entry closed reason time) stored old new
-    → Keeps told doubted new (rows_by (fate_stored stored) (Some (Change.Advance entry (closing_stored closed stored) reason time)) all) (doubt_by (fate_stored stored) (Some (Change.Advance entry (closing_stored closed stored) reason time)) None)
+    → HasRows told doubted new (rows_by (fate_stored stored) (Some (Change.Advance entry (closing_stored closed stored) reason time)) all) (doubt_by (fate_stored stored) (Some (Change.Advance entry (closing_stored closed stored) reason time)) None)
 after-closed told doubted old new all entry RowState.Begun reason time stored h s = after-none told doubted old new all (Change.Advance entry (closing_stored RowState.Begun stored) reason time) stored h s.0 s.1
 after-closed told doubted old new all entry RowState.Pending reason time stored h s = after-stored told doubted old new all entry RowState.Pending reason time stored h s
 after-closed told doubted old new all entry RowState.Success reason time stored h s = after-stored told doubted old new all entry RowState.Success reason time stored h s
@@ -149,8 +150,9 @@ house-finished told doubted client entry number l tail b blocks closed stored ol
       places = home-places old.annals (finish_event client entry closed stored) client entry number l tail b blocks old.places o h.count h.places s (finish-ends old.annals.facts (rows_before old.annals) (past old) client entry (closing_stored closed stored) stored);
       loaded = loaded;
       kept =
-          subst (λ (x : Option Change). Keeps told doubted keeper (rows old.annals.facts (rows_before old.annals) (finish_event client entry closed stored ∷ past old)) (doubt_by (fate_stored stored) (Some (Change.Advance entry (closing_stored closed stored) (reason_of (rows old.annals.facts (rows_before old.annals) (past old)) entry) (time_of (past old)))) x)) (sym none)
-          (subst (λ (x : List Row). Keeps told doubted keeper (rows_by (fate_stored stored) (Some (Change.Advance entry (closing_stored closed stored) (reason_of x entry) (time_of (past old)))) x) (doubt_by (fate_stored stored) (Some (Change.Advance entry (closing_stored closed stored) (reason_of x entry) (time_of (past old)))) None)) o.stands.rows kept);
+          so-has old.annals.reopened told doubted keeper (rows old.annals.facts (rows_before old.annals) (finish_event client entry closed stored ∷ past old)) (doubt old.annals.facts (rows_before old.annals) (finish_event client entry closed stored ∷ past old))
+          (subst (λ (x : Option Change). HasRows told doubted keeper (rows old.annals.facts (rows_before old.annals) (finish_event client entry closed stored ∷ past old)) (doubt_by (fate_stored stored) (Some (Change.Advance entry (closing_stored closed stored) (reason_of (rows old.annals.facts (rows_before old.annals) (past old)) entry) (time_of (past old)))) x)) (sym none)
+          (subst (λ (x : List Row). HasRows told doubted keeper (rows_by (fate_stored stored) (Some (Change.Advance entry (closing_stored closed stored) (reason_of x entry) (time_of (past old)))) x) (doubt_by (fate_stored stored) (Some (Change.Advance entry (closing_stored closed stored) (reason_of x entry) (time_of (past old)))) None)) o.stands.rows kept));
       capacity = pc;
       free = (let e = finish-held old.annals client entry number l tail b blocks closed stored o s in let f = h.free in omega (arith, pf, e, f));
     })

@@ -22,7 +22,7 @@ use Rattle.daemon_core.specs.Annals.{Appended, IsAllowedSo, IsAnnals, Runs}
 use Rattle.daemon_core.specs.Boards.{BoardStands, PlaceStands}
 use Rattle.daemon_core.specs.House.{IsHouse}
 use Rattle.daemon_core.specs.Housed.{Annalled, Housed, Place, past, past_in, rows_before}
-use Rattle.daemon_core.specs.Keeping.{Keeps}
+use Rattle.daemon_core.specs.Keeping.{KeepsSo}
 use Rattle.daemon_core.specs.Returns.{ComesHome, number_of, place_at, places_with}
 use Rattle.daemon_core.proofs.ClaimDone.{Ends, back-ends, ends-other, ends-own}
 use Rattle.daemon_core.proofs.ClaimEnds.{get-set, length-set, number-within, other-number, own-board, place-found}
@@ -116,8 +116,8 @@ house-back told doubted client entry number l tail b blocks old new pool h o k a
       places = home-places old.annals (back_event client entry) client entry number l tail b blocks old.places o h.count h.places s (back-ends old.annals.facts (rows_before old.annals) (past old) client entry);
       loaded = loaded;
       kept =
-          subst (λ (x : List Row). Keeps told doubted old.keeper x (doubt old.annals.facts (rows_before old.annals) (past old))) o.stands.rows
-          (subst (λ (x : Option Change). Keeps told doubted old.keeper old.annals.core.rows x) o.stands.doubt (h.kept loaded));
+          subst (λ (x : List Row). KeepsSo old.annals.reopened told doubted old.keeper x (doubt old.annals.facts (rows_before old.annals) (past old))) o.stands.rows
+          (subst (λ (x : Option Change). KeepsSo old.annals.reopened told doubted old.keeper old.annals.core.rows x) o.stands.doubt (h.kept loaded));
       capacity = pc;
       free = (let e = back-held old.annals client entry number l tail b blocks o s in let f = h.free in omega (arith, pf, e, f));
     })

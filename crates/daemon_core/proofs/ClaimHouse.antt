@@ -14,7 +14,7 @@ use Rattle.daemon_core.specs.Annals.{Appended, IsAllowedSo, IsAnnals, Runs}
 use Rattle.daemon_core.specs.Goes.{GoesOn}
 use Rattle.daemon_core.specs.House.{IsHouse}
 use Rattle.daemon_core.specs.Housed.{Annalled, Housed, past, past_in, rows_before}
-use Rattle.daemon_core.specs.Keeping.{Keeps}
+use Rattle.daemon_core.specs.Keeping.{KeepsSo}
 use Rattle.daemon_core.specs.Owed.{owed}
 use Rattle.daemon_core.specs.declared.off.Off.{Off}
 use Rattle.daemon_core.proofs.AnnalsKept.{legal-next}
@@ -79,8 +79,8 @@ house-started told doubted client entry op l old new h o k a loaded s =
       places = λ number place e. start-place old.annals.facts old.annals.first (rows_before old.annals) (past old) client entry op l number place s.live (h.places number place e);
       loaded = loaded;
       kept =
-          subst (λ (x : List Row). Keeps told doubted old.keeper x (doubt old.annals.facts (rows_before old.annals) (past old))) o.stands.rows
-          (subst (λ (x : Option Change). Keeps told doubted old.keeper old.annals.core.rows x) o.stands.doubt (h.kept loaded));
+          subst (λ (x : List Row). KeepsSo old.annals.reopened told doubted old.keeper x (doubt old.annals.facts (rows_before old.annals) (past old))) o.stands.rows
+          (subst (λ (x : Option Change). KeepsSo old.annals.reopened told doubted old.keeper old.annals.core.rows x) o.stands.doubt (h.kept loaded));
       capacity = refl;
       free = h.free;
     })

@@ -1,5 +1,5 @@
 -- A house after a claim.
-use Rattle.std.proofs.Common.{◌≡◌, ◌≢◌, ℕ, ◌<◌, ◌≤◌, ◌+◌, Bool, true, false, not, List, [], ◌∷◌, ◌++◌, length, refl, ap, sym, ◌∙◌, subst, arith, ◌⊎◌, inl, inr}
+use Rattle.std.proofs.Common.{◌≡◌, ◌≢◌, ℕ, ◌<◌, ◌≤◌, ◌+◌, Bool, true, false, not, List, [], ◌∷◌, ◌++◌, length, refl, ap, sym, ◌∙◌, subst, arith}
 use Rattle.std.proofs.lemmas.List.{length_push}
 use Rattle.std.specs.Prelude.{Option, Some, None, IfSome, MatchBool, find, slice_get, option_map, ◌==◌}
 use Rattle.std.specs.List.{AllByRecursion}
@@ -33,7 +33,7 @@ use Rattle.daemon_core.specs.Claims.{MayAnswer, MayClaim, places_without}
 use Rattle.daemon_core.specs.Holds.{IsReleaseAt, held_by}
 use Rattle.daemon_core.specs.House.{IsHouse}
 use Rattle.daemon_core.specs.Housed.{Annalled, Housed, Place, past, past_in, rows_before}
-use Rattle.daemon_core.specs.Keeping.{HasRows, Keeps}
+use Rattle.daemon_core.specs.Keeping.{HasRows, KeepsSo}
 use Rattle.daemon_core.specs.Owed.{owed}
 use Rattle.daemon_core.specs.Returns.{place_at}
 use Rattle.daemon_core.proofs.AnnalsKept.{legal-next}
@@ -48,6 +48,7 @@ use Rattle.daemon_core.proofs.HouseKept.{house-next}
 use Rattle.daemon_core.proofs.Owed.{adds, adds-legal}
 use Rattle.daemon_core.proofs.PlacesKept.{place-same}
 use Rattle.daemon_core.proofs.PuttingOff.{no-doubt}
+use Rattle.daemon_core.proofs.KeptSo.{so-has}
 
 -- ---- the blocks of a hold
 
@@ -179,15 +180,15 @@ claim-fits told doubted client blocks ticket h w k m =
 
 -- The keeper, where nothing was asked of it.
 pub claim-keeps : {K : Type 0} (told : K → Option (List Row)) (doubted : K → Option Change) (client : ℕ) (ticket : Ticket) (note : FetchNote) (answer : ClaimAnswer) (h : Housed K) → IsHouse told doubted h → IsAnnals h.annals → h.annals.loaded ≡ true → is_taken answer ≡ false
-    → Keeps told doubted h.keeper (rows h.annals.facts (rows_before h.annals) (claims client ticket note answer ∷ past h)) (doubt h.annals.facts (rows_before h.annals) (claims client ticket note answer ∷ past h))
+    → KeepsSo h.annals.reopened told doubted h.keeper (rows h.annals.facts (rows_before h.annals) (claims client ticket note answer ∷ past h)) (doubt h.annals.facts (rows_before h.annals) (claims client ticket note answer ∷ past h))
 claim-keeps told doubted client ticket note answer h w k l n =
     let s = claim-rows_same h.annals.facts (rows_before h.annals) (past h) client ticket.request note answer n in
-    subst (λ (x : List Row). Keeps told doubted h.keeper x (doubt h.annals.facts (rows_before h.annals) (claims client ticket note answer ∷ past h))) (sym (s.0 ∙ sym k.stands.rows))
-    (subst (λ (x : Option Change). Keeps told doubted h.keeper h.annals.core.rows x) (sym (s.1 ∙ sym k.stands.doubt)) (w.kept l))
+    subst (λ (x : List Row). KeepsSo h.annals.reopened told doubted h.keeper x (doubt h.annals.facts (rows_before h.annals) (claims client ticket note answer ∷ past h))) (sym (s.0 ∙ sym k.stands.rows))
+    (subst (λ (x : Option Change). KeepsSo h.annals.reopened told doubted h.keeper h.annals.core.rows x) (sym (s.1 ∙ sym k.stands.doubt)) (w.kept l))
 
 pub house-unclaimed : {K : Type 0} (told : K → Option (List Row)) (doubted : K → Option Change) (client blocks : ℕ) (ticket : Ticket) (note : FetchNote) (answer : ClaimAnswer) (old : Housed K) (new : Annalled) (pool : PoolCounts) (keeper : K) → IsHouse told doubted old → IsAnnals old.annals → IsAnnals new
     → Appended client (claims client ticket note answer) old.annals new → MayClaim old.annals client ticket blocks → MayAnswer old.annals client ticket note answer → gives_entry answer ≡ false
-    → Keeps told doubted keeper (rows old.annals.facts (rows_before old.annals) (claims client ticket note answer ∷ past old)) (doubt old.annals.facts (rows_before old.annals) (claims client ticket note answer ∷ past old))
+    → KeepsSo old.annals.reopened told doubted keeper (rows old.annals.facts (rows_before old.annals) (claims client ticket note answer ∷ past old)) (doubt old.annals.facts (rows_before old.annals) (claims client ticket note answer ∷ past old))
     → pool.capacity ≡ old.pool.capacity → pool.free ≡ old.pool.free + blocks → IsHouse told doubted (record { annals = new; places = old.places; pool = pool; keeper = keeper })
 house-unclaimed told doubted client blocks ticket note answer old new pool keeper h o k a m w n kept cap free =
     let l = claim-legal old.annals client blocks ticket note answer o m w in
@@ -212,23 +213,23 @@ abbrev pub AddsRow : Annalled → ℕ → Ticket → Row → Type 0
 AddsRow a client ticket row = addition a.facts (time_of (past_in a)) (live (past_in a)) (known a.facts (rows_before a) (past_in a)) client ticket.request RowState.Begun ≡ Some (Change.Add row)
 
 pub claim-made : {K : Type 0} (told : K → Option (List Row)) (doubted : K → Option Change) (a : Annalled) (client : ℕ) (ticket : Ticket) (note : FetchNote) (entry : ℕ) (row : Row) (keeper : K) → IsAnnals a → off (past_in a) ≡ false → AddsRow a client ticket row → HasRows told doubted keeper (changed (Change.Add row) a.core.rows) None
-    → Keeps told doubted keeper (rows a.facts (rows_before a) (claims client ticket note (ClaimAnswer.Entry entry) ∷ past_in a)) (doubt a.facts (rows_before a) (claims client ticket note (ClaimAnswer.Entry entry) ∷ past_in a))
+    → HasRows told doubted keeper (rows a.facts (rows_before a) (claims client ticket note (ClaimAnswer.Entry entry) ∷ past_in a)) (doubt a.facts (rows_before a) (claims client ticket note (ClaimAnswer.Entry entry) ∷ past_in a))
 claim-made told doubted a client ticket note entry row keeper k o e h =
     let all : List Row = rows a.facts (rows_before a) (past_in a) in
     let r : changed (Change.Add row) a.core.rows ≡ rows a.facts (rows_before a) (claims client ticket note (ClaimAnswer.Entry entry) ∷ past_in a) =
     ap (λ (x : List Row). changed (Change.Add row) x) k.stands.rows ∙ sym (ap (λ (x : Option Change). rows_by Fate.Made x all) e) in
-    inl (record { rows_are = subst (λ (x : List Row). IfSome (told keeper) (λ y. y ≡ x)) r h.rows_are; doubt_is = h.doubt_is ∙ sym (no-doubt a k o) })
+    record { rows_are = subst (λ (x : List Row). IfSome (told keeper) (λ y. y ≡ x)) r h.rows_are; doubt_is = h.doubt_is ∙ sym (no-doubt a k o) }
 
 pub claim-doubted : {K : Type 0} (told : K → Option (List Row)) (doubted : K → Option Change) (a : Annalled) (client : ℕ) (ticket : Ticket) (note : FetchNote) (row : Row) (keeper : K) → IsAnnals a → AddsRow a client ticket row → HasRows told doubted keeper a.core.rows (Some (Change.Add row))
-    → Keeps told doubted keeper (rows a.facts (rows_before a) (claims client ticket note (ClaimAnswer.Refused Refusal.KeeperFault) ∷ past_in a)) (doubt a.facts (rows_before a) (claims client ticket note (ClaimAnswer.Refused Refusal.KeeperFault) ∷ past_in a))
+    → HasRows told doubted keeper (rows a.facts (rows_before a) (claims client ticket note (ClaimAnswer.Refused Refusal.KeeperFault) ∷ past_in a)) (doubt a.facts (rows_before a) (claims client ticket note (ClaimAnswer.Refused Refusal.KeeperFault) ∷ past_in a))
 claim-doubted told doubted a client ticket note row keeper k e h =
-    inl (record { rows_are = subst (λ (x : List Row). IfSome (told keeper) (λ y. y ≡ x)) k.stands.rows h.rows_are; doubt_is = h.doubt_is ∙ sym e })
+    record { rows_are = subst (λ (x : List Row). IfSome (told keeper) (λ y. y ≡ x)) k.stands.rows h.rows_are; doubt_is = h.doubt_is ∙ sym e }
 
 -- ---- a claim that took an entry
 
 pub house-claimed : {K : Type 0} (told : K → Option (List Row)) (doubted : K → Option Change) (client blocks : ℕ) (ticket : Ticket) (note : FetchNote) (entry number : ℕ) (old : Housed K) (new : Annalled) (keeper : K) → IsHouse told doubted old → IsAnnals old.annals → IsAnnals new
     → Appended client (claims client ticket note (ClaimAnswer.Entry entry)) old.annals new → MayClaim old.annals client ticket blocks → MayAnswer old.annals client ticket note (ClaimAnswer.Entry entry)
-    → Keeps told doubted keeper (rows old.annals.facts (rows_before old.annals) (claims client ticket note (ClaimAnswer.Entry entry) ∷ past old)) (doubt old.annals.facts (rows_before old.annals) (claims client ticket note (ClaimAnswer.Entry entry) ∷ past old))
+    → HasRows told doubted keeper (rows old.annals.facts (rows_before old.annals) (claims client ticket note (ClaimAnswer.Entry entry) ∷ past old)) (doubt old.annals.facts (rows_before old.annals) (claims client ticket note (ClaimAnswer.Entry entry) ∷ past old))
     → Takes old.annals.facts (rows_before old.annals) (past old) (claims client ticket note (ClaimAnswer.Entry entry)) entry number → number < length old.places → held (claims client ticket note (ClaimAnswer.Entry entry) ∷ past old) ≡ held (past old)
     → IsHouse told doubted (record { annals = new; places = places_without old.places number; pool = old.pool; keeper = keeper })
 house-claimed told doubted client blocks ticket note entry number old new keeper h o k a m w kept t within same =
@@ -239,7 +240,7 @@ house-claimed told doubted client blocks ticket note entry number old new keeper
       count = length-set old.places number (record (place_at old.places number) { board = None });
       places = takes-places old.annals.facts old.annals.first (rows_before old.annals) (past old) (claims client ticket note (ClaimAnswer.Entry entry)) o.stands.history l entry number t old.places within h.places;
       loaded = m.loaded;
-      kept = kept;
+      kept = so-has old.annals.reopened told doubted keeper (rows old.annals.facts (rows_before old.annals) (claims client ticket note (ClaimAnswer.Entry entry) ∷ past old)) (doubt old.annals.facts (rows_before old.annals) (claims client ticket note (ClaimAnswer.Entry entry) ∷ past old)) kept;
       capacity = refl;
       free = omega (arith, same, was);
     })

@@ -1,5 +1,5 @@
 -- A house, after an event that asks the keeper for a change.
-use Rattle.std.proofs.Common.{◌≡◌, ℕ, ◌+◌, true, false, List, [], ◌∷◌, refl, ap, sym, ◌∙◌, subst, ◌⊎◌, inl, inr}
+use Rattle.std.proofs.Common.{◌≡◌, ℕ, ◌+◌, true, false, List, [], ◌∷◌, refl, ap, sym, ◌∙◌, subst}
 use Rattle.std.specs.Prelude.{Option, Some, None, IfSome, option_map}
 use Rattle.std.specs.Option.{ForSome}
 use Rattle.history_keeper.specs.declared.row.Row.{Row}
@@ -22,9 +22,10 @@ use Rattle.daemon_core.specs.Boards.{is_faulty_end}
 use Rattle.daemon_core.specs.Commits.{StoredAs}
 use Rattle.daemon_core.specs.House.{IsHouse}
 use Rattle.daemon_core.specs.Housed.{Annalled, Housed, past, past_in, rows_before}
-use Rattle.daemon_core.specs.Keeping.{HasRows, Keeps}
+use Rattle.daemon_core.specs.Keeping.{HasRows, KeepsSo}
 use Rattle.daemon_core.proofs.BoardsQuiet.{quiet-board}
 use Rattle.daemon_core.proofs.HouseKept.{house-next}
+use Rattle.daemon_core.proofs.KeptSo.{so-clear, so-has}
 use Rattle.daemon_core.proofs.PlacesKept.{place-same}
 
 -- A boot that isn't off has no doubt.
@@ -34,21 +35,11 @@ on-no_doubt a k o =
     subst (λ (f : Facts). doubt f (rows_before a) (past_in a) ≡ None) l.1
     ((past-kept l.0 (rows_before a) (past_in a) k.stands.history l.3).rows_kept.doubt_off o)
 
-either-same : (o : Option (List Row)) (rows : List Row) → IfSome o (λ all. (all ≡ rows) ⊎ (all ≡ rows)) → IfSome o (λ all. all ≡ rows)
-either-same None rows h = tt
-either-same (Some all) rows (inl h) = h
-either-same (Some all) rows (inr h) = h
-
--- Where the log has no doubt, the keeper has its rows, also where it was opened again.
-pub keeps-clear : {K : Type 0} (told : K → Option (List Row)) (doubted : K → Option Change) (keeper : K) (rows : List Row) → Keeps told doubted keeper rows None → HasRows told doubted keeper rows None
-keeps-clear told doubted keeper rows (inl h) = h
-keeps-clear told doubted keeper rows (inr w) = record { rows_are = either-same (told keeper) rows w.rows_are; doubt_is = w.no_doubt }
-
 -- The keeper of a house whose boot isn't off has the rows of the log, and no doubt.
 pub house-clear : {K : Type 0} (told : K → Option (List Row)) (doubted : K → Option Change) (h : Housed K) → IsHouse told doubted h → IsAnnals h.annals → h.annals.loaded ≡ true → off (past h) ≡ false → HasRows told doubted h.keeper h.annals.core.rows None
 house-clear told doubted h k a l o =
-    keeps-clear told doubted h.keeper h.annals.core.rows
-    (subst (λ (d : Option Change). Keeps told doubted h.keeper h.annals.core.rows d) (a.stands.doubt ∙ on-no_doubt h.annals a o) (k.kept l))
+    so-clear h.annals.reopened told doubted h.keeper h.annals.core.rows
+    (subst (λ (d : Option Change). KeepsSo h.annals.reopened told doubted h.keeper h.annals.core.rows d) (a.stands.doubt ∙ on-no_doubt h.annals a o) (k.kept l))
 
 -- So a change that suits the rows of the log suits those of the keeper.
 pub suits-told : (o : Option (List Row)) (rows : List Row) (change : Change) → IfSome o (λ all. all ≡ rows) → Suits change rows → ForSome o (λ all. Suits change all)
@@ -63,12 +54,31 @@ changed-told (Some all) p rows change h e = subst (λ (q : Option (List Row)). I
 same-told : (o p : Option (List Row)) (rows : List Row) → IfSome o (λ all. all ≡ rows) → p ≡ o → IfSome p (λ all. all ≡ rows)
 same-told o p rows h e = subst (λ (q : Option (List Row)). IfSome q (λ all. all ≡ rows)) (sym e) h
 
+-- A house whose keeper made no change, over annals that are equal to those that a call began with.
+pub house-unstored : {K : Type 0} (told : K → Option (List Row)) (doubted : K → Option Change) (h : Housed K) (b : Annalled) (keeper : K) → h.annals ≡ b → IsHouse told doubted h → IsAnnals h.annals → b.loaded ≡ true → off (past_in b) ≡ false → (told keeper ≡ told h.keeper) × (doubted keeper ≡ None)
+    → IsHouse told doubted (record h { keeper = keeper })
+house-unstored told doubted h b keeper e w k l o c =
+    let l' : h.annals.loaded ≡ true = ap (λ (x : Annalled). x.loaded) e ∙ l in
+    let o' : off (past h) ≡ false = ap (λ (x : Annalled). off (past_in x)) e ∙ o in
+    let clear = house-clear told doubted h w k l' o' in
+    let d : h.annals.core.doubt ≡ None = k.stands.doubt ∙ on-no_doubt h.annals k o' in
+    record {
+      count = w.count;
+      places = w.places;
+      unloaded = λ u. c.1;
+      kept = λ l.
+          so-has h.annals.reopened told doubted keeper h.annals.core.rows h.annals.core.doubt
+          (record { rows_are = same-told (told h.keeper) (told keeper) h.annals.core.rows clear.rows_are c.0; doubt_is = c.1 ∙ sym d });
+      capacity = w.capacity;
+      free = w.free;
+    }
+
 -- After a change the keeper has the rows that the log has then, and its doubt.
 pub stored-keeps : {K : Type 0} (told : K → Option (List Row)) (doubted : K → Option Change) (old new : K) (rows : List Row) (change : Change) (stored : Stored) → HasRows told doubted old rows None → StoredAs change stored (told old) (told new) (doubted new)
-    → Keeps told doubted new (rows_by (fate_stored stored) (Some change) rows) (doubt_by (fate_stored stored) (Some change) None)
-stored-keeps told doubted old new rows change Stored.Yes h s = inl (record { rows_are = changed-told (told old) (told new) rows change h.rows_are s.0; doubt_is = s.1 })
-stored-keeps told doubted old new rows change Stored.Fault h s = inl (record { rows_are = same-told (told old) (told new) rows h.rows_are s.0; doubt_is = s.1 })
-stored-keeps told doubted old new rows change Stored.NoMemory h s = inl (record { rows_are = same-told (told old) (told new) rows h.rows_are s.0; doubt_is = s.1 })
+    → HasRows told doubted new (rows_by (fate_stored stored) (Some change) rows) (doubt_by (fate_stored stored) (Some change) None)
+stored-keeps told doubted old new rows change Stored.Yes h s = record { rows_are = changed-told (told old) (told new) rows change h.rows_are s.0; doubt_is = s.1 }
+stored-keeps told doubted old new rows change Stored.Fault h s = record { rows_are = same-told (told old) (told new) rows h.rows_are s.0; doubt_is = s.1 }
+stored-keeps told doubted old new rows change Stored.NoMemory h s = record { rows_are = same-told (told old) (told new) rows h.rows_are s.0; doubt_is = s.1 }
 stored-keeps told doubted old new rows change Stored.Unchanged h s = absurd s
 
 -- The log with the event is legal.
@@ -112,9 +122,10 @@ house-asked told doubted client event change stored old new keeper h o k a l on 
           (h.places number place e);
       loaded = l;
       kept =
-          subst (λ (x : List Row). Keeps told doubted keeper x (doubt f b (event ∷ past old))) (ap (rows_by (fate_stored stored) (Some change)) o.stands.rows ∙ sym q.rows_are)
-          (subst (λ (x : Option Change). Keeps told doubted keeper (rows_by (fate_stored stored) (Some change) old.annals.core.rows) x)
-          (ap (doubt_by (fate_stored stored) (Some change)) (sym (on-no_doubt old.annals o on)) ∙ sym q.doubt_is) kept);
+          so-has old.annals.reopened told doubted keeper (rows f b (event ∷ past old)) (doubt f b (event ∷ past old))
+          (subst (λ (x : List Row). HasRows told doubted keeper x (doubt f b (event ∷ past old))) (ap (rows_by (fate_stored stored) (Some change)) o.stands.rows ∙ sym q.rows_are)
+          (subst (λ (x : Option Change). HasRows told doubted keeper (rows_by (fate_stored stored) (Some change) old.annals.core.rows) x)
+          (ap (doubt_by (fate_stored stored) (Some change)) (sym (on-no_doubt old.annals o on)) ∙ sym q.doubt_is) kept));
       capacity = refl;
       free = ap (λ (n : ℕ). old.pool.free + n) (held-same (past old) (event ∷ past old) q.same_holds q.same_live) ∙ h.free;
     })

@@ -22,7 +22,7 @@ use Rattle.daemon_core.specs.Annals.{Appended, IsAllowedSo, IsAnnals, IsLegalSo}
 use Rattle.daemon_core.specs.Holds.{back_of}
 use Rattle.daemon_core.specs.House.{IsHouse}
 use Rattle.daemon_core.specs.Housed.{Annalled, Housed, past, past_in, rows_before}
-use Rattle.daemon_core.specs.Keeping.{Keeps}
+use Rattle.daemon_core.specs.Keeping.{KeepsSo}
 use Rattle.daemon_core.specs.Owed.{owed}
 use Rattle.daemon_core.proofs.AnnalsKept.{legal-next}
 use Rattle.daemon_core.proofs.Held.{held-given_pending, held-given_tag}
@@ -115,8 +115,8 @@ house-given told doubted client pending request blocks old new pool h o k a m ca
           (back-board facts old.annals.first before (past old) client pending request number) (h.places number place e);
       loaded = m.loaded;
       kept =
-          subst (λ (x : List Row). Keeps told doubted old.keeper x (doubt facts before (back client pending request ∷ past old))) (sym (back-rows facts before (past old) client pending request ∙ sym o.stands.rows))
-          (subst (λ (x : Option Change). Keeps told doubted old.keeper old.annals.core.rows x) (sym (back-doubt facts before (past old) client pending request ∙ sym o.stands.doubt)) (h.kept m.loaded));
+          subst (λ (x : List Row). KeepsSo old.annals.reopened told doubted old.keeper x (doubt facts before (back client pending request ∷ past old))) (sym (back-rows facts before (past old) client pending request ∙ sym o.stands.rows))
+          (subst (λ (x : Option Change). KeepsSo old.annals.reopened told doubted old.keeper old.annals.core.rows x) (sym (back-doubt facts before (past old) client pending request ∙ sym o.stands.doubt)) (h.kept m.loaded));
       capacity = cap;
       free = omega (arith, out, was, free);
     })

@@ -1,5 +1,5 @@
 -- A house, after an event.
-use Rattle.std.proofs.Common.{◌≡◌, ℕ, ◌+◌, true, false, List, ◌∷◌, length, refl, ap, sym, ◌∙◌, subst, inl, inr}
+use Rattle.std.proofs.Common.{◌≡◌, ℕ, ◌+◌, Bool, true, false, List, ◌∷◌, length, refl, ap, sym, ◌∙◌, subst, inl, inr}
 use Rattle.std.specs.Prelude.{Option, Some, slice_get, Result, Ok, Err}
 use Rattle.fw_facts.specs.declared.seen.Seen.{Seen}
 use Rattle.history_keeper.specs.declared.row.Row.{Row}
@@ -14,7 +14,7 @@ use Rattle.daemon_core.specs.Annals.{Appended, Entered, IsAnnals, roomier}
 use Rattle.daemon_core.specs.Boards.{PlaceStands}
 use Rattle.daemon_core.specs.House.{IsHouse}
 use Rattle.daemon_core.specs.Housed.{Annalled, Housed, Place, past, past_in, rows_before}
-use Rattle.daemon_core.specs.Keeping.{Keeps}
+use Rattle.daemon_core.specs.Keeping.{KeepsSo}
 use Rattle.daemon_core.specs.Quiet.{is_quiet}
 use Rattle.daemon_core.specs.declared.stop.Stop.{Stop}
 use Rattle.daemon_core.proofs.AnnalsKept.{appended-before, appended-past}
@@ -41,7 +41,7 @@ pub record HouseNext {K : Type 0} (told : K → Option (List Row)) (doubted : K 
   pub count : length new.places ≡ length old.places
   pub places : (number : ℕ) (place : Place) → slice_get new.places number ≡ Some place → PlaceStands old.annals.facts old.annals.first (rows_before old.annals) (event ∷ past old) number place
   pub loaded : old.annals.loaded ≡ true
-  pub kept : Keeps told doubted new.keeper (rows old.annals.facts (rows_before old.annals) (event ∷ past old)) (doubt old.annals.facts (rows_before old.annals) (event ∷ past old))
+  pub kept : KeepsSo old.annals.reopened told doubted new.keeper (rows old.annals.facts (rows_before old.annals) (event ∷ past old)) (doubt old.annals.facts (rows_before old.annals) (event ∷ past old))
   pub capacity : new.pool.capacity ≡ old.pool.capacity
   pub free : new.pool.free + held (event ∷ past old) ≡ old.annals.facts.pool
 
@@ -60,8 +60,9 @@ house-next told doubted client event old new h a k n =
           (n.places number place e))));
       unloaded = λ u. let e : true ≡ false = sym n.loaded ∙ sym a.same.loaded ∙ u in cc;
       kept = λ _.
-          subst (λ (x : List Row). Keeps told doubted new.keeper x new.annals.core.doubt) (sym (appended-rows client event old.annals new.annals a k))
-          (subst (λ (x : Option Change). Keeps told doubted new.keeper (rows old.annals.facts (rows_before old.annals) (event ∷ past old)) x) (sym (appended-doubt client event old.annals new.annals a k)) n.kept);
+          subst (λ (x : Bool). KeepsSo x told doubted new.keeper new.annals.core.rows new.annals.core.doubt) (sym a.same.reopened)
+          (subst (λ (x : List Row). KeepsSo old.annals.reopened told doubted new.keeper x new.annals.core.doubt) (sym (appended-rows client event old.annals new.annals a k))
+          (subst (λ (x : Option Change). KeepsSo old.annals.reopened told doubted new.keeper (rows old.annals.facts (rows_before old.annals) (event ∷ past old)) x) (sym (appended-doubt client event old.annals new.annals a k)) n.kept));
       capacity = n.capacity ∙ h.capacity ∙ ap (λ (x : Facts). x.pool) (sym f);
       free = ap (λ (x : List Event). new.pool.free + held x) p ∙ n.free ∙ ap (λ (x : Facts). x.pool) (sym f);
     }
@@ -91,8 +92,8 @@ house-quiet told doubted client event old new h o k a l q =
           (still-board old.annals.facts old.annals.first (rows_before old.annals) (past old) event number s) (h.places number place e);
       loaded = l;
       kept =
-          subst (λ (x : List Row). Keeps told doubted old.keeper x (doubt old.annals.facts (rows_before old.annals) (event ∷ past old))) (sym r)
-          (subst (λ (x : Option Change). Keeps told doubted old.keeper old.annals.core.rows x) (sym d) (h.kept l));
+          subst (λ (x : List Row). KeepsSo old.annals.reopened told doubted old.keeper x (doubt old.annals.facts (rows_before old.annals) (event ∷ past old))) (sym r)
+          (subst (λ (x : Option Change). KeepsSo old.annals.reopened told doubted old.keeper old.annals.core.rows x) (sym d) (h.kept l));
       capacity = refl;
       free = ap (λ (n : ℕ). old.pool.free + n) (held-same (past old) (event ∷ past old) s.same_holds s.same_live) ∙ h.free;
     })

@@ -12,6 +12,7 @@ pub mod ClaimAlone
 pub mod ClaimDone
 pub mod HeldOnce
 pub mod Held
+pub mod KeptSo
 pub mod HouseKept
 pub mod Answered
 pub mod BoardsQuiet

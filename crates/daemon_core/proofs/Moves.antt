@@ -37,7 +37,7 @@ use Rattle.daemon_core.specs.Annals.{Appended, IsAllowedSo, IsAnnals, Runs, room
 use Rattle.daemon_core.specs.Boards.{BoardIsHome, BoardStands, PlaceStands, faulty_ends, is_out}
 use Rattle.daemon_core.specs.House.{IsHouse}
 use Rattle.daemon_core.specs.Housed.{Annalled, Housed, Place, past, past_in, rows_before}
-use Rattle.daemon_core.specs.Keeping.{Keeps}
+use Rattle.daemon_core.specs.Keeping.{KeepsSo}
 use Rattle.daemon_core.specs.Owed.{owed}
 use Rattle.daemon_core.specs.Plugging.{BoardMoved, Moved, MovedAs, WasMoved, number_found}
 use Rattle.daemon_core.specs.Quiet.{moves_none}
@@ -162,8 +162,8 @@ house-moved told doubted client event n after old new h o k a loaded r d l passe
       places = λ m place e. at m place (get-set old.places n m after place e);
       loaded = loaded;
       kept =
-          subst (λ (x : List Row). Keeps told doubted old.keeper x (doubt old.annals.facts (rows_before old.annals) (event ∷ past old))) (o.stands.rows ∙ sym r)
-          (subst (λ (x : Option Change). Keeps told doubted old.keeper old.annals.core.rows x) (o.stands.doubt ∙ sym d) (h.kept loaded));
+          subst (λ (x : List Row). KeepsSo old.annals.reopened told doubted old.keeper x (doubt old.annals.facts (rows_before old.annals) (event ∷ past old))) (o.stands.rows ∙ sym r)
+          (subst (λ (x : Option Change). KeepsSo old.annals.reopened told doubted old.keeper old.annals.core.rows x) (o.stands.doubt ∙ sym d) (h.kept loaded));
       capacity = refl;
       free = ap (λ (x : ℕ). old.pool.free + x) l ∙ h.free;
     })

@@ -7,7 +7,6 @@ use Rattle.std.specs.Str.{bytes_eq}
 use Rattle.std.proofs.lemmas.Bool.{leb-false, leb-true}
 use Rattle.fw_facts.specs.declared.seen.Seen.{Seen}
 use Rattle.history_keeper.specs.Changes.{Suits, changed}
-use Rattle.history_keeper.specs.Keepers.{with_doubt}
 use Rattle.history_keeper.specs.declared.change.Change.{Change}
 use Rattle.history_keeper.specs.declared.row.Row.{Row}
 use Rattle.history_keeper.specs.declared.row.RowState.{RowState}
@@ -37,24 +36,15 @@ use Rattle.daemon_core.proofs.AnnalsKept.{appended-past, legal-next}
 use Rattle.daemon_core.proofs.OwedLaws.{owed-cut}
 use Rattle.daemon_core.specs.House.{IsHouse}
 use Rattle.daemon_core.specs.Housed.{Annalled, Housed, past, past_in, rows_before}
-use Rattle.daemon_core.specs.Keeping.{HasRows, Keeps, keeper_faults, met_fault}
+use Rattle.daemon_core.specs.Keeping.{HasRows, KeepsSo, keeper_faults, met_fault}
 use Rattle.daemon_core.specs.PutOff.{IsAccept}
 use Rattle.daemon_core.specs.Turns.{FaultsCounted}
 use Rattle.daemon_core.proofs.BoardsQuiet.{kept-so, quiet-board}
 use Rattle.daemon_core.proofs.HouseKept.{house-next}
+use Rattle.daemon_core.proofs.KeptSo.{so-clear, so-has}
 use Rattle.daemon_core.proofs.PlacesKept.{place-same}
 
 -- ---- the keeper
-
--- Where the log is in no doubt, the keeper has its rows.
-pub keeps-plain : {K : Type 0} (told : K → Option (List Row)) (doubted : K → Option Change) (keeper : K) (all : List Row) → Keeps told doubted keeper all None → HasRows told doubted keeper all None
-keeps-plain told doubted keeper all (inl h) = h
-keeps-plain told doubted keeper all (inr h) = record { rows_are = at (told keeper) h.rows_are; doubt_is = h.no_doubt }
-  where
-    at : (o : Option (List Row)) → IfSome o (λ x. (x ≡ all) ⊎ (x ≡ with_doubt None all)) → IfSome o (λ x. x ≡ all)
-    at None h = tt
-    at (Some x) (inl e) = e
-    at (Some x) (inr e) = e
 
 -- A commit that went well.
 pub keeps-made : {K : Type 0} (told : K → Option (List Row)) (doubted : K → Option Change) (old new : K) (all : List Row) (change : Change) → HasRows told doubted old all None → (told new ≡ option_map (changed change) (told old)) × (doubted new ≡ None) → HasRows told doubted new (changed change all) None
@@ -145,7 +135,7 @@ off-allowed facts first opening past client request answer a = λ c f i. subst (
 -- A house, after a request was put off, or might have been.
 pub house-off : {K : Type 0} (told : K → Option (List Row)) (doubted : K → Option Change) (client : ℕ) (request : Request) (answer : ClaimAnswer) (old : Housed K) (new : Annalled) (keeper : K) → IsHouse told doubted old → IsAnnals old.annals → IsAnnals new
     → Appended client (Event.Schedule client request answer) old.annals new → IsLegalSo old.annals.facts old.annals.first (rows_before old.annals) (Event.Schedule client request answer ∷ past old) → old.annals.loaded ≡ true
-    → Keeps told doubted keeper (rows old.annals.facts (rows_before old.annals) (Event.Schedule client request answer ∷ past old)) (doubt old.annals.facts (rows_before old.annals) (Event.Schedule client request answer ∷ past old))
+    → HasRows told doubted keeper (rows old.annals.facts (rows_before old.annals) (Event.Schedule client request answer ∷ past old)) (doubt old.annals.facts (rows_before old.annals) (Event.Schedule client request answer ∷ past old))
     → IsHouse told doubted (record old { annals = new; keeper = keeper })
 house-off told doubted client request answer old new keeper h o k a l loaded kept =
     house-next told doubted client (Event.Schedule client request answer) old (record old { annals = new; keeper = keeper }) h a k
@@ -155,7 +145,7 @@ house-off told doubted client request answer old new keeper h o k a l loaded kep
           place-same old.annals.facts old.annals.first (rows_before old.annals) (past old) (Event.Schedule client request answer ∷ past old) number place
           (quiet-board old.annals.facts old.annals.first (rows_before old.annals) (past old) (Event.Schedule client request answer) o.stands.history l number refl refl refl refl refl refl) (h.places number place e);
       loaded = loaded;
-      kept = kept;
+      kept = so-has old.annals.reopened told doubted keeper (rows old.annals.facts (rows_before old.annals) (Event.Schedule client request answer ∷ past old)) (doubt old.annals.facts (rows_before old.annals) (Event.Schedule client request answer ∷ past old)) kept;
       capacity = refl;
       free = h.free;
     })
@@ -189,8 +179,8 @@ pub house-plain : {K : Type 0} (told : K → Option (List Row)) (doubted : K →
 house-plain told doubted h b e w k l o =
     let l' : h.annals.loaded ≡ true = ap (λ (x : Annalled). x.loaded) e ∙ l in
     let o' : off (past h) ≡ false = ap (λ (x : Annalled). off (past_in x)) e ∙ o in
-    keeps-plain told doubted h.keeper h.annals.core.rows
-    (subst (λ (x : Option Change). Keeps told doubted h.keeper h.annals.core.rows x) (k.stands.doubt ∙ no-doubt h.annals k o') (w.kept l'))
+    so-clear h.annals.reopened told doubted h.keeper h.annals.core.rows
+    (subst (λ (x : Option Change). KeepsSo h.annals.reopened told doubted h.keeper h.annals.core.rows x) (k.stands.doubt ∙ no-doubt h.annals k o') (w.kept l'))
 
 -- What was answered may come.
 pub off-legal : (a b : Annalled) (client : ℕ) (request : Request) (answer : ClaimAnswer) → a ≡ b → IsAnnals a → Runs b → 0 < boots (past_in b) → IsFree (past_in b) client → IsAccept (verdict b.facts (rows_before b) (past_in b) client request Stage.Schedule)
@@ -214,18 +204,18 @@ off-legal a b client request answer e k r n f h w =
 -- The keeper after the row was stored, and after that failed.
 pub kept-made : {K : Type 0} (told : K → Option (List Row)) (doubted : K → Option Change) (a : Annalled) (client : ℕ) (request : Request) (entry : ℕ) (row : Row) (keeper : K) → IsAnnals a → off (past_in a) ≡ false
     → addition a.facts (time_of (past_in a)) (live (past_in a)) (known a.facts (rows_before a) (past_in a)) client request RowState.Pending ≡ Some (Change.Add row) → HasRows told doubted keeper (changed (Change.Add row) a.core.rows) None
-    → Keeps told doubted keeper (rows a.facts (rows_before a) (Event.Schedule client request (ClaimAnswer.Entry entry) ∷ past_in a)) (doubt a.facts (rows_before a) (Event.Schedule client request (ClaimAnswer.Entry entry) ∷ past_in a))
+    → HasRows told doubted keeper (rows a.facts (rows_before a) (Event.Schedule client request (ClaimAnswer.Entry entry) ∷ past_in a)) (doubt a.facts (rows_before a) (Event.Schedule client request (ClaimAnswer.Entry entry) ∷ past_in a))
 kept-made told doubted a client request entry row keeper k o e h =
     let all : List Row = rows a.facts (rows_before a) (past_in a) in
     let r : changed (Change.Add row) a.core.rows ≡ rows_by Fate.Made (addition a.facts (time_of (past_in a)) (live (past_in a)) (known a.facts (rows_before a) (past_in a)) client request RowState.Pending) all =
     ap (λ (x : List Row). changed (Change.Add row) x) k.stands.rows ∙ sym (ap (λ (x : Option Change). rows_by Fate.Made x all) e) in
-    inl (record { rows_are = subst (λ (x : List Row). IfSome (told keeper) (λ y. y ≡ x)) r h.rows_are; doubt_is = h.doubt_is ∙ sym (no-doubt a k o) })
+    record { rows_are = subst (λ (x : List Row). IfSome (told keeper) (λ y. y ≡ x)) r h.rows_are; doubt_is = h.doubt_is ∙ sym (no-doubt a k o) }
 
 pub kept-doubted : {K : Type 0} (told : K → Option (List Row)) (doubted : K → Option Change) (a : Annalled) (client : ℕ) (request : Request) (row : Row) (keeper : K) → IsAnnals a
     → addition a.facts (time_of (past_in a)) (live (past_in a)) (known a.facts (rows_before a) (past_in a)) client request RowState.Pending ≡ Some (Change.Add row) → HasRows told doubted keeper a.core.rows (Some (Change.Add row))
-    → Keeps told doubted keeper (rows a.facts (rows_before a) (Event.Schedule client request (ClaimAnswer.Refused Refusal.KeeperFault) ∷ past_in a)) (doubt a.facts (rows_before a) (Event.Schedule client request (ClaimAnswer.Refused Refusal.KeeperFault) ∷ past_in a))
+    → HasRows told doubted keeper (rows a.facts (rows_before a) (Event.Schedule client request (ClaimAnswer.Refused Refusal.KeeperFault) ∷ past_in a)) (doubt a.facts (rows_before a) (Event.Schedule client request (ClaimAnswer.Refused Refusal.KeeperFault) ∷ past_in a))
 kept-doubted told doubted a client request row keeper k e h =
-    inl (record { rows_are = subst (λ (x : List Row). IfSome (told keeper) (λ y. y ≡ x)) k.stands.rows h.rows_are; doubt_is = h.doubt_is ∙ sym e })
+    record { rows_are = subst (λ (x : List Row). IfSome (told keeper) (λ y. y ≡ x)) k.stands.rows h.rows_are; doubt_is = h.doubt_is ∙ sym e }
 
 -- The room that is owed doesn't grow.
 pub owed-entry : (past : List Event) (client : ℕ) (request : Request) (entry : ℕ) → owed (Event.Schedule client request (ClaimAnswer.Entry entry) ∷ past) ≤ owed past

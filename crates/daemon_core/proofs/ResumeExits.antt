@@ -1,5 +1,5 @@
 -- The exits of a resumption, over what each of its steps ensures.
-use Rattle.std.proofs.Common.{◌≡◌, ℕ, ◌<◌, ◌≤◌, ◌+◌, false, List, [], ◌∷◌, length, refl, ap, sym, ◌∙◌, subst, ◌⊎◌, inl}
+use Rattle.std.proofs.Common.{◌≡◌, ℕ, ◌<◌, ◌≤◌, ◌+◌, false, List, [], ◌∷◌, length, refl, ap, sym, ◌∙◌, subst, ◌⊎◌}
 use Rattle.std.specs.Prelude.{Option, Some, None, IfSome, IsSome, is_some, unwrap_or, Result, Ok, Err}
 use Rattle.std.specs.Option.{ForSome}
 use Rattle.block_pool.specs.Views.{PoolCounts, SealedBytes}
@@ -38,7 +38,7 @@ use Rattle.daemon_core.specs.Commits.{StoredAs}
 use Rattle.daemon_core.specs.Fetches.{block_count, is_payload, note_of, whole_note}
 use Rattle.daemon_core.specs.House.{IsHouse}
 use Rattle.daemon_core.specs.Housed.{Annalled, Housed, Place, past, past_in, rows_before}
-use Rattle.daemon_core.specs.Keeping.{Keeps, keeper_faults, met_fault}
+use Rattle.daemon_core.specs.Keeping.{keeper_faults, met_fault}
 use Rattle.daemon_core.specs.PutOff.{IsAccept}
 use Rattle.daemon_core.specs.Resumes.{ComesIn, IsOpenHold, IsPutOff, IsToResume, MayFail, MayResume, ResumeGave, ResumeTurned, StoppedBy, WasRefused, begun_event, blocks_in, doubt_event, failed_event, note_in, resume_verdict}
 use Rattle.daemon_core.specs.Returns.{place_at}
@@ -48,8 +48,8 @@ use Rattle.daemon_core.proofs.Answered.{roomier-same, same-unchanged, stopped, u
 use Rattle.daemon_core.proofs.ClaimAnswers.{turned-after}
 use Rattle.daemon_core.proofs.ClaimHouse.{IsReady}
 use Rattle.daemon_core.proofs.ClaimRoom.{board-itself, board-on, places-same, room-at, room-on, room-out}
-use Rattle.daemon_core.proofs.CommitKept.{house-clear, on-no_doubt}
-use Rattle.daemon_core.proofs.PuttingOff.{counted-more, counted-same, keeps-left, quiet-faults, refusal-other}
+use Rattle.daemon_core.proofs.CommitKept.{house-clear, house-unstored}
+use Rattle.daemon_core.proofs.PuttingOff.{counted-more, counted-same, quiet-faults, refusal-other}
 use Rattle.daemon_core.proofs.ResumeHolds.{last-names_other, last-refused_by}
 use Rattle.daemon_core.proofs.ResumeKept.{Answers, change_of, house-begun, house-refused, refused-fits, resume-ready, resume-suits, resumes}
 use Rattle.daemon_core.proofs.ResumeTurns.{begins, doubt-answers, resume-answers, resume-board, resume-broken, resume-live, resume-refused, resume-same_held, resume-sheet, resume-taken, resume-takes_entry, resume-within, to-resume}
@@ -154,18 +154,7 @@ turn-failed a b new entry held said refusal stored event same f s n e p =
 
 -- Where the keeper wanted memory, nothing changed.
 pub house-left : {K : Type 0} (told : K → Option (List Row)) (doubted : K → Option Change) (entry : ℕ) (h : Housed K) (keeper : K) → IsHouse told doubted h → IsAnnals h.annals → MayResume h.annals entry → (told keeper ≡ told h.keeper) × (doubted keeper ≡ None) → IsHouse told doubted (record h { keeper = keeper })
-house-left told doubted entry h keeper w k m c =
-    let d : h.annals.core.doubt ≡ None = k.stands.doubt ∙ on-no_doubt h.annals k m.runs.on in
-    record {
-      count = w.count;
-      places = w.places;
-      unloaded = λ u. c.1;
-      kept = λ l.
-          subst (λ (x : Option Change). Keeps told doubted keeper h.annals.core.rows x) (sym d)
-          (inl (keeps-left told doubted h.keeper keeper h.annals.core.rows None (house-clear told doubted h w k m.loaded m.runs.on) c));
-      capacity = w.capacity;
-      free = w.free;
-    }
+house-left told doubted entry h keeper w k m c = house-unstored told doubted h h.annals keeper refl w k m.loaded m.runs.on c
 
 pub left-as : (change : Change) (stored : Stored) (old new : Option (List Row)) (left : Option Change) → stored ≡ Stored.NoMemory → StoredAs change stored old new left → (new ≡ old) × (left ≡ None)
 left-as change stored old new left e s = subst (λ (x : Stored). StoredAs change x old new left) e s

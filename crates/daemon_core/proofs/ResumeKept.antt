@@ -29,7 +29,7 @@ use Rattle.daemon_core.specs.Fetches.{block_count}
 use Rattle.daemon_core.specs.Holds.{held_by}
 use Rattle.daemon_core.specs.House.{IsHouse}
 use Rattle.daemon_core.specs.Housed.{Annalled, Housed, past, past_in, rows_before}
-use Rattle.daemon_core.specs.Keeping.{Keeps}
+use Rattle.daemon_core.specs.Keeping.{HasRows}
 use Rattle.daemon_core.specs.Resumes.{HoldIs, MayResume, blocks_in}
 use Rattle.daemon_core.specs.Returns.{place_at}
 use Rattle.daemon_core.proofs.AnnalsKept.{legal-next}
@@ -44,6 +44,7 @@ use Rattle.daemon_core.proofs.HouseKept.{house-next}
 use Rattle.daemon_core.proofs.JudgeKept.{judge-suits}
 use Rattle.daemon_core.proofs.Owed.{adds, adds-legal}
 use Rattle.daemon_core.proofs.PlacesKept.{place-same}
+use Rattle.daemon_core.proofs.KeptSo.{so-has}
 
 abbrev pub resumes : ℕ → Option FetchNote → ResumeAnswer → Stored → Event
 resumes entry said answer stored = Event.Resume 0 entry said answer stored
@@ -130,7 +131,7 @@ abbrev pub change_of : Annalled → ℕ → ResumeAnswer → Change
 change_of a entry answer = resumption_on (time_of (past_in a)) a.core.rows entry answer
 
 pub resume-keeps : {K : Type 0} (told : K → Option (List Row)) (doubted : K → Option Change) (entry : ℕ) (said : Option FetchNote) (answer : ResumeAnswer) (stored : Stored) (h : Housed K) (keeper : K) → IsHouse told doubted h → IsAnnals h.annals → MayResume h.annals entry → StoredAs (change_of h.annals entry answer) stored (told h.keeper) (told keeper) (doubted keeper)
-    → Keeps told doubted keeper (rows h.annals.facts (rows_before h.annals) (resumes entry said answer stored ∷ past h)) (doubt h.annals.facts (rows_before h.annals) (resumes entry said answer stored ∷ past h))
+    → HasRows told doubted keeper (rows h.annals.facts (rows_before h.annals) (resumes entry said answer stored ∷ past h)) (doubt h.annals.facts (rows_before h.annals) (resumes entry said answer stored ∷ past h))
 resume-keeps told doubted entry said answer stored h keeper w k m s =
     let f : Facts = h.annals.facts in
     let b : List Row = rows_before h.annals in
@@ -142,8 +143,8 @@ resume-keeps told doubted entry said answer stored h keeper w k m s =
     ap (λ (x : List Row). doubt_by (fate_stored stored) (Some (resumption_on (time_of (past h)) x entry answer)) None) k.stands.rows
     ∙ ap (λ (x : Option Change). doubt_by (fate_stored stored) (Some (resumption_on (time_of (past h)) (rows f b (past h)) entry answer)) x) (sym (on-no_doubt h.annals k m.runs.on))
     ∙ sym (resumed-doubt f b (past h) entry said answer stored) in
-    subst (λ (x : List Row). Keeps told doubted keeper x (doubt f b (resumes entry said answer stored ∷ past h))) r
-    (subst (λ (x : Option Change). Keeps told doubted keeper (rows_by (fate_stored stored) (Some (change_of h.annals entry answer)) h.annals.core.rows) x) d kept)
+    subst (λ (x : List Row). HasRows told doubted keeper x (doubt f b (resumes entry said answer stored ∷ past h))) r
+    (subst (λ (x : Option Change). HasRows told doubted keeper (rows_by (fate_stored stored) (Some (change_of h.annals entry answer)) h.annals.core.rows) x) d kept)
 
 -- The keeper may be asked for it.
 pub resume-suits : {K : Type 0} (told : K → Option (List Row)) (doubted : K → Option Change) (entry : ℕ) (answer : ResumeAnswer) (h : Housed K) → IsHouse told doubted h → IsAnnals h.annals → MayResume h.annals entry → ForSome (told h.keeper) (λ all. Suits (change_of h.annals entry answer) all)
@@ -182,7 +183,7 @@ house-refused told doubted entry held' said refusal stored old new pool keeper h
           place-same old.annals.facts old.annals.first (rows_before old.annals) (past old) (event ∷ past old) number place
           (quiet-board old.annals.facts old.annals.first (rows_before old.annals) (past old) event o.stands.history legal number refl refl refl refl refl refl) (h.places number place e);
       loaded = m.loaded;
-      kept = resume-keeps told doubted entry said (ResumeAnswer.Refused refusal) stored old keeper h o m s;
+      kept = so-has old.annals.reopened told doubted keeper _ _ (resume-keeps told doubted entry said (ResumeAnswer.Refused refusal) stored old keeper h o m s);
       capacity = cap;
       free = omega (arith, out, was, free);
     })
@@ -202,7 +203,7 @@ house-begun told doubted entry number said old new keeper h o k a m s t within s
       count = length-set old.places number (record (place_at old.places number) { board = None });
       places = takes-places old.annals.facts old.annals.first (rows_before old.annals) (past old) event o.stands.history legal entry number t old.places within h.places;
       loaded = m.loaded;
-      kept = resume-keeps told doubted entry said ResumeAnswer.Begun Stored.Yes old keeper h o m s;
+      kept = so-has old.annals.reopened told doubted keeper _ _ (resume-keeps told doubted entry said ResumeAnswer.Begun Stored.Yes old keeper h o m s);
       capacity = refl;
       free = omega (arith, same, was);
     })

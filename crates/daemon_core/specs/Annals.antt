@@ -36,7 +36,8 @@ MadeBy (event ∷ log) [] = ⊥
 MadeBy (event ∷ log) (maker ∷ makers) = IsMadeBy event maker × MadeBy log makers
 
 -- The log is legal, and what stands for it does; until a boot took the rows that it loaded, each event is
--- a boot that couldn't read the history; and there is room for what must not want memory.
+-- a boot that couldn't read the history, and the keeper wasn't opened again; and there is room for what
+-- must not want memory.
 pub record IsAnnals (a : Annalled) : Type 0 where
   pub legal : IsLegalSo a.facts a.first (rows_before a) (past_in a)
   pub stands : Stands a.facts (rows_before a) a.core
@@ -44,6 +45,7 @@ pub record IsAnnals (a : Annalled) : Type 0 where
   pub few : length a.facts.sheets ≤ 256
   pub firsts : length a.first ≡ length a.facts.sheets
   pub unloaded : a.loaded ≡ false → AllFaults (past_in a)
+  pub unopened : a.loaded ≡ false → a.reopened ≡ false
   pub room : owed (past_in a) ≤ a.room
   pub few_boots : boots (past_in a) < 2 ^ 32
   pub timely : time_of (past_in a) ≤ 2 ^ 63 - 1
@@ -54,6 +56,7 @@ pub record SameFacts (old new : Annalled) : Type 0 where
   pub first : new.first ≡ old.first
   pub opening : new.opening ≡ old.opening
   pub loaded : new.loaded ≡ old.loaded
+  pub reopened : new.reopened ≡ old.reopened
 
 -- Nothing was put behind the log.
 pub record Unchanged (old new : Annalled) : Type 0 where
@@ -97,11 +100,12 @@ Entered client events (Ok _) old new = Ready events old new
 Entered client events (Err Stop.Off) old new = IsOff client old new
 Entered client events (Err Stop.NoMemory) old new = (off (past_in old) ≡ false) × (new ≡ roomier old new)
 
--- Nothing happened yet, and no rows were loaded.
+-- Nothing happened yet, no rows were loaded, and the keeper wasn't opened again.
 pub record IsBlank (facts : Facts) (first : List Seen) (a : Annalled) : Type 0 where
   pub facts_are : a.facts ≡ facts
   pub first_are : a.first ≡ first
   pub opening : a.opening ≡ []
   pub loaded : a.loaded ≡ false
+  pub reopened : a.reopened ≡ false
   pub log : a.core.log ≡ []
   pub makers : a.makers ≡ []

@@ -14,6 +14,7 @@ use Rattle.update_log.specs.declared.event.Found.{Found}
 use Rattle.daemon_core.specs.Annals.{Appended}
 use Rattle.daemon_core.specs.Boards.{PlaceStands}
 use Rattle.daemon_core.specs.Housed.{Annalled, Place, past_in, rows_before}
+use Rattle.daemon_core.specs.Keeping.{still_reopened}
 
 -- The board of a place can be started: it is at home, and at most two marks of its journal weren't told.
 pub record CanStart (place : Place) (b : BoardState) : Type 0 where
@@ -69,8 +70,10 @@ pub record PlacesStand (a : Annalled) (places : List Place) : Type 0 where
   pub count : length places ≡ length a.facts.sheets
   pub each : (number : ℕ) (place : Place) → slice_get places number ≡ Some place → PlaceStands a.facts a.first (rows_before a) (past_in a) number place
 
--- Each board was started, and the boot put behind the log.
+-- Each board was started, and the boot put behind the log. One that read the history says what became of
+-- the change in doubt.
 pub record BoardsStarted (plan : BootPlan) (found : Found) (old new : Annalled) (places after : List Place) : Type 0 where
   pub listed : List BoardSeen
   pub started : AllStarted plan places after listed
-  pub appended : Appended 0 (next_boot (past_in old) plan found listed) old new
+  pub appended : Appended 0 (next_boot (past_in old) plan found listed) old (record new { reopened = old.reopened })
+  pub reopened : new.reopened ≡ still_reopened found old.reopened

@@ -39,11 +39,12 @@ pub record NoBoot {K : Type 0} (told : K → Option (List Row)) (old new : House
   pub stays : old.annals.loaded ≡ false → told new.keeper ≡ told old.keeper
 
 -- A boot that went well. The first one took the rows that the keeper has for those before the log, and
--- the keeper has the rows of the log, without a doubt.
+-- the keeper has the rows of the log, without a doubt: the boot says what became of a change in doubt.
 pub record WentWell {K : Type 0} (told : K → Option (List Row)) (doubted : K → Option Change) (plan : BootPlan) (found : Found) (listed : List BoardSeen) (old new : Housed K) : Type 0 where
   pub noted : BootNoted plan found listed old new
   pub read : is_found_fault found ≡ false
   pub loaded : new.annals.loaded ≡ true
+  pub reopened : new.annals.reopened ≡ false
   pub opening : MatchBool old.annals.loaded (new.annals.opening ≡ old.annals.opening) (IsHistory new.annals.opening × AreTold (told old.keeper) new.annals.opening)
   pub keeps : HasRows told doubted new.keeper new.annals.core.rows None
 

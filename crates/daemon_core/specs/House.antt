@@ -12,16 +12,16 @@ use Rattle.update_log.specs.Holding.{held}
 use Rattle.daemon_core.specs.Annals.{IsBlank}
 use Rattle.daemon_core.specs.Housed.{Housed, Place, past, rows_before}
 use Rattle.daemon_core.specs.Boards.{PlaceStands}
-use Rattle.daemon_core.specs.Keeping.{Keeps}
+use Rattle.daemon_core.specs.Keeping.{KeepsSo}
 
 -- What the type of a house keeps beside its annals: the boards at home fit the log; the keeper has its
--- rows, once a boot took those that it loaded, and is in no doubt before; and the free blocks are those
--- that nobody holds.
+-- rows, once a boot took those that it loaded, or was opened again where the annals say so, and is in no
+-- doubt before; and the free blocks are those that nobody holds.
 pub record IsHouse {K : Type 0} (told : K → Option (List Row)) (doubted : K → Option Change) (h : Housed K) : Type 0 where
   pub count : length h.places ≡ length h.annals.facts.sheets
   pub places : (number : ℕ) (place : Place) → slice_get h.places number ≡ Some place → PlaceStands h.annals.facts h.annals.first (rows_before h.annals) (past h) number place
   pub unloaded : h.annals.loaded ≡ false → doubted h.keeper ≡ None
-  pub kept : h.annals.loaded ≡ true → Keeps told doubted h.keeper h.annals.core.rows h.annals.core.doubt
+  pub kept : h.annals.loaded ≡ true → KeepsSo h.annals.reopened told doubted h.keeper h.annals.core.rows h.annals.core.doubt
   pub capacity : h.pool.capacity ≡ h.annals.facts.pool
   pub free : h.pool.free + held (past h) ≡ h.annals.facts.pool
 

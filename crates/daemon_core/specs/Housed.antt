@@ -10,13 +10,15 @@ use Rattle.update_log.specs.Core.{Core}
 use Rattle.update_log.specs.Pasts.{past_of}
 
 -- The facts, what each first image shows, the rows that a boot loaded and whether one took them for
--- the rows before the log, what stands for the log, who made each of its events, and for how many
+-- the rows before the log, whether the keeper was opened again and no boot behind the log says yet what
+-- became of the change in doubt, what stands for the log, who made each of its events, and for how many
 -- events more there is room.
 pub record Annalled : Type 0 where
   pub facts : Facts
   pub first : List Seen
   pub opening : List Row
   pub loaded : Bool
+  pub reopened : Bool
   pub core : Core
   pub makers : List ℕ
   pub room : ℕ

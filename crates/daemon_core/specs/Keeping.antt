@@ -1,11 +1,12 @@
 -- How the keeper stands to the log.
-use Rattle.std.specs.Prelude.{◌≡◌, ◌⊎◌, ℕ, ◌+◌, Bool, false, List, [], ◌∷◌, Option, None, IfSome, if◌then◌else◌}
+use Rattle.std.specs.Prelude.{◌≡◌, ◌⊎◌, ℕ, ◌+◌, Bool, true, false, List, [], ◌∷◌, Option, None, IfSome, if◌then◌else◌}
 use Rattle.history_keeper.specs.declared.row.Row.{Row}
 use Rattle.history_keeper.specs.declared.change.Change.{Change}
 use Rattle.history_keeper.specs.Keepers.{with_doubt}
 use Rattle.update_log.specs.declared.answer.ClaimAnswer.{ClaimAnswer}
 use Rattle.update_log.specs.declared.event.Event.{Event}
-use Rattle.update_log.specs.Pasts.{is_fault, is_found_fault, is_keeper_fault}
+use Rattle.update_log.specs.declared.event.Found.{Found}
+use Rattle.update_log.specs.Pasts.{is_boot, is_fault, is_found_fault, is_keeper_fault}
 
 -- The keeper has these rows, where it tells its rows, and this change is its doubt.
 pub record HasRows {K : Type 0} (told : K → Option (List Row)) (doubted : K → Option Change) (keeper : K) (rows : List Row) (doubt : Option Change) : Type 0 where
@@ -22,6 +23,17 @@ pub record WasReopened {K : Type 0} (told : K → Option (List Row)) (doubted : 
 abbrev pub Keeps : {K : Type 0} → (K → Option (List Row)) → (K → Option Change) → K → List Row → Option Change → Type 0
 Keeps told doubted keeper rows doubt = HasRows told doubted keeper rows doubt ⊎ WasReopened told doubted keeper rows doubt
 
+-- The same, told whether the keeper was opened again while no boot behind the log says yet what became of
+-- the change in doubt: where it wasn't, it has the rows of the log, and its doubt is the log's.
+abbrev pub KeepsSo : {K : Type 0} → Bool → (K → Option (List Row)) → (K → Option Change) → K → List Row → Option Change → Type 0
+KeepsSo true told doubted keeper rows doubt = Keeps told doubted keeper rows doubt
+KeepsSo false told doubted keeper rows doubt = HasRows told doubted keeper rows doubt
+
+-- Whether that is so still behind a boot that found this, if it was before: a boot that read the history
+-- says what became of the change in doubt, and one that couldn't doesn't.
+abbrev pub still_reopened : Found → Bool → Bool
+still_reopened found reopened = if is_found_fault found then reopened else false
+
 -- The event met a fault of the keeper.
 abbrev pub met_fault : Event → Bool
 met_fault (Event.Boot number time limit found boards) = is_found_fault found
@@ -36,3 +48,11 @@ met_fault _ = false
 abbrev pub keeper_faults : List Event → ℕ
 keeper_faults [] = 0
 keeper_faults (event ∷ past) = if met_fault event then keeper_faults past + 1 else keeper_faults past
+
+-- The last boot met one: it couldn't read the history.
+abbrev pub faulted_after : Event → Bool → Bool
+faulted_after event before = if is_boot event then met_fault event else before
+
+abbrev pub last_faulted : List Event → Bool
+last_faulted [] = false
+last_faulted (event ∷ past) = faulted_after event (last_faulted past)

@@ -14,7 +14,7 @@ use Rattle.daemon_core.specs.declared.reading.Loaded.{Loaded}
 use Rattle.daemon_core.specs.Booting.{opened}
 use Rattle.daemon_core.specs.Comparing.{DifferFirstAt}
 use Rattle.daemon_core.specs.Housed.{Annalled, Housed}
-use Rattle.daemon_core.specs.Keeping.{HasRows, Keeps}
+use Rattle.daemon_core.specs.Keeping.{HasRows, Keeps, KeepsSo, still_reopened}
 
 -- A place counted from 1, or 2^32 - 1 where that is less.
 abbrev pub place_told : ℕ → ℕ
@@ -99,11 +99,11 @@ LaterRead told doubted faults (Ok Loaded.Fault) rows doubt before after = Keeps 
 LaterRead told doubted faults (Err refused) rows doubt before after = Keeps told doubted after rows doubt
 
 -- A boot that found this may be put behind the log: there is room for a row that it adds, and the keeper
--- has the rows that the log has then.
+-- has the rows that the log has then; or it was opened again, and the boot couldn't read the history.
 pub record CanBoot {K : Type 0} (told : K → Option (List Row)) (doubted : K → Option Change) (found : Found) (h : Housed K) : Type 0 where
   pub allowed : FoundAllowed found h.annals.core.doubt
   pub unloaded : h.annals.loaded ≡ false → is_found_fault found ≡ true
-  pub keeps : h.annals.loaded ≡ true → Keeps told doubted h.keeper (rows_found found h.annals.core.doubt h.annals.core.rows) (doubt_found found h.annals.core.doubt)
+  pub keeps : h.annals.loaded ≡ true → KeepsSo (still_reopened found h.annals.reopened) told doubted h.keeper (rows_found found h.annals.core.doubt h.annals.core.rows) (doubt_found found h.annals.core.doubt)
   pub row : length (rows_found found h.annals.core.doubt h.annals.core.rows) ≤ length h.annals.core.rows + h.annals.core.row_room
 
 -- So may one that read the history, or couldn't.

@@ -24,7 +24,8 @@ use std::alloc::Global;
 use std::marker::Model;
 use update_log::{ClaimAnswer, CoreState, Decision, Event, Facts, Request, Stage, step, verdict};
 
-/// The log's side of a house: the facts, what each first image shows, the rows that a boot loaded, what
+/// The log's side of a house: the facts, what each first image shows, the rows that a boot loaded, whether
+/// the keeper was opened again and no boot behind the log says yet what became of the change in doubt, what
 /// stands for the log, and who made each of its events.
 #[derive(Drop)]
 pub struct Annals {
@@ -32,6 +33,7 @@ pub struct Annals {
     first: Vec<Seen>,
     opening: Vec<Row>,
     loaded: bool,
+    reopened: bool,
     core: CoreState,
     makers: Vec<u32>,
 }
@@ -43,9 +45,9 @@ impl Model for Annals {
 
     ghost Value = { Annalled };
 
-    ghost view = { λ a. record { facts = a.facts; first = a.first.items; opening = a.opening.items; loaded = a.loaded; core = a.core; makers = a.makers.items; room = min a.core.room (vec_capacity a.makers - vec_len a.makers) } };
+    ghost view = { λ a. record { facts = a.facts; first = a.first.items; opening = a.opening.items; loaded = a.loaded; reopened = a.reopened; core = a.core; makers = a.makers.items; room = min a.core.room (vec_capacity a.makers - vec_len a.makers) } };
 
-    ghost invariant = { λ a. IsAnnals (record { facts = a.facts; first = a.first.items; opening = a.opening.items; loaded = a.loaded; core = a.core; makers = a.makers.items; room = min a.core.room (vec_capacity a.makers - vec_len a.makers) }) };
+    ghost invariant = { λ a. IsAnnals (record { facts = a.facts; first = a.first.items; opening = a.opening.items; loaded = a.loaded; reopened = a.reopened; core = a.core; makers = a.makers.items; room = min a.core.room (vec_capacity a.makers - vec_len a.makers) }) };
 }
 
 impl Annals {
@@ -75,6 +77,7 @@ impl Annals {
             first,
             opening: Vec::new(alloc),
             loaded: false,
+            reopened: false,
             core,
             makers: Vec::new(alloc),
         })

@@ -31,10 +31,11 @@ pub(crate) fn read_history<K: Keeper>(
     requires fresh { annals.old.loaded ≡ false → K.doubt keeper.old ≡ None }
     requires kept { annals.old.loaded ≡ true → Keeps K.rows K.doubt keeper.old annals.old.core.rows annals.old.core.doubt }
     ensures first { annals.old.loaded ≡ false → FirstRead K.rows K.doubt K.faults result annals.old annals.new keeper.old keeper.new }
-    ensures later { annals.old.loaded ≡ true → (annals.new ≡ annals.old) × LaterRead K.rows K.doubt K.faults result annals.old.core.rows annals.old.core.doubt keeper.old keeper.new }
+    ensures later { annals.old.loaded ≡ true → (annals.new ≡ record annals.old { reopened = true }) × LaterRead K.rows K.doubt K.faults result annals.old.core.rows annals.old.core.doubt keeper.old keeper.new }
     ensures counts { K.faults keeper.old ≤ K.faults keeper.new }
 {
     if annals.is_loaded() {
+        annals.note_reopened();
         later_history(alloc, annals.core(), keeper)
     } else {
         first_history(alloc, annals, keeper)

@@ -17,6 +17,7 @@ begins-named faults h b =
       first_are = refl;
       opening_is = refl;
       loaded = b.loaded;
+      reopened = b.reopened;
       booted = b.booted;
       boots_are = refl;
       planned = plans-picked h.places;

@@ -1,5 +1,5 @@
 -- A house that a daemon may be put round, and the name that it has then.
-use Rattle.std.specs.Prelude.{◌≡◌, ◌⊎◌, ◌<◌, ◌≤◌, ◌-◌, ◌^◌, ℕ, true, [], None}
+use Rattle.std.specs.Prelude.{◌≡◌, ◌⊎◌, ◌<◌, ◌≤◌, ◌-◌, ◌^◌, ℕ, true, false, [], None}
 use Rattle.update_log.specs.Holding.{holds, live}
 use Rattle.update_log.specs.Pasts.{boots}
 use Rattle.daemon_core.specs.Housed.{Housed, past}
@@ -7,9 +7,10 @@ use Rattle.daemon_core.specs.Keeping.{keeper_faults}
 use Rattle.shared_daemon.specs.Entries.{chronicle}
 use Rattle.shared_daemon.specs.Names.{Name, plans_in}
 
--- It was booted, each fault of the keeper that its log tells was counted, and nobody has anything out.
+-- It was booted, and its last boot read the history; each fault of the keeper that its log tells was counted, and nobody has anything out.
 pub record CanBegin {K : Type 0} (faults : K → ℕ) (h : Housed K) : Type 0 where
   pub loaded : h.annals.loaded ≡ true
+  pub reopened : h.annals.reopened ≡ false
   pub booted : 0 < boots (past h)
   pub counted : (keeper_faults (past h) ≤ faults h.keeper) ⊎ (2 ^ 64 - 1 ≤ faults h.keeper)
   pub no_holds : holds (past h) ≡ []

@@ -24,7 +24,7 @@ use Rattle.daemon_core.specs.Boards.{BoardIsHome, BoardStands, PlaceStands, jour
 use Rattle.daemon_core.specs.Boots.{NoBoot, ReadOthers}
 use Rattle.daemon_core.specs.House.{IsHouse}
 use Rattle.daemon_core.specs.Housed.{Annalled, Housed, Place, past, rows_before, rows_taken}
-use Rattle.daemon_core.specs.Keeping.{Keeps, keeper_faults}
+use Rattle.daemon_core.specs.Keeping.{HasRows, KeepsSo, WasReopened, keeper_faults, last_faulted}
 use Rattle.daemon_core.specs.Parts.{BoardsOf, IsBoardOf}
 use Rattle.daemon_core.specs.Reading.{AreOthers, AreTold}
 use Rattle.daemon_core.specs.Turns.{FaultsCounted}
@@ -39,7 +39,7 @@ use Rattle.campaign_runs.specs.Promises.{PlayedBoots}
 use Rattle.campaign_runs.specs.Runs.{CampaignRan, EndedSo, OpeningTold}
 use Rattle.campaign_runs.proofs.FaultBoots.{faults-earlier, faults-played}
 use Rattle.campaign_runs.proofs.LegalLaws.{legal-in}
-use Rattle.fwupd_service.specs.Campaigns.{EndsAt, IsBadHistory, IsOpening, IsTrueLog, IsUntouched, KeeperStands, WasPlayed}
+use Rattle.fwupd_service.specs.Campaigns.{EndsAt, IsBadHistory, IsOpening, IsTrueLog, IsUnread, IsUntouched, KeeperStands, WasPlayed}
 
 by_test : (b : Bool) (G : Type 0) → (b ≡ true → G) → (b ≡ false → G) → G
 by_test true G f g = f refl
@@ -163,14 +163,28 @@ module _ {K : Type 0} (told : K → Option (List Row)) (doubted : K → Option C
 
   -- ---- the keeper
 
-  keeps-opening : IsUntouched told doubted h.annals.core.log old.keeper h.keeper ⊎ Keeps told doubted h.keeper (rows facts opening (past h)) (doubt facts opening (past h))
+  -- where all boots were run and the last one read the history, it wasn't opened again since
+  ended-unread : (ending : Ending) → EndedSo told ending plans r.count h → h.annals.reopened ≡ true → IsUnread c h.annals.core.log
+  ended-unread Ending.Whole e o = by_test (last_faulted (past h)) _ (λ t. inl t) (λ f. let bad : true ≡ false = sym o ∙ e.1 f in cc)
+  ended-unread (Ending.BadHistory entry) e o = inr (omega (arith, r.ran.count_is, e.0))
+  ended-unread Ending.NoMemory e o = inr (omega (arith, r.ran.count_is, e))
+
+  keeps-so : (b : Bool) (keeper : K) (all : List Row) (change : Option Change) → h.annals.reopened ≡ b → KeepsSo b told doubted keeper all change → HasRows told doubted keeper all change ⊎ (IsUnread c h.annals.core.log × WasReopened told doubted keeper all change)
+  keeps-so true keeper all change o (inl k) = inl k
+  keeps-so true keeper all change o (inr k) = inr (ended-unread ran.ending r.ended o, k)
+  keeps-so false keeper all change o k = inl k
+
+  keeps-opening : IsUntouched told doubted h.annals.core.log old.keeper h.keeper ⊎ (HasRows told doubted h.keeper (rows facts opening (past h)) (doubt facts opening (past h))
+      ⊎ (IsUnread c h.annals.core.log × WasReopened told doubted h.keeper (rows facts opening (past h)) (doubt facts opening (past h))))
   keeps-opening =
       by_test h.annals.loaded _
       (λ t.
       let o = before-is h.annals t in
-      inr (subst (λ (x : List Row). Keeps told doubted h.keeper (rows facts x (past h)) (doubt facts x (past h))) o
-      (subst (λ (x : List Row). Keeps told doubted h.keeper x (doubt facts (rows_before h.annals) (past h))) a.stands.rows
-      (subst (λ (x : Option Change). Keeps told doubted h.keeper h.annals.core.rows x) a.stands.doubt (k.kept t)))))
+      let so = h.annals.reopened in
+      inr (keeps-so so h.keeper (rows facts opening (past h)) (doubt facts opening (past h)) refl
+      (subst (λ (x : List Row). KeepsSo so told doubted h.keeper (rows facts x (past h)) (doubt facts x (past h))) o
+      (subst (λ (x : List Row). KeepsSo so told doubted h.keeper x (doubt facts (rows_before h.annals) (past h))) a.stands.rows
+      (subst (λ (x : Option Change). KeepsSo so told doubted h.keeper h.annals.core.rows x) a.stands.doubt (k.kept t))))))
       (λ f. inl (record { none = all-faults f; told_are = told-stays told (told old.keeper) h f r.ran.opening; no_doubt = k.unloaded f }))
 
   counted-from : old.annals.core.log ≡ [] → FaultsCounted faults old h → (keeper_faults (past h) + faults old.keeper ≤ faults h.keeper) ⊎ (2 ^ 64 - 1 ≤ faults h.keeper)
@@ -179,7 +193,7 @@ module _ {K : Type 0} (told : K → Option (List Row)) (doubted : K → Option C
       inl (omega (arith, z, l))
   counted-from n (inr l) = inr l
 
-  keeper-stands : old.annals.core.log ≡ [] → KeeperStands told doubted faults facts opening h.annals.core.log old.keeper h.keeper
+  keeper-stands : old.annals.core.log ≡ [] → KeeperStands told doubted faults c opening h.annals.core.log old.keeper h.keeper
   keeper-stands n = record {
     keeps = keeps-opening;
     opening_is = opening-told told (told old.keeper) h all-faults r.ran.opening;
@@ -223,7 +237,7 @@ module _ {K : Type 0} (told : K → Option (List Row)) (doubted : K → Option C
       (λ f. inl (all-faults f, (o.first (sym o.none.loaded ∙ f)).0))
 
   ends-so : (ending : Ending) → EndedSo told ending plans r.count h → EndsAt told ending c opening h.annals.core.log h.keeper r.count
-  ends-so Ending.Whole e = e
+  ends-so Ending.Whole e = e.0
   ends-so (Ending.BadHistory entry) e = (e.0, bad-history entry e.1.0 e.1.1 e.1.2)
   ends-so Ending.NoMemory e = e
 

@@ -1,5 +1,5 @@
 -- What is true of a campaign that was played, however it ended.
-use Rattle.std.specs.Prelude.{◌≡◌, ◌⊎◌, ◌≤◌, ◌<◌, ◌+◌, ◌-◌, ◌^◌, ℕ, List, [], length, map, Option, Some, None, IfSome, slice_get}
+use Rattle.std.specs.Prelude.{◌≡◌, ◌⊎◌, ◌≤◌, ◌<◌, ◌+◌, ◌-◌, ◌^◌, ℕ, true, List, [], length, map, Option, Some, None, IfSome, slice_get}
 use Rattle.emulated_boards.specs.Boards.{BoardState}
 use Rattle.outer_traits.specs.Faults.{RoseBy}
 use Rattle.history_keeper.specs.declared.change.Change.{Change}
@@ -11,11 +11,11 @@ use Rattle.update_log.specs.CoreFolds.{AllFaults}
 use Rattle.update_log.specs.Known.{doubt, rows}
 use Rattle.update_log.specs.Legal.{Legal}
 use Rattle.update_log.specs.Once.{Fits, IsTakenOnce, Once}
-use Rattle.update_log.specs.Pasts.{past_of}
+use Rattle.update_log.specs.Pasts.{boots, past_of}
 use Rattle.update_log.specs.Shows.{Campaign}
 use Rattle.daemon_core.specs.Boards.{faulty_ends, journal_and_view}
 use Rattle.daemon_core.specs.Boots.{BreaksAt}
-use Rattle.daemon_core.specs.Keeping.{Keeps, keeper_faults}
+use Rattle.daemon_core.specs.Keeping.{HasRows, WasReopened, keeper_faults, last_faulted}
 use Rattle.daemon_core.specs.Reading.{AreOthers}
 use Rattle.client_scripts.specs.declared.item.Item.{Item}
 use Rattle.client_plays.specs.Faults.{shelf_faults}
@@ -51,11 +51,18 @@ pub record IsUntouched {K : Type 0} (told : K → Option (List Row)) (doubted : 
 abbrev pub IsOpening : Option (List Row) → List Row → List Event → Type 0
 IsOpening came opening log = IfSome came (λ all. (opening ≡ all) ⊎ ((opening ≡ []) × AllFaults (past_of log)))
 
--- The keeper has the rows of the log, and its doubt is the log's, or it was opened again since; or no boot
--- could read the history, and the keeper is untouched. The rows before the log are its own. Each fault of
--- the keeper that the log tells was counted by it.
-pub record KeeperStands {K : Type 0} (told : K → Option (List Row)) (doubted : K → Option Change) (faults : K → ℕ) (facts : Facts) (opening : List Row) (log : List Event) (old new : K) : Type 0 where
-  pub keeps : IsUntouched told doubted log old new ⊎ Keeps told doubted new (rows facts opening (past_of log)) (doubt facts opening (past_of log))
+-- The last boot that was begun didn't read the history: it couldn't, or the campaign ended as it was to begin.
+abbrev pub IsUnread : Campaign → List Event → Type 0
+IsUnread c log = (last_faulted (past_of log) ≡ true) ⊎ (boots (past_of log) < length c.plans)
+
+-- The keeper has the rows of the log, and its doubt is the log's; or it was opened again by a last boot that
+-- didn't read the history, and has the log's rows without or with the change in doubt; or no boot could read the
+-- history, and the keeper is untouched. The rows before the log are its own. Each fault of the keeper that the
+-- log tells was counted by it.
+pub record KeeperStands {K : Type 0} (told : K → Option (List Row)) (doubted : K → Option Change) (faults : K → ℕ) (c : Campaign) (opening : List Row) (log : List Event) (old new : K) : Type 0 where
+  pub keeps : IsUntouched told doubted log old new
+      ⊎ (HasRows told doubted new (rows c.facts opening (past_of log)) (doubt c.facts opening (past_of log))
+      ⊎ (IsUnread c log × WasReopened told doubted new (rows c.facts opening (past_of log)) (doubt c.facts opening (past_of log))))
   pub opening_is : IsOpening (told old) opening log
   pub counted : (keeper_faults (past_of log) + faults old ≤ faults new) ⊎ (2 ^ 64 - 1 ≤ faults new)
   pub counts : faults old ≤ faults new
@@ -83,7 +90,7 @@ EndsAt told Ending.NoMemory c opening log keeper count = count < length c.plans
 -- each client's shelf.
 pub record WasPlayed {K : Type 0} (told : K → Option (List Row)) (doubted : K → Option Change) (faults : K → ℕ) (files : ℕ → Files) (ran : Ran) (c : Campaign) (scripts : List (List (List Item))) (opening : List Row) (log : List Event) (boards : List BoardState) (old new : K) : Type 0 where
   pub true_log : IsTrueLog c opening log boards
-  pub keeper : KeeperStands told doubted faults c.facts opening log old new
+  pub keeper : KeeperStands told doubted faults c opening log old new
   pub count : ℕ
   pub played : PlayedBoots ran.wanting c opening files scripts count log
   pub ends : EndsAt told ran.ending c opening log new count

@@ -53,7 +53,7 @@ pub record CampaignTold {K : Type 0} (told : K → Option (List Row)) (doubted :
   pub boards : List BoardState
   pub boards_are : left.boards ≡ Some boards
   pub true_log : IsTrueLog (with_plans campaign.facts (map shown_by campaign.boards.items) campaign.boots) left.opening left.log boards
-  pub keeper_stands : KeeperStands told doubted faults campaign.facts left.opening left.log keeper left.keeper
+  pub keeper_stands : KeeperStands told doubted faults (with_plans campaign.facts (map shown_by campaign.boards.items) campaign.boots) left.opening left.log keeper left.keeper
   pub shelves_stand : ShelvesStand left.log shelves now
   pub ends : CampaignEnds told (files_for shelves) status (with_plans campaign.facts (map shown_by campaign.boards.items) campaign.boots) left.opening campaign.scripts left.log left.keeper text before after
 

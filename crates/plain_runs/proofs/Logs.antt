@@ -19,7 +19,7 @@ use Rattle.plain_runs.specs.declared.outcome.Outcome.{Outcome}
 use Rattle.plain_runs.specs.Ran.{CameBack, Finishes, Gained, GaveBack, MadeSteps, Ran, StepMade, cut_events, start_events, step_events}
 
 same-both : (a b c : Annalled) → SameFacts a b → SameFacts b c → SameFacts a c
-same-both a b c g h = record { facts = h.facts ∙ g.facts; first = h.first ∙ g.first; opening = h.opening ∙ g.opening; loaded = h.loaded ∙ g.loaded }
+same-both a b c g h = record { facts = h.facts ∙ g.facts; first = h.first ∙ g.first; opening = h.opening ∙ g.opening; loaded = h.loaded ∙ g.loaded; reopened = h.reopened ∙ g.reopened }
 
 -- Events behind events.
 pub gained-on : (xs ys : List Event) (a b c : Annalled) → Gained xs a b → Gained ys b c → Gained (xs ++ ys) a c
@@ -48,7 +48,7 @@ steps-tail client entry xs ys tail =
     ∙ ap (λ (l : List Event). l ++ tail) (sym (steps-append client entry xs ys))
 
 pub made-none : (client entry : ℕ) (a : Annalled) → MadeSteps client entry a a
-made-none client entry a = ([], record { same = record { facts = refl; first = refl; opening = refl; loaded = refl }; log = sym (append-nil a.core.log) })
+made-none client entry a = ([], record { same = record { facts = refl; first = refl; opening = refl; loaded = refl; reopened = refl }; log = sym (append-nil a.core.log) })
 
 pub made-on : (client entry : ℕ) (a b c : Annalled) → MadeSteps client entry a b → MadeSteps client entry b c → MadeSteps client entry a c
 made-on client entry a b c (xs, g) (ys, h) =

@@ -58,6 +58,7 @@ module _ {K : Type 0} (faults : K → ℕ) (name : Name) (client : ℕ) (old new
         first_are = s.first ∙ n.first_are;
         opening_is = s.opening ∙ n.opening_is;
         loaded = s.loaded ∙ n.loaded;
+        reopened = s.reopened ∙ n.reopened;
         booted = n.booted;
         boots_are = grew-boots client old.annals new.annals g ∙ n.boots_are;
         planned = p;

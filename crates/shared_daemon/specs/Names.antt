@@ -83,7 +83,7 @@ pub record IsLogOf (name : Name) (log : List Entry) : Type 0 where
   pub made : AllMade log
   pub boots_are : boots (past_seen log) ≡ name.boots
 
--- A house of this name, which was booted. Each board at home has the faults planned that its number has. Each
+-- A house of this name, which was booted: its last boot read the history. Each board at home has the faults planned that its number has. Each
 -- fault of the keeper that the log tells was counted by the keeper, or its count stands at its end; that count
 -- has not fallen since the daemon began; and the rows that it told at first are those before the log.
 pub record KeepsName {K : Type 0} (faults : K → ℕ) (name : Name) (h : Housed K) : Type 0 where
@@ -91,6 +91,7 @@ pub record KeepsName {K : Type 0} (faults : K → ℕ) (name : Name) (h : Housed
   pub first_are : h.annals.first ≡ name.first
   pub opening_is : h.annals.opening ≡ name.opening
   pub loaded : h.annals.loaded ≡ true
+  pub reopened : h.annals.reopened ≡ false
   pub booted : 0 < name.boots
   pub boots_are : boots (past h) ≡ name.boots
   pub planned : HavePlans name.plans h.places

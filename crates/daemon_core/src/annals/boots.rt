@@ -6,6 +6,7 @@ ghost use Rattle.update_log.specs.Holding.{holds, live};
 ghost use Rattle.update_log.specs.Known.{rows_found};
 ghost use Rattle.update_log.specs.Legal.{FoundAllowed};
 ghost use Rattle.update_log.specs.Pasts.{boots, is_found_fault};
+ghost use Rattle.daemon_core.specs.Keeping.{still_reopened};
 
 use super::Annals;
 use fw_base::Listed;
@@ -45,6 +46,22 @@ impl Annals {
         self.opening = opening;
     }
 
+    /// Notes that the keeper is to be opened again.
+    pub(crate) fn note_reopened(&mut self)
+        requires loaded { self.old.loaded ≡ true }
+        ensures { self.new ≡ record self.old { reopened = true } }
+    {
+        self.reopened = true;
+    }
+
+    /// Notes what the boot behind the log found: one that read the history says what became of the change
+    /// in doubt.
+    pub(crate) fn note_found(&mut self, found: Found)
+        ensures { self.new ≡ record self.old { reopened = still_reopened found self.old.reopened } }
+    {
+        self.reopened = is_reopened(found, self.reopened);
+    }
+
     /// Puts the next boot behind the log.
     pub(crate) fn note_boot(&mut self, plan: &BootPlan, found: Found, boards: Vec<BoardSeen>)
         requires listed { AllListed self.old.facts self.old.first (rows_before self.old) (past_in self.old) plan.now boards.items }
@@ -70,5 +87,15 @@ impl Annals {
                 boards: Listed::of(boards),
             },
         );
+    }
+}
+
+// Whether the keeper still counts as opened again behind a boot that found this.
+fn is_reopened(found: Found, reopened: bool) -> bool
+    ensures { result ≡ still_reopened found reopened }
+{
+    match found {
+        Found::Fault => reopened,
+        Found::Plain | Found::Kept | Found::Lost => false,
     }
 }

@@ -17,6 +17,7 @@ impl Annals {
             first: _,
             opening,
             loaded: _,
+            reopened: _,
             core,
             makers: _,
         } = self;

@@ -78,7 +78,7 @@ impl<K: Keeper> House<K> {
         requires { 1 ≤ self.old.annals.core.row_room }
         ensures ready { CanBootAfter K.rows K.doubt result self.new }
         ensures first { self.old.annals.loaded ≡ false → FirstRead K.rows K.doubt K.faults result self.old.annals self.new.annals self.old.keeper self.new.keeper }
-        ensures later { self.old.annals.loaded ≡ true → (self.new.annals ≡ self.old.annals) × LaterRead K.rows K.doubt K.faults result self.old.annals.core.rows self.old.annals.core.doubt self.old.keeper self.new.keeper }
+        ensures later { self.old.annals.loaded ≡ true → (self.new.annals ≡ record self.old.annals { reopened = true }) × LaterRead K.rows K.doubt K.faults result self.old.annals.core.rows self.old.annals.core.doubt self.old.keeper self.new.keeper }
         ensures places { self.new.places ≡ self.old.places }
         ensures pool { self.new.pool ≡ self.old.pool }
         ensures counts { K.faults self.old.keeper ≤ K.faults self.new.keeper }
@@ -99,5 +99,6 @@ impl<K: Keeper> House<K> {
         let mut boards = listed;
         start_all(&mut self.places, plan, &mut boards);
         self.annals.note_boot(plan, found, boards);
+        self.annals.note_found(found);
     }
 }

@@ -4,7 +4,7 @@ use Rattle.client_plays.specs.Has.{shelves_told}
 use Rattle.client_plays.specs.Shelves.{files_for}
 use Rattle.client_plays.proofs.ShelfLaws.{files-stay}
 use Rattle.client_plays.proofs.ToolLaws.{shelves-both, shelves-here}
-use Rattle.client_threads.proofs.Boots.{boot-off, boot-played, no-clients_yet, still-booted, still-counted}
+use Rattle.client_threads.proofs.Boots.{boot-off, boot-played, no-clients_yet, still-booted, still-counted, still-read}
 use Rattle.client_threads.proofs.Pasts.{on-unread}
 use Rattle.client_threads.proofs.Shelves.{enough-stay}
 use Rattle.daemon_core.specs.Housed.{past}
@@ -34,6 +34,11 @@ pub play_clients-house-requires-clause-counted : goal.play_clients-house-require
 play_clients-house-requires-clause-counted g c κs within =
     let told = files_for (shelves_told g.P.Shelf.files g.P.Shelf.faults c.args.shelves.now.items) in
     still-counted g.K.Keeper.faults c.do_tasks_first-now.result (told 0) c.args.house c.do_tasks_first-now.new.house c.do_tasks_first-now.ensures.went c.requires.counted
+
+pub play_clients-house-requires-clause-read : goal.play_clients-house-requires-clause-read
+play_clients-house-requires-clause-read g c κs within =
+    let told = files_for (shelves_told g.P.Shelf.files g.P.Shelf.faults c.args.shelves.now.items) in
+    still-read g.K.Keeper.faults c.do_tasks_first-now.result (told 0) c.args.house c.do_tasks_first-now.new.house c.do_tasks_first-now.ensures.went c.requires.read
 
 pub play_clients-house-requires-clause-none : goal.play_clients-house-requires-clause-none
 play_clients-house-requires-clause-none g c κs within =

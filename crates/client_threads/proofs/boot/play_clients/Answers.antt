@@ -25,7 +25,7 @@ returns-then-is_off-clause-kept g c = shelves-here (shelves_told g.P.Shelf.files
 
 pub play_named-requires-clause-begins : goal.play_named-requires-clause-begins
 play_named-requires-clause-begins g c κs within =
-    can-begin g.K.Keeper.faults c.args.house c.known.ensures.annals c.requires.booted (sym c.is_off.ensures ∙ c.if-is_off.false) c.requires.counted c.requires.idle
+    can-begin g.K.Keeper.faults c.args.house c.known.ensures.annals c.requires.booted (sym c.is_off.ensures ∙ c.if-is_off.false) c.requires.counted c.requires.idle c.requires.read
 
 pub returns-then-is_empty-clause-told : goal.returns-then-is_empty-clause-told
 returns-then-is_empty-clause-told g c = shelves-count_here (past c.args.house) (shelves_told g.P.Shelf.files g.P.Shelf.faults c.args.shelves.now.items)

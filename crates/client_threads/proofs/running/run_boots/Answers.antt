@@ -8,7 +8,7 @@ use Rattle.client_plays.specs.Shelves.{files_for}
 use Rattle.client_plays.proofs.ShelfLaws.{files-stay}
 use Rattle.client_plays.proofs.ToolLaws.{serves-all, serves-later, shelves-both, shelves-here}
 use Rattle.campaign_runs.specs.Runs.{BootMore}
-use Rattle.campaign_runs.proofs.RunLaws.{begun-counted, plan-at, ran-stopped, run-more, run-none, same-files, scripts-all}
+use Rattle.campaign_runs.proofs.RunLaws.{begun-counted, plan-at, ran-stopped, run-more, run-none, run-read, same-files, scripts-all}
 use Rattle.daemon_core.specs.Housed.{past}
 use Rattle.client_plays.proofs.ShelfCounts.{shelves-count_here}
 use Rattle.client_threads.proofs.ShelfFaults.{boot-counted, stop-counted}
@@ -45,6 +45,7 @@ play_next-played-requires-clause-serves g c κs within =
 pub loop-number-init : goal.loop-number-init
 loop-number-init g c = record {
   ran = run-none g.K.Keeper.rows g.K.Keeper.faults false (files_for (shelves_told g.P.Shelf.files g.P.Shelf.faults c.args.shelves.now.items)) c.args.plans.now c.args.scripts.now c.args.house (ap past_of c.requires.new) c.requires.unread c.requires.blank;
+  read = λ _. c.known.ensures.annals.unopened c.requires.unread;
   kept = shelves-here (shelves_told g.P.Shelf.files g.P.Shelf.faults c.args.shelves.now.items);
   told = shelves-count_here (past c.args.house) (shelves_told g.P.Shelf.files g.P.Shelf.faults c.args.shelves.now.items);
 }
@@ -61,6 +62,8 @@ loop-number-preserved g c = record {
       c.start_boot.new.house c.play_next-played.result.0
       (files-stay (shelves_told g.P.Shelf.files g.P.Shelf.faults c.args.shelves.now.items) (shelves_told g.P.Shelf.files g.P.Shelf.faults c.loop-number.shelves.items) c.loop-number.invariant.kept) c.play_next-played.ensures.more))
       c.play_next-played.ensures.unread;
+  read = run-read g.K.Keeper.rows g.K.Keeper.faults c.play_next-played.result.1 c.loop-number.wanting (files_for (shelves_told g.P.Shelf.files g.P.Shelf.faults c.loop-number.shelves.items)) c.scripts_of-of_boot.result.now
+      c.index-plans-number.result c.loop-number.house c.start_boot.new.house c.play_next-played.result.0 c.in-None.ensures c.play_next-played.ensures.more;
   kept = shelves-both (shelves_told g.P.Shelf.files g.P.Shelf.faults c.args.shelves.now.items) (shelves_told g.P.Shelf.files g.P.Shelf.faults c.loop-number.shelves.items) (shelves_told g.P.Shelf.files g.P.Shelf.faults c.play_next-played.new.shelves.items)
       c.loop-number.invariant.kept c.play_next-played.ensures.kept;
   told = boot-counted g.K.Keeper.rows g.K.Keeper.faults c.index-plans-number.result c.args.house c.loop-number.house c.start_boot.new.house c.play_next-played.result.0

@@ -17,6 +17,7 @@ now_of g c =
       first = c.self.inside.first.items;
       opening = c.self.inside.opening.items;
       loaded = c.self.inside.loaded;
+      reopened = c.self.inside.reopened;
       core = c.step.new.state;
       makers = c.push_reserved.new.self.items;
       room = min c.step.new.state.room (vec_capacity c.push_reserved.new.self - vec_len c.push_reserved.new.self);
@@ -30,6 +31,7 @@ grown g c =
         first = ap (λ (a : Annalled). a.first) c.self.view_is;
         opening = ap (λ (a : Annalled). a.opening) c.self.view_is;
         loaded = ap (λ (a : Annalled). a.loaded) c.self.view_is;
+        reopened = ap (λ (a : Annalled). a.reopened) c.self.view_is;
       };
       log = c.step.ensures.log ∙ ap (λ (a : Annalled). a.core.log ++ c.args.event ∷ []) c.self.view_is;
       makers = c.push_reserved.ensures.items ∙ ap (λ (a : Annalled). a.makers ++ c.args.client ∷ []) c.self.view_is;

@@ -11,7 +11,7 @@ use Rattle.daemon_core.proofs.annals.Annals.row_begun.Goals as goal
 
 pub overflow_cast-entry : goal.overflow_cast-entry
 overflow_cast-entry c =
-    let v : Annalled = record { facts = c.self.inside.facts; first = c.self.inside.first.items; opening = c.self.inside.opening.items; loaded = c.self.inside.loaded; core = c.self.inside.core; makers = c.self.inside.makers.items; room = min c.self.inside.core.room (vec_capacity c.self.inside.makers - vec_len c.self.inside.makers) } in
+    let v : Annalled = record { facts = c.self.inside.facts; first = c.self.inside.first.items; opening = c.self.inside.opening.items; loaded = c.self.inside.loaded; reopened = c.self.inside.reopened; core = c.self.inside.core; makers = c.self.inside.makers.items; room = min c.self.inside.core.room (vec_capacity c.self.inside.makers - vec_len c.self.inside.makers) } in
     let e : v ≡ c.args.self.now = c.self.view_is in
     let a = accept-over_claim v c.args.self.now c.args.client c.args.request.now c.args.release e c.requires in
     let f = few-begun v c.args.client c.args.request.now c.args.release c.self.invariant a in
@@ -20,7 +20,7 @@ overflow_cast-entry c =
 
 pub overflow_add-entry : goal.overflow_add-entry
 overflow_add-entry c =
-    let v : Annalled = record { facts = c.self.inside.facts; first = c.self.inside.first.items; opening = c.self.inside.opening.items; loaded = c.self.inside.loaded; core = c.self.inside.core; makers = c.self.inside.makers.items; room = min c.self.inside.core.room (vec_capacity c.self.inside.makers - vec_len c.self.inside.makers) } in
+    let v : Annalled = record { facts = c.self.inside.facts; first = c.self.inside.first.items; opening = c.self.inside.opening.items; loaded = c.self.inside.loaded; reopened = c.self.inside.reopened; core = c.self.inside.core; makers = c.self.inside.makers.items; room = min c.self.inside.core.room (vec_capacity c.self.inside.makers - vec_len c.self.inside.makers) } in
     let e : v ≡ c.args.self.now = c.self.view_is in
     let a = accept-over_claim v c.args.self.now c.args.client c.args.request.now c.args.release e c.requires in
     let f = few-begun v c.args.client c.args.request.now c.args.release c.self.invariant a in
@@ -29,7 +29,7 @@ overflow_add-entry c =
 
 pub asked-requires : goal.asked-requires
 asked-requires c =
-    let v : Annalled = record { facts = c.self.inside.facts; first = c.self.inside.first.items; opening = c.self.inside.opening.items; loaded = c.self.inside.loaded; core = c.self.inside.core; makers = c.self.inside.makers.items; room = min c.self.inside.core.room (vec_capacity c.self.inside.makers - vec_len c.self.inside.makers) } in
+    let v : Annalled = record { facts = c.self.inside.facts; first = c.self.inside.first.items; opening = c.self.inside.opening.items; loaded = c.self.inside.loaded; reopened = c.self.inside.reopened; core = c.self.inside.core; makers = c.self.inside.makers.items; room = min c.self.inside.core.room (vec_capacity c.self.inside.makers - vec_len c.self.inside.makers) } in
     let e : v ≡ c.args.self.now = c.self.view_is in
     let a = accept-over_claim v c.args.self.now c.args.client c.args.request.now c.args.release e c.requires in
     let f = few-begun v c.args.client c.args.request.now c.args.release c.self.invariant a in
@@ -37,7 +37,7 @@ asked-requires c =
 
 pub returns-clause-suits : goal.returns-clause-suits
 returns-clause-suits c =
-    let v : Annalled = record { facts = c.self.inside.facts; first = c.self.inside.first.items; opening = c.self.inside.opening.items; loaded = c.self.inside.loaded; core = c.self.inside.core; makers = c.self.inside.makers.items; room = min c.self.inside.core.room (vec_capacity c.self.inside.makers - vec_len c.self.inside.makers) } in
+    let v : Annalled = record { facts = c.self.inside.facts; first = c.self.inside.first.items; opening = c.self.inside.opening.items; loaded = c.self.inside.loaded; reopened = c.self.inside.reopened; core = c.self.inside.core; makers = c.self.inside.makers.items; room = min c.self.inside.core.room (vec_capacity c.self.inside.makers - vec_len c.self.inside.makers) } in
     let e : v ≡ c.args.self.now = c.self.view_is in
     let a = accept-over_claim v c.args.self.now c.args.client c.args.request.now c.args.release e c.requires in
     let h : addition_on v.facts (time_of (past_in v)) v.core.views v.core.rows c.args.client c.args.request.now RowState.Begun ≡ Some (Change.Add c.in-Some-Add.row) = cc in

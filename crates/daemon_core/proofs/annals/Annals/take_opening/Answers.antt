@@ -11,6 +11,7 @@ invariant_of-self c =
       first = c.self.inside.first.items;
       opening = c.self.inside.opening.items;
       loaded = c.self.inside.loaded;
+      reopened = c.self.inside.reopened;
       core = c.self.inside.core;
       makers = c.self.inside.makers.items;
       room = min c.self.inside.core.room (vec_capacity c.self.inside.makers - vec_len c.self.inside.makers);

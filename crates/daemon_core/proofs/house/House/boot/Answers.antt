@@ -28,7 +28,7 @@ start_boards-requires g c =
     let mid : Housed g.row.K.Denot = c.read.new.self in
     let first = λ (l : room.annals.loaded ≡ false).
     subst (λ (x : Loaded). FirstRead g.K.Keeper.rows g.K.Keeper.doubt g.K.Keeper.faults (Ok x) room.annals mid.annals room.keeper mid.keeper) c.in-Found.is (c.in-Ok-read.ensures.first l) in
-    let later : room.annals.loaded ≡ true → (mid.annals ≡ room.annals) × LaterRead g.K.Keeper.rows g.K.Keeper.doubt g.K.Keeper.faults (Ok (Loaded.Found c.in-Found.found)) room.annals.core.rows room.annals.core.doubt room.keeper mid.keeper = λ t.
+    let later : room.annals.loaded ≡ true → (mid.annals ≡ record room.annals { reopened = true }) × LaterRead g.K.Keeper.rows g.K.Keeper.doubt g.K.Keeper.faults (Ok (Loaded.Found c.in-Found.found)) room.annals.core.rows room.annals.core.doubt room.keeper mid.keeper = λ t.
     ((c.in-Ok-read.ensures.later t).0, subst (λ (x : Loaded). LaterRead g.K.Keeper.rows g.K.Keeper.doubt g.K.Keeper.faults (Ok x) room.annals.core.rows room.annals.core.doubt room.keeper mid.keeper) c.in-Found.is (c.in-Ok-read.ensures.later t).1) in
     let can : CanBoot g.K.Keeper.rows g.K.Keeper.doubt c.in-Found.found mid =
     subst (λ (x : Loaded). CanBootAfter g.K.Keeper.rows g.K.Keeper.doubt (Ok x) mid) c.in-Found.is c.in-Ok-read.ensures.ready in
@@ -43,7 +43,7 @@ start_boards-requires-in-Fault g c =
     let mid : Housed g.row.K.Denot = c.read.new.self in
     let first = λ (l : room.annals.loaded ≡ false).
     subst (λ (x : Loaded). FirstRead g.K.Keeper.rows g.K.Keeper.doubt g.K.Keeper.faults (Ok x) room.annals mid.annals room.keeper mid.keeper) c.in-Fault.is (c.in-Ok-read.ensures.first l) in
-    let later : room.annals.loaded ≡ true → (mid.annals ≡ room.annals) × LaterRead g.K.Keeper.rows g.K.Keeper.doubt g.K.Keeper.faults (Ok Loaded.Fault) room.annals.core.rows room.annals.core.doubt room.keeper mid.keeper = λ t.
+    let later : room.annals.loaded ≡ true → (mid.annals ≡ record room.annals { reopened = true }) × LaterRead g.K.Keeper.rows g.K.Keeper.doubt g.K.Keeper.faults (Ok Loaded.Fault) room.annals.core.rows room.annals.core.doubt room.keeper mid.keeper = λ t.
     ((c.in-Ok-read.ensures.later t).0, subst (λ (x : Loaded). LaterRead g.K.Keeper.rows g.K.Keeper.doubt g.K.Keeper.faults (Ok x) room.annals.core.rows room.annals.core.doubt room.keeper mid.keeper) c.in-Fault.is (c.in-Ok-read.ensures.later t).1) in
     let can : CanBoot g.K.Keeper.rows g.K.Keeper.doubt Found.Fault mid =
     subst (λ (x : Loaded). CanBootAfter g.K.Keeper.rows g.K.Keeper.doubt (Ok x) mid) c.in-Fault.is c.in-Ok-read.ensures.ready in
@@ -58,7 +58,7 @@ returns-in-Found g c =
     let mid : Housed g.row.K.Denot = c.read.new.self in
     let first = λ (l : room.annals.loaded ≡ false).
     subst (λ (x : Loaded). FirstRead g.K.Keeper.rows g.K.Keeper.doubt g.K.Keeper.faults (Ok x) room.annals mid.annals room.keeper mid.keeper) c.in-Found.is (c.in-Ok-read.ensures.first l) in
-    let later : room.annals.loaded ≡ true → (mid.annals ≡ room.annals) × LaterRead g.K.Keeper.rows g.K.Keeper.doubt g.K.Keeper.faults (Ok (Loaded.Found c.in-Found.found)) room.annals.core.rows room.annals.core.doubt room.keeper mid.keeper = λ t.
+    let later : room.annals.loaded ≡ true → (mid.annals ≡ record room.annals { reopened = true }) × LaterRead g.K.Keeper.rows g.K.Keeper.doubt g.K.Keeper.faults (Ok (Loaded.Found c.in-Found.found)) room.annals.core.rows room.annals.core.doubt room.keeper mid.keeper = λ t.
     ((c.in-Ok-read.ensures.later t).0, subst (λ (x : Loaded). LaterRead g.K.Keeper.rows g.K.Keeper.doubt g.K.Keeper.faults (Ok x) room.annals.core.rows room.annals.core.doubt room.keeper mid.keeper) c.in-Found.is (c.in-Ok-read.ensures.later t).1) in
     let t = turn-well g.K.Keeper.rows g.K.Keeper.doubt g.K.Keeper.faults c.args.self.now room mid c.start_boards.new.self c.args.plan.now
     c.make_room.ensures.same c.make_room.ensures.elsewhere c.read.ensures.places c.read.ensures.pool c.read.ensures.counts
@@ -71,7 +71,7 @@ returns-in-Fault g c =
     let mid : Housed g.row.K.Denot = c.read.new.self in
     let first = λ (l : room.annals.loaded ≡ false).
     subst (λ (x : Loaded). FirstRead g.K.Keeper.rows g.K.Keeper.doubt g.K.Keeper.faults (Ok x) room.annals mid.annals room.keeper mid.keeper) c.in-Fault.is (c.in-Ok-read.ensures.first l) in
-    let later : room.annals.loaded ≡ true → (mid.annals ≡ room.annals) × LaterRead g.K.Keeper.rows g.K.Keeper.doubt g.K.Keeper.faults (Ok Loaded.Fault) room.annals.core.rows room.annals.core.doubt room.keeper mid.keeper = λ t.
+    let later : room.annals.loaded ≡ true → (mid.annals ≡ record room.annals { reopened = true }) × LaterRead g.K.Keeper.rows g.K.Keeper.doubt g.K.Keeper.faults (Ok Loaded.Fault) room.annals.core.rows room.annals.core.doubt room.keeper mid.keeper = λ t.
     ((c.in-Ok-read.ensures.later t).0, subst (λ (x : Loaded). LaterRead g.K.Keeper.rows g.K.Keeper.doubt g.K.Keeper.faults (Ok x) room.annals.core.rows room.annals.core.doubt room.keeper mid.keeper) c.in-Fault.is (c.in-Ok-read.ensures.later t).1) in
     let t = turn-fault g.K.Keeper.rows g.K.Keeper.doubt g.K.Keeper.faults c.args.self.now room mid c.start_boards-in-Fault.new.self c.args.plan.now
     c.make_room.ensures.same c.make_room.ensures.elsewhere c.read.ensures.places c.read.ensures.pool c.read.ensures.counts
@@ -84,7 +84,7 @@ returns-in-Bad g c =
     let mid : Housed g.row.K.Denot = c.read.new.self in
     let first = λ (l : room.annals.loaded ≡ false).
     subst (λ (x : Loaded). FirstRead g.K.Keeper.rows g.K.Keeper.doubt g.K.Keeper.faults (Ok x) room.annals mid.annals room.keeper mid.keeper) c.in-Bad.is (c.in-Ok-read.ensures.first l) in
-    let later : room.annals.loaded ≡ true → (mid.annals ≡ room.annals) × LaterRead g.K.Keeper.rows g.K.Keeper.doubt g.K.Keeper.faults (Ok (Loaded.Bad c.in-Bad.entry)) room.annals.core.rows room.annals.core.doubt room.keeper mid.keeper = λ t.
+    let later : room.annals.loaded ≡ true → (mid.annals ≡ record room.annals { reopened = true }) × LaterRead g.K.Keeper.rows g.K.Keeper.doubt g.K.Keeper.faults (Ok (Loaded.Bad c.in-Bad.entry)) room.annals.core.rows room.annals.core.doubt room.keeper mid.keeper = λ t.
     ((c.in-Ok-read.ensures.later t).0, subst (λ (x : Loaded). LaterRead g.K.Keeper.rows g.K.Keeper.doubt g.K.Keeper.faults (Ok x) room.annals.core.rows room.annals.core.doubt room.keeper mid.keeper) c.in-Bad.is (c.in-Ok-read.ensures.later t).1) in
     let t = turn-others g.K.Keeper.rows g.K.Keeper.doubt g.K.Keeper.faults c.args.self.now room mid mid c.args.plan.now
     c.make_room.ensures.same c.make_room.ensures.elsewhere c.read.ensures.places c.read.ensures.pool c.read.ensures.counts

@@ -5,6 +5,7 @@ use Rattle.update_log.specs.Pasts.{past_of, time_of}
 use Rattle.update_log.specs.declared.event.Event.{Event}
 use Rattle.daemon_core.specs.Housed.{Housed}
 use Rattle.daemon_core.proofs.ClaimHouse.{IsReady}
+use Rattle.daemon_core.proofs.CommitKept.{house-unstored}
 use Rattle.daemon_core.proofs.JudgeKept.{clear-over, done-stored, house-judged, ready-over, suits-over}
 use Rattle.daemon_core.proofs.house.House.judge_so.Goals as goal
 use Rattle.daemon_core.proofs.house.House.judge_so.Given.{Over}
@@ -40,6 +41,11 @@ note-requires-clause-room g c = (ready g c).room
 
 pub note-requires-clause-row : goal.note-requires-clause-row
 note-requires-clause-row g c = (ready g c).row
+
+pub invariant_of-self : goal.invariant_of-self
+invariant_of-self g c =
+    house-unstored _ _ (record { annals = c.self.inside.annals; places = c.self.inside.places.items; pool = c.self.inside.pool; keeper = c.self.inside.keeper })
+    c.args.self.now.annals c.commit-stored.new.keeper (ap (λ (h : Housed g.row.K.Denot). h.annals) c.self.view_is) c.self.invariant c.known.ensures c.requires.loaded c.requires.runs.on c.in-NoMemory.ensures.stored
 
 pub invariant_of-self-2 : goal.invariant_of-self-2
 invariant_of-self-2 g c =

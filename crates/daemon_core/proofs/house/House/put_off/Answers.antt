@@ -8,6 +8,7 @@ use Rattle.update_log.specs.declared.refusal.Refusal.{Refusal}
 use Rattle.daemon_core.specs.Annals.{Appended}
 use Rattle.daemon_core.specs.Housed.{Annalled, Housed, past_in}
 use Rattle.daemon_core.specs.Owed.{owed}
+use Rattle.daemon_core.proofs.CommitKept.{house-unstored}
 use Rattle.daemon_core.proofs.PuttingOff.{house-off, house-plain, keeps-left, keeps-made, kept-doubted, kept-made, off-legal, owed-entry, owed-faulted, suits-told}
 use Rattle.daemon_core.proofs.house.House.put_off.Goals as goal
 
@@ -64,3 +65,9 @@ invariant_of-self-in-Err-Fault g c =
     l (ap (λ (x : Annalled). x.loaded) e ∙ c.requires.loaded)
     (kept-doubted g.K.Keeper.rows g.K.Keeper.doubt c.self.inside.annals c.args.client c.args.request.now c.row_put_off-row.result c.commit.new.self c.known.ensures c.row_put_off-row.ensures.added
     (keeps-left g.K.Keeper.rows g.K.Keeper.doubt c.self.inside.keeper c.commit.new.self c.self.inside.annals.core.rows (Some (Change.Add c.row_put_off-row.result)) h (rw c.in-Err-Fault.field-0-is at c.in-Err-Fault.ensures.committed)))
+
+pub invariant_of-self-in-Err-NoMemory : goal.invariant_of-self-in-Err-NoMemory
+invariant_of-self-in-Err-NoMemory g c =
+    house-unstored g.K.Keeper.rows g.K.Keeper.doubt (record { annals = c.self.inside.annals; places = c.self.inside.places.items; pool = c.self.inside.pool; keeper = c.self.inside.keeper })
+    c.args.self.now.annals c.commit.new.self (ap (λ (h : Housed g.row.K.Denot). h.annals) c.self.view_is) c.self.invariant c.known.ensures c.requires.loaded c.requires.runs.on
+    (rw c.in-Err-NoMemory.field-0-is at c.in-Err-NoMemory.ensures.committed)

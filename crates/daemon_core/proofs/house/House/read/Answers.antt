@@ -1,7 +1,11 @@
 use Rattle.std.proofs.Common.{◌≤◌, sym, subst}
 use Rattle.daemon_core.specs.Housed.{Housed}
 use Rattle.daemon_core.proofs.BootReads.{can-boot, house-read}
+use Rattle.daemon_core.proofs.KeptSo.{so-keeps}
 use Rattle.daemon_core.proofs.house.House.read.Goals as goal
+
+pub read_history-requires-clause-kept : goal.read_history-requires-clause-kept
+read_history-requires-clause-kept g c = λ l. so-keeps c.self.inside.annals.reopened _ _ c.self.inside.keeper _ _ (c.self.invariant.kept l)
 
 pub invariant_of-self : goal.invariant_of-self
 invariant_of-self g c =
