@@ -12,6 +12,7 @@ use Rattle.update_log.specs.Pasts.{boots, is_boot, off}
 use Rattle.daemon_core.specs.Housed.{Housed, past, rows_before}
 use Rattle.daemon_core.specs.Keeping.{keeper_faults, last_faulted}
 use Rattle.daemon_core.specs.Turns.{FaultsCounted}
+use Rattle.daemon_core.proofs.Planned.{keeps-both, keeps-here}
 use Rattle.client_scripts.specs.declared.item.Item.{Item}
 use Rattle.client_plays.specs.Moments.{Grew, began, mine}
 use Rattle.client_plays.specs.Plays.{Plays, TaskPlays}
@@ -86,6 +87,7 @@ run-more told faults before now files plans scripts count plan old mid begun new
       idle = m.played.rest.idle;
       counted = counted-both faults old mid new r.counted (counted-both faults mid begun new b.counted m.played.rest.counted m.played.rest.counts) (le-both _ _ _ b.counts m.played.rest.counts);
       counts = le-both _ _ _ r.counts (le-both _ _ _ b.counts m.played.rest.counts);
+      board_plans = keeps-both old.places mid.places new.places r.board_plans (keeps-both mid.places begun.places new.places b.board_plans m.played.rest.plans);
       opening = told-same begun.annals.loaded new.annals.loaded (told begun.keeper) (told new.keeper) (told old.keeper) begun.annals.opening new.annals.opening m.played.rest.same.loaded
           (λ u. ap (λ (h : Housed _). told h.keeper) (unread u)) m.played.rest.same.opening (b.opening (told old.keeper) r.opening);
     }
@@ -113,6 +115,7 @@ run-stopped told faults wanting files plans scripts count old mid new r n =
       idle = subst IsIdle (sym n.past_is) r.idle;
       counted = counted-both faults old mid new r.counted n.counted n.counts;
       counts = omega arith;
+      board_plans = keeps-both old.places mid.places new.places r.board_plans n.board_plans;
       opening = n.opening (told old.keeper) r.opening;
     }
 
@@ -129,6 +132,7 @@ run-none told faults wanting files plans scripts h e unread blank =
       idle = subst IsIdle (sym e) (record { no_hold = refl; no_live = refl });
       counted = inl (omega arith);
       counts = omega arith;
+      board_plans = keeps-here h.places;
       opening = told-new h.annals.loaded (told h.keeper) h.annals.opening unread blank;
     }
 

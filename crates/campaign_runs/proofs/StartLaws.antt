@@ -19,6 +19,7 @@ use Rattle.daemon_core.specs.Housed.{Housed, Place, past, rows_taken}
 use Rattle.daemon_core.specs.Keeping.{last_faulted}
 use Rattle.daemon_core.specs.Reading.{AreTold}
 use Rattle.daemon_core.specs.Turns.{FaultsCounted}
+use Rattle.daemon_core.proofs.Planned.{keeps-same, keeps-started}
 use Rattle.campaign_runs.specs.declared.ending.Ending.{Ending}
 use Rattle.campaign_runs.specs.Planned.{IsPlanned}
 use Rattle.campaign_runs.specs.Runs.{HasBegun, NoneBegan, OpeningTold, StartedSo, ended_by}
@@ -65,6 +66,7 @@ begun-well told doubted faults plan found listed old new k counted counts w =
       before = rows-first (IsHistory new.annals.opening × AreTold (told old.keeper) new.annals.opening) old.annals.loaded new.annals.loaded old.annals.opening new.annals.opening (AllFaults (past old)) w.loaded k.unloaded w.opening;
       counted = counted;
       counts = counts;
+      board_plans = keeps-started plan old.places new.places listed w.noted.started;
       opening = λ came. told-well old.annals.loaded new.annals.loaded (told old.keeper) (told new.keeper) came old.annals.opening new.annals.opening w.loaded w.opening;
     }
 
@@ -83,6 +85,7 @@ begun-fault told faults plan listed old new counted counts w =
       before = inl (rows-same old.annals.loaded new.annals.loaded old.annals.opening new.annals.opening w.loaded (λ t. w.opening));
       counted = counted;
       counts = counts;
+      board_plans = keeps-started plan old.places new.places listed w.noted.started;
       opening = λ came. told-same old.annals.loaded new.annals.loaded (told old.keeper) (told new.keeper) came old.annals.opening new.annals.opening w.loaded w.stays w.opening;
     }
 
@@ -95,6 +98,7 @@ none-began told faults old new counted counts n o opening =
       before = rows-same old.annals.loaded new.annals.loaded old.annals.opening new.annals.opening n.loaded o;
       counted = counted;
       counts = counts;
+      board_plans = keeps-same old.places new.places n.places;
       opening = opening;
     }
 

@@ -14,6 +14,7 @@ use Rattle.daemon_core.specs.Housed.{Housed, past, rows_before}
 use Rattle.daemon_core.specs.Keeping.{last_faulted}
 use Rattle.daemon_core.specs.Reading.{AreTold}
 use Rattle.daemon_core.specs.Turns.{FaultsCounted}
+use Rattle.daemon_core.specs.Planned.{KeepsPlans}
 use Rattle.client_scripts.specs.declared.item.Item.{Item}
 use Rattle.client_plays.specs.Endings.{HouseBootPlayed, IsIdle}
 use Rattle.client_plays.specs.Scripts.{BootPlayed, EarlierPlayed, scripts_in}
@@ -34,7 +35,8 @@ abbrev pub ReadLast : {K : Type 0} → Housed K → Type 0
 ReadLast h = last_faulted (past h) ≡ false → h.annals.reopened ≡ false
 
 -- So many boots of a campaign were run: each by its plan, in order, and played. Nobody has anything out,
--- and each fault of the keeper that the log tells was counted.
+-- each fault of the keeper that the log tells was counted, and each board at home has the faults planned that
+-- its number had.
 pub record RanSoFar {K : Type 0} (told : K → Option (List Row)) (faults : K → ℕ) (wanting : Bool) (files : ℕ → Files) (plans : List BootPlan) (scripts : List (List (List Item))) (count : ℕ) (old new : Housed K) : Type 0 where
   pub facts : new.annals.facts ≡ old.annals.facts
   pub first : new.annals.first ≡ old.annals.first
@@ -45,11 +47,12 @@ pub record RanSoFar {K : Type 0} (told : K → Option (List Row)) (faults : K �
   pub idle : IsIdle (past new)
   pub counted : FaultsCounted faults old new
   pub counts : faults old.keeper ≤ faults new.keeper
+  pub board_plans : KeepsPlans old.places new.places
   pub opening : OpeningTold told (told old.keeper) new
 
--- How the campaign ended: all boots were run, and the keeper wasn't opened again but by a last one that couldn't
--- read the history; or a boot read no history that could be the log's; or memory
--- was wanting for a boot. In the last two the boots before were run.
+-- How the campaign ended: all boots were run, and nobody opened the keeper again but a last one that couldn't
+-- read the history; or a boot read no history that could be the log's; or memory was wanting for a boot. In
+-- the last two the boots before were run.
 abbrev pub EndedSo : {K : Type 0} → (K → Option (List Row)) → Ending → List BootPlan → ℕ → Housed K → Type 0
 EndedSo told Ending.Whole plans count new = (count ≡ length plans) × ReadLast new
 EndedSo told (Ending.BadHistory entry) plans count new = (count < length plans) × ((mid : Housed _) × IsAnnals mid.annals × ReadOthers told entry mid new)
@@ -62,7 +65,8 @@ pub record CampaignRan {K : Type 0} (told : K → Option (List Row)) (faults : K
   pub ended : EndedSo told ending plans count new
 
 -- A boot began by its plan: it stands behind the log, and nothing was done in it yet. The rows before the
--- log are as before, unless no boot before could read the history.
+-- log are as before, unless no boot before could read the history, and the faults that are planned for the
+-- boards at home are.
 pub record HasBegun {K : Type 0} (told : K → Option (List Row)) (faults : K → ℕ) (plan : BootPlan) (old new : Housed K) : Type 0 where
   pub facts : new.annals.facts ≡ old.annals.facts
   pub first : new.annals.first ≡ old.annals.first
@@ -74,6 +78,7 @@ pub record HasBegun {K : Type 0} (told : K → Option (List Row)) (faults : K �
   pub read : ReadLast new
   pub counted : FaultsCounted faults old new
   pub counts : faults old.keeper ≤ faults new.keeper
+  pub board_plans : KeepsPlans old.places new.places
   pub opening : (came : Option (List Row)) → OpeningTold told came old → OpeningTold told came new
 
 -- No boot began.
@@ -84,6 +89,7 @@ pub record NoneBegan {K : Type 0} (told : K → Option (List Row)) (faults : K �
   pub before : rows_before new.annals ≡ rows_before old.annals
   pub counted : FaultsCounted faults old new
   pub counts : faults old.keeper ≤ faults new.keeper
+  pub board_plans : KeepsPlans old.places new.places
   pub opening : (came : Option (List Row)) → OpeningTold told came old → OpeningTold told came new
 
 -- Why none began.

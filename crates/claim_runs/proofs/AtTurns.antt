@@ -21,12 +21,14 @@ use Rattle.device_claims.specs.States.{IsNext}
 use Rattle.device_claims.specs.declared.claim.Parts.{Parts}
 use Rattle.install_engine.specs.Runs.{ClaimRuns, StepLeft}
 use Rattle.install_engine.proofs.RunDone.{claim-done}
+use Rattle.install_engine.proofs.RunMarks.{same-plan}
 use Rattle.install_engine.proofs.RunSteps.{claim-ended, claim-home, claim-start, claim-started, step-ends, step-home}
 use Rattle.turn_lock.specs.Shown.{LockId, PassView}
 use Rattle.shared_daemon.specs.declared.entry.Entry.{Entry}
 use Rattle.shared_daemon.specs.Calls.{Adds, AddsOn, FoundOff, Took}
 use Rattle.shared_daemon.specs.Entries.{past_seen}
-use Rattle.shared_daemon.specs.Names.{HasPlan, IsLogOf, IsPass, Name}
+use Rattle.daemon_core.specs.Planned.{HasPlan}
+use Rattle.shared_daemon.specs.Names.{IsLogOf, IsPass, Name}
 use Rattle.shared_daemon.specs.Others.{IsOwn}
 use Rattle.shared_daemon.specs.Steps.{EndsOwn, GoesHome, MayFinish, MayStart}
 use Rattle.shared_daemon.proofs.Stayed.{marks-met}
@@ -37,14 +39,6 @@ use Rattle.claim_runs.proofs.Kept.{goes-home, home-off, home-stay, off-seen, off
 use Rattle.claim_runs.proofs.Logs.{gained-event}
 
 -- The faults that are planned for a board stay, whatever a plugin's step does.
-same-plan : (op : Op) (entry : ℕ) (image : Image) (old : BoardState) (answer : Result ⊤ BoardFault) (new : BoardState) → StepLeft op entry image old answer new → new.plan ≡ old.plan
-same-plan Op.Prepare entry image old answer new s = s.rules.plan
-same-plan Op.Detach entry image old answer new s = s.rules.plan
-same-plan Op.Write entry image old answer new s = s.rules.plan
-same-plan Op.Attach entry image old answer new s = s.rules.plan
-same-plan Op.Reload entry image old answer new s = s.rules.plan
-same-plan Op.Cleanup entry image old answer new s = s.rules.plan
-
 step-planned : (plans : List (List PlannedFault)) (number : ℕ) (op : Op) (entry : ℕ) (image : Image) (old : BoardState) (answer : Result ⊤ BoardFault) (new : BoardState) → StepLeft op entry image old answer new → HasPlan plans number old → HasPlan plans number new
 step-planned plans number op entry image old answer new s p = p ∙ ap Some (sym (same-plan op entry image old answer new s))
 

@@ -24,7 +24,8 @@ use Rattle.turn_lock.specs.Shown.{PassView}
 use Rattle.shared_daemon.specs.declared.entry.Entry.{Entry}
 use Rattle.shared_daemon.specs.Calls.{Adds, AddsOn, Took}
 use Rattle.shared_daemon.specs.Entries.{past_seen}
-use Rattle.shared_daemon.specs.Names.{HasPlan, IsLogOf, Name}
+use Rattle.daemon_core.specs.Planned.{HasPlan}
+use Rattle.shared_daemon.specs.Names.{IsLogOf, Name}
 use Rattle.shared_daemon.specs.Taking.{TookEntry}
 use Rattle.claim_runs.specs.Known.{RunsSeen}
 use Rattle.claim_runs.proofs.Kept.{past-added}

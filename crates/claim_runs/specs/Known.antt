@@ -13,7 +13,8 @@ use Rattle.install_engine.specs.Runs.{ClaimRuns, StepLeft}
 use Rattle.turn_lock.specs.Shown.{PassView}
 use Rattle.shared_daemon.specs.declared.entry.Entry.{Entry}
 use Rattle.shared_daemon.specs.Entries.{past_seen}
-use Rattle.shared_daemon.specs.Names.{HasPlan, Name}
+use Rattle.daemon_core.specs.Planned.{HasPlan}
+use Rattle.shared_daemon.specs.Names.{Name}
 
 -- A claim of the client runs, by the log that was seen; that step of it is open, or none. Its board has the
 -- faults planned that its number has.

@@ -6,6 +6,7 @@ use Rattle.update_log.specs.Pasts.{boots, off}
 use Rattle.daemon_core.specs.Annals.{SameFacts}
 use Rattle.daemon_core.specs.Housed.{Annalled, Housed, past, rows_before, rows_taken}
 use Rattle.daemon_core.specs.Turns.{FaultsCounted}
+use Rattle.daemon_core.proofs.Planned.{keeps-both, keeps-here}
 use Rattle.client_plays.specs.declared.played.Played.{Played}
 use Rattle.client_plays.specs.Moments.{Moment}
 use Rattle.client_plays.specs.Scripts.{PlayedSo, PlaysAll, PlaysUntil}
@@ -38,6 +39,7 @@ rest-both faults old mid new a b =
       same = same-both old.annals mid.annals new.annals a.same b.same;
       counted = counted-both faults old mid new a.counted b.counted b.counts;
       counts = omega arith;
+      plans = keeps-both old.places mid.places new.places a.plans b.plans;
     }
 
 pub rest-here : {K : Type 0} (faults : K → ℕ) (h : Housed K) → IsIdle (past h) → AtRest faults h h
@@ -47,6 +49,7 @@ rest-here faults h i =
       same = record { facts = refl; first = refl; opening = refl; loaded = refl; reopened = refl };
       counted = inl (omega arith);
       counts = omega arith;
+      plans = keeps-here h.places;
     }
 
 -- One thing more, by how its play ended.

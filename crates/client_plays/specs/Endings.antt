@@ -9,6 +9,7 @@ use Rattle.daemon_core.specs.Annals.{SameFacts}
 use Rattle.daemon_core.specs.Housed.{Housed, past, rows_before}
 use Rattle.daemon_core.specs.Keeping.{keeper_faults}
 use Rattle.daemon_core.specs.Turns.{FaultsCounted}
+use Rattle.daemon_core.specs.Planned.{KeepsPlans}
 use Rattle.client_scripts.specs.declared.item.Item.{Item}
 use Rattle.client_plays.specs.declared.played.Played.{Played}
 use Rattle.client_plays.specs.Moments.{Did, Grew, Moment}
@@ -56,12 +57,14 @@ pub record Ended (played : Played) (client : ℕ) (Play : List Moment → Type 0
   pub ends : EndsSo played client Play new moments
 
 -- A house is at rest, after plays in one boot: nobody has anything out, what no event but a boot
--- changes is as before, and each fault of the keeper that the log tells was counted.
+-- changes is as before, and each fault of the keeper that the log tells was counted. Each board at home has
+-- the faults planned that its number had.
 pub record AtRest {K : Type 0} (faults : K → ℕ) (old new : Housed K) : Type 0 where
   pub idle : IsIdle (past new)
   pub same : SameFacts old.annals new.annals
   pub counted : FaultsCounted faults old new
   pub counts : faults old.keeper ≤ faults new.keeper
+  pub plans : KeepsPlans old.places new.places
 
 -- The keeper counted each fault that the log tells, or its count stands at its end.
 abbrev pub IsCounted : {K : Type 0} → (K → ℕ) → Housed K → Type 0

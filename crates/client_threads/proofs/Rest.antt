@@ -1,5 +1,6 @@
 -- A house whose daemon begins, and one whose daemon closed.
 use Rattle.std.proofs.Common.{◌≡◌, ◌⊎◌, ℕ, ◌<◌, ◌≤◌, ◌+◌, ◌-◌, ◌^◌, Bool, true, false, List, [], refl, ap, sym, ◌∙◌, subst, inl, inr, arith}
+use Rattle.emulated_boards.specs.declared.fault.PlannedFault.{PlannedFault}
 use Rattle.history_keeper.specs.declared.row.Row.{Row}
 use Rattle.update_log.specs.declared.event.Event.{Event}
 use Rattle.update_log.specs.declared.facts.Facts.{Facts}
@@ -8,7 +9,10 @@ use Rattle.update_log.specs.Pasts.{boots, off}
 use Rattle.daemon_core.specs.Annals.{IsAnnals, SameFacts}
 use Rattle.daemon_core.specs.Housed.{Housed, past, rows_before}
 use Rattle.daemon_core.specs.Keeping.{keeper_faults}
+use Rattle.daemon_core.specs.Parts.{AllHome}
 use Rattle.daemon_core.specs.Turns.{FaultsCounted}
+use Rattle.daemon_core.specs.Planned.{HavePlans, KeepsPlans}
+use Rattle.daemon_core.proofs.Planned.{keeps-picked, plans-picked}
 use Rattle.client_scripts.specs.declared.item.Item.{Item}
 use Rattle.client_plays.specs.Endings.{AtRest, IsCounted, IsIdle}
 use Rattle.client_plays.specs.Faults.{ShelvesCount}
@@ -21,7 +25,6 @@ use Rattle.client_plays.proofs.RestLaws.{rest-here}
 use Rattle.shared_daemon.specs.Entries.{chronicle, past_seen}
 use Rattle.shared_daemon.specs.Names.{HasNothing, IsLogOf, KeepsName, Name}
 use Rattle.shared_daemon.proofs.Logs.{past-entries}
-use Rattle.shared_daemon.proofs.Planned.{plans-picked}
 use Rattle.shared_daemon.proofs.Seeing.{before-named}
 use Rattle.campaign_runs.specs.Runs.{ReadLast}
 use Rattle.client_threads.specs.Begins.{CanBegin, name_of}
@@ -73,6 +76,10 @@ module _ {K : Type 0} (faults : K → ℕ) where
 
   -- The daemon closed.
   module _ (name : Name) (old new : Housed K) (e : name ≡ name_of faults old) (b : CanBegin faults old) (k : IsAnnals old.annals) (w : IsAnnals new.annals) (n : KeepsName faults name new) where
+    -- All boards were at home as it began, so the name has the plans of all.
+    plans-so : AllHome old.places → KeepsPlans old.places new.places
+    plans-so home = keeps-picked old.places new.places home (subst (λ (plans : List (List PlannedFault)). HavePlans plans new.places) (ap (λ (x : Name). x.plans) e) n.planned)
+
     same-facts : SameFacts old.annals new.annals
     same-facts =
         record {
@@ -87,13 +94,14 @@ module _ {K : Type 0} (faults : K → ℕ) where
     counted-so first start f (inl c) = inl (omega arith)
     counted-so first start f (inr c) = inr c
 
-    rest-so : HasNothing (chronicle new) → AtRest faults old new
-    rest-so nothing =
+    rest-so : AllHome old.places → HasNothing (chronicle new) → AtRest faults old new
+    rest-so home nothing =
         record {
           idle = idle-left new w nothing;
           same = same-facts;
           counted = counted-so name.first_faults name.start_faults (ap (λ (x : Name). x.first_faults) e) n.counted;
           counts = (let start : name.start_faults ≡ faults old.keeper = ap (λ (x : Name). x.start_faults) e in let c = n.counts in omega arith);
+          plans = plans-so home;
         }
 
     rows-so : name.opening ≡ rows_before old.annals
@@ -109,8 +117,8 @@ module _ {K : Type 0} (faults : K → ℕ) where
     pub shelves-counted : (was now : List ShelfTold) → ShelvesCount (past_seen name.start) (past_seen (chronicle new)) was now → ShelvesCount (past old) (past new) was now
     shelves-counted was now c = count-closed (past_seen name.start) (past_seen (chronicle new)) (past old) (past new) was now old-past new-past c
 
-    pub clients-played : (wanting : Bool) (files : ℕ → Files) (of_boot : List (List Item)) → IsLogOf name name.start → IsLogOf name (chronicle new) → HasNothing (chronicle new) → NoClients (past old) → PlayedBehind wanting name files of_boot (chronicle new) → ClientsPlayed faults wanting files of_boot old new
-    clients-played wanting files of_boot s l nothing none p =
+    pub clients-played : AllHome old.places → (wanting : Bool) (files : ℕ → Files) (of_boot : List (List Item)) → IsLogOf name name.start → IsLogOf name (chronicle new) → HasNothing (chronicle new) → NoClients (past old) → PlayedBehind wanting name files of_boot (chronicle new) → ClientsPlayed faults wanting files of_boot old new
+    clients-played home wanting files of_boot s l nothing none p =
         record {
           daemon = ap (mine 0) (sym new-past) ∙ p.daemon ∙ ap (mine 0) old-past;
           clients = λ client c.
@@ -120,7 +128,7 @@ module _ {K : Type 0} (faults : K → ℕ) where
               (subst (λ (es : List Event). P name.facts name.opening es) new-past
               (p.clients client c (ap (mine client) old-past ∙ none client c))));
           grew = subst (λ (es : List Event). Grew es (past new)) old-past (subst (λ (es : List Event). Grew (past_seen name.start) es) new-past (log-grew name (chronicle new) s l));
-          rest = rest-so nothing;
+          rest = rest-so home nothing;
         }
 
   -- Nothing was done.

@@ -55,3 +55,4 @@ pub mod ResumeKept
 pub mod ResumeTurns
 pub mod ResumeExits
 pub mod PartsKept
+pub mod Planned

@@ -14,6 +14,7 @@ pub mod Holds
 pub mod Goes
 pub mod PutOff
 pub mod Returns
+pub mod Planned
 pub mod Commits
 pub mod Finishes
 pub mod Judging

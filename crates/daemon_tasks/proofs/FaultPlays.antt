@@ -20,12 +20,13 @@ use Rattle.daemon_core.specs.Holds.{back_of}
 use Rattle.daemon_core.specs.Housed.{Annalled, Housed, past, past_in}
 use Rattle.daemon_core.specs.Resumes.{ResumeTurned, StoppedBy, note_in}
 use Rattle.client_plays.specs.declared.played.Played.{Played}
-use Rattle.client_plays.specs.Endings.{HousePlayed, HouseWent, SoFar}
+use Rattle.client_plays.specs.Endings.{HouseWent, SoFar}
 use Rattle.client_plays.specs.Faults.{faults_in, faults_noted, is_noted_fault, tells_shelf_fault}
 use Rattle.client_plays.specs.Moments.{Did, at, mine}
 use Rattle.client_plays.specs.Plays.{Task, TaskPlays, ToJudge, UpdatePlays}
 use Rattle.client_plays.specs.Tools.{Files}
 use Rattle.client_plays.proofs.FaultLaws.{TellsNone, faults-event, faults-same, quiet-all, quiet-ends, quiet-judge, quiet-one, quiet-so, quiet-update}
+use Rattle.daemon_tasks.specs.Ends.{TakenPlayed}
 use Rattle.daemon_tasks.specs.Resumed.{WasGivenUp}
 use Rattle.daemon_tasks.proofs.Turns.{Halted, IsOwn, did-appended, halted-did, halted-memory, halted-off}
 
@@ -58,7 +59,7 @@ more-same noted a b c x y = omega arith
 none-more : (noted a b c : ℕ) → b ≡ a → c ≡ b → c ≤ a + noted
 none-more noted a b c x y = omega arith
 
-pub resumed-told : {K : Type 0} (faults : K → ℕ) (entry : ℕ) (held : Option (Ticket × Fetched)) (taken : Taken) (played : Played) (old new last : Housed K) → ResumeTurned entry (note_in held) (Ok (Claimed.Taken taken)) old.annals new.annals → HousePlayed faults played 0 (UpdatePlays 0 taken.entry) new last
+pub resumed-told : {K : Type 0} (faults : K → ℕ) (entry : ℕ) (held : Option (Ticket × Fetched)) (taken : Taken) (played : Played) (old new last : Housed K) → ResumeTurned entry (note_in held) (Ok (Claimed.Taken taken)) old.annals new.annals → TakenPlayed faults played 0 taken.entry taken.board new last
     → faults_in (mine 0 (past last)) ≤ faults_in (mine 0 (past old)) + faults_noted (note_in held)
 resumed-told faults entry held taken played old new last t p =
     more-same (faults_noted (note_in held)) (told_in (past old)) (told_in (past new)) (told_in (past last))

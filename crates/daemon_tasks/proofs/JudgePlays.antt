@@ -28,6 +28,7 @@ use Rattle.daemon_core.specs.Annals.{Appended, IsAnnals, SameFacts, Unchanged}
 use Rattle.daemon_core.specs.Housed.{Annalled, Housed, past, past_in, rows_before}
 use Rattle.daemon_core.specs.Judging.{JudgeTurned, judged_by, judged_on, must_wait, standing, standing_of}
 use Rattle.daemon_core.specs.Turns.{FaultsCounted}
+use Rattle.daemon_core.specs.Planned.{KeepsPlans}
 use Rattle.client_plays.specs.Endings.{IsIdle}
 use Rattle.client_plays.specs.Moments.{Moment, at}
 use Rattle.client_plays.specs.Plays.{Task, TaskPlays, ToJudge}
@@ -152,7 +153,7 @@ all-nothing facts files (t ∷ tasks) = record { first = []; rest = []; are = re
 
 module _ {K : Type 0} (faults : K → ℕ) (facts : Facts) (files : Files) (entry : ℕ) (row : Row) (wanting : Bool) (old new : Housed K)
     (k : IsAnnals old.annals) (i : IsIdle (past old)) (r : row_of (rows_at old.annals) entry ≡ Some row)
-    (counted : FaultsCounted faults old new) (counts : faults old.keeper ≤ faults new.keeper) where
+    (counted : FaultsCounted faults old new) (counts : faults old.keeper ≤ faults new.keeper) (keeps : KeepsPlans old.places new.places) where
   tasks : List Task
   tasks = to_judge_in old.annals (entry ∷ [])
 
@@ -167,6 +168,7 @@ module _ {K : Type 0} (faults : K → ℕ) (facts : Facts) (files : Files) (entr
           same = h.same;
           counted = counted;
           counts = counts;
+          plans = keeps;
         };
       }
 
@@ -193,6 +195,7 @@ module _ {K : Type 0} (faults : K → ℕ) (facts : Facts) (files : Files) (entr
           same = a.same;
           counted = counted;
           counts = counts;
+          plans = keeps;
         };
       }
 

@@ -1,6 +1,8 @@
 -- An entry that was put off: its ask, its resumption, and what follows.
 use Rattle.std.proofs.Common.{◌≡◌, ℕ, ◌<◌, ◌≤◌, Bool, true, false, List, [], ◌∷◌, length, refl, ap, sym, ◌∙◌, subst, arith}
-use Rattle.std.specs.Prelude.{Option, Some, None, Ok, Err}
+use Rattle.std.specs.Prelude.{Option, Some, None, Ok, Err, unwrap_or}
+use Rattle.emulated_boards.specs.Boards.{BoardState}
+use Rattle.emulated_boards.specs.declared.fault.PlannedFault.{PlannedFault}
 use Rattle.history_keeper.specs.declared.row.Row.{Row}
 use Rattle.history_keeper.specs.declared.row.RowState.{RowState}
 use Rattle.update_log.proofs.Lists.{by_test}
@@ -32,6 +34,7 @@ use Rattle.daemon_core.specs.Holds.{back_of}
 use Rattle.daemon_core.specs.Housed.{Annalled, Housed, past, past_in, rows_before}
 use Rattle.daemon_core.specs.Keeping.{keeper_faults}
 use Rattle.daemon_core.specs.Resumes.{ComesIn, IsPutOff, ResumeGave, ResumeTurned, StoppedBy, note_in}
+use Rattle.daemon_core.specs.Returns.{number_of}
 use Rattle.daemon_core.specs.Turns.{FaultsCounted}
 use Rattle.client_plays.specs.declared.played.Played.{Played}
 use Rattle.client_plays.specs.Endings.{HousePlayed, IsIdle}
@@ -41,10 +44,14 @@ use Rattle.client_plays.specs.Tools.{Files}
 use Rattle.client_plays.proofs.PlayLaws.{leaves-nothing, task-unplayed}
 use Rattle.client_plays.proofs.RestLaws.{counted-both}
 use Rattle.client_plays.proofs.TurnLaws.{counted-same, counts-same}
+use Rattle.daemon_core.specs.Planned.{HasPlan, HavePlans, KeepsPlans}
 use Rattle.install_engine.specs.RunsIn.{RunsIn, parts_taken}
+use Rattle.daemon_core.proofs.Planned.{keeps-both, keeps-here, keeps-same, resume-plans, taken-planned}
 use Rattle.install_engine.proofs.RunHouse.{taken-in}
 use Rattle.install_engine.proofs.RunTaken.{TakesWith, resume-takes}
+use Rattle.plain_runs.specs.Ran.{PlannedOut}
 use Rattle.daemon_tasks.specs.Ends as ends
+use Rattle.daemon_tasks.specs.Ends.{TakenPlayed}
 use Rattle.daemon_tasks.specs.Judged.{WaitsIn}
 use Rattle.daemon_tasks.specs.Resumed.{IsOut, WasGivenUp}
 use Rattle.daemon_tasks.specs.Stays.{OthersStay, RunsAlone, rows_at}
@@ -70,6 +77,14 @@ out-halted None stop old new h o = record { no_hold = halted-holds stop old new 
 out-halted (Some held) stop old new h o = held-halted 0 held.0 (block_count held.1) stop old new h o
 
 -- ---- the entry that begins
+
+-- What its run did, but for the boards.
+played-home : {K : Type 0} (faults : K → ℕ) (played : Played) (client entry : ℕ) (board : BoardState) (old new : Housed K) → TakenPlayed faults played client entry board old new → HousePlayed faults played client (UpdatePlays client entry) (record old { places = new.places }) new
+played-home faults played client entry board old new p =
+    record {
+      ended = p.ended;
+      rest = record { idle = p.idle; same = p.same; counted = p.counted; counts = p.counts; plans = keeps-here new.places };
+    }
 
 module _ {K : Type 0} (entry : ℕ) (held : Option (Ticket × Fetched)) (taken : Taken) (old new : Housed K)
     (t : ResumeTurned entry (note_in held) (Ok (Claimed.Taken taken)) old.annals new.annals)
@@ -111,12 +126,22 @@ module _ {K : Type 0} (entry : ℕ) (held : Option (Ticket × Fetched)) (taken :
         entry_is = sym g.0;
       })
 
-  pub resume-played : (faults : K → ℕ) (files : Files) (asked : AskAnswer) (played : Played) (last : Housed K) → ResumeFetches old.annals.facts files asked (note_in held) → FaultsCounted faults old new → faults old.keeper ≤ faults new.keeper → HousePlayed faults played 0 (UpdatePlays 0 taken.entry) new last → HousePlayed faults played 0 (ResumePlays old.annals.facts files entry asked) old last
+  -- The faults that are planned for the board that was taken.
+  taken-out : (plans : List (List PlannedFault)) → HavePlans plans old.places → PlannedOut plans taken.entry taken.board new
+  taken-out plans h =
+      let number : number_of new.annals.facts (rows_before new.annals) (past new) taken.entry ≡ g.3.0 = ap (λ (o : Option ℕ). unwrap_or o 0) g.3.1.comes.board in
+      record {
+        home = resume-plans plans entry held (Ok (Claimed.Taken taken)) old new g h;
+        own = subst (λ (i : ℕ). HasPlan plans i taken.board) (sym number) (taken-planned plans old.places g.3.0 taken h g.3.3);
+      }
+
+  pub resume-played : (faults : K → ℕ) (files : Files) (asked : AskAnswer) (played : Played) (last : Housed K) → ResumeFetches old.annals.facts files asked (note_in held) → FaultsCounted faults old new → faults old.keeper ≤ faults new.keeper → TakenPlayed faults played 0 taken.entry taken.board new last → HousePlayed faults played 0 (ResumePlays old.annals.facts files entry asked) old last
   unfolding event
   resume-played faults files asked played last f counted counts p =
-      played-behind faults played 0 event (ResumePlays old.annals.facts files entry asked) (UpdatePlays 0 entry) old new last (record { no_boot = refl; own = refl })
-      (λ ms u. (note_in held, ResumeAnswer.Begun, Stored.Yes, refl, f, u)) t.1 counted counts
-      (subst (λ (e : ℕ). HousePlayed faults played 0 (UpdatePlays 0 e) new last) g.0 p)
+      let between : Housed K = record new { places = last.places } in
+      played-behind faults played 0 event (ResumePlays old.annals.facts files entry asked) (UpdatePlays 0 entry) old between last (record { no_boot = refl; own = refl })
+      (λ ms u. (note_in held, ResumeAnswer.Begun, Stored.Yes, refl, f, u)) t.1 counted counts (λ plans h. p.home plans (taken-out plans h))
+      (subst (λ (e : ℕ). HousePlayed faults played 0 (UpdatePlays 0 e) between last) g.0 (played-home faults played 0 taken.entry taken.board new last p))
 
   pub resume-others : (last : Housed K) → OthersStay taken.entry new.annals last.annals → OthersStay entry old.annals last.annals
   unfolding event
@@ -126,12 +151,13 @@ module _ {K : Type 0} (entry : ℕ) (held : Option (Ticket × Fetched)) (taken :
 
 -- ---- a resumption that was refused
 
-pub resume-refused : {K : Type 0} (faults : K → ℕ) (files : Files) (asked : AskAnswer) (entry : ℕ) (held : Option (Ticket × Fetched)) (refusal : Refusal) (old new : Housed K) → ResumeFetches old.annals.facts files asked (note_in held) → IsOut held (past old) → ResumeTurned entry (note_in held) (Ok (Claimed.Refused refusal)) old.annals new.annals → FaultsCounted faults old new → faults old.keeper ≤ faults new.keeper
+pub resume-refused : {K : Type 0} (faults : K → ℕ) (files : Files) (asked : AskAnswer) (entry : ℕ) (held : Option (Ticket × Fetched)) (refusal : Refusal) (old new : Housed K) → ResumeFetches old.annals.facts files asked (note_in held) → IsOut held (past old) → ResumeTurned entry (note_in held) (Ok (Claimed.Refused refusal)) old.annals new.annals → ResumeGave entry held (Ok (Claimed.Refused refusal)) old new → FaultsCounted faults old new → faults old.keeper ≤ faults new.keeper
     → HousePlayed faults Played.Done 0 (ResumePlays old.annals.facts files entry asked) old new
-resume-refused faults files asked entry held refusal old new f o t counted counts =
+resume-refused faults files asked entry held refusal old new f o t g counted counts =
     let stored = t.1.0 in
     played-last faults 0 (Event.Resume 0 entry (note_in held) (ResumeAnswer.Refused refusal) stored) (ResumePlays old.annals.facts files entry asked) old new (record { no_boot = refl; own = refl })
     (note_in held, ResumeAnswer.Refused refusal, stored, refl, f, refl) (record { no_hold = out-unheld held (past old) o; no_live = out-dead held (past old) o }) t.1.2 counted counts
+    (λ plans. resume-plans plans entry held (Ok (Claimed.Refused refusal)) old new g)
 
 pub refused-others : (entry : ℕ) (held : Option (Ticket × Fetched)) (refusal : Refusal) (old new : Annalled) → ResumeTurned entry (note_in held) (Ok (Claimed.Refused refusal)) old new → OthersStay entry old new
 refused-others entry held refusal old new t = others-appended 0 entry (Event.Resume 0 entry (note_in held) (ResumeAnswer.Refused refusal) t.1.0) old new refl t.1.2
@@ -157,29 +183,32 @@ module _ {K : Type 0} (entry : ℕ) (held : Option (Ticket × Fetched)) (stopped
   pub stopped-out : IsOut held (past old) → IsOut stopped.held (past mid)
   stopped-out o = subst (λ (h : Option (Ticket × Fetched)). IsOut h (past mid)) (sym g.2) (out-halted held stopped.stop old.annals mid.annals halted o)
 
+  left-plans : (new : Housed K) → new.places ≡ mid.places → KeepsPlans old.places new.places
+  left-plans new s = keeps-both old.places mid.places new.places (λ plans. resume-plans plans entry held (Err stopped) old mid g) (keeps-same mid.places new.places s)
+
   left : (faults : K → ℕ) (files : Files) (asked : AskAnswer) → ResumeFetches old.annals.facts files asked (note_in held) → (kept : Option (Ticket × Fetched)) (new : Housed K) → IsOut kept (past mid) → IsOut kept (past old) → FaultsCounted faults old mid → faults old.keeper ≤ faults mid.keeper
-      → WasGivenUp kept mid.annals new.annals → new.keeper ≡ mid.keeper → HousePlayed faults (ends.stopped_by stopped.stop) 0 (ResumePlays old.annals.facts files entry asked) old new
+      → WasGivenUp kept mid.annals new.annals → new.keeper ≡ mid.keeper → new.places ≡ mid.places → HousePlayed faults (ends.stopped_by stopped.stop) 0 (ResumePlays old.annals.facts files entry asked) old new
   unfolding some-resume
-  left faults files asked f None new o was counted counts w k =
+  left faults files asked f None new o was counted counts w k s =
       let h : Halted stopped.stop old.annals new.annals = subst (λ (a : Annalled). Halted stopped.stop old.annals a) (sym w) halted in
       let e : keeper_faults (past new) ≡ keeper_faults (past mid) = ap (λ (a : Annalled). keeper_faults (past_in a)) w in
       played-stopped faults stopped.stop 0 (ResumePlays old.annals.facts files entry asked) old new
       (leaves-nothing 0 (ResumePlays old.annals.facts files entry asked) (some-resume entry (note_in held)) (note_in held, ResumeAnswer.Refused Refusal.NoDevice, Stored.Yes, refl, f, refl))
-      was h (counted-both faults old mid new counted (counted-same faults mid new e k) (counts-same faults mid new k)) (le-both (faults old.keeper) (faults mid.keeper) (faults new.keeper) counts (counts-same faults mid new k))
-  left faults files asked f (Some x) new o was counted counts w k =
+      was h (counted-both faults old mid new counted (counted-same faults mid new e k) (counts-same faults mid new k)) (le-both (faults old.keeper) (faults mid.keeper) (faults new.keeper) counts (counts-same faults mid new k)) (left-plans new s)
+  left faults files asked f (Some x) new o was counted counts w k s =
       played-back faults stopped.stop 0 (back_of x.0.pending x.0.request) (ResumePlays old.annals.facts files entry asked) (some-resume entry (note_in held)) old mid new
       (note_in held, ResumeAnswer.Refused Refusal.NoDevice, Stored.Yes, refl, f, refl) halted w
-      (idle-back 0 x.0 (block_count x.1) x.0.pending x.0.request (past mid) o) counted counts k
+      (idle-back 0 x.0 (block_count x.1) x.0.pending x.0.request (past mid) o) counted counts k (left-plans new s)
 
   left-others : (kept : Option (Ticket × Fetched)) (new : Housed K) → WasGivenUp kept mid.annals new.annals → OthersStay entry mid.annals new.annals
   left-others None new w = λ other n. ap (λ (a : Annalled). row_of (rows_at a) other) w
   left-others (Some x) new w = others-appended 0 entry (Event.GiveBack 0 (back_of x.0.pending x.0.request)) mid.annals new.annals tt w
 
   pub resume-stopped : (faults : K → ℕ) (files : Files) (asked : AskAnswer) (told : Played) (new : Housed K) → ResumeFetches old.annals.facts files asked (note_in held) → told ≡ ends.stopped_by stopped.stop → IsOut held (past old) → FaultsCounted faults old mid → faults old.keeper ≤ faults mid.keeper
-      → WasGivenUp stopped.held mid.annals new.annals → new.keeper ≡ mid.keeper → HousePlayed faults told 0 (ResumePlays old.annals.facts files entry asked) old new
-  resume-stopped faults files asked told new f e o counted counts w k =
+      → WasGivenUp stopped.held mid.annals new.annals → new.keeper ≡ mid.keeper → new.places ≡ mid.places → HousePlayed faults told 0 (ResumePlays old.annals.facts files entry asked) old new
+  resume-stopped faults files asked told new f e o counted counts w k s =
       subst (λ (x : Played). HousePlayed faults x 0 (ResumePlays old.annals.facts files entry asked) old new) (sym e)
-      (left faults files asked f stopped.held new (stopped-out o) (subst (λ (h : Option (Ticket × Fetched)). IsOut h (past old)) (sym g.2) o) counted counts w k)
+      (left faults files asked f stopped.held new (stopped-out o) (subst (λ (h : Option (Ticket × Fetched)). IsOut h (past old)) (sym g.2) o) counted counts w k s)
 
   pub stopped-others : (new : Housed K) → WasGivenUp stopped.held mid.annals new.annals → OthersStay entry old.annals new.annals
   stopped-others new w = others-both entry old.annals mid.annals new.annals (others-halted entry stopped.stop old.annals mid.annals halted) (left-others stopped.held new w)
@@ -253,21 +282,21 @@ pending-not_kept entry kept state request old new k a =
     cc
 
 -- The resumption behind the ask.
-pub pending-behind : {K : Type 0} (faults : K → ℕ) (files : Files) (entry : ℕ) (request : Request) (answer : AskAnswer) (played : Played) (old mid new : Housed K) → mid.keeper ≡ old.keeper → Appended 0 (Event.Ask 0 request (Some entry) answer) old.annals mid.annals → HousePlayed faults played 0 (ResumePlays mid.annals.facts files entry answer) mid new
+pub pending-behind : {K : Type 0} (faults : K → ℕ) (files : Files) (entry : ℕ) (request : Request) (answer : AskAnswer) (played : Played) (old mid new : Housed K) → mid.keeper ≡ old.keeper → mid.places ≡ old.places → Appended 0 (Event.Ask 0 request (Some entry) answer) old.annals mid.annals → HousePlayed faults played 0 (ResumePlays mid.annals.facts files entry answer) mid new
     → HousePlayed faults played 0 (TaskPlays old.annals.facts files (ToResume entry)) old new
-pending-behind faults files entry request answer played old mid new k a p =
+pending-behind faults files entry request answer played old mid new k s a p =
     let event = Event.Ask 0 request (Some entry) answer in
     played-behind faults played 0 event (TaskPlays old.annals.facts files (ToResume entry)) (ResumePlays old.annals.facts files entry answer) old mid new (record { no_boot = refl; own = refl })
     (λ ms u. (request, answer, refl, u))
-    a (counted-same faults old mid (faults-appended 0 event old.annals mid.annals refl a) k) (counts-same faults old mid k)
+    a (counted-same faults old mid (faults-appended 0 event old.annals mid.annals refl a) k) (counts-same faults old mid k) (keeps-same old.places mid.places s)
     (subst (λ (f : Facts). HousePlayed faults played 0 (ResumePlays f files entry answer) mid new) a.same.facts p)
 
 pub pending-others : (entry : ℕ) (request : Request) (answer : AskAnswer) (old mid new : Annalled) → Appended 0 (Event.Ask 0 request (Some entry) answer) old mid → OthersStay entry mid new → OthersStay entry old new
 pending-others entry request answer old mid new a o = others-both entry old mid new (others-appended 0 entry (Event.Ask 0 request (Some entry) answer) old mid tt a) o
 
 -- It was stopped at its ask.
-pub pending-stopped : {K : Type 0} (faults : K → ℕ) (files : Files) (entry : ℕ) (told : Played) (stop : Stop) (old new : Housed K) → told ≡ ends.stopped_by stop → IsIdle (past old) → Halted stop old.annals new.annals → new.keeper ≡ old.keeper
+pub pending-stopped : {K : Type 0} (faults : K → ℕ) (files : Files) (entry : ℕ) (told : Played) (stop : Stop) (old new : Housed K) → told ≡ ends.stopped_by stop → IsIdle (past old) → Halted stop old.annals new.annals → new.keeper ≡ old.keeper → new.places ≡ old.places
     → HousePlayed faults told 0 (TaskPlays old.annals.facts files (ToResume entry)) old new
-pending-stopped faults files entry told stop old new e i h k =
+pending-stopped faults files entry told stop old new e i h k s =
     subst (λ (x : Played). HousePlayed faults x 0 (TaskPlays old.annals.facts files (ToResume entry)) old new) (sym e)
-    (stopped-alone faults stop 0 (TaskPlays old.annals.facts files (ToResume entry)) old new (task-unplayed old.annals.facts files 0 (ToResume entry)) i h k)
+    (stopped-alone faults stop 0 (TaskPlays old.annals.facts files (ToResume entry)) old new (task-unplayed old.annals.facts files 0 (ToResume entry)) i h k s)

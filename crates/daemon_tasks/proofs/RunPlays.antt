@@ -2,6 +2,7 @@
 use Rattle.std.proofs.Common.{◌≡◌, ℕ, ◌≤◌, Bool, true, false, List, [], ◌∷◌, ◌++◌, append_assoc, refl, ap, sym, ◌∙◌, subst}
 use Rattle.std.specs.Prelude.{Option, Some, None, Ok, ◌==◌}
 use Rattle.fw_facts.specs.declared.seen.Seen.{Seen}
+use Rattle.emulated_boards.specs.Boards.{BoardState}
 use Rattle.history_keeper.specs.declared.row.RowState.{RowState}
 use Rattle.update_log.proofs.Lists.{eqb-self}
 use Rattle.update_log.specs.declared.event.Back.{Back}
@@ -17,12 +18,12 @@ use Rattle.daemon_core.specs.Turns.{FaultsCounted}
 use Rattle.client_plays.specs.declared.played.Played.{Played}
 use Rattle.client_plays.specs.Moments.{Did, Moment, at}
 use Rattle.client_plays.specs.Plays.{UpdatePlays}
-use Rattle.client_plays.specs.Endings.{EndsSo, HousePlayed, IsIdle}
+use Rattle.client_plays.specs.Endings.{EndsSo, IsIdle}
 use Rattle.client_plays.proofs.MomentLaws.{did-both, did-nobody, did-nothing, did-one}
 use Rattle.plain_runs.specs.declared.outcome.Outcome.{Outcome}
-use Rattle.plain_runs.specs.Ran.{GaveBack, Ran, StepMade, cut_events, start_events, step_events}
+use Rattle.plain_runs.specs.Ran.{BroughtHome, GaveBack, Ran, StepMade, cut_events, start_events, step_events}
 use Rattle.plain_runs.proofs.Pasts.{grown, grown-append, past-gained}
-use Rattle.daemon_tasks.specs.Ends.{ended_by}
+use Rattle.daemon_tasks.specs.Ends.{TakenPlayed, ended_by}
 use Rattle.daemon_tasks.specs.Stays.{RunsAlone}
 
 -- Events in a row, each with the past before it.
@@ -189,7 +190,7 @@ given-back client entry old new r k =
     in
     left-run client entry (past_in old) k.steps k.started k.cut r (past_in new) e k.is_off
 
-ran-so : (client entry : ℕ) (outcome : Outcome) (old new : Annalled) → RunsAlone entry (past_in old) → Ran client entry outcome old new → RunPlayed (ended_by outcome) client entry (past_in old) (past_in new)
+pub ran-so : (client entry : ℕ) (outcome : Outcome) (old new : Annalled) → RunsAlone entry (past_in old) → Ran client entry outcome old new → RunPlayed (ended_by outcome) client entry (past_in old) (past_in new)
 ran-so client entry (Outcome.Finished finished) old new r (steps, g) =
     let last = Event.Finish client entry finished.state finished.stored in
     subst (RunPlayed Played.Done client entry (past_in old)) (sym (past-gained (step_events client entry steps ++ last ∷ []) old new g))
@@ -200,12 +201,16 @@ ran-same : (client entry : ℕ) (outcome : Outcome) (old new : Annalled) → Ran
 ran-same client entry (Outcome.Finished finished) old new (steps, g) = g.same
 ran-same client entry Outcome.Off old new k = k.gained.same
 
-pub run-played : {K : Type 0} (faults : K → ℕ) (client entry : ℕ) (outcome : Outcome) (told : Played) (old new : Housed K) → told ≡ ended_by outcome → RunsAlone entry (past old) → Ran client entry outcome old.annals new.annals → FaultsCounted faults old new → faults old.keeper ≤ faults new.keeper
-    → HousePlayed faults told client (UpdatePlays client entry) old new
-run-played faults client entry outcome told old new e r ran counted counts =
+pub run-played : {K : Type 0} (faults : K → ℕ) (client entry : ℕ) (board : BoardState) (outcome : Outcome) (told : Played) (old new : Housed K) → told ≡ ended_by outcome → RunsAlone entry (past old) → Ran client entry outcome old.annals new.annals → FaultsCounted faults old new → faults old.keeper ≤ faults new.keeper
+    → BroughtHome entry board old new → TakenPlayed faults told client entry board old new
+run-played faults client entry board outcome told old new e r ran counted counts home =
     let p = ran-so client entry outcome old.annals new.annals r ran in
-    subst (λ (x : Played). HousePlayed faults x client (UpdatePlays client entry) old new) (sym e)
+    subst (λ (x : Played). TakenPlayed faults x client entry board old new) (sym e)
     (record {
       ended = record { moments = p.moments; did = p.did; ends = p.ends };
-      rest = record { idle = p.idle; same = ran-same client entry outcome old.annals new.annals ran; counted = counted; counts = counts };
+      idle = p.idle;
+      same = ran-same client entry outcome old.annals new.annals ran;
+      counted = counted;
+      counts = counts;
+      home = home;
     })

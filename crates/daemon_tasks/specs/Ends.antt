@@ -1,7 +1,15 @@
--- How a play ended.
+-- How a play ended, and what the run of an entry did.
+use Rattle.std.specs.Prelude.{◌≤◌, ℕ}
+use Rattle.emulated_boards.specs.Boards.{BoardState}
 use Rattle.daemon_core.specs.declared.stop.Stop.{Stop}
+use Rattle.daemon_core.specs.Annals.{SameFacts}
+use Rattle.daemon_core.specs.Housed.{Housed, past}
+use Rattle.daemon_core.specs.Turns.{FaultsCounted}
 use Rattle.client_plays.specs.declared.played.Played.{Played}
+use Rattle.client_plays.specs.Endings.{Ended, IsIdle}
+use Rattle.client_plays.specs.Plays.{UpdatePlays}
 use Rattle.plain_runs.specs.declared.outcome.Outcome.{Outcome}
+use Rattle.plain_runs.specs.Ran.{BroughtHome}
 
 -- One that came to the run of an entry.
 abbrev pub ended_by : Outcome → Played
@@ -12,3 +20,14 @@ ended_by Outcome.Off = Played.Off
 abbrev pub stopped_by : Stop → Played
 stopped_by Stop.Off = Played.Off
 stopped_by Stop.NoMemory = Played.NoMemory
+
+-- What the run of an entry did to a house, which this board of the entry was taken from: the play ended so;
+-- nobody has anything out, what no event but a boot changes is as before, and each fault of the keeper that
+-- the log tells was counted; and the board came home, with the faults planned that its number has.
+pub record TakenPlayed {K : Type 0} (faults : K → ℕ) (played : Played) (client entry : ℕ) (board : BoardState) (old new : Housed K) : Type 0 where
+  pub ended : Ended played client (UpdatePlays client entry) (past old) (past new)
+  pub idle : IsIdle (past new)
+  pub same : SameFacts old.annals new.annals
+  pub counted : FaultsCounted faults old new
+  pub counts : faults old.keeper ≤ faults new.keeper
+  pub home : BroughtHome entry board old new

@@ -31,6 +31,7 @@ fn give_up<K: Keeper>(house: &mut House<K>, stopped: ResumeStop) -> Played
     requires out { IsOut stopped.held (past house.old) }
     ensures told { result ≡ stopped_by stopped.stop }
     ensures given { WasGivenUp stopped.held house.old.annals house.new.annals }
+    ensures places { house.new.places ≡ house.old.places }
     ensures keeper { house.new.keeper ≡ house.old.keeper }
 {
     let ResumeStop { stop, held } = stopped;

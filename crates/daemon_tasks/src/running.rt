@@ -1,10 +1,8 @@
 //! The run of an entry that was taken.
 ghost use Rattle.std.specs.Prelude.{◌≡◌, ◌≤◌, ◌<◌, [], None, length};
 ghost use Rattle.daemon_core.specs.Housed.{past};
-ghost use Rattle.client_plays.specs.Endings.{HousePlayed};
-ghost use Rattle.client_plays.specs.Plays.{UpdatePlays};
 ghost use Rattle.install_engine.specs.RunsIn.{RunsIn, parts_taken};
-ghost use Rattle.daemon_tasks.specs.Ends.{ended_by, stopped_by};
+ghost use Rattle.daemon_tasks.specs.Ends.{TakenPlayed, ended_by, stopped_by};
 ghost use Rattle.daemon_tasks.specs.Stays.{OthersStay, RunsAlone};
 
 use client_plays::Played;
@@ -25,7 +23,7 @@ pub(crate) fn run_taken<K: Keeper>(
     requires marks { 8 ≤ taken.board.room }
     requires served { taken.plugin < length plugins.now }
     requires alone { RunsAlone taken.entry (past house.old) }
-    ensures played { HousePlayed K.faults result client (UpdatePlays client taken.entry) house.old house.new }
+    ensures played { TakenPlayed K.faults result client taken.entry taken.board house.old house.new }
     ensures others { OthersStay taken.entry house.old.annals house.new.annals }
 {
     let outcome = run_claim(house, client, taken, plugins);

@@ -3,7 +3,7 @@ use Rattle.std.proofs.Common.{◌⊎◌, ℕ, ◌≤◌, ◌+◌, ◌-◌, ◌^�
 use Rattle.daemon_core.specs.Housed.{Housed, past}
 use Rattle.daemon_core.specs.Keeping.{keeper_faults}
 use Rattle.shared_daemon.specs.Names.{KeepsName}
-use Rattle.shared_daemon.proofs.Planned.{plans-picked}
+use Rattle.daemon_core.proofs.Planned.{plans-picked}
 use Rattle.daemon_tests.specs.Begins.{CanBegin, name_of}
 
 counted-first : (told counted end : ℕ) → (told ≤ counted) ⊎ (end ≤ counted) → (told + (counted - told) ≤ counted) ⊎ (end ≤ counted)

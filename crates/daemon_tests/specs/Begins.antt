@@ -5,9 +5,11 @@ use Rattle.update_log.specs.Pasts.{boots}
 use Rattle.daemon_core.specs.Housed.{Housed, past}
 use Rattle.daemon_core.specs.Keeping.{keeper_faults}
 use Rattle.shared_daemon.specs.Entries.{chronicle}
-use Rattle.shared_daemon.specs.Names.{Name, plans_in}
+use Rattle.daemon_core.specs.Planned.{plans_in}
+use Rattle.shared_daemon.specs.Names.{Name}
 
--- It was booted, and its last boot read the history; each fault of the keeper that its log tells was counted, and nobody has anything out.
+-- It was booted, its last boot read the history, and nobody opened the keeper again since; each fault of the
+-- keeper that its log tells was counted, and nobody has anything out.
 pub record CanBegin {K : Type 0} (faults : K → ℕ) (h : Housed K) : Type 0 where
   pub loaded : h.annals.loaded ≡ true
   pub reopened : h.annals.reopened ≡ false

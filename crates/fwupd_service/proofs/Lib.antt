@@ -8,3 +8,4 @@ pub mod MakeShelves
 pub mod FaultsTold
 pub mod Unfailing
 pub mod Completing
+pub mod PlannedBoards

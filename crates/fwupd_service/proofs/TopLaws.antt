@@ -42,13 +42,14 @@ stay-same [] = tt
 stay-same (shelf ∷ shelves) = (record { files = refl; counts = omega arith }, stay-same shelves)
 
 module _ {K : Type 0} (told : K → Option (List Row)) (doubted : K → Option Change) (faults : K → ℕ) (shelves now : List ShelfTold) (ran : Ran) (campaign : Campaign) (opening : List Row) (log : List Event) (boards : List BoardState) (old new : K) (text : List ℕ) (before after : Option (List ℕ)) where
-  pub campaign-told : (status : Status) → ShelvesStand log shelves now → WasPlayed told doubted faults (files_for shelves) ran (with_plans campaign.facts (map shown_by campaign.boards.items) campaign.boots) campaign.scripts opening log boards old new
+  pub campaign-told : (status : Status) → ShelvesStand log shelves now → map (λ (b : BoardState). b.plan) boards ≡ map (λ (b : BoardState). b.plan) campaign.boards.items → WasPlayed told doubted faults (files_for shelves) ran (with_plans campaign.facts (map shown_by campaign.boards.items) campaign.boots) campaign.scripts opening log boards old new
       → IsReported status ran.ending ran.wanting log text before after
       → CampaignTold told doubted faults shelves now status campaign old (record { log = log; opening = opening; boards = Some boards; keeper = new }) text before after
-  campaign-told status s p r = record {
+  campaign-told status s plans p r = record {
     boards = boards;
     boards_are = refl;
     true_log = p.true_log;
+    board_plans = plans;
     keeper_stands = p.keeper;
     shelves_stand = s;
     ends = campaign-ends told doubted faults (files_for shelves) (with_plans campaign.facts (map shown_by campaign.boards.items) campaign.boots) campaign.scripts opening log boards old new text before after status ran p r;

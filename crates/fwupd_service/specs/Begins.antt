@@ -1,9 +1,8 @@
 -- What a campaign needs to begin.
-use Rattle.std.specs.Prelude.{◌≡◌, ◌≤◌, ◌<◌, ◌-◌, ◌^◌, ℕ, false, List, [], length, All, Some, slice_get}
-use Rattle.fw_facts.specs.declared.seen.Seen.{Seen}
+use Rattle.std.specs.Prelude.{◌≡◌, ◌≤◌, ◌<◌, ◌-◌, ◌^◌, ℕ, false, List, [], length, map, All, Some, slice_get}
 use Rattle.emulated_boards.specs.Boards.{BoardState}
 use Rattle.update_log.specs.declared.facts.Facts.{Facts}
-use Rattle.daemon_core.specs.House.{IsNewBoard}
+use Rattle.daemon_core.specs.House.{IsNewBoard, place_of, shown_by}
 use Rattle.daemon_core.specs.Housed.{Housed}
 use Rattle.client_plays.specs.Endings.{IsScriptItem}
 use Rattle.site_types.specs.declared.campaign.Campaign.{Campaign}
@@ -25,10 +24,11 @@ pub record IsReadyFor (shelves plugins : ℕ) (campaign : Campaign) : Type 0 whe
   pub each : All (λ of_boot. length of_boot ≤ shelves) campaign.scripts
   pub plugins_are : length campaign.facts.vetoes ≤ plugins
 
--- A house of these facts, before its first boot, with this keeper: no boot read any rows.
-pub record IsBegun {K : Type 0} (facts : Facts) (first : List Seen) (keeper : K) (h : Housed K) : Type 0 where
+-- A house of these facts and boards, before its first boot, with this keeper: no boot read any rows.
+pub record IsBegun {K : Type 0} (facts : Facts) (boards : List BoardState) (keeper : K) (h : Housed K) : Type 0 where
   pub facts_are : h.annals.facts ≡ facts
-  pub first_are : h.annals.first ≡ first
+  pub first_are : h.annals.first ≡ map shown_by boards
+  pub places_are : h.places ≡ map place_of boards
   pub log : h.annals.core.log ≡ []
   pub loaded : h.annals.loaded ≡ false
   pub opening : h.annals.opening ≡ []

@@ -47,12 +47,13 @@ stop_status (stops.Plugins fault) = statuses.Plugins fault
 stop_status stops.NoMemory = statuses.NoMemory
 
 -- A campaign was played: what is true of its log and its boards, how the keeper and the shelves stand to it,
--- and what the status says of how it ended and of what was written of it. The shelves are as they came, and
--- as they are now.
+-- and what the status says of how it ended and of what was written of it. Each board has the faults planned
+-- that the campaign's board of its number has. The shelves are as they came, and as they are now.
 pub record CampaignTold {K : Type 0} (told : K → Option (List Row)) (doubted : K → Option Change) (faults : K → ℕ) (shelves now : List ShelfTold) (status : Status) (campaign : Campaign) (keeper : K) (left : Left K) (text : List ℕ) (before after : Option (List ℕ)) : Type 0 where
   pub boards : List BoardState
   pub boards_are : left.boards ≡ Some boards
   pub true_log : IsTrueLog (with_plans campaign.facts (map shown_by campaign.boards.items) campaign.boots) left.opening left.log boards
+  pub board_plans : map (λ b. b.plan) boards ≡ map (λ b. b.plan) campaign.boards.items
   pub keeper_stands : KeeperStands told doubted faults (with_plans campaign.facts (map shown_by campaign.boards.items) campaign.boots) left.opening left.log keeper left.keeper
   pub shelves_stand : ShelvesStand left.log shelves now
   pub ends : CampaignEnds told (files_for shelves) status (with_plans campaign.facts (map shown_by campaign.boards.items) campaign.boots) left.opening campaign.scripts left.log left.keeper text before after

@@ -2,6 +2,7 @@
 ghost use Rattle.std.specs.Prelude.{◌≡◌, ◌≤◌, ◌<◌, ◌-◌, ◌^◌, ℕ, [], false, None, Some, All, length, map, slice_get, IfOk, IfErr};
 ghost use Rattle.emulated_boards.specs.Boards.{BoardState};
 ghost use Rattle.daemon_core.specs.House.{IsNewBoard, shown_by};
+ghost use Rattle.daemon_core.specs.Planned.{plans_in};
 ghost use Rattle.client_plays.specs.Endings.{IsScriptItem};
 ghost use Rattle.client_plays.specs.Shelves.{files_for};
 ghost use Rattle.client_plays.specs.Tools.{Serves};
@@ -61,10 +62,12 @@ fn play_house<R: Threads + Wait + Sync, P: Shelf + Send, K: Keeper + Send, G: Ga
     requires shelves { All (λ of_boot. length of_boot ≤ length (shelves_told P.files P.faults shelves.items)) scripts.now }
     ensures played { WasPlayed K.rows K.doubt K.faults (files_for (shelves_told P.files P.faults shelves.items)) result.0.ran (with_plans house.annals.facts house.annals.first plans.now)
         scripts.now result.0.opening result.0.log result.0.boards house.keeper result.0.keeper }
+    ensures plans { map (λ b. b.plan) result.0.boards ≡ plans_in house.places }
     ensures facts { result.0.facts ≡ house.annals.facts }
     ensures few { length result.0.facts.sheets ≤ 256 }
     ensures stand { ShelvesStand result.0.log (shelves_told P.files P.faults shelves.items) (shelves_told P.files P.faults result.1.items) }
 {
+    house.known();
     legal_once();
     taken_once();
     history_stays();
@@ -102,7 +105,7 @@ fn new_house<K: Keeper>(
     requires fresh { (number : ℕ) (b : BoardState) → slice_get boards.items number ≡ Some b → IsNewBoard b }
     requires no_doubt { K.doubt keeper ≡ None }
     requires pool { facts.pool ≤ 16384 }
-    ensures begun { IfOk result (λ house. IsBegun facts (map shown_by boards.items) keeper house) }
+    ensures begun { IfOk result (λ house. IsBegun facts boards.items keeper house) }
     ensures refused { IfErr result (λ refused. refused ≡ keeper) }
 {
     let Ok(pool) = Pool::new(alloc, facts.pool) else {
@@ -130,6 +133,7 @@ pub(crate) fn play<R: Threads + Wait + Sync, P: Shelf + Send, K: Keeper + Send, 
     ensures played { IfOk result.0 (λ played. WasPlayed K.rows K.doubt K.faults (files_for (shelves_told P.files P.faults shelves.items)) played.ran
         (with_plans ready.campaign.facts (map shown_by ready.campaign.boards.items) ready.campaign.boots)
         ready.campaign.scripts played.opening played.log played.boards keeper played.keeper) }
+    ensures plans { IfOk result.0 (λ played. map (λ b. b.plan) played.boards ≡ map (λ b. b.plan) ready.campaign.boards.items) }
     ensures facts { IfOk result.0 (λ played. played.facts ≡ ready.campaign.facts) }
     ensures few { IfOk result.0 (λ played. length played.facts.sheets ≤ 256) }
     ensures refused { IfErr result.0 (λ refused. refused ≡ keeper) }

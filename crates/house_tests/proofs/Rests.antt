@@ -1,5 +1,5 @@
 -- What one event, or none, leaves: who has something out, and how many boots there were.
-use Rattle.std.proofs.Common.{◌≡◌, ℕ, ◌<◌, ◌≤◌, Bool, true, false, List, refl, ap, sym, ◌∙◌, subst}
+use Rattle.std.proofs.Common.{◌≡◌, ℕ, ◌<◌, Bool, true, false, List, refl, ap, sym, ◌∙◌, subst}
 use Rattle.update_log.specs.declared.event.Event.{Event}
 use Rattle.update_log.specs.declared.live.Held.{Held}
 use Rattle.update_log.specs.declared.live.LiveEntry.{LiveEntry}
@@ -10,16 +10,14 @@ use Rattle.daemon_core.specs.declared.hold.Ticket.{Ticket}
 use Rattle.daemon_core.specs.declared.stop.Stop.{Stop}
 use Rattle.daemon_core.specs.Annals.{Appended}
 use Rattle.daemon_core.specs.Holds.{back_of}
-use Rattle.daemon_core.specs.Housed.{Annalled, Housed, past, past_in}
-use Rattle.daemon_core.specs.Turns.{FaultsCounted}
+use Rattle.daemon_core.specs.Housed.{Annalled, past_in}
 use Rattle.client_plays.specs.Endings.{IsIdle}
 use Rattle.client_plays.proofs.MomentLaws.{grew-boots}
 use Rattle.plain_runs.specs.declared.outcome.Outcome.{Outcome}
 use Rattle.plain_runs.specs.Ran.{Ran}
-use Rattle.daemon_tasks.specs.Ends.{ended_by}
 use Rattle.daemon_tasks.specs.Stays.{HoldsAlone, RunsAlone}
 use Rattle.daemon_tasks.proofs.Outs.{idle-back, no-hold}
-use Rattle.daemon_tasks.proofs.RunPlays.{run-played}
+use Rattle.daemon_tasks.proofs.RunPlays.{ran-so}
 use Rattle.daemon_tasks.proofs.Turns.{Halted, cut_past, halted-holds, halted-live}
 
 pub still-booted : (old new : List Event) → boots new ≡ boots old → 0 < boots old → 0 < boots new
@@ -66,7 +64,7 @@ pub record Rests (old new : List Event) : Type 0 where
   pub idle : IsIdle new
   pub boots_are : boots new ≡ boots old
 
-pub ran-rests : {K : Type 0} (faults : K → ℕ) (client entry : ℕ) (outcome : Outcome) (old new : Housed K) → RunsAlone entry (past old) → Ran client entry outcome old.annals new.annals → FaultsCounted faults old new → faults old.keeper ≤ faults new.keeper → Rests (past old) (past new)
-ran-rests faults client entry outcome old new r ran counted counts =
-    let p = run-played faults client entry outcome (ended_by outcome) old new refl r ran counted counts in
-    record { idle = p.rest.idle; boots_are = grew-boots (past old) (past new) p.ended.did.grew }
+pub ran-rests : (client entry : ℕ) (outcome : Outcome) (old new : Annalled) → RunsAlone entry (past_in old) → Ran client entry outcome old new → Rests (past_in old) (past_in new)
+ran-rests client entry outcome old new r ran =
+    let p = ran-so client entry outcome old new r ran in
+    record { idle = p.idle; boots_are = grew-boots (past_in old) (past_in new) p.did.grew }

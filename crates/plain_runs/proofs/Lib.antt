@@ -3,3 +3,4 @@ pub mod Pasts
 pub mod Turns
 pub mod Same
 pub mod Ends
+pub mod Planned

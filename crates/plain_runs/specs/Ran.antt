@@ -1,7 +1,9 @@
 -- What the run of a claim puts behind the log.
 use Rattle.std.specs.Prelude.{◌≡◌, ℕ, Bool, true, false, List, [], ◌∷◌, ◌++◌, Option, Some, None, Result, ⊤}
 use Rattle.fw_facts.specs.declared.seen.Seen.{Seen}
+use Rattle.emulated_boards.specs.Boards.{BoardState}
 use Rattle.emulated_boards.specs.declared.fault.BoardFault.{BoardFault}
+use Rattle.emulated_boards.specs.declared.fault.PlannedFault.{PlannedFault}
 use Rattle.emulated_boards.specs.declared.mark.Mark.{Mark}
 use Rattle.emulated_boards.specs.Images.{payload_image}
 use Rattle.update_log.specs.declared.event.Back.{Back}
@@ -9,10 +11,12 @@ use Rattle.update_log.specs.declared.event.Event.{Event}
 use Rattle.update_log.specs.declared.event.Op.{Op}
 use Rattle.update_log.specs.Pasts.{off}
 use Rattle.daemon_core.specs.Annals.{SameFacts}
-use Rattle.daemon_core.specs.Housed.{Annalled, past_in}
+use Rattle.daemon_core.specs.Housed.{Annalled, Housed, past, past_in, rows_before}
+use Rattle.daemon_core.specs.Returns.{number_of}
 use Rattle.daemon_core.specs.declared.finished.Finished.{Finished}
 use Rattle.device_claims.specs.Claims.{Noted}
 use Rattle.device_claims.specs.declared.claim.Parts.{Parts}
+use Rattle.daemon_core.specs.Planned.{HasPlan, HavePlans}
 use Rattle.install_engine.specs.Runs.{StepLeft}
 use Rattle.install_engine.specs.RunsIn.{RunsIn}
 use Rattle.plain_runs.specs.declared.outcome.Outcome.{Outcome}
@@ -80,3 +84,17 @@ Finishes client entry finished old new =
 abbrev pub Ran : ℕ → ℕ → Outcome → Annalled → Annalled → Type 0
 Ran client entry (Outcome.Finished finished) old new = Finishes client entry finished old new
 Ran client entry Outcome.Off old new = GaveBack client entry old new
+
+-- The boards at home have the faults planned that their numbers have, and so has this board of an entry,
+-- which is out.
+pub record PlannedOut {K : Type 0} (plans : List (List PlannedFault)) (entry : ℕ) (board : BoardState) (h : Housed K) : Type 0 where
+  pub home : HavePlans plans h.places
+  pub own : HasPlan plans (number_of h.annals.facts (rows_before h.annals) (past h) entry) board
+
+-- Whatever faults were planned for the boards, they are planned still, and the entry's is out.
+abbrev pub KeepsOut : {K : Type 0} → ℕ → BoardState → BoardState → Housed K → Housed K → Type 0
+KeepsOut entry was is old new = (plans : List (List PlannedFault)) → PlannedOut plans entry was old → PlannedOut plans entry is new
+
+-- So they are, and the entry's board came home.
+abbrev pub BroughtHome : {K : Type 0} → ℕ → BoardState → Housed K → Housed K → Type 0
+BroughtHome entry board old new = (plans : List (List PlannedFault)) → PlannedOut plans entry board old → HavePlans plans new.places

@@ -5,7 +5,7 @@ ghost use Rattle.update_log.specs.declared.event.Op.{Op};
 ghost use Rattle.daemon_core.specs.Turns.{FaultsCounted};
 ghost use Rattle.device_claims.specs.States.{IsNext};
 ghost use Rattle.install_engine.specs.RunsIn.{RunsIn, parts_taken};
-ghost use Rattle.plain_runs.specs.Ran.{GaveBack, MadeSteps, Ran};
+ghost use Rattle.plain_runs.specs.Ran.{BroughtHome, GaveBack, KeepsOut, MadeSteps, Ran};
 
 use crate::outcome::Outcome;
 use crate::steps::{attach, cleanup, detach, prepare, reload, write};
@@ -28,6 +28,8 @@ fn loosen<K: Keeper>(
     ensures runs { IfOk result (λ next. RunsIn house.new.annals client next None) }
     ensures made { OnOk result (MadeSteps client entry house.old.annals house.new.annals) }
     ensures gone { OnErr result (GaveBack client entry house.old.annals house.new.annals) }
+    ensures planned { IfOk result (λ next. KeepsOut entry claim.board next.board house.old house.new) }
+    ensures home { OnErr result (BroughtHome entry claim.board house.old house.new) }
     ensures keeper { house.new.keeper ≡ house.old.keeper }
 {
     if claim.may_detach() {
@@ -51,6 +53,8 @@ fn flash<K: Keeper>(
     ensures runs { IfOk result (λ next. RunsIn house.new.annals client next None) }
     ensures made { OnOk result (MadeSteps client entry house.old.annals house.new.annals) }
     ensures gone { OnErr result (GaveBack client entry house.old.annals house.new.annals) }
+    ensures planned { IfOk result (λ next. KeepsOut entry claim.board next.board house.old house.new) }
+    ensures home { OnErr result (BroughtHome entry claim.board house.old house.new) }
     ensures keeper { house.new.keeper ≡ house.old.keeper }
 {
     if claim.may_write() {
@@ -75,6 +79,8 @@ fn join<K: Keeper>(
     ensures next { IfOk result (λ next. IsNext Op.Reload next.trace) }
     ensures made { OnOk result (MadeSteps client entry house.old.annals house.new.annals) }
     ensures gone { OnErr result (GaveBack client entry house.old.annals house.new.annals) }
+    ensures planned { IfOk result (λ next. KeepsOut entry claim.board next.board house.old house.new) }
+    ensures home { OnErr result (BroughtHome entry claim.board house.old house.new) }
     ensures keeper { house.new.keeper ≡ house.old.keeper }
 {
     if claim.may_attach() {
@@ -99,6 +105,8 @@ fn make_ready<K: Keeper>(
     ensures runs { IfOk result (λ next. RunsIn house.new.annals client next None) }
     ensures made { OnOk result (MadeSteps client entry house.old.annals house.new.annals) }
     ensures gone { OnErr result (GaveBack client entry house.old.annals house.new.annals) }
+    ensures planned { IfOk result (λ next. KeepsOut entry claim.board next.board house.old house.new) }
+    ensures home { OnErr result (BroughtHome entry claim.board house.old house.new) }
     ensures keeper { house.new.keeper ≡ house.old.keeper }
 {
     let next = prepare(house, client, entry, claim, plugin)?;
@@ -120,6 +128,8 @@ fn update<K: Keeper>(
     ensures next { IfOk result (λ next. IsNext Op.Reload next.trace) }
     ensures made { OnOk result (MadeSteps client entry house.old.annals house.new.annals) }
     ensures gone { OnErr result (GaveBack client entry house.old.annals house.new.annals) }
+    ensures planned { IfOk result (λ next. KeepsOut entry claim.board next.board house.old house.new) }
+    ensures home { OnErr result (BroughtHome entry claim.board house.old house.new) }
     ensures keeper { house.new.keeper ≡ house.old.keeper }
 {
     let next = flash(house, client, entry, claim, plugin)?;
@@ -142,6 +152,8 @@ fn look_and_end<K: Keeper>(
     ensures done { IfOk result (λ next. next_step next.trace ≡ None) }
     ensures made { OnOk result (MadeSteps client entry house.old.annals house.new.annals) }
     ensures gone { OnErr result (GaveBack client entry house.old.annals house.new.annals) }
+    ensures planned { IfOk result (λ next. KeepsOut entry claim.board next.board house.old house.new) }
+    ensures home { OnErr result (BroughtHome entry claim.board house.old house.new) }
     ensures keeper { house.new.keeper ≡ house.old.keeper }
 {
     let next = reload(house, client, entry, claim, plugin)?;
@@ -164,6 +176,8 @@ fn advance<K: Keeper>(
     ensures next { IfOk result (λ next. IsNext Op.Reload next.trace) }
     ensures made { OnOk result (MadeSteps client entry house.old.annals house.new.annals) }
     ensures gone { OnErr result (GaveBack client entry house.old.annals house.new.annals) }
+    ensures planned { IfOk result (λ next. KeepsOut entry claim.board next.board house.old house.new) }
+    ensures home { OnErr result (BroughtHome entry claim.board house.old house.new) }
     ensures keeper { house.new.keeper ≡ house.old.keeper }
 {
     let next = make_ready(house, client, entry, claim, plugin)?;
@@ -186,6 +200,8 @@ fn make_steps<K: Keeper>(
     ensures done { IfOk result (λ next. next_step next.trace ≡ None) }
     ensures made { OnOk result (MadeSteps client entry house.old.annals house.new.annals) }
     ensures gone { OnErr result (GaveBack client entry house.old.annals house.new.annals) }
+    ensures planned { IfOk result (λ next. KeepsOut entry claim.board next.board house.old house.new) }
+    ensures home { OnErr result (BroughtHome entry claim.board house.old house.new) }
     ensures keeper { house.new.keeper ≡ house.old.keeper }
 {
     let next = advance(house, client, entry, claim, plugin)?;
@@ -198,6 +214,7 @@ fn finish<K: Keeper>(house: &mut House<K>, client: u32, entry: u32, claim: Close
     requires runs { RunsIn house.old.annals client claim None }
     requires done { next_step claim.trace ≡ None }
     ensures ran { Ran client entry result house.old.annals house.new.annals }
+    ensures home { BroughtHome entry claim.board house.old house.new }
     ensures faults { FaultsCounted K.faults house.old house.new }
     ensures counts { K.faults house.old.keeper ≤ K.faults house.new.keeper }
 {
@@ -226,6 +243,7 @@ pub fn run_claim<K: Keeper>(
     requires marks { 8 ≤ taken.board.room }
     requires served { taken.plugin < length plugins.now }
     ensures ran { Ran client taken.entry result house.old.annals house.new.annals }
+    ensures home { BroughtHome taken.entry taken.board house.old house.new }
     ensures faults { FaultsCounted K.faults house.old house.new }
     ensures counts { K.faults house.old.keeper ≤ K.faults house.new.keeper }
 {

@@ -10,7 +10,7 @@ ghost use Rattle.daemon_core.specs.Annals.{Appended};
 ghost use Rattle.daemon_core.specs.Housed.{past_in};
 ghost use Rattle.device_claims.specs.States.{IsNext};
 ghost use Rattle.install_engine.specs.RunsIn.{HomeIn, RunsIn};
-ghost use Rattle.plain_runs.specs.Ran.{CameBack, Gained, GaveBack, MadeSteps, StepToEnd};
+ghost use Rattle.plain_runs.specs.Ran.{BroughtHome, CameBack, Gained, GaveBack, KeepsOut, MadeSteps, StepToEnd};
 
 use daemon_core::{House, Off};
 use device_claims::{Begun, Claim, Closed, Flashed, Joined, Loose, Ready, Reloaded, State};
@@ -30,6 +30,7 @@ fn give_back<K: Keeper, S: State>(
     requires off { off (past_in house.old.annals) ≡ true }
     requires home { HomeIn house.old.annals client entry claim.board claim.payload.count }
     ensures appended { Appended client (Event.GiveBack client (Back.Entry entry)) house.old.annals house.new.annals }
+    ensures home { BroughtHome entry claim.board house.old house.new }
     ensures keeper { house.new.keeper ≡ house.old.keeper }
 {
     let (board, payload) = claim.into_parts();
@@ -52,6 +53,8 @@ fn begin<K: Keeper, S: State>(
     ensures runs { IfOk result (λ next. RunsIn house.new.annals client next (Some op)) }
     ensures gained { OnOk result (Gained (Event.Start client entry op ∷ []) house.old.annals house.new.annals) }
     ensures gone { OnErr result (CameBack client entry house.old.annals house.new.annals) }
+    ensures planned { IfOk result (λ next. KeepsOut entry claim.board next.board house.old house.new) }
+    ensures home { OnErr result (BroughtHome entry claim.board house.old house.new) }
     ensures keeper { house.new.keeper ≡ house.old.keeper }
 {
     match house.start(client, entry, op) {
@@ -74,6 +77,8 @@ fn end<K: Keeper, S: State>(
     ensures runs { IfOk result (λ next. RunsIn house.new.annals client next None) }
     ensures gained { OnOk result ((told : List Mark) × Gained (Event.End client entry op answer told (view_of claim.board.condition) ∷ []) house.old.annals house.new.annals) }
     ensures gone { OnErr result (CameBack client entry house.old.annals house.new.annals) }
+    ensures planned { IfOk result (λ next. KeepsOut entry claim.board next.board house.old house.new) }
+    ensures home { OnErr result (BroughtHome entry claim.board house.old house.new) }
     ensures keeper { house.new.keeper ≡ house.old.keeper }
 {
     match house.end(client, entry, op, answer, claim.board()) {
@@ -97,6 +102,8 @@ pub(crate) fn prepare<K: Keeper>(
     ensures runs { IfOk result (λ next. RunsIn house.new.annals client next None) }
     ensures made { OnOk result (MadeSteps client entry house.old.annals house.new.annals) }
     ensures gone { OnErr result (GaveBack client entry house.old.annals house.new.annals) }
+    ensures planned { IfOk result (λ next. KeepsOut entry claim.board next.board house.old house.new) }
+    ensures home { OnErr result (BroughtHome entry claim.board house.old house.new) }
     ensures keeper { house.new.keeper ≡ house.old.keeper }
 {
     let claim = begin(house, client, entry, Op::Prepare, claim)?;
@@ -119,6 +126,8 @@ pub(crate) fn detach<K: Keeper>(
     ensures runs { IfOk result (λ next. RunsIn house.new.annals client next None) }
     ensures made { OnOk result (MadeSteps client entry house.old.annals house.new.annals) }
     ensures gone { OnErr result (GaveBack client entry house.old.annals house.new.annals) }
+    ensures planned { IfOk result (λ next. KeepsOut entry claim.board next.board house.old house.new) }
+    ensures home { OnErr result (BroughtHome entry claim.board house.old house.new) }
     ensures keeper { house.new.keeper ≡ house.old.keeper }
 {
     let claim = begin(house, client, entry, Op::Detach, claim)?;
@@ -141,6 +150,8 @@ pub(crate) fn write<K: Keeper>(
     ensures runs { IfOk result (λ next. RunsIn house.new.annals client next None) }
     ensures made { OnOk result (MadeSteps client entry house.old.annals house.new.annals) }
     ensures gone { OnErr result (GaveBack client entry house.old.annals house.new.annals) }
+    ensures planned { IfOk result (λ next. KeepsOut entry claim.board next.board house.old house.new) }
+    ensures home { OnErr result (BroughtHome entry claim.board house.old house.new) }
     ensures keeper { house.new.keeper ≡ house.old.keeper }
 {
     let claim = begin(house, client, entry, Op::Write, claim)?;
@@ -164,6 +175,8 @@ pub(crate) fn attach<K: Keeper>(
     ensures next { IfOk result (λ next. IsNext Op.Reload next.trace) }
     ensures made { OnOk result (MadeSteps client entry house.old.annals house.new.annals) }
     ensures gone { OnErr result (GaveBack client entry house.old.annals house.new.annals) }
+    ensures planned { IfOk result (λ next. KeepsOut entry claim.board next.board house.old house.new) }
+    ensures home { OnErr result (BroughtHome entry claim.board house.old house.new) }
     ensures keeper { house.new.keeper ≡ house.old.keeper }
 {
     let claim = begin(house, client, entry, Op::Attach, claim)?;
@@ -187,6 +200,8 @@ pub(crate) fn reload<K: Keeper>(
     ensures next { IfOk result (λ next. IsNext Op.Cleanup next.trace) }
     ensures made { OnOk result (MadeSteps client entry house.old.annals house.new.annals) }
     ensures gone { OnErr result (GaveBack client entry house.old.annals house.new.annals) }
+    ensures planned { IfOk result (λ next. KeepsOut entry claim.board next.board house.old house.new) }
+    ensures home { OnErr result (BroughtHome entry claim.board house.old house.new) }
     ensures keeper { house.new.keeper ≡ house.old.keeper }
 {
     let claim = begin(house, client, entry, Op::Reload, claim)?;
@@ -210,6 +225,8 @@ pub(crate) fn cleanup<K: Keeper>(
     ensures next { IfOk result (λ next. next_step next.trace ≡ None) }
     ensures made { OnOk result (MadeSteps client entry house.old.annals house.new.annals) }
     ensures gone { OnErr result (GaveBack client entry house.old.annals house.new.annals) }
+    ensures planned { IfOk result (λ next. KeepsOut entry claim.board next.board house.old house.new) }
+    ensures home { OnErr result (BroughtHome entry claim.board house.old house.new) }
     ensures keeper { house.new.keeper ≡ house.old.keeper }
 {
     let claim = begin(house, client, entry, Op::Cleanup, claim)?;

@@ -11,8 +11,9 @@ use Rattle.daemon_core.specs.Housed.{Annalled, Housed, past, past_in}
 use Rattle.daemon_core.specs.Keeping.{keeper_faults, met_fault}
 use Rattle.daemon_core.specs.Turns.{FaultsCounted, Turned, WentOff}
 use Rattle.daemon_core.proofs.AnnalsKept.{appended-past, boots-same}
-use Rattle.shared_daemon.specs.Names.{HavePlans, KeepsName, Name}
-use Rattle.shared_daemon.proofs.Planned.{plans-same}
+use Rattle.daemon_core.specs.Planned.{HavePlans}
+use Rattle.shared_daemon.specs.Names.{KeepsName, Name}
+use Rattle.daemon_core.proofs.Planned.{plans-same}
 
 -- The log stayed, or one event was put behind it that is no boot; and perhaps none that met a fault of the
 -- keeper.

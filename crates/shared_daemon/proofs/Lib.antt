@@ -5,7 +5,6 @@ pub mod OthersBoards
 pub mod Others
 pub mod Logs
 pub mod Seeing
-pub mod Planned
 pub mod Keeping
 pub mod Turning
 pub mod Stayed

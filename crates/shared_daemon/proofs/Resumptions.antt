@@ -26,12 +26,13 @@ use Rattle.turn_lock.specs.Lists.{AddsAtMostOne}
 use Rattle.shared_daemon.specs.declared.entry.Entry.{Entry}
 use Rattle.shared_daemon.specs.Calls.{WasSeen}
 use Rattle.shared_daemon.specs.Entries.{chronicle, entries_in, maker_of, past_seen}
-use Rattle.shared_daemon.specs.Names.{HavePlans, KeepsName, Name}
+use Rattle.daemon_core.specs.Planned.{HavePlans}
+use Rattle.shared_daemon.specs.Names.{KeepsName, Name}
 use Rattle.shared_daemon.specs.Resumed.{MayResumeRow, ResumedGave, ResumedIn, StoppedIn}
 use Rattle.shared_daemon.proofs.Keeping.{Grew, calm-grew, off-calm}
 use Rattle.shared_daemon.proofs.Logs.{entries-appended, entries-same}
 use Rattle.shared_daemon.proofs.Others as others
-use Rattle.shared_daemon.proofs.Planned.{taken-planned}
+use Rattle.daemon_core.proofs.Planned.{taken-planned}
 use Rattle.shared_daemon.proofs.Seeing.{from-name, stays, to-name}
 use Rattle.shared_daemon.proofs.Stayed.{pending-met, rows-met}
 use Rattle.shared_daemon.proofs.Turning.{adds-none, adds-off, adds-on, found-off, off-in}

@@ -23,7 +23,8 @@ use Rattle.daemon_core.specs.Returns.{ComesHome, StepEnds, new_marks, number_of}
 use Rattle.shared_daemon.specs.declared.entry.Entry.{Entry}
 use Rattle.shared_daemon.specs.Calls.{Meets, WasSeen}
 use Rattle.shared_daemon.specs.Entries.{chronicle, past_seen}
-use Rattle.shared_daemon.specs.Names.{HasPlan, IsLogOf, KeepsName, Name}
+use Rattle.daemon_core.specs.Planned.{HasPlan}
+use Rattle.shared_daemon.specs.Names.{IsLogOf, KeepsName, Name}
 use Rattle.shared_daemon.specs.Others.{IsOwn}
 use Rattle.shared_daemon.specs.Questions.{MayAsk}
 use Rattle.shared_daemon.specs.Steps.{EndsOwn, GoesHome, MayFinish, MayStart}

@@ -9,9 +9,10 @@ use Rattle.daemon_core.specs.Annals.{IsAnnals}
 use Rattle.daemon_core.specs.Claims.{ClaimGave, IsTaken}
 use Rattle.daemon_core.specs.Housed.{Housed}
 use Rattle.shared_daemon.specs.Entries.{chronicle}
-use Rattle.shared_daemon.specs.Names.{HavePlans, KeepsName, Name}
+use Rattle.daemon_core.specs.Planned.{HavePlans}
+use Rattle.shared_daemon.specs.Names.{KeepsName, Name}
 use Rattle.shared_daemon.specs.Taking.{Gave}
-use Rattle.shared_daemon.proofs.Planned.{taken-planned}
+use Rattle.daemon_core.proofs.Planned.{taken-planned}
 use Rattle.shared_daemon.proofs.Seeing.{to-name}
 
 pub gave-named : {K : Type 0} (faults : K → ℕ) (name : Name) (client : ℕ) (ticket : Ticket) (fetched : Fetched) (result : Result Claimed ClaimStop) (old new : Housed K) → KeepsName faults name new → IsAnnals new.annals → HavePlans name.plans old.places → ClaimGave client ticket fetched result old new

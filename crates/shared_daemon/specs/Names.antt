@@ -1,6 +1,5 @@
 -- What no turn changes, and what is always true of a log, of a house and of a pass that have a name.
-use Rattle.std.specs.Prelude.{◌≡◌, ◌⊎◌, ◌<◌, ◌≤◌, ◌+◌, ◌-◌, ◌^◌, ℕ, true, false, List, [], length, map, Option, Some, None, IfSome, slice_get}
-use Rattle.emulated_boards.specs.Boards.{BoardState}
+use Rattle.std.specs.Prelude.{◌≡◌, ◌⊎◌, ◌<◌, ◌≤◌, ◌+◌, ◌-◌, ◌^◌, ℕ, true, false, List, [], length, Option, None, IfSome}
 use Rattle.emulated_boards.specs.declared.fault.PlannedFault.{PlannedFault}
 use Rattle.fw_facts.specs.declared.seen.Seen.{Seen}
 use Rattle.history_keeper.specs.Histories.{IsHistory}
@@ -9,9 +8,9 @@ use Rattle.update_log.specs.declared.facts.Facts.{Facts}
 use Rattle.update_log.specs.Holding.{holds, live}
 use Rattle.update_log.specs.Pasts.{boots}
 use Rattle.daemon_core.specs.Annals.{IsLegalSo}
-use Rattle.daemon_core.specs.Housed.{Housed, Place, past}
+use Rattle.daemon_core.specs.Housed.{Housed, past}
 use Rattle.daemon_core.specs.Keeping.{keeper_faults}
-use Rattle.daemon_core.specs.Returns.{place_at}
+use Rattle.daemon_core.specs.Planned.{HavePlans}
 use Rattle.turn_lock.specs.Lists.{BeginsWith, beyond, made_by}
 use Rattle.turn_lock.specs.Shown.{LockId, LockView, PassView, IsReady}
 use Rattle.shared_daemon.specs.declared.entry.Entry.{Entry}
@@ -58,22 +57,6 @@ no_name =
       told = None;
     }
 
--- The faults that are planned for this board are those of its number.
-abbrev pub HasPlan : List (List PlannedFault) → ℕ → BoardState → Type 0
-HasPlan plans number board = slice_get plans number ≡ Some board.plan
-
--- So they are for each board at home.
-abbrev pub HavePlans : List (List PlannedFault) → List Place → Type 0
-HavePlans plans places = (number : ℕ) (board : BoardState) → (place_at places number).board ≡ Some board → HasPlan plans number board
-
--- The faults that are planned for the boards at home, and none for one that is out.
-abbrev pub plan_of : Option BoardState → List PlannedFault
-plan_of None = []
-plan_of (Some board) = board.plan
-
-abbrev pub plans_in : List Place → List (List PlannedFault)
-plans_in places = map (λ place. plan_of place.board) places
-
 -- A log of this name: it begins with the log as the daemon began, and had no boot since; it is legal, over
 -- rows that are a valid history; and each event was made by its client.
 pub record IsLogOf (name : Name) (log : List Entry) : Type 0 where
@@ -83,9 +66,10 @@ pub record IsLogOf (name : Name) (log : List Entry) : Type 0 where
   pub made : AllMade log
   pub boots_are : boots (past_seen log) ≡ name.boots
 
--- A house of this name, which was booted: its last boot read the history. Each board at home has the faults planned that its number has. Each
--- fault of the keeper that the log tells was counted by the keeper, or its count stands at its end; that count
--- has not fallen since the daemon began; and the rows that it told at first are those before the log.
+-- A house of this name, which was booted: its last boot read the history, and nobody opened the keeper again
+-- since. Each board at home has the faults planned that its number has. Each fault of the keeper that the log
+-- tells was counted by the keeper, or its count stands at its end; that count has not fallen since the daemon
+-- began; and the rows that it told at first are those before the log.
 pub record KeepsName {K : Type 0} (faults : K → ℕ) (name : Name) (h : Housed K) : Type 0 where
   pub facts_are : h.annals.facts ≡ name.facts
   pub first_are : h.annals.first ≡ name.first

@@ -12,7 +12,8 @@ use Rattle.daemon_core.specs.Finishes.{IsDone}
 use Rattle.daemon_core.specs.Returns.{ComesHome, StepEnds}
 use Rattle.shared_daemon.specs.declared.entry.Entry.{Entry}
 use Rattle.shared_daemon.specs.Entries.{past_seen}
-use Rattle.shared_daemon.specs.Names.{HasPlan, Name}
+use Rattle.daemon_core.specs.Planned.{HasPlan}
+use Rattle.shared_daemon.specs.Names.{Name}
 use Rattle.shared_daemon.specs.Others.{IsOwn}
 
 -- It starts the next step, of which none is open.

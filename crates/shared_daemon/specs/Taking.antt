@@ -8,7 +8,8 @@ use Rattle.daemon_core.specs.declared.hold.Ticket.{Ticket}
 use Rattle.daemon_core.specs.Claims.{IsTaken}
 use Rattle.shared_daemon.specs.declared.entry.Entry.{Entry}
 use Rattle.shared_daemon.specs.Entries.{past_seen}
-use Rattle.shared_daemon.specs.Names.{HasPlan, Name}
+use Rattle.daemon_core.specs.Planned.{HasPlan}
+use Rattle.shared_daemon.specs.Names.{Name}
 
 -- An entry that was taken is the client's live one, and its board has the faults planned that its number has.
 pub record TookEntry (name : Name) (client : ℕ) (taken : Taken) (log : List Entry) : Type 0 where

@@ -1,5 +1,6 @@
 use Rattle.std.proofs.Common.{true, subst, sym}
 use Rattle.daemon_core.specs.Housed.{Housed, past}
+use Rattle.daemon_core.proofs.PartsKept.{house-home}
 use Rattle.client_plays.specs.Faults.{ShelvesCount}
 use Rattle.client_plays.specs.Has.{shelves_told}
 use Rattle.client_plays.specs.Shelves.{files_for}
@@ -25,7 +26,7 @@ begin-requires-clause-nothing g c = nothing-out g.K.Keeper.faults c.args.house c
 pub returns-in-Ok-begin-clause-played : goal.returns-in-Ok-begin-clause-played
 returns-in-Ok-begin-clause-played g c =
     clients-played g.K.Keeper.faults g.N.Naming.name c.args.house c.play_behind.result.0 c.requires.name c.requires.begins c.known.ensures.annals c.play_behind.ensures.annals c.play_behind.ensures.name
-    c.play_behind.result.1 (files_for (shelves_told g.P.Shelf.files g.P.Shelf.faults c.args.shelves.now.items)) c.args.of_boot.now c.play_behind.ensures.start c.play_behind.ensures.log c.play_behind.ensures.nothing c.requires.none c.play_behind.ensures.played
+    (house-home g.K.Keeper.rows g.K.Keeper.doubt c.args.house c.known.ensures.house c.requires.begins.idle.no_live) c.play_behind.result.1 (files_for (shelves_told g.P.Shelf.files g.P.Shelf.faults c.args.shelves.now.items)) c.args.of_boot.now c.play_behind.ensures.start c.play_behind.ensures.log c.play_behind.ensures.nothing c.requires.none c.play_behind.ensures.played
 
 pub returns-in-Err-clause-played : goal.returns-in-Err-clause-played
 returns-in-Err-clause-played g c =

@@ -45,7 +45,7 @@ returns-in-Ok-Taken-clause-others g c =
 pub returns-in-Ok-Refused-clause-played : goal.returns-in-Ok-Refused-clause-played
 returns-in-Ok-Refused-clause-played g c files asked f =
     let a = c.in-Ok-Refused in
-    resume-refused g.K.Keeper.faults files asked c.args.entry c.args.held a.field-0-0 c.args.house.now c.resume.new.self f c.requires.out (rw a.field-0-is at a.ensures.turn) c.resume.ensures.faults c.resume.ensures.counts
+    resume-refused g.K.Keeper.faults files asked c.args.entry c.args.held a.field-0-0 c.args.house.now c.resume.new.self f c.requires.out (rw a.field-0-is at a.ensures.turn) (rw a.field-0-is at a.ensures.gave) c.resume.ensures.faults c.resume.ensures.counts
 
 pub returns-in-Ok-Refused-clause-others : goal.returns-in-Ok-Refused-clause-others
 returns-in-Ok-Refused-clause-others g c =
@@ -55,7 +55,7 @@ returns-in-Ok-Refused-clause-others g c =
 pub returns-in-Err-clause-played : goal.returns-in-Err-clause-played
 returns-in-Err-clause-played g c files asked f =
     resume-stopped c.args.entry c.args.held c.in-Err.stopped c.args.house.now c.resume.new.self c.in-Err.ensures.turn c.in-Err.ensures.gave g.K.Keeper.faults files asked c.give_up.result c.give_up.new.house f c.give_up.ensures.told c.requires.out c.resume.ensures.faults c.resume.ensures.counts
-    c.give_up.ensures.given c.give_up.ensures.keeper
+    c.give_up.ensures.given c.give_up.ensures.keeper c.give_up.ensures.places
 
 pub returns-in-Err-clause-others : goal.returns-in-Err-clause-others
 returns-in-Err-clause-others g c =

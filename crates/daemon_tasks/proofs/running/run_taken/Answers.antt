@@ -4,8 +4,8 @@ use Rattle.daemon_tasks.proofs.running.run_taken.Goals as goal
 
 pub returns-clause-played : goal.returns-clause-played
 returns-clause-played g c =
-    run-played g.K.Keeper.faults c.args.client c.args.taken.entry c.run_claim-outcome.result c.ended_by.result c.args.house.now c.run_claim-outcome.new.house
-    c.ended_by.ensures c.requires.alone c.run_claim-outcome.ensures.ran c.run_claim-outcome.ensures.faults c.run_claim-outcome.ensures.counts
+    run-played g.K.Keeper.faults c.args.client c.args.taken.entry c.args.taken.board c.run_claim-outcome.result c.ended_by.result c.args.house.now c.run_claim-outcome.new.house
+    c.ended_by.ensures c.requires.alone c.run_claim-outcome.ensures.ran c.run_claim-outcome.ensures.faults c.run_claim-outcome.ensures.counts c.run_claim-outcome.ensures.home
 
 pub returns-clause-others : goal.returns-clause-others
 returns-clause-others g c =

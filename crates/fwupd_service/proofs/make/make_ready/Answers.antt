@@ -33,6 +33,7 @@ returns-in-Ok-outcome-clause-went g c =
     let kept : List ShelfTold = shelves_told files faults c.play-outcome.result.1.items in
     let stand : ShelvesStand out.log (own_shelves c.args.clients) kept =
     subst (λ (shelves : List ShelfTold). ShelvesStand out.log shelves kept) told (if-ok _ _ _ c.play-outcome.ensures.stand c.in-Ok-outcome.is) in
+    let plans = if-ok _ _ _ c.play-outcome.ensures.plans c.in-Ok-outcome.is in
     let left = c.summed.ensures.left in
     rw (left.log_is, left.opening_is, left.boards_are) (inl (made-went _ _ _ _ _ _ out.keeper kept _ _ left.keeper_is
-    (campaign-told rows doubt count (own_shelves c.args.clients) kept out.ran campaign out.opening out.log out.boards [] out.keeper _ _ _ c.summed.result.status stand played c.summed.ensures.reported)))
+    (campaign-told rows doubt count (own_shelves c.args.clients) kept out.ran campaign out.opening out.log out.boards [] out.keeper _ _ _ c.summed.result.status stand plans played c.summed.ensures.reported)))

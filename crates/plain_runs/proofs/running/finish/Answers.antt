@@ -4,6 +4,7 @@ use Rattle.install_engine.proofs.RunHouse.{booted-off, is-off}
 use Rattle.plain_runs.proofs.Ends.{came-done, came-home, came-off}
 use Rattle.plain_runs.proofs.Logs.{back-none, came-back, gained-one}
 use Rattle.plain_runs.proofs.Pasts.{back-counted, counts-same}
+use Rattle.plain_runs.proofs.Planned.{boards-same, home-off, home-with}
 use Rattle.plain_runs.proofs.running.finish.Goals as goal
 
 pub finish-requires-clause-booted : goal.finish-requires-clause-booted
@@ -47,3 +48,13 @@ returns-in-Err-clause-faults g c =
 pub returns-in-Err-clause-counts : goal.returns-in-Err-clause-counts
 returns-in-Err-clause-counts g c =
     counts-same g.K.Keeper.faults c.args.house.now c.give_back.new.self (c.give_back.ensures.keeper ∙ c.in-Err.ensures.turn.1.keeper)
+
+pub returns-in-Ok-clause-home : goal.returns-in-Ok-clause-home
+returns-in-Ok-clause-home g c =
+    home-with c.args.entry c.args.claim.board c.into_parts-board.result.0 c.args.house.now c.finish.new.self c.into_parts-board.ensures.board c.in-Ok.ensures.turn.2
+
+pub returns-in-Err-clause-home : goal.returns-in-Err-clause-home
+returns-in-Err-clause-home g c =
+    let t = c.in-Err.ensures.turn in
+    home-off c.args.client c.args.entry c.args.claim.board c.args.house.now c.finish.new.self c.give_back.new.self t.0 (boards-same c.args.house.now.places c.finish.new.self.places t.1.places)
+    (home-with c.args.entry c.args.claim.board c.in-Err.stop.board c.finish.new.self c.give_back.new.self (t.2 ∙ c.into_parts-board.ensures.board) c.give_back.ensures.places)

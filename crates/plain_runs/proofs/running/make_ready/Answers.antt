@@ -1,5 +1,6 @@
 use Rattle.plain_runs.proofs.Logs.{gone-after, made-after, on-err}
-use Rattle.plain_runs.specs.Ran.{GaveBack}
+use Rattle.plain_runs.specs.Ran.{BroughtHome, GaveBack}
+use Rattle.plain_runs.proofs.Planned.{home-after, planned-after}
 use Rattle.plain_runs.proofs.running.make_ready.Goals as goal
 
 pub returns-in_err-next-clause-gone : goal.returns-in_err-next-clause-gone
@@ -13,3 +14,15 @@ returns-clause-made g c =
 pub returns-clause-gone : goal.returns-clause-gone
 returns-clause-gone g c =
     gone-after c.loosen.result c.args.client c.args.entry c.args.house.now.annals c.prepare.new.house.annals c.loosen.new.house.annals c.in_ok-next.ensures.made c.loosen.ensures.gone
+
+pub returns-in_err-next-clause-home : goal.returns-in_err-next-clause-home
+returns-in_err-next-clause-home g c =
+    on-err c.from_residual.result (BroughtHome c.args.entry c.args.claim.board c.args.house.now c.prepare.new.house) c.in_err-next.ensures.home
+
+pub returns-clause-planned : goal.returns-clause-planned
+returns-clause-planned g c =
+    planned-after c.loosen.result c.args.entry c.args.claim.board c.in_ok-next.next.board c.args.house.now c.prepare.new.house c.loosen.new.house c.in_ok-next.ensures.planned c.loosen.ensures.planned
+
+pub returns-clause-home : goal.returns-clause-home
+returns-clause-home g c =
+    home-after c.loosen.result c.args.entry c.args.claim.board c.in_ok-next.next.board c.args.house.now c.prepare.new.house c.loosen.new.house c.in_ok-next.ensures.planned c.loosen.ensures.home

@@ -1,5 +1,8 @@
 use Rattle.plain_runs.proofs.Logs.{ran-after}
 use Rattle.plain_runs.proofs.Pasts.{back-counted, counts-same, ran-counted, ran-counts}
+use Rattle.std.proofs.Common.{ap}
+use Rattle.device_claims.specs.declared.claim.Parts.{Parts}
+use Rattle.plain_runs.proofs.Planned.{home-behind, home-of}
 use Rattle.plain_runs.proofs.running.run_claim.Goals as goal
 
 pub returns-in-Ok-clause-ran : goal.returns-in-Ok-clause-ran
@@ -20,3 +23,12 @@ returns-in-Err-clause-faults g c =
 
 pub returns-in-Err-clause-counts : goal.returns-in-Err-clause-counts
 returns-in-Err-clause-counts g c = counts-same g.K.Keeper.faults c.args.house.now c.make_steps.new.house c.in-Err.ensures.keeper
+
+pub returns-in-Ok-clause-home : goal.returns-in-Ok-clause-home
+returns-in-Ok-clause-home g c =
+    home-of c.args.taken.entry c.new-claim.result.board c.args.taken.board c.args.house.now c.finish.new.house (ap (λ (p : Parts). p.board) c.new-claim.ensures.parts)
+    (home-behind c.args.taken.entry c.new-claim.result.board c.in-Ok.claim.board c.args.house.now c.make_steps.new.house c.finish.new.house c.in-Ok.ensures.planned c.finish.ensures.home)
+
+pub returns-in-Err-clause-home : goal.returns-in-Err-clause-home
+returns-in-Err-clause-home g c =
+    home-of c.args.taken.entry c.new-claim.result.board c.args.taken.board c.args.house.now c.make_steps.new.house (ap (λ (p : Parts). p.board) c.new-claim.ensures.parts) c.in-Err.ensures.home

@@ -5,7 +5,9 @@ use Rattle.device_claims.specs.declared.claim.Parts.{Parts}
 use Rattle.device_claims.specs.States.{IsNext}
 use Rattle.plain_runs.proofs.Same.{on-same}
 use Rattle.plain_runs.proofs.Logs.{back-none, gone-end, made-end, on-err}
-use Rattle.plain_runs.specs.Ran.{GaveBack}
+use Rattle.plain_runs.specs.Ran.{BroughtHome, GaveBack}
+use Rattle.emulated_boards.specs.Images.{payload_image}
+use Rattle.plain_runs.proofs.Planned.{home-after, out-stepped, planned-after}
 use Rattle.plain_runs.proofs.steps.attach.Goals as goal
 
 -- src/steps.rt
@@ -35,3 +37,19 @@ returns-clause-gone g c =
 pub returns-clause-next : goal.returns-clause-next
 returns-clause-next g c =
     on-same c.end.result c.attach-claim.result.0 (λ (n : Parts). IsNext Op.Reload n.trace) c.end.ensures.same c.attach-claim.ensures.next
+
+pub returns-in_err-claim-clause-home : goal.returns-in_err-claim-clause-home
+returns-in_err-claim-clause-home g c =
+    on-err c.from_residual.result (BroughtHome c.args.entry c.args.claim.board c.args.house.now c.begin.new.house) c.in_err-claim.ensures.home
+
+pub returns-clause-planned : goal.returns-clause-planned
+returns-clause-planned g c =
+    planned-after c.end.result c.args.entry c.args.claim.board c.attach-claim.result.0.board c.args.house.now c.begin.new.house c.end.new.house
+    (out-stepped Op.Attach c.args.entry c.in_ok-claim.claim (payload_image c.in_ok-claim.claim.payload) c.attach-claim.result.1 c.args.claim.board c.attach-claim.result.0.board c.args.house.now c.begin.new.house c.in_ok-claim.ensures.planned c.attach-claim.ensures.board)
+    c.end.ensures.planned
+
+pub returns-clause-home : goal.returns-clause-home
+returns-clause-home g c =
+    home-after c.end.result c.args.entry c.args.claim.board c.attach-claim.result.0.board c.args.house.now c.begin.new.house c.end.new.house
+    (out-stepped Op.Attach c.args.entry c.in_ok-claim.claim (payload_image c.in_ok-claim.claim.payload) c.attach-claim.result.1 c.args.claim.board c.attach-claim.result.0.board c.args.house.now c.begin.new.house c.in_ok-claim.ensures.planned c.attach-claim.ensures.board)
+    c.end.ensures.home

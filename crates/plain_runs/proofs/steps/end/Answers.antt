@@ -1,6 +1,10 @@
 use Rattle.install_engine.proofs.RunHouse.{booted-off, is-off}
 use Rattle.plain_runs.proofs.Logs.{came-back}
 use Rattle.plain_runs.proofs.Turns.{end-gained, end-home, end-number, end-runs}
+use Rattle.emulated_boards.specs.Conditions.{view_of}
+use Rattle.daemon_core.specs.Housed.{past_in, rows_before}
+use Rattle.daemon_core.specs.Returns.{new_marks}
+use Rattle.plain_runs.proofs.Planned.{home-off, out-ended}
 use Rattle.plain_runs.proofs.steps.end.Goals as goal
 
 -- src/steps.rt
@@ -31,3 +35,14 @@ returns-in-Ok-clause-gained g c =
 pub returns-in-Err-clause-gone : goal.returns-in-Err-clause-gone
 returns-in-Err-clause-gone g c =
     came-back c.args.client c.args.entry c.args.house.now.annals c.end.new.self.annals c.give_back.new.house.annals c.in-Err.ensures.turn c.give_back.ensures.appended
+
+pub returns-in-Ok-clause-planned : goal.returns-in-Ok-clause-planned
+returns-in-Ok-clause-planned g c =
+    let a = c.args.house.now.annals in
+    let b = c.board.result.now in
+    out-ended c.args.client c.args.entry c.args.op c.args.answer (new_marks a.facts (rows_before a) (past_in a) c.args.entry b.journal) (view_of b.condition) c.args.claim.board c.args.house.now c.end.new.self
+    c.in-Ok.ensures.turn.1 c.in-Ok.ensures.places
+
+pub returns-in-Err-clause-home : goal.returns-in-Err-clause-home
+returns-in-Err-clause-home g c =
+    home-off c.args.client c.args.entry c.args.claim.board c.args.house.now c.end.new.self c.give_back.new.house c.in-Err.ensures.turn c.in-Err.ensures.places c.give_back.ensures.home

@@ -3,7 +3,9 @@ use Rattle.emulated_boards.specs.Conditions.{view_of}
 use Rattle.update_log.specs.declared.event.Op.{Op}
 use Rattle.device_claims.specs.declared.claim.Parts.{Parts}
 use Rattle.plain_runs.proofs.Logs.{back-none, gone-end, made-end, on-err}
-use Rattle.plain_runs.specs.Ran.{GaveBack}
+use Rattle.plain_runs.specs.Ran.{BroughtHome, GaveBack}
+use Rattle.emulated_boards.specs.Images.{payload_image}
+use Rattle.plain_runs.proofs.Planned.{home-after, out-stepped, planned-after}
 use Rattle.plain_runs.proofs.steps.write.Goals as goal
 
 -- src/steps.rt
@@ -29,3 +31,19 @@ returns-clause-made g c =
 pub returns-clause-gone : goal.returns-clause-gone
 returns-clause-gone g c =
     gone-end c.end.result c.args.client c.args.entry Op.Write c.args.house.now.annals c.begin.new.house.annals c.end.new.house.annals c.in_ok-claim.ensures.gained c.end.ensures.gone
+
+pub returns-in_err-claim-clause-home : goal.returns-in_err-claim-clause-home
+returns-in_err-claim-clause-home g c =
+    on-err c.from_residual.result (BroughtHome c.args.entry c.args.claim.board c.args.house.now c.begin.new.house) c.in_err-claim.ensures.home
+
+pub returns-clause-planned : goal.returns-clause-planned
+returns-clause-planned g c =
+    planned-after c.end.result c.args.entry c.args.claim.board c.write-claim.result.0.board c.args.house.now c.begin.new.house c.end.new.house
+    (out-stepped Op.Write c.args.entry c.in_ok-claim.claim (payload_image c.in_ok-claim.claim.payload) c.write-claim.result.1 c.args.claim.board c.write-claim.result.0.board c.args.house.now c.begin.new.house c.in_ok-claim.ensures.planned c.write-claim.ensures.board)
+    c.end.ensures.planned
+
+pub returns-clause-home : goal.returns-clause-home
+returns-clause-home g c =
+    home-after c.end.result c.args.entry c.args.claim.board c.write-claim.result.0.board c.args.house.now c.begin.new.house c.end.new.house
+    (out-stepped Op.Write c.args.entry c.in_ok-claim.claim (payload_image c.in_ok-claim.claim.payload) c.write-claim.result.1 c.args.claim.board c.write-claim.result.0.board c.args.house.now c.begin.new.house c.in_ok-claim.ensures.planned c.write-claim.ensures.board)
+    c.end.ensures.home

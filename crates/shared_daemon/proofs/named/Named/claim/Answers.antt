@@ -2,7 +2,7 @@ use Rattle.std.proofs.Common.{◌≡◌, refl, sym, subst}
 use Rattle.std.specs.Prelude.{Some}
 use Rattle.shared_daemon.proofs.named.Named.claim.Goals as goal
 use Rattle.shared_daemon.proofs.Keeping.{keeps-counted, turned-grew}
-use Rattle.shared_daemon.proofs.Planned.{claim-plans}
+use Rattle.daemon_core.proofs.Planned.{claim-plans}
 use Rattle.shared_daemon.proofs.Seeing.{booted-named}
 use Rattle.shared_daemon.proofs.Turning.{turned-named}
 use Rattle.shared_daemon.proofs.Stayed.{hold-met}

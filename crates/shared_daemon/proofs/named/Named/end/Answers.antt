@@ -2,7 +2,7 @@ use Rattle.std.proofs.Common.{List, refl, sym, subst}
 use Rattle.update_log.specs.declared.event.Event.{Event}
 use Rattle.shared_daemon.proofs.named.Named.end.Goals as goal
 use Rattle.shared_daemon.proofs.Keeping.{keeps-calm, went-calm}
-use Rattle.shared_daemon.proofs.Planned.{plans-stay}
+use Rattle.daemon_core.proofs.Planned.{plans-stay}
 use Rattle.shared_daemon.proofs.Seeing.{booted-named, to-name}
 use Rattle.shared_daemon.proofs.Turning.{went-in}
 use Rattle.shared_daemon.proofs.Stayed.{ends-met}

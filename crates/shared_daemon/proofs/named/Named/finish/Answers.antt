@@ -1,7 +1,7 @@
 use Rattle.std.proofs.Common.{sym, subst}
 use Rattle.shared_daemon.proofs.named.Named.finish.Goals as goal
 use Rattle.shared_daemon.proofs.Keeping.{keeps-counted}
-use Rattle.shared_daemon.proofs.Planned.{finish-plans}
+use Rattle.daemon_core.proofs.Planned.{finish-plans}
 use Rattle.shared_daemon.proofs.Seeing.{booted-named}
 use Rattle.shared_daemon.proofs.Stayed.{comes-met, done-met, finish-planned}
 use Rattle.daemon_core.specs.Housed.{Housed}

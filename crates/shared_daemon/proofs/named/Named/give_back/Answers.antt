@@ -2,7 +2,7 @@ use Rattle.std.proofs.Common.{refl, sym, subst}
 use Rattle.update_log.specs.declared.event.Event.{Event}
 use Rattle.shared_daemon.proofs.named.Named.give_back.Goals as goal
 use Rattle.shared_daemon.proofs.Keeping.{keeps-calm}
-use Rattle.shared_daemon.proofs.Planned.{plans-same, plans-with}
+use Rattle.daemon_core.proofs.Planned.{plans-same, plans-with}
 use Rattle.shared_daemon.proofs.Seeing.{booted-named}
 use Rattle.shared_daemon.proofs.Turning.{adds-named}
 use Rattle.shared_daemon.proofs.Stayed.{back-met, back-planned, off-met}

@@ -3,7 +3,7 @@ use Rattle.emulated_boards.specs.Conditions.{plugged}
 use Rattle.update_log.specs.declared.event.Event.{Event}
 use Rattle.shared_daemon.proofs.named.Named.plug.Goals as goal
 use Rattle.shared_daemon.proofs.Keeping.{keeps-calm, turned-calm}
-use Rattle.shared_daemon.proofs.Planned.{moved-plans}
+use Rattle.daemon_core.proofs.Planned.{moved-plans}
 use Rattle.shared_daemon.proofs.Seeing.{booted-named}
 use Rattle.shared_daemon.proofs.Turning.{turned-named}
 use Rattle.update_log.specs.declared.answer.PlugAnswer.{PlugAnswer}

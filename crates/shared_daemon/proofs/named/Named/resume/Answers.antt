@@ -5,7 +5,7 @@ use Rattle.shared_daemon.specs.Calls.{WasSeen}
 use Rattle.shared_daemon.specs.Entries.{chronicle}
 use Rattle.shared_daemon.specs.Resumed.{MayResumeRow}
 use Rattle.shared_daemon.proofs.Keeping.{keeps-counted}
-use Rattle.shared_daemon.proofs.Planned.{resume-plans}
+use Rattle.daemon_core.proofs.Planned.{resume-plans}
 use Rattle.shared_daemon.proofs.Resumptions.{comes-in-met, put_off-met, resumed-gave, resumed-grew, resumed-named}
 use Rattle.shared_daemon.proofs.Seeing.{booted-named}
 use Rattle.shared_daemon.proofs.named.Named.resume.Goals as goal

@@ -1,12 +1,14 @@
 -- Boards at home keep the faults that are planned for them.
-use Rattle.std.proofs.Common.{◌≡◌, ◌⊎◌, ℕ, zero, suc, Bool, true, false, List, [], ◌∷◌, map, refl, ap, sym, ◌∙◌, subst, inl, inr, ⊎_elim}
-use Rattle.std.specs.Prelude.{Option, Some, None, MatchBool, unwrap_or, slice_get, slice_set, Result, Ok, Err}
+use Rattle.std.proofs.Common.{◌≡◌, ◌⊎◌, ℕ, zero, suc, Bool, true, false, List, [], ◌∷◌, length, map, refl, ap, sym, ◌∙◌, subst, inl, inr, ⊎_elim, arith}
+use Rattle.std.specs.Prelude.{Option, Some, None, IsSome, MatchBool, unwrap_or, slice_get, slice_set, Result, Ok, Err}
 use Rattle.block_pool.specs.Views.{SealedBytes}
 use Rattle.device_list.specs.declared.selector.Selector.{Selector}
 use Rattle.emulated_boards.specs.Boards.{BoardState}
 use Rattle.emulated_boards.specs.declared.condition.Condition.{Condition}
 use Rattle.emulated_boards.specs.declared.fault.PlannedFault.{PlannedFault}
 use Rattle.update_log.specs.declared.answer.PlugAnswer.{PlugAnswer}
+use Rattle.update_log.specs.declared.event.BoardSeen.{BoardSeen}
+use Rattle.update_log.specs.declared.facts.BootPlan.{BootPlan}
 use Rattle.daemon_core.specs.declared.claimed.Claimed.{Claimed}
 use Rattle.daemon_core.specs.declared.claimed.ClaimStop.{ClaimStop}
 use Rattle.daemon_core.specs.declared.claimed.Taken.{Taken}
@@ -16,15 +18,17 @@ use Rattle.daemon_core.specs.declared.finished.FinishStop.{FinishStop}
 use Rattle.daemon_core.specs.declared.hold.Ticket.{Ticket}
 use Rattle.daemon_core.specs.declared.resumed.ResumeStop.{ResumeStop}
 use Rattle.daemon_core.specs.declared.stop.Stop.{Stop}
+use Rattle.daemon_core.specs.Booting.{AllStarted, StartedAt}
 use Rattle.daemon_core.specs.Claims.{ClaimGave, RoomierBoard, RoomierPlaces, places_without}
 use Rattle.daemon_core.specs.Finishes.{FinishedSo}
 use Rattle.daemon_core.specs.Housed.{Annalled, Housed, Place}
+use Rattle.daemon_core.specs.Parts.{AllHome}
 use Rattle.daemon_core.specs.Plugging.{BoardMoved, MovedAs}
 use Rattle.daemon_core.specs.Quiet.{moves_none}
 use Rattle.daemon_core.specs.Resumes.{ResumeGave}
 use Rattle.daemon_core.specs.Returns.{SameBoards, place_at, places_with}
 use Rattle.daemon_core.proofs.ClaimRoom.{room-at}
-use Rattle.shared_daemon.specs.Names.{HasPlan, HavePlans, plan_of, plans_in}
+use Rattle.daemon_core.specs.Planned.{HasPlan, HavePlans, KeepsPlans, plan_of, plans_in}
 
 -- As a name is picked.
 pub plans-picked : (places : List Place) → HavePlans (plans_in places) places
@@ -50,6 +54,12 @@ board-at (p ∷ ps) (suc n) = board-at ps n
 
 same-board : (a b : BoardState) → Some a ≡ Some b → a ≡ b
 same-board a b e = cc
+
+same-place : (a b : Place) → Some a ≡ Some b → a ≡ b
+same-place a b e = cc
+
+none-some : (b : BoardState) → None ≡ Some b → ⊥
+none-some b e = cc
 
 module _ (plans : List (List PlannedFault)) where
   -- A board that has the plan of another.
@@ -134,3 +144,63 @@ module _ (plans : List (List PlannedFault)) where
   pub moved-plans : (move : Condition → Condition) (a : Annalled) (device : Selector) (result : Result PlugAnswer Stop) (old new : List Place) → MovedAs move a device result old new → HavePlans plans old → HavePlans plans new
   moved-plans move a device (Ok answer) old new m h = moved-by (moves_none answer) move a device old new m h
   moved-plans move a device (Err stop) old new m h = plans-same old new m h
+
+  -- A board that a boot started.
+  started-planned : (plan : BootPlan) (number : ℕ) (was now : Place) (new : List Place) (listed : List BoardSeen) (b : BoardState) → StartedAt plan number was new listed → slice_get new number ≡ Some now → now.board ≡ Some b → ((x : BoardState) → was.board ≡ Some x → HasPlan plans number x) → HasPlan plans number b
+  started-planned plan number was now new listed b (after, seen, there, here, (x, y, w)) e is h =
+      let same : after ≡ now = same-place after now (sym there ∙ e) in
+      planned-so number x b (ap (λ (z : BoardState). z.plan) (same-board b y (sym is ∙ ap (λ (p : Place). p.board) (sym same) ∙ w.is)) ∙ w.same.plan) (h x w.was)
+
+-- ---- whatever they were
+
+pub keeps-here : (places : List Place) → KeepsPlans places places
+keeps-here places plans h = h
+
+pub keeps-both : (old mid new : List Place) → KeepsPlans old mid → KeepsPlans mid new → KeepsPlans old new
+keeps-both old mid new a b plans h = b plans (a plans h)
+
+pub keeps-same : (old new : List Place) → new ≡ old → KeepsPlans old new
+keeps-same old new e plans h = plans-same plans old new e h
+
+-- A list as long has something at the same place.
+get-other : {X Y : Type 0} (xs : List X) (ys : List Y) (n : ℕ) (y : Y) → length ys ≡ length xs → slice_get ys n ≡ Some y → (x : X) × (slice_get xs n ≡ Some x)
+get-other [] [] zero y e g = cc
+get-other [] [] (suc n) y e g = cc
+get-other [] (z ∷ ys) n y e g = absurd (omega arith)
+get-other (x ∷ xs) [] n y e g = absurd (omega arith)
+get-other (x ∷ xs) (z ∷ ys) zero y e g = (x, refl)
+get-other (x ∷ xs) (z ∷ ys) (suc n) y e g = get-other xs ys n y (omega arith) g
+
+-- The place of a number, by what stands there.
+abbrev place-by : Option Place → Place
+place-by o = unwrap_or o (record { board = None; told = 0 })
+
+-- A boot started each board.
+pub keeps-started : (plan : BootPlan) (old new : List Place) (listed : List BoardSeen) → AllStarted plan old new listed → KeepsPlans old new
+keeps-started plan old new listed s plans h n b e = here (slice_get new n) refl
+  where
+    here : (o : Option Place) → slice_get new n ≡ o → HasPlan plans n b
+    here None q = absurd (none-some b (ap (λ (o : Option Place). (place-by o).board) (sym q) ∙ e))
+    here (Some now) q =
+        let p = get-other old new n now s.places q in
+        started-planned plans plan n p.0 now new listed b (s.each n p.0 p.1) q (ap (λ (o : Option Place). (place-by o).board) (sym q) ∙ e)
+        (λ x w. h n x (ap (λ (o : Option Place). (place-by o).board) p.1 ∙ w))
+
+-- The boards at home have the plans that were picked, as all were at home.
+some-plan : (a b : List PlannedFault) → Some a ≡ Some b → a ≡ b
+some-plan a b e = cc
+
+picked-first : (o : Option BoardState) (plan : List PlannedFault) → IsSome o → Some (plan_of o) ≡ Some plan → (x : BoardState) × (o ≡ Some x) × (x.plan ≡ plan)
+picked-first None plan s e = cc
+picked-first (Some b) plan s e = (b, refl, some-plan b.plan plan e)
+
+picked-was : (places : List Place) (n : ℕ) (plan : List PlannedFault) → AllHome places → slice_get (plans_in places) n ≡ Some plan → (x : BoardState) × ((place_at places n).board ≡ Some x) × (x.plan ≡ plan)
+picked-was [] zero plan a e = cc
+picked-was [] (suc n) plan a e = cc
+picked-was (p ∷ ps) zero plan a e = picked-first p.board plan a.0 e
+picked-was (p ∷ ps) (suc n) plan a e = picked-was ps n plan a.1 e
+
+pub keeps-picked : (old new : List Place) → AllHome old → HavePlans (plans_in old) new → KeepsPlans old new
+keeps-picked old new a p plans h n b e =
+    let w = picked-was old n b.plan a (p n b e) in
+    h n w.0 w.1 ∙ ap Some w.2
