@@ -1,11 +1,12 @@
-//! Two boots of one house, with one install asked for in each.
+//! Boots of one house, with one install asked for in each: two of an install that is done at once, three of one that
+//! is put off.
 ghost use Rattle.std.specs.Prelude.{◌≡◌, ◌≤◌, []};
 ghost use Rattle.daemon_core.specs.Housed.{past};
 
-use crate::driver::{Morning, boot, install};
+use crate::driver::{Morning, boot, install, put_off};
 use crate::left::{Left, close};
-use crate::requests::{Wish, wished};
-use crate::scenes::{Scene, house, plugins, shelf};
+use crate::requests::{Wish, wished, wished_offline};
+use crate::scenes::{PLAIN, Scene, house, plugins, shelf};
 use crate::told::{Start, Told};
 use daemon_core::House;
 use history_keeper::MemoryKeeper;
@@ -26,6 +27,12 @@ pub const FIRST: Morning = Morning {
 /// The second boot.
 pub const SECOND: Morning = Morning {
     time: 2000,
+    ..FIRST
+};
+
+/// The third boot.
+const THIRD: Morning = Morning {
+    time: 3000,
     ..FIRST
 };
 
@@ -78,4 +85,54 @@ pub fn two_days<R: Abort>(
     let mut shelf = shelf(alloc)?;
     let house = house(rt, alloc, scene, Vec::new(alloc), failing)?;
     Ok(play(rt, alloc, house, limit, &request, &mut shelf, &plugins))
+}
+
+/// The same of three boots, in each of which the install is to be put off.
+#[derive(Clone, Copy, Debug, PartialEq, Eq)]
+pub struct ThreeDays {
+    pub starts: [Start; 3],
+    pub told: [Told; 3],
+    pub left: Left,
+}
+
+fn play_put_off<R: Abort>(
+    rt: &R,
+    alloc: Global,
+    given: House<MemoryKeeper>,
+    absent: Option<u32>,
+    request: &Request,
+    shelf: &mut MemoryShelf,
+    plugins: &[Box<dyn Plugin>],
+) -> ThreeDays
+    requires { past given ≡ [] }
+{
+    let mut house = given;
+    let morning = Morning { absent, ..SECOND };
+    let first = boot(rt, alloc, &mut house, &FIRST, shelf, plugins);
+    let told = put_off(rt, &mut house, 1, request);
+    let second = boot(rt, alloc, &mut house, &morning, shelf, plugins);
+    let again = put_off(rt, &mut house, 1, request);
+    let third = boot(rt, alloc, &mut house, &THIRD, shelf, plugins);
+    let last = put_off(rt, &mut house, 1, request);
+    ThreeDays {
+        starts: [first, second, third],
+        told: [told, again, last],
+        left: close(house),
+    }
+}
+
+/// Plays an install that is put off in each of three boots, in the second of which a board may be absent, over a
+/// keeper whose calls of these numbers fail; a change whose commit failed is kept or not.
+pub fn three_days<R: Abort>(
+    rt: &R,
+    alloc: Global,
+    failing: &[(u32, bool)],
+    absent: Option<u32>,
+    wish: Wish,
+) -> Result<ThreeDays, Fail> {
+    let request = wished_offline("t1", wish)?;
+    let plugins = plugins(alloc, PLAIN.kind)?;
+    let mut shelf = shelf(alloc)?;
+    let house = house(rt, alloc, &PLAIN, Vec::new(alloc), failing)?;
+    Ok(play_put_off(rt, alloc, house, absent, &request, &mut shelf, &plugins))
 }

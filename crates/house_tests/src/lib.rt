@@ -22,6 +22,8 @@ mod left;
 #[cfg(test)]
 mod meetings;
 #[cfg(test)]
+mod offline;
+#[cfg(test)]
 mod requests;
 #[cfg(test)]
 mod scenes;

@@ -65,3 +65,15 @@ pub fn offline(tag: &str, port: &str) -> Result<Request, Fail> {
         ..request(tag, port)?
     })
 }
+
+/// The install of that version on the first device at the next boot.
+pub fn wished_offline(tag: &str, wish: Wish) -> Result<Request, Fail> {
+    let request = wished(tag, wish)?;
+    Ok(Request {
+        flags: InstallFlags {
+            offline: true,
+            ..request.flags
+        },
+        ..request
+    })
+}
