@@ -1,5 +1,5 @@
 //! Reads the input, and the site that it states.
-ghost use Rattle.std.specs.Prelude.{◌≡◌, ◌≤◌, IsErrOf, IfOk};
+ghost use Rattle.std.specs.Prelude.{◌≡◌, ◌⊎◌, ◌≤◌, IsErrOf, IfOk};
 ghost use Rattle.outer_traits.specs.Faults.{Rose};
 ghost use Rattle.campaign_inputs.specs.Inputs.{HeardInput, TellsSite, stated};
 ghost use Rattle.campaign_inputs.specs.Limits.{CanBeRun};
@@ -29,6 +29,7 @@ pub fn read_input<S: Source>(alloc: Global, source: &mut S) -> Result<Site, Inpu
     ensures heard { HeardInput result (S.left source.old) (S.left source.new) }
     ensures limits { IfOk result CanBeRun }
     ensures fault { IsErrOf result InputStop.SourceFault → Rose (S.faults source.old) (S.faults source.new) }
+    ensures quiet { IsErrOf result InputStop.SourceFault ⊎ (S.faults source.new ≡ S.faults source.old) }
     ensures counts { S.faults source.old ≤ S.faults source.new }
 {
     match read_whole(alloc, source, DOCUMENT_MAX) {

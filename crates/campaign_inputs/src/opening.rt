@@ -1,5 +1,5 @@
 //! Opens a campaign from a source.
-ghost use Rattle.std.specs.Prelude.{◌≡◌, ◌≤◌, length, map, IfOk, IfErr, IsErrOf, MatchOption, OnOk};
+ghost use Rattle.std.specs.Prelude.{◌≡◌, ◌⊎◌, ◌≤◌, length, map, IfOk, IfErr, IsErrOf, MatchOption, OnOk};
 ghost use Rattle.outer_traits.specs.Faults.{Rose};
 ghost use Rattle.site_making.specs.Settled.{vetoes_of};
 ghost use Rattle.campaign_inputs.specs.Begin.{CanBegin};
@@ -58,6 +58,7 @@ pub fn open_campaign<S: Source>(
     ensures begins { IfOk result (λ ready. CanBegin ready.campaign) }
     ensures stopped { IfErr result (λ stop. HasStopped limit (map (λ p. own_sheet p) plugins.items) stop (S.left source.old) (S.left source.new)) }
     ensures fault { IsErrOf result OpenStop.SourceFault → Rose (S.faults source.old) (S.faults source.new) }
+    ensures quiet { IsErrOf result OpenStop.SourceFault ⊎ (S.faults source.new ≡ S.faults source.old) }
     ensures counts { S.faults source.old ≤ S.faults source.new }
 {
     match read_input(alloc, source) {

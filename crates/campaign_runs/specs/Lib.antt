@@ -1,3 +1,20 @@
 pub mod Planned
 pub mod Runs
 pub mod Promises
+pub use Rattle.fw_facts.specs.Views
+pub use Rattle.update_log.specs.CoreFolds
+pub use Rattle.update_log.specs.Crashes
+pub use Rattle.update_log.specs.Legal
+pub use Rattle.update_log.specs.Once
+pub use Rattle.update_log.specs.Pasts
+pub use Rattle.update_log.specs.Shows
+pub use Rattle.daemon_core.specs.Annals
+pub use Rattle.daemon_core.specs.Boots
+pub use Rattle.daemon_core.specs.Housed
+pub use Rattle.daemon_core.specs.Keeping
+pub use Rattle.daemon_core.specs.Planned as DaemonCorePlanned
+pub use Rattle.daemon_core.specs.Reading
+pub use Rattle.daemon_core.specs.Turns
+pub use Rattle.client_plays.specs.Endings
+pub use Rattle.client_plays.specs.Scripts
+pub use Rattle.client_plays.specs.Tools

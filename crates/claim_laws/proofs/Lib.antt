@@ -1,2 +1,3 @@
 pub mod Takings
 pub mod Asked
+pub mod FirstNamed

@@ -1,5 +1,6 @@
 //! Laws of the definitions alone.
 ghost use Rattle.claim_laws.specs.Complete.{ClaimsComplete, InstallsComplete, ResumptionsComplete};
+ghost use Rattle.claim_laws.specs.FirstRefusal.{FirstIsNamed};
 
 /// A claim that is accepted, whose payload lies on the client's shelf, takes an entry, unless the keeper or
 /// the shelf fails.
@@ -17,4 +18,9 @@ pub fn installs_complete()
 /// shelf fails.
 pub fn resumptions_complete()
     ensures { ResumptionsComplete }
+{}
+
+/// A refusal that is decided is met, and of those with a lower number none is.
+pub fn first_is_named()
+    ensures { FirstIsNamed }
 {}

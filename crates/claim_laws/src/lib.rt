@@ -1,9 +1,10 @@
-//! What a claim, an install and a resumption come to whose request is accepted and whose payload lies on its client's shelf.
+//! Laws of what is decided: what an accepted request comes to, and which refusal is named.
 //!
-//! The statements are in `specs/Complete.antt`: what the log allows and what a fetch tells of the shelf leave no
-//! other answer than the one that takes an entry, but for a fault of the keeper or of the shelf itself.
+//! A claim, an install or a resumption that is accepted, and whose payload lies on its client's shelf, takes its
+//! entry, but for a fault of the keeper or of the shelf itself (`specs/Complete.antt`). A refusal is the first of
+//! those whose condition is met (`specs/FirstRefusal.antt`).
 #![tactic(auto)]
 
 pub mod laws;
 
-pub use laws::{claims_complete, installs_complete, resumptions_complete};
+pub use laws::{claims_complete, first_is_named, installs_complete, resumptions_complete};

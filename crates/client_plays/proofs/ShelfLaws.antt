@@ -1,5 +1,7 @@
 -- What is known of a fetch, and the files of shelves that stay.
-use Rattle.std.proofs.Common.{◌≡◌, ◌⊎◌, ℕ, zero, suc, List, [], ◌∷◌, length, refl, ap, ◌∙◌, subst, inl, inr}
+use Rattle.std.proofs.Common.{◌≡◌, ◌≢◌, ◌⊎◌, ℕ, ◌≤◌, ◌*◌, zero, suc, List, [], ◌∷◌, length, take, refl, sym, ap, ◌∙◌, subst, inl, inr, arith}
+use Rattle.std.proofs.lemmas.List.{length-take-le}
+use Rattle.sha2.specs.Sha256.{sha256}
 use Rattle.std.specs.Prelude.{Option, Some, None, IfSome, slice_get}
 use Rattle.fw_facts.specs.declared.release.Release.{Release}
 use Rattle.outer_traits.specs.Shelves.{file_of}
@@ -8,11 +10,11 @@ use Rattle.update_log.specs.declared.refusal.FetchNote.{FetchNote}
 use Rattle.update_log.specs.declared.request.Request.{Request}
 use Rattle.daemon_core.specs.declared.fetched.Fetched.{Fetched}
 use Rattle.daemon_core.specs.declared.hold.Hold.{Hold}
-use Rattle.daemon_core.specs.Fetches.{note_of, raw_number}
+use Rattle.daemon_core.specs.Fetches.{block_count, note_of, raw_number}
 use Rattle.daemon_core.specs.Holds.{IsHoldFor}
-use Rattle.install_engine.specs.Answers.{IfWhole, told}
+use Rattle.install_engine.specs.Answers.{IfLength, IfMismatch, IfWhole, told}
 use Rattle.install_engine.specs.Findings.{Finding, found_of}
-use Rattle.client_plays.specs.Shelves.{IsFetched, files_for, files_of, note_found}
+use Rattle.client_plays.specs.Shelves.{IsFetched, IsTrueNote, files_for, files_of, note_found}
 use Rattle.client_plays.specs.Tools.{Files, ShelfTold, ShelvesStay, shelf_of}
 
 -- What a fetch found is what its note says, unless the shelf failed.
@@ -38,15 +40,48 @@ note-files (Some all) hold release fetched d s f w =
     (subst (λ (x : Finding). IfSome (told fetched) (λ found. found ≡ x)) (found-same all hold.digest release.digest hold.size release.size d s) f)
     (subst (λ (x : List ℕ). IfWhole fetched (λ payload. payload.digest ≡ x)) d w)
 
+-- What is known of a fetch whatever the shelf tells: a whole payload has the digest and the size of the hold's
+-- release, and another length or digest is another one.
+pub record IsFetchFor (hold : Hold) (fetched : Fetched) : Type 0 where
+  pub digest : IfWhole fetched (λ payload. payload.digest ≡ hold.digest)
+  pub size : IfWhole fetched (λ payload. length payload.bytes ≡ hold.size)
+  pub other_length : IfLength fetched (λ found. found ≢ hold.size)
+  pub other_digest : IfMismatch fetched (λ found _. found ≢ hold.digest)
+  pub hashed : IfMismatch fetched (λ found blocks. found ≡ sha256 (take hold.size blocks.bytes))
+  pub blocks : hold.size ≤ 4096 * block_count fetched
+
+note-true : (hold : Hold) (release : Release) (fetched : Fetched) → hold.digest ≡ release.digest → hold.size ≡ release.size → IsFetchFor hold fetched → IsTrueNote release (note_of fetched)
+note-true hold release (Fetched.Whole payload) d s f = record {
+  bytes = payload.bytes;
+  hashed = payload.hashed;
+  digest_is = f.digest ∙ d;
+  long = refl;
+  size_is = f.size ∙ s;
+  raw_is = refl;
+}
+note-true hold release (Fetched.Missing blocks) d s f = tt
+note-true hold release (Fetched.Length found blocks) d s f = λ e. f.other_length (e ∙ sym s)
+note-true hold release (Fetched.Mismatch found blocks) d s f =
+    let sized = blocks.sized in
+    let within = f.blocks in
+    record {
+      bytes = take hold.size blocks.bytes;
+      hashed = f.hashed;
+      long = length-take-le hold.size blocks.bytes (omega (arith, sized, within)) ∙ s;
+      other = λ e. f.other_digest (e ∙ sym d);
+    }
+note-true hold release (Fetched.ShelfFault blocks) d s f = tt
+
 -- What is known of a fetch says what is known of its note.
 pub note-fetched : (facts : Facts) (client : ℕ) (request : Request) (pending : Option ℕ) (files : Files) (hold : Hold) (fetched : Fetched) → IsHoldFor facts client request pending hold
-    → IfSome files (λ all. IfSome (told fetched) (λ found. found ≡ found_of (file_of all hold.digest) hold.digest hold.size)) → IfWhole fetched (λ payload. payload.digest ≡ hold.digest)
+    → IfSome files (λ all. IfSome (told fetched) (λ found. found ≡ found_of (file_of all hold.digest) hold.digest hold.size)) → IsFetchFor hold fetched
     → IsFetched facts files hold.ticket.release (note_of fetched)
 note-fetched facts client request pending files hold fetched h f w =
     record {
       release = h.release;
       there = h.release_at;
-      note_is = note-files files hold h.release fetched h.digest_is h.size_is f w;
+      note_true = note-true hold h.release fetched h.digest_is h.size_is w;
+      note_is = note-files files hold h.release fetched h.digest_is h.size_is f w.digest;
     }
 
 -- The files of each client's shelf, where the shelves stay.

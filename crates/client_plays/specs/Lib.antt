@@ -6,3 +6,19 @@ pub mod Shelves
 pub mod Plays
 pub mod Scripts
 pub mod Endings
+pub use Rattle.outer_traits.specs.Shelves as OuterTraitsShelves
+pub use Rattle.fw_facts.specs.Views
+pub use Rattle.emulated_boards.specs.Images
+pub use Rattle.update_log.specs.Holding
+pub use Rattle.update_log.specs.Known
+pub use Rattle.update_log.specs.Legal
+pub use Rattle.update_log.specs.Pasts
+pub use Rattle.update_log.specs.Steps
+pub use Rattle.offline_updates.specs.Waiting
+pub use Rattle.daemon_core.specs.Annals
+pub use Rattle.daemon_core.specs.Holds
+pub use Rattle.daemon_core.specs.Housed
+pub use Rattle.daemon_core.specs.Keeping
+pub use Rattle.daemon_core.specs.Planned
+pub use Rattle.daemon_core.specs.Turns
+pub use Rattle.install_engine.specs.Findings

@@ -1,5 +1,6 @@
 -- What a fetch tells of a client's shelf.
-use Rattle.std.specs.Prelude.{◌≡◌, ◌⊎◌, ℕ, List, length, Option, Some, None, IfSome, slice_get, unwrap_or}
+use Rattle.std.specs.Prelude.{◌≡◌, ◌≢◌, ◌⊎◌, ℕ, List, length, Option, Some, None, IfSome, slice_get, unwrap_or}
+use Rattle.sha2.specs.Sha256.{sha256}
 use Rattle.emulated_boards.specs.Images.{raw_version}
 use Rattle.fw_facts.specs.declared.release.Release.{Release}
 use Rattle.outer_traits.specs.Shelves.{file_of}
@@ -17,11 +18,39 @@ note_found digest (other_length found) = FetchNote.Length found
 note_found digest (other_digest found) = FetchNote.Mismatch found
 note_found digest (whole bytes) = FetchNote.Whole digest (length bytes) (unwrap_or (raw_version bytes) 0)
 
--- The payload of a release was fetched from a shelf with these files: the note says what lies there under
--- its digest, unless the shelf failed. Of a shelf that doesn't tell its files nothing is known.
+-- A note that calls a payload whole is of bytes that have the release's digest and size, and show that raw
+-- version.
+pub record IsWholePayload (release : Release) (digest : List ℕ) (size raw : ℕ) : Type 0 where
+  pub bytes : List ℕ
+  pub hashed : digest ≡ sha256 bytes
+  pub digest_is : digest ≡ release.digest
+  pub long : size ≡ length bytes
+  pub size_is : size ≡ release.size
+  pub raw_is : raw ≡ unwrap_or (raw_version bytes) 0
+
+-- A note that names another digest is of bytes that have the release's size, and that digest.
+pub record IsOtherPayload (release : Release) (digest : List ℕ) : Type 0 where
+  pub bytes : List ℕ
+  pub hashed : digest ≡ sha256 bytes
+  pub long : length bytes ≡ release.size
+  pub other : digest ≢ release.digest
+
+-- What is true of each note, whether the shelf tells its files or not. A length that it names is not the
+-- release's.
+abbrev pub IsTrueNote : Release → FetchNote → Type 0
+IsTrueNote release (FetchNote.Whole digest size raw) = IsWholePayload release digest size raw
+IsTrueNote release FetchNote.Missing = Unit {0}
+IsTrueNote release (FetchNote.Length found) = found ≢ release.size
+IsTrueNote release (FetchNote.Mismatch found) = IsOtherPayload release found
+IsTrueNote release FetchNote.ShelfFault = Unit {0}
+
+-- The payload of a release was fetched from a shelf with these files: the note is true, and says what lies
+-- there under its digest, unless the shelf failed. Of what lies on a shelf that doesn't tell its files nothing
+-- is known.
 pub record IsFetched (facts : Facts) (files : Files) (at : ReleaseRef) (note : FetchNote) : Type 0 where
   pub release : Release
   pub there : IsReleaseAt facts.catalogue at release
+  pub note_true : IsTrueNote release note
   pub note_is : IfSome files (λ all. (note ≡ FetchNote.ShelfFault) ⊎ (note ≡ note_found release.digest (found_of (file_of all release.digest) release.digest release.size)))
 
 -- The files of a client's shelf, where there is one that tells them.

@@ -3,3 +3,13 @@ pub mod Parts
 pub mod Replies
 pub mod Places
 pub mod Commas
+pub use Rattle.guid_ids.specs.Identifiers
+pub use Rattle.version_formats.specs.Formats
+pub use Rattle.version_formats.specs.VersionOrder
+pub use Rattle.fw_facts.specs.Flags
+pub use Rattle.fw_facts.specs.Problems
+pub use Rattle.fw_facts.specs.Views
+pub use Rattle.release_catalogue.specs.Lookup
+pub use Rattle.device_list.specs.Lists
+pub use Rattle.history_keeper.specs.Histories
+pub use Rattle.update_log.specs.Once

@@ -43,6 +43,8 @@ pub fn write_check<T: Sink>(
     ensures front { OnErr result (TookFront (check_output sections) (T.taken out.old) (T.taken out.new)) }
     ensures nothing { IsErrOf result OutputStop.NoMemory → T.taken out.new ≡ T.taken out.old }
     ensures cause { IsErrOf result OutputStop.SinkFault → Rose (T.faults out.old) (T.faults out.new) }
+    ensures quiet { OnOk result (T.faults out.new ≡ T.faults out.old) }
+    ensures quiet_no_memory { IsErrOf result OutputStop.NoMemory → T.faults out.new ≡ T.faults out.old }
     ensures counts { T.faults out.old ≤ T.faults out.new }
 {
     let mut text = Vec::new(alloc);

@@ -40,6 +40,8 @@ pub fn write_ids<T: Sink>(alloc: Global, texts: &[Text], out: &mut T) -> Result<
     ensures front { OnErr result (TookFront (ids_output texts.now) (T.taken out.old) (T.taken out.new)) }
     ensures nothing { IsErrOf result OutputStop.NoMemory → T.taken out.new ≡ T.taken out.old }
     ensures cause { IsErrOf result OutputStop.SinkFault → Rose (T.faults out.old) (T.faults out.new) }
+    ensures quiet { OnOk result (T.faults out.new ≡ T.faults out.old) }
+    ensures quiet_no_memory { IsErrOf result OutputStop.NoMemory → T.faults out.new ≡ T.faults out.old }
     ensures counts { T.faults out.old ≤ T.faults out.new }
 {
     let mut text = Vec::new(alloc);

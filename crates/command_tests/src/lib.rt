@@ -10,6 +10,8 @@ mod documents;
 #[cfg(test)]
 mod explained;
 #[cfg(test)]
+mod help;
+#[cfg(test)]
 mod identifiers;
 #[cfg(test)]
 mod statuses;

@@ -1,2 +1,3 @@
 pub mod Lists
 pub mod Guids
+pub use Rattle.fw_facts.specs.Views

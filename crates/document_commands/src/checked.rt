@@ -1,5 +1,5 @@
 //! The command `check`.
-ghost use Rattle.std.specs.Prelude.{◌≡◌, ◌≤◌};
+ghost use Rattle.std.specs.Prelude.{◌≡◌, ◌⊎◌, ◌≤◌};
 ghost use Rattle.outer_traits.specs.Faults.{Rose};
 ghost use Rattle.document_commands.specs.Ends.{CheckEnds, PrintedOr, sections_of};
 ghost use Rattle.document_commands.specs.Stops.{told_input};
@@ -15,7 +15,9 @@ use std::alloc::Global;
 pub fn check<S: Source, T: Sink>(alloc: Global, source: &mut S, out: &mut T) -> Ended
     ensures ends { CheckEnds result (S.left source.old) (S.left source.new) (T.taken out.old) (T.taken out.new) }
     ensures source_fault { result ≡ Ended.SourceFault → Rose (S.faults source.old) (S.faults source.new) }
+    ensures source_quiet { (result ≡ Ended.SourceFault) ⊎ (S.faults source.new ≡ S.faults source.old) }
     ensures sink_fault { result ≡ Ended.SinkFault → Rose (T.faults out.old) (T.faults out.new) }
+    ensures sink_quiet { (result ≡ Ended.SinkFault) ⊎ (T.faults out.new ≡ T.faults out.old) }
     ensures source_counts { S.faults source.old ≤ S.faults source.new }
     ensures sink_counts { T.faults out.old ≤ T.faults out.new }
 {
@@ -53,6 +55,7 @@ fn sections(site: &Site) -> Sections
 fn print<T: Sink>(alloc: Global, sections: Sections, out: &mut T) -> Ended
     ensures printed { PrintedOr sections result (T.taken out.old) (T.taken out.new) }
     ensures sink_fault { result ≡ Ended.SinkFault → Rose (T.faults out.old) (T.faults out.new) }
+    ensures sink_quiet { (result ≡ Ended.SinkFault) ⊎ (T.faults out.new ≡ T.faults out.old) }
     ensures sink_counts { T.faults out.old ≤ T.faults out.new }
 {
     match write_check(alloc, sections, out) {

@@ -1,5 +1,5 @@
 //! The command `explain`.
-ghost use Rattle.std.specs.Prelude.{◌≡◌, ◌≤◌, length, map};
+ghost use Rattle.std.specs.Prelude.{◌≡◌, ◌⊎◌, ◌≤◌, length, map};
 ghost use Rattle.outer_traits.specs.Faults.{Rose};
 ghost use Rattle.site_making.specs.Settled.{vetoes_of};
 ghost use Rattle.explaining.specs.FirstBoot.{shown_by};
@@ -34,7 +34,9 @@ pub fn explain<S: Source, T: Sink>(
         (λ machine. map (λ p. vetoes_of (own_sheet p) (vetoes_on p machine)) plugins.items)
         port version result (S.left source.old) (S.left source.new) (T.taken out.old) (T.taken out.new) }
     ensures source_fault { result ≡ Ended.SourceFault → Rose (S.faults source.old) (S.faults source.new) }
+    ensures source_quiet { (result ≡ Ended.SourceFault) ⊎ (S.faults source.new ≡ S.faults source.old) }
     ensures sink_fault { result ≡ Ended.SinkFault → Rose (T.faults out.old) (T.faults out.new) }
+    ensures sink_quiet { (result ≡ Ended.SinkFault) ⊎ (T.faults out.new ≡ T.faults out.old) }
     ensures source_counts { S.faults source.old ≤ S.faults source.new }
     ensures sink_counts { T.faults out.old ≤ T.faults out.new }
 {
@@ -70,6 +72,7 @@ fn print<T: Sink>(
     requires begins { CanBegin campaign.now }
     ensures printed { TextPrinted (printed_of campaign.now.facts (map shown_by campaign.now.boards.items) port version) result (T.taken out.old) (T.taken out.new) }
     ensures sink_fault { result ≡ Ended.SinkFault → Rose (T.faults out.old) (T.faults out.new) }
+    ensures sink_quiet { (result ≡ Ended.SinkFault) ⊎ (T.faults out.new ≡ T.faults out.old) }
     ensures sink_counts { T.faults out.old ≤ T.faults out.new }
 {
     match state_at_first_boot(alloc, &campaign.facts, &campaign.boards) {

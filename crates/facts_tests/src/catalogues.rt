@@ -1,5 +1,4 @@
-//! What no clause says: that calls succeed, that the faults are the ones that were meant, and that a
-//! plain scan of all components finds the same.
+//! What no clause says: that calls succeed, and that the faults are the ones that were meant.
 use fw_base::{Line, Name};
 use guid_ids::Guid;
 use release_catalogue::defaults::{
@@ -9,12 +8,11 @@ use release_catalogue::entries::{list_needed, list_or_empty};
 use release_catalogue::kinds::{
     boolean, digest, guid, line, name, name_among, number, object, text, version,
 };
-use release_catalogue::{Catalogue, CatalogueFault, ReadStop, Reason, ReleaseRef, Spot, Word};
+use release_catalogue::{Catalogue, CatalogueFault, ReadStop, Reason, Spot, Word};
 use serde_json::Value;
 use std::alloc::Global;
-use std::cmp::Ordering;
 use std::test::Fail;
-use version_formats::{Version, compare};
+use version_formats::Version;
 
 /// The components of the base document.
 const BASE: &str = r#"[{"id":"com.example.hub","name":"Hub",
@@ -535,109 +533,6 @@ fn releases_are_counted_over_all_components(rt: HostRuntime) -> Result<(), Fail>
         let told = told_of_releases(rt.alloc(), more)?;
         assert_eq!(rt; told.as_str(), want);
     }
-    Ok(())
-}
-
-/// The plain program: a scan of all components and releases.
-fn scanned(catalogue: &Catalogue, guids: &[Guid], version: &Version) -> Option<ReleaseRef> {
-    for (component, found) in catalogue.components().iter().enumerate() {
-        if found.provides.items().iter().any(|own| guids.contains(own)) {
-            for (release, own) in found.releases.items().iter().enumerate() {
-                if compare(&own.version, version) == Ordering::Equal {
-                    return place(component, release);
-                }
-            }
-        }
-    }
-    None
-}
-
-/// The plain program: all releases of each component that provides one of the GUIDs.
-fn scanned_all(
-    alloc: Global,
-    catalogue: &Catalogue,
-    guids: &[Guid],
-) -> Result<Vec<ReleaseRef>, Fail> {
-    let mut all = Vec::new(alloc);
-    for (component, found) in catalogue.components().iter().enumerate() {
-        if found.provides.items().iter().any(|own| guids.contains(own)) {
-            for release in 0..found.releases.items().len() {
-                if let Some(place) = place(component, release) {
-                    all.push(place)?;
-                }
-            }
-        }
-    }
-    Ok(all)
-}
-
-fn place(component: usize, release: usize) -> Option<ReleaseRef> {
-    Some(ReleaseRef {
-        component: u32::try_from(component).ok()?,
-        release: u32::try_from(release).ok()?,
-    })
-}
-
-/// The next of some numbers that look like chance.
-fn next(seed: &mut u32) -> u32 {
-    *seed = seed.wrapping_mul(1_664_525).wrapping_add(1_013_904_223);
-    *seed >> 16
-}
-
-/// A catalogue of a few components, with few GUIDs and versions among them.
-fn by_chance(alloc: Global, seed: &mut u32) -> Result<Catalogue, Fail> {
-    let mut json = String::from_str(alloc, "[")?;
-    for i in 0..next(seed) % 7 {
-        if i > 0 {
-            json.push(',')?;
-        }
-        json.push_str("{\"id\":\"a\",\"provides\":[")?;
-        for k in 0..next(seed) % 4 {
-            let comma = if k > 0 { "," } else { "" };
-            let guid = next(seed) % 5;
-            json.push_str(format!(in alloc;
-                "{comma}\"2082b5e0-7a64-478a-b1b2-e3404fab6da{guid}\""
-            )?.as_str())?;
-        }
-        json.push_str("],\"releases\":[")?;
-        for k in 0..next(seed) % 4 {
-            let comma = if k > 0 { "," } else { "" };
-            let version = next(seed) % 6;
-            let zeros = if next(seed) % 2 == 0 { "" } else { "0" };
-            json.push_str(format!(in alloc;
-                "{comma}{{\"version\":\"{zeros}{version}.0\",\"sha256\":\"b3f5d0e3a9f4f0f4b3f5d0e3a9f4f0f4b3f5d0e3a9f4f0f4b3f5d0e3a9f4f0f4\",\"size\":0}}"
-            )?.as_str())?;
-        }
-        json.push_str("]}")?;
-    }
-    json.push(']')?;
-    catalogue(alloc, json.as_str())
-}
-
-#[test]
-fn a_scan_finds_the_same(rt: HostRuntime) -> Result<(), Fail> {
-    let alloc = rt.alloc();
-    let mut seed = 7;
-    let mut hits = 0usize;
-    for _ in 0..400 {
-        let catalogue = by_chance(alloc, &mut seed)?;
-        let one = next(&mut seed) % 6;
-        let other = next(&mut seed) % 6;
-        let version = next(&mut seed) % 6;
-        let one = format!(in alloc; "2082b5e0-7a64-478a-b1b2-e3404fab6da{one}")?;
-        let other = format!(in alloc; "2082b5e0-7a64-478a-b1b2-e3404fab6da{other}")?;
-        let version = format!(in alloc; "{version}.0")?;
-        let guids = [guid_named(one.as_bytes())?, guid_named(other.as_bytes())?];
-        let version = Version::read(version.as_bytes())?;
-        let found = catalogue.find(&guids, &version);
-        assert_eq!(rt; found, scanned(&catalogue, &guids, &version));
-        let all = catalogue.releases_for(alloc, &guids)?;
-        assert_eq!(rt; all, scanned_all(alloc, &catalogue, &guids)?);
-        if found.is_some() {
-            hits = hits.saturating_add(1);
-        }
-    }
-    assert!(rt; hits > 50);
     Ok(())
 }
 

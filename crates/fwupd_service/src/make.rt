@@ -1,5 +1,5 @@
 //! The command `make`: a campaign that is generated.
-ghost use Rattle.std.specs.Prelude.{◌≡◌, ◌≤◌, replicate, length, map, IfOk};
+ghost use Rattle.std.specs.Prelude.{◌≡◌, ◌⊎◌, ◌≤◌, replicate, length, map, IfOk};
 ghost use Rattle.outer_traits.specs.Faults.{Rose};
 ghost use Rattle.site_making.specs.Settled.{vetoes_of};
 ghost use Rattle.fwupd_service.specs.Begins.{CanBePlayed, IsReadyFor};
@@ -48,6 +48,7 @@ pub(crate) fn make<R: Threads + Wait + Sync, P, K, T: Sink, G: Gate + Sync>(
         (record { log = result.log; opening = result.opening; boards = result.boards; keeper = result.keeper })
         (T.taken out.old) (T.taken out.new) }
     ensures sink_fault { result.status ≡ Status.SinkFault → Rose (T.faults out.old) (T.faults out.new) }
+    ensures sink_quiet { (result.status ≡ Status.SinkFault) ⊎ (T.faults out.new ≡ T.faults out.old) }
     ensures sink_counts { T.faults out.old ≤ T.faults out.new }
     ensures shelves { result.shelves.items ≡ shelves.items }
 {
@@ -107,6 +108,7 @@ fn make_ready<R: Threads + Wait + Sync, P, K, T: Sink, G: Gate + Sync>(
         (record { log = result.log; opening = result.opening; boards = result.boards; keeper = result.keeper })
         (T.taken out.old) (T.taken out.new) }
     ensures sink_fault { result.status ≡ Status.SinkFault → Rose (T.faults out.old) (T.faults out.new) }
+    ensures sink_quiet { (result.status ≡ Status.SinkFault) ⊎ (T.faults out.new ≡ T.faults out.old) }
     ensures sink_counts { T.faults out.old ≤ T.faults out.new }
     ensures shelves { result.shelves.items ≡ shelves.items }
 {
@@ -136,6 +138,7 @@ fn summed<P, K, T: Sink>(
         (summary boards clients played.log) (T.taken out.old) (T.taken out.new) }
     ensures left { IsLeft played.log played.opening played.boards keeper shelves.items result.log result.opening result.boards result.keeper result.shelves.items }
     ensures sink_fault { result.status ≡ Status.SinkFault → Rose (T.faults out.old) (T.faults out.new) }
+    ensures sink_quiet { (result.status ≡ Status.SinkFault) ⊎ (T.faults out.new ≡ T.faults out.old) }
     ensures sink_counts { T.faults out.old ≤ T.faults out.new }
 {
     let Played {

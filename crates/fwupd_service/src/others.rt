@@ -1,5 +1,5 @@
 //! The commands that play no campaign.
-ghost use Rattle.std.specs.Prelude.{◌≡◌, ◌≤◌, length, map};
+ghost use Rattle.std.specs.Prelude.{◌≡◌, ◌⊎◌, ◌≤◌, length, map};
 ghost use Rattle.site_making.specs.Settled.{vetoes_of};
 ghost use Rattle.outer_traits.specs.Faults.{Rose};
 ghost use Rattle.fwupd_service.specs.Commands.{Checked, Explained, NothingHappened, Written, ended_status};
@@ -44,7 +44,9 @@ pub(crate) fn run_check<S: Source, P: Shelf, K: Keeper, T: Sink>(
         (record { log = result.log; opening = result.opening; boards = result.boards; keeper = result.keeper })
         (S.left source.old) (S.left source.new) (T.taken out.old) (T.taken out.new) }
     ensures source_fault { result.status ≡ Status.SourceFault → Rose (S.faults source.old) (S.faults source.new) }
+    ensures source_quiet { (result.status ≡ Status.SourceFault) ⊎ (S.faults source.new ≡ S.faults source.old) }
     ensures sink_fault { result.status ≡ Status.SinkFault → Rose (T.faults out.old) (T.faults out.new) }
+    ensures sink_quiet { (result.status ≡ Status.SinkFault) ⊎ (T.faults out.new ≡ T.faults out.old) }
     ensures source_counts { S.faults source.old ≤ S.faults source.new }
     ensures sink_counts { T.faults out.old ≤ T.faults out.new }
     ensures shelves { result.shelves.items ≡ shelves.items }
@@ -71,7 +73,9 @@ pub(crate) fn run_explain<S: Source, P: Shelf, K: Keeper, T: Sink>(
         (record { log = result.log; opening = result.opening; boards = result.boards; keeper = result.keeper })
         (S.left source.old) (S.left source.new) (T.taken out.old) (T.taken out.new) }
     ensures source_fault { result.status ≡ Status.SourceFault → Rose (S.faults source.old) (S.faults source.new) }
+    ensures source_quiet { (result.status ≡ Status.SourceFault) ⊎ (S.faults source.new ≡ S.faults source.old) }
     ensures sink_fault { result.status ≡ Status.SinkFault → Rose (T.faults out.old) (T.faults out.new) }
+    ensures sink_quiet { (result.status ≡ Status.SinkFault) ⊎ (T.faults out.new ≡ T.faults out.old) }
     ensures source_counts { S.faults source.old ≤ S.faults source.new }
     ensures sink_counts { T.faults out.old ≤ T.faults out.new }
     ensures shelves { result.shelves.items ≡ shelves.items }
@@ -91,6 +95,7 @@ pub(crate) fn run_ids<P: Shelf, K: Keeper, T: Sink>(
     ensures written { Written (ids_output texts.now) result.status (T.taken out.old) (T.taken out.new) }
     ensures nothing { NothingHappened keeper (record { log = result.log; opening = result.opening; boards = result.boards; keeper = result.keeper }) }
     ensures sink_fault { result.status ≡ Status.SinkFault → Rose (T.faults out.old) (T.faults out.new) }
+    ensures sink_quiet { (result.status ≡ Status.SinkFault) ⊎ (T.faults out.new ≡ T.faults out.old) }
     ensures sink_counts { T.faults out.old ≤ T.faults out.new }
     ensures shelves { result.shelves.items ≡ shelves.items }
 {

@@ -45,6 +45,7 @@ pub(crate) fn write_reported<T: Sink>(
     requires history { IsHistory opening.now ⊎ AllFaults (past_of log.now) }
     ensures written { WasWritten result (report facts.now opening.now log.now) (T.taken out.old) (T.taken out.new) }
     ensures cause { result ≡ Written.SinkFault → Rose (T.faults out.old) (T.faults out.new) }
+    ensures quiet { (result ≡ Written.SinkFault) ⊎ (T.faults out.new ≡ T.faults out.old) }
     ensures counts { T.faults out.old ≤ T.faults out.new }
 {
     match write_report(alloc, facts, opening, log, out) {
@@ -64,6 +65,7 @@ pub(crate) fn write_summed<T: Sink>(
 ) -> Written
     ensures written { WasWritten result (summary boards clients log.now) (T.taken out.old) (T.taken out.new) }
     ensures cause { result ≡ Written.SinkFault → Rose (T.faults out.old) (T.faults out.new) }
+    ensures quiet { (result ≡ Written.SinkFault) ⊎ (T.faults out.new ≡ T.faults out.old) }
     ensures counts { T.faults out.old ≤ T.faults out.new }
 {
     match write_summary(alloc, boards, clients, log.items(), out) {
@@ -127,6 +129,7 @@ pub(crate) fn reported<P, K, T: Sink>(
         (report played.facts played.opening played.log) (T.taken out.old) (T.taken out.new) }
     ensures left { IsLeft played.log played.opening played.boards played.keeper shelves.items result.log result.opening result.boards result.keeper result.shelves.items }
     ensures sink_fault { result.status ≡ Status.SinkFault → Rose (T.faults out.old) (T.faults out.new) }
+    ensures sink_quiet { (result.status ≡ Status.SinkFault) ⊎ (T.faults out.new ≡ T.faults out.old) }
     ensures sink_counts { T.faults out.old ≤ T.faults out.new }
 {
     let Played {

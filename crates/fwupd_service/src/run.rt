@@ -1,5 +1,5 @@
 //! The command `run`: the campaign of a document.
-ghost use Rattle.std.specs.Prelude.{◌≡◌, ◌≤◌, length, map, None, Some};
+ghost use Rattle.std.specs.Prelude.{◌≡◌, ◌⊎◌, ◌≤◌, length, map, None, Some};
 ghost use Rattle.outer_traits.specs.Faults.{Rose};
 ghost use Rattle.site_making.specs.Settled.{vetoes_of};
 ghost use Rattle.client_plays.specs.Tools.{ShelvesStay};
@@ -45,7 +45,9 @@ pub(crate) fn run<
         (record { log = result.log; opening = result.opening; boards = result.boards; keeper = result.keeper })
         (S.left source.old) (S.left source.new) (T.taken out.old) (T.taken out.new) }
     ensures source_fault { result.status ≡ Status.SourceFault → Rose (S.faults source.old) (S.faults source.new) }
+    ensures source_quiet { (result.status ≡ Status.SourceFault) ⊎ (S.faults source.new ≡ S.faults source.old) }
     ensures sink_fault { result.status ≡ Status.SinkFault → Rose (T.faults out.old) (T.faults out.new) }
+    ensures sink_quiet { (result.status ≡ Status.SinkFault) ⊎ (T.faults out.new ≡ T.faults out.old) }
     ensures source_counts { S.faults source.old ≤ S.faults source.new }
     ensures sink_counts { T.faults out.old ≤ T.faults out.new }
     ensures shelves { ShelvesStay (shelves_told P.files P.faults shelves.items) (shelves_told P.files P.faults result.shelves.items) }
@@ -88,6 +90,7 @@ fn run_ready<R: Threads + Wait + Sync, P: Shelf + Send, K: Keeper + Send, T: Sin
         (record { log = result.log; opening = result.opening; boards = result.boards; keeper = result.keeper })
         (report ready.campaign.facts result.opening result.log) (T.taken out.old) (T.taken out.new) }
     ensures sink_fault { result.status ≡ Status.SinkFault → Rose (T.faults out.old) (T.faults out.new) }
+    ensures sink_quiet { (result.status ≡ Status.SinkFault) ⊎ (T.faults out.new ≡ T.faults out.old) }
     ensures sink_counts { T.faults out.old ≤ T.faults out.new }
     ensures shelves { ShelvesStay (shelves_told P.files P.faults shelves.items) (shelves_told P.files P.faults result.shelves.items) }
 {

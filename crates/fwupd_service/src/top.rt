@@ -1,5 +1,5 @@
 //! The top call.
-ghost use Rattle.std.specs.Prelude.{◌≡◌, ◌↔◌, ◌≤◌, length, map, None, Some};
+ghost use Rattle.std.specs.Prelude.{◌≡◌, ◌⊎◌, ◌↔◌, ◌≤◌, length, map, None, Some};
 ghost use Rattle.outer_traits.specs.Faults.{Rose};
 ghost use Rattle.client_plays.specs.Tools.{ShelvesStay};
 ghost use Rattle.client_plays.specs.Has.{shelves_told};
@@ -55,7 +55,9 @@ pub fn run_campaign<
         (record { log = result.log; opening = result.opening; boards = result.boards; keeper = result.keeper })
         (S.left source.old) (S.left source.new) (T.taken out.old) (T.taken out.new) }
     ensures source_fault { result.status ≡ Status.SourceFault → Rose (S.faults source.old) (S.faults source.new) }
+    ensures source_quiet { (result.status ≡ Status.SourceFault) ⊎ (S.faults source.new ≡ S.faults source.old) }
     ensures sink_fault { result.status ≡ Status.SinkFault → Rose (T.faults out.old) (T.faults out.new) }
+    ensures sink_quiet { (result.status ≡ Status.SinkFault) ⊎ (T.faults out.new ≡ T.faults out.old) }
     ensures source_counts { S.faults source.old ≤ S.faults source.new }
     ensures sink_counts { T.faults out.old ≤ T.faults out.new }
     // The shelves come back, each with its files, and but for `run` they are those that came.
@@ -99,7 +101,9 @@ fn obey<
         (record { log = result.log; opening = result.opening; boards = result.boards; keeper = result.keeper })
         (S.left source.old) (S.left source.new) (T.taken out.old) (T.taken out.new) }
     ensures source_fault { result.status ≡ Status.SourceFault → Rose (S.faults source.old) (S.faults source.new) }
+    ensures source_quiet { (result.status ≡ Status.SourceFault) ⊎ (S.faults source.new ≡ S.faults source.old) }
     ensures sink_fault { result.status ≡ Status.SinkFault → Rose (T.faults out.old) (T.faults out.new) }
+    ensures sink_quiet { (result.status ≡ Status.SinkFault) ⊎ (T.faults out.new ≡ T.faults out.old) }
     ensures source_counts { S.faults source.old ≤ S.faults source.new }
     ensures sink_counts { T.faults out.old ≤ T.faults out.new }
     ensures shelves { ShelvesStay (shelves_told P.files P.faults shelves.items) (shelves_told P.files P.faults result.shelves.items) }

@@ -11,17 +11,22 @@ use history_keeper::{Keeper, KeeperRefusal, MemoryKeeper};
 use history_sqlite::FileKeeper;
 use outer_traits::{FolderShelf, NoGate, ReadSource, WriteSink};
 use plugin_trait::Plugin;
+use std::io::{BufWriter, IsTerminal, Write};
 use std::process::ExitCode;
 use std::rt::{HostRuntime, Runtime};
 use std::sync::Wait;
 use std::thread::Threads;
 use std::{env, io};
+use terminal_help::help_for;
 
 /// The folder of the payloads, in the folder where the program is called.
 const SHELF: &str = "payloads";
 
 /// The file of the history, in the folder where the program is called.
 const HISTORY: &str = "history.db";
+
+/// How many bytes of the output are gathered before they are handed on.
+const GATHERED: usize = 65_536;
 
 /// How many shelves there are, one for each client.
 const SHELVES: u32 = 16;
@@ -33,8 +38,10 @@ fn run<R: Runtime + AllocGlobal + Threads + Wait + Sync>(
     rt: &R,
     host: &HostRuntime,
 ) -> Result<Status, NoMemory> {
-    let Ok(args) = env::args(rt) else {
-        return Ok(Status::Usage);
+    let args = match env::args(rt) {
+        Ok(args) => args,
+        Err(error) if error.kind() == io::ErrorKind::OutOfMemory => return Err(NoMemory),
+        Err(_) => return Ok(Status::Usage),
     };
     let alloc = rt.alloc();
     let mut words = Vec::new(alloc);
@@ -79,7 +86,9 @@ fn run_over_nothing<R: Runtime + AllocGlobal + Threads + Wait + Sync>(
     run_over(rt, host, words, unused)
 }
 
-/// Hands the words and a keeper to the top call, with the real input, output, shelves and plugins.
+/// Hands the words and a keeper to the top call, with the real input, output, shelves and plugins. The output is
+/// gathered, so that a long report takes few calls of the system; what can't be handed on at the end is a fault
+/// of writing, whatever came before.
 fn run_over<R: Runtime + AllocGlobal + Threads + Wait + Sync, K: Keeper + Send + Drop>(
     rt: &R,
     host: &HostRuntime,
@@ -96,7 +105,10 @@ fn run_over<R: Runtime + AllocGlobal + Threads + Wait + Sync, K: Keeper + Send +
     plugins.push(Box::new(alloc, Power::new(alloc)?)?)?;
     let shelves = shelves(host)?;
     let mut source = ReadSource::new(rt.reader());
-    let mut sink = WriteSink::new(io::writer(rt));
+    let Ok(mut gathered) = BufWriter::with_capacity(alloc, GATHERED, io::writer(rt)) else {
+        return Err(NoMemory);
+    };
+    let mut sink = WriteSink::new(&mut gathered);
     let ran = run_campaign(
         rt,
         alloc,
@@ -116,7 +128,10 @@ fn run_over<R: Runtime + AllocGlobal + Threads + Wait + Sync, K: Keeper + Send +
         keeper: _,
         shelves: _,
     } = ran;
-    Ok(status)
+    match gathered.flush() {
+        Ok(()) => Ok(status),
+        Err(_) => Ok(Status::SinkFault),
+    }
 }
 
 /// The shelves, all over one folder.
@@ -129,11 +144,22 @@ fn shelves(host: &HostRuntime) -> Result<Vec<FolderShelf<HostRuntime>>, NoMemory
     Ok(shelves)
 }
 
+/// Tells how a run ended that didn't end well: in one line, and at a terminal with the help for it.
+fn tell(rt: &HostRuntime, status: &Status) {
+    if matches!(status, Status::Done) {
+        return;
+    }
+    // Where standard error fails too, the exit status still tells.
+    let _ = eprintln!(rt; "fwupdemu: {status}");
+    if rt.stderr().is_terminal() {
+        if let Some(help) = help_for(status) {
+            let _ = eprintln!(rt; "{help}");
+        }
+    }
+}
+
 fn main(rt: HostRuntime) -> ExitCode {
     let status = run(&rt, &rt).unwrap_or(Status::NoMemory);
-    if !matches!(status, Status::Done) {
-        // Where standard error fails too, the exit status still tells.
-        let _ = eprintln!(rt; "fwupdemu: {status}");
-    }
+    tell(&rt, &status);
     ExitCode::from(status.exit_code())
 }

@@ -77,6 +77,7 @@ stays old new rows h limit is_open (inl same) = record {
   settled = same.0.committed_is ∙ h.settled ∙ sym same.0.now_is;
   autocommit = same.0.mode ∙ h.autocommit;
   unlimited = limit ∙ h.unlimited;
+  number = (h.number.0, ap (λ (d : Database). d.trees 0) same.0.now_is ∙ h.number.1);
   table = ap (λ (d : Database). d.trees 1) same.0.now_is ∙ h.table;
   entries = h.entries;
 }
@@ -86,6 +87,7 @@ stays old new rows h limit is_open (inr back) = let undone = back.undone is_open
   settled = undone.1 ∙ sym undone.0;
   autocommit = back.autocommit;
   unlimited = limit ∙ h.unlimited;
+  number = (h.number.0, ap (λ (d : Database). d.trees 0) (undone.0 ∙ h.settled) ∙ h.number.1);
   table = ap (λ (d : Database). d.trees 1) (undone.0 ∙ h.settled) ∙ h.table;
   entries = h.entries;
 }
@@ -118,11 +120,11 @@ either : (b : Bool) (x : Value) → cond b x x ≡ x
 either true x = refl
 either false x = refl
 
-cast_null : cast Integer Null ≡ Null
+pub cast_null : cast Integer Null ≡ Null
 unfolding unary
 cast_null = either _ Null
 
-cast_whole : (n : ℕ) → cast Integer (Int (pos n)) ≡ Int (pos n)
+pub cast_whole : (n : ℕ) → cast Integer (Int (pos n)) ≡ Int (pos n)
 unfolding unary
 cast_whole n = either _ (Int (pos n))
 
@@ -167,7 +169,9 @@ adds old new rows row count h next limit ran =
     let written = went (went source.2).2 in
     let counted = went written.2 in
     let trees : done.0.trees ≡ written.0 = ap (λ (it : Written). it.trees) (same_value counted.2) ∙ same_value counted.1 in
-    let put = (one_step history_schema _ db written.0 (edit_of db table [] Chosen 0 source.0) refl written.1).rows in
+    let step = one_step history_schema _ db written.0 (edit_of db table [] Chosen 0 source.0) refl written.1 in
+    let put = step.rows in
+    let other : written.0 0 ≡ db 0 = step.tables.0 (λ e. omega (arith, e)) in
     let one : edited db (edit_of db table [] Chosen 0 source.0) ≡ put_row (stored row) (db 1) =
     ap (λ all. edited db (edit_of db table [] Chosen 0 all)) source.1.1 ∙ ap (λ (r : Values). put_all (without_all (db 1) []) (numbered Chosen (without_all (db 1) []) (r ∷ []))) (cast_stored row) in
     let last : put_row (stored row) (db 1) ≡ map stored (rows ++ row ∷ []) =
@@ -178,6 +182,7 @@ adds old new rows row count h next limit ran =
       settled = rw h.autocommit at w.shown.committed_is;
       autocommit = w.shown.mode ∙ h.autocommit;
       unlimited = limit ∙ h.unlimited;
+      number = (h.number.0, ap (λ (d : Database). d.trees 0) now ∙ ap (λ (t : Trees). t 0) trees ∙ other ∙ h.number.1);
       table = ap (λ (d : Database). d.trees 1) now ∙ ap (λ (t : Trees). t 1) trees ∙ put ∙ one ∙ last;
       entries = more 1 rows row (omega (arith, next)) h.entries;
     }
@@ -265,7 +270,7 @@ gives old new rows shown h limit asked =
     let same = show_changes_nothing select_text [] old new shown (subst (λ s. IsPlain (understood s select_text)) (sym h.schema) select_plain) asked in
     (shows old new rows shown h asked, stays old new rows h limit same.0.is_open (inl same))
 
-query_stays : (sql : List ℕ) (params : Values) (old new : State) (e : Error) → IsPlain (understood old.now.schema sql) → FailsToQuery sql params old new e → Stays old new
+pub query_stays : (sql : List ℕ) (params : Values) (old new : State) (e : Error) → IsPlain (understood old.now.schema sql) → FailsToQuery sql params old new e → Stays old new
 unfolding FailsToQuery IsNotRun
 query_stays sql params old new e plain (inl (inl none)) = inl none.1
 query_stays sql params old new e plain (inl (inr failed)) = inr failed.3
@@ -448,13 +453,16 @@ module _ (entry : ℕ) (state : RowState) (reason time : ℕ) where
       let asked = went done.1 in
       let written = went asked.2 in
       let trees : done.0.trees ≡ written.0 = ap (λ (it : Written). it.trees) (same_value written.2) in
-      let put = (one_step history_schema _ db written.0 (edit_of db table (ids_of asked.0) Given 1 asked.0) refl written.1).rows in
+      let step = one_step history_schema _ db written.0 (edit_of db table (ids_of asked.0) Given 1 asked.0) refl written.1 in
+      let put = step.rows in
+      let other : written.0 0 ≡ db 0 = step.tables.0 (λ e. omega (arith, e)) in
       record {
         is_open = w.shown.is_open;
         schema = ap (λ (d : Database). d.schema) now;
         settled = rw h.autocommit at w.shown.committed_is;
         autocommit = w.shown.mode ∙ h.autocommit;
         unlimited = limit ∙ h.unlimited;
+        number = (h.number.0, ap (λ (d : Database). d.trees 0) now ∙ ap (λ (t : Trees). t 0) trees ∙ other ∙ h.number.1);
         table = ap (λ (d : Database). d.trees 1) now ∙ ap (λ (t : Trees). t 1) trees ∙ put ∙ edits db rows asked.0 h.table h.entries (asked.1.answer Null);
         entries = renumbered 1 rows h.entries;
       }

@@ -1,15 +1,17 @@
 -- The three statements, and why a call that runs them is a fault.
-use Rattle.std.specs.Prelude.{◌≡◌, ◌⊎◌, ℕ, List, [], codes, Option, Some, None, Err, Any}
+use Rattle.std.specs.Prelude.{◌≡◌, ◌⊎◌, ℕ, List, [], codes, Option, Some, None, Err, map, Any}
 use Rattle.sqlite.specs.declared.types.Value.{Value}
 use Rattle.sqlite.specs.declared.error.Error.{Error}
 use Rattle.sqlite.specs.Store.{Ghosts}
 use Rattle.sqlite.specs.Held.{Held, state}
-use Rattle.sqlite.specs.State.{State, Executes, FailsToQuery, Shown}
+use Rattle.sqlite.specs.State.{State, HasCleanDisk, Executes, FailsToQuery, Shown}
+use Rattle.history_keeper.specs.declared.row.Row.{Row}
 use Rattle.history_keeper.specs.declared.refusal.KeeperRefusal.TheVariants.{Fault}
 use Rattle.history_keeper.specs.declared.change.Change.{Change}
 use Rattle.history_keeper.specs.declared.change.Change.TheVariants.{Add, Advance}
 use Rattle.history_keeper.specs.declared.plan.Doubt.{Doubt}
 use Rattle.history_sqlite.specs.Columns.{columns_of, row_read, values_of}
+use Rattle.history_sqlite.specs.Finding.{FailsToOpen}
 use Rattle.history_sqlite.specs.Refusals.{refusal_of}
 
 abbrev pub insert_text : List ℕ
@@ -33,6 +35,14 @@ IsUnanswered old new = (e : Error) × (refusal_of e ≡ Fault) × FailsToQuery s
 abbrev pub IsStrange : State → State → Type 0
 IsStrange old new = (shown : List (List Value)) × Shown select_text [] old new shown × Any (λ columns. row_read columns ≡ None) shown
 
+-- The select was run, and these are the rows that it showed.
+abbrev pub IsRead : State → State → List Row → Type 0
+IsRead old new rows = (shown : List (List Value)) × Shown select_text [] old new shown × (map Some rows ≡ map row_read shown)
+
+-- The rows were read again from this connection on, each of which is one.
+abbrev pub IsReadAgain : {D : Type 0} → Ghosts D → Held D → Type 0
+IsReadAgain {D} store old = (mid : Held D) × (rows : List Row) × IsRead (state store old) (state store mid) rows
+
 -- Why a load is a fault.
 abbrev pub FailsToLoad : State → State → Type 0
 FailsToLoad old new = IsUnanswered old new ⊎ IsStrange old new
@@ -47,3 +57,11 @@ FailsToMake (Advance entry state reason time) old new = IsRefused update_text (v
 abbrev pub FailsToSettle : {D : Type 0} → Ghosts D → Held D → Held D → Option Doubt → Type 0
 FailsToSettle {D} store old new doubt =
     FailsToLoad (state store old) (state store new) ⊎ ((it : Doubt) × (doubt ≡ Some it) × (mid : Held D) × FailsToMake it.change (state store mid) (state store new))
+
+-- Why the adopting of a connection is a fault: its tables could not be opened, or its rows could not be read.
+abbrev pub FailsToAdopt : {D : Type 0} → Ghosts D → Held D → Held D → Type 0
+FailsToAdopt {D} store old new = FailsToOpen store old new ⊎ ((mid : Held D) × FailsToLoad (state store mid) (state store new))
+
+-- The connection that a refused adopting let go of, and why it was refused.
+abbrev pub IsUnadopted : {D : Type 0} → Ghosts D → Held D → Type 0
+IsUnadopted {D} store old = (last : Held D) × (HasCleanDisk (state store last) → FailsToAdopt store old last)

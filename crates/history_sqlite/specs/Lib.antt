@@ -1,6 +1,15 @@
 pub mod Causes
 pub mod Columns
+pub mod Finding
 pub mod Keeping
+pub mod Opened
 pub mod Refusals
 pub mod Tables
 pub mod Telling
+pub use Rattle.fw_base.specs.Names
+pub use Rattle.version_formats.specs.Versions
+pub use Rattle.outer_traits.specs.Faults
+pub use Rattle.outer_traits.specs.Plans
+pub use Rattle.history_keeper.specs.Changes
+pub use Rattle.history_keeper.specs.Keepers
+pub use Rattle.history_keeper.specs.Memories

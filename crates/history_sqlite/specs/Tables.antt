@@ -7,6 +7,7 @@ use Rattle.sqlite.specs.Table.{Table}
 use Rattle.sqlite.specs.Schema.{Schema}
 use Rattle.sqlite.specs.Change.{created}
 use Rattle.sqlite.specs.Listing.{plain}
+use Rattle.sqlite.specs.Tree.{Trees}
 use Rattle.sqlite.specs.State.{State}
 use Rattle.sqlite_value.specs.Keys.{plain as plain_order}
 use Rattle.history_keeper.specs.declared.row.Row.{Row}
@@ -80,12 +81,20 @@ stored row =
     Int (pos row.entry) ∷ Null ∷ Text row.tag ∷ Int (pos row.client) ∷ Blob row.device ∷ Text row.component ∷ Text row.version_old ∷ Text row.version_new
     ∷ Blob row.digest ∷ Int (pos row.flags) ∷ Int (pos (state_number row.state)) ∷ Int (pos row.reason) ∷ Int (pos row.time_added) ∷ Int (pos row.time_changed) ∷ []
 
+-- The table of the number has one row, and it is this number.
+abbrev pub IsNumbered : ℕ → List (List Value) → Type 0
+IsNumbered number table = (id : Value) × (table ≡ (id ∷ Int (pos number) ∷ []) ∷ [])
+
+-- The number of the schema that is written and read.
+abbrev pub schema_number : ℕ
+schema_number = 1
+
 -- The entries are numbered from this one on.
 abbrev pub AreNumbered : ℕ → List Row → Type 0
 AreNumbered from [] = Unit {0}
 AreNumbered from (row ∷ rows) = (row.entry ≡ from) × AreNumbered (from + 1) rows
 
--- The database has the two tables, in no transaction, and the table of the rows has these,
+-- The database has the two tables and the number, in no transaction, and the table of the rows has these,
 -- whose entries are 1, 2, 3 and so on.
 pub record HoldsRows (s : State) (rows : List Row) : Type 0 where
   pub is_open : IsTrue s.is_open
@@ -93,6 +102,7 @@ pub record HoldsRows (s : State) (rows : List Row) : Type 0 where
   pub settled : s.committed ≡ s.now
   pub autocommit : s.in_transaction ≡ false
   pub unlimited : s.step_limit ≡ None
+  pub number : IsNumbered schema_number (s.now.trees 0)
   pub table : s.now.trees 1 ≡ map stored rows
   pub entries : AreNumbered 1 rows
 
@@ -102,6 +112,10 @@ pub record IsBlank (s : State) : Type 0 where
   pub schema : s.now.schema ≡ no_schema
   pub autocommit : s.in_transaction ≡ false
   pub unlimited : s.step_limit ≡ None
+
+-- What a crash may leave of a database without tables in which both are made: them, the number and no rows.
+abbrev pub MakesBoth : State → Trees → Type 0
+MakesBoth old trees = IsBlank old → IsNumbered schema_number (trees 0) × (trees 1 ≡ [])
 
 -- A statement that added this row, if it has the next entry.
 abbrev pub Adds : State → State → Row → Type 0

@@ -59,7 +59,7 @@ pub fn number_of(state: RowState) -> i64
 }
 
 // The integer in a column, where it has one from 0 on.
-fn integer_at(columns: &sqlite::Row, at: usize) -> Option<u64>
+pub(crate) fn integer_at(columns: &sqlite::Row, at: usize) -> Option<u64>
     ensures { result ≡ integer_in (column columns.now at) }
 {
     match columns.get_ref(at) {

@@ -8,7 +8,7 @@ ghost use Rattle.history_keeper.specs.Changes.{IsTimely, Suits};
 ghost use Rattle.history_keeper.specs.Keepers.{Committed, Reopened};
 ghost use Rattle.outer_traits.specs.Faults.{Rose};
 ghost use Rattle.outer_traits.specs.Plans.{one_more};
-ghost use Rattle.history_sqlite.specs.Causes.{FailsToLoad, FailsToMake, FailsToSettle};
+ghost use Rattle.history_sqlite.specs.Causes.{IsRead, IsReadAgain, FailsToLoad, FailsToMake, FailsToSettle};
 ghost use Rattle.history_sqlite.specs.Keeping.{planned, doubtful, after_fault};
 ghost use Rattle.history_sqlite.specs.Tables.{Keeps, Loads, Makes};
 ghost use Rattle.history_sqlite.specs.Telling.{database, told_by, Settles, IsUnused};
@@ -74,6 +74,7 @@ impl Keeper for FileKeeper {
     fn load(&mut self, alloc: Global) -> Result<Vec<Row>, KeeperRefusal>
         requires { doubtful self.old.keeper ≡ None }
         ensures loads { HasCleanDisk (database over_files self.new.keeper) → IfOk result (λ loaded. Loads (database over_files self.old.keeper) (database over_files self.new.keeper) loaded.items) }
+        ensures read { HasCleanDisk (database over_files self.new.keeper) → IfOk result (λ loaded. IsRead (database over_files self.old.keeper) (database over_files self.new.keeper) loaded.items) }
         ensures refused { HasCleanDisk (database over_files self.new.keeper) → IsTrue (database over_files self.new.keeper).is_open → OnErr result (Keeps (database over_files self.old.keeper) (database over_files self.new.keeper)) }
         ensures failed { HasCleanDisk (database over_files self.new.keeper) → result ≡ Err KeeperRefusal.Fault → IsSome (planned self.old.keeper) ⊎ FailsToLoad (database over_files self.old.keeper) (database over_files self.new.keeper) }
         ensures planned { IsSome (planned self.old.keeper) → result ≡ Err KeeperRefusal.Fault }
@@ -109,6 +110,7 @@ impl Keeper for FileKeeper {
 
     fn reopen(&mut self) -> Result<(), KeeperRefusal>
         ensures settles { HasCleanDisk (database over_files self.new.keeper) → OnOk result (Settles (database over_files self.old.keeper) (database over_files self.new.keeper) self.old.keeper.doubt) }
+        ensures reads { HasCleanDisk (database over_files self.new.keeper) → OnOk result (IsReadAgain over_files self.old.keeper.connection) }
         ensures refused { HasCleanDisk (database over_files self.new.keeper) → IsTrue (database over_files self.new.keeper).is_open → OnErr result (Keeps (database over_files self.old.keeper) (database over_files self.new.keeper)) }
         ensures failed { HasCleanDisk (database over_files self.new.keeper) → result ≡ Err KeeperRefusal.Fault → IsSome (planned self.old.keeper) ⊎ FailsToSettle over_files self.old.keeper.connection self.new.keeper.connection self.old.keeper.doubt }
         ensures planned { IsSome (planned self.old.keeper) → result ≡ Err KeeperRefusal.Fault }

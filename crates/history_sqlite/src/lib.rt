@@ -5,7 +5,9 @@
 #![tactic(auto)]
 
 pub mod columns;
+pub mod database_files;
 pub mod file_keeper;
+pub mod finding;
 pub mod lasting;
 pub mod laws;
 pub mod refusal;

@@ -9,11 +9,13 @@ ghost use Rattle.history_keeper.specs.Changes.{IsTimely, Suits, changed};
 ghost use Rattle.history_keeper.specs.Keepers.{Committed, Reopened};
 ghost use Rattle.outer_traits.specs.Faults.{Rose};
 ghost use Rattle.outer_traits.specs.Plans.{one_more};
-ghost use Rattle.history_sqlite.specs.Causes.{FailsToLoad, FailsToMake, FailsToSettle};
+ghost use Rattle.history_sqlite.specs.Causes.{IsRead, IsReadAgain, FailsToLoad, FailsToMake, FailsToSettle, IsUnadopted};
+ghost use Rattle.history_sqlite.specs.Finding.{HasNeither, IsOurs};
 ghost use Rattle.history_sqlite.specs.Keeping.{planned, doubtful, after_fault};
 ghost use Rattle.history_sqlite.specs.Tables.{Keeps, Loads, Makes, Opens};
 ghost use Rattle.history_sqlite.specs.Telling.{database, told_by, Settles, IsUnused};
 
+use crate::database_files::open_path;
 use crate::lasting::Lasting;
 use crate::refusal::refusal_of_error;
 use crate::statements::{load_rows, make};
@@ -92,20 +94,35 @@ impl SqlKeeper<FileStore<File>> {
     pub fn file(rt: &HostRuntime, path: &str) -> Result<SqlKeeper<FileStore<File>>, KeeperRefusal>
         ensures { IfOk result (λ keeper. IsUnused over_files None [] keeper) }
     {
-        match Connection::open(rt, path) {
-            Ok(connection) => SqlKeeper::adopt(rt.alloc(), connection),
-            Err(error) => Err(refusal_of_error(error)),
-        }
+        let connection = open_path(rt, path)?;
+        SqlKeeper::adopt(rt.alloc(), connection)
     }
 }
 
 impl<D: Lasting + Drop> SqlKeeper<D> {
-    /// A keeper over an open connection, whose database is empty or has the tables. It tells no rows.
-    /// The rows are left, and a blank database has the tables and no rows, while the disk returns what
-    /// was written.
+    /// A keeper over an open connection, whose database is empty or has the tables and the number. It tells
+    /// no rows. The rows are left, and an empty database has the tables, their number and no rows, while the
+    /// disk returns what was written. It is a fault where a transaction is open, the tables are other ones,
+    /// a row stands for none, or the database refuses a statement. A refusal lets go of the connection.
     pub fn adopt(alloc: Global, connection: Connection<D>) -> Result<SqlKeeper<D>, KeeperRefusal>
         ensures unused { IfOk result (λ keeper. IsUnused D.Store None [] keeper) }
         ensures opens { IfOk result (λ keeper. HasCleanDisk (database D.Store keeper) → Opens (state D.Store connection) (database D.Store keeper)) }
+        ensures ours { IfOk result (λ keeper. HasCleanDisk (database D.Store keeper) → HasNeither connection.schema ⊎ IsOurs D.Store (record connection { step_limit = None })) }
+        ensures cause { result ≡ Err KeeperRefusal.Fault → IsUnadopted D.Store (record connection { step_limit = None }) }
+    {
+        SqlKeeper::adopt_planned(alloc, connection, Vec::new(alloc))
+    }
+
+    /// The same, and the planned calls fail, as those of `planned`.
+    pub fn adopt_planned(
+        alloc: Global,
+        connection: Connection<D>,
+        plan: Vec<KeeperPlan>,
+    ) -> Result<SqlKeeper<D>, KeeperRefusal>
+        ensures unused { IfOk result (λ keeper. IsUnused D.Store None plan.items keeper) }
+        ensures opens { IfOk result (λ keeper. HasCleanDisk (database D.Store keeper) → Opens (state D.Store connection) (database D.Store keeper)) }
+        ensures ours { IfOk result (λ keeper. HasCleanDisk (database D.Store keeper) → HasNeither connection.schema ⊎ IsOurs D.Store (record connection { step_limit = None })) }
+        ensures cause { result ≡ Err KeeperRefusal.Fault → IsUnadopted D.Store (record connection { step_limit = None }) }
     {
         let mut connection = connection;
         connection.set_step_limit(None);
@@ -114,12 +131,28 @@ impl<D: Lasting + Drop> SqlKeeper<D> {
         Ok(SqlKeeper {
             connection,
             doubt: None,
-            plan: Vec::new(alloc),
+            plan,
             calls: 0,
             faults: 0,
             tells: false,
             alloc,
         })
+    }
+
+    /// Gives the connection back, and ends the keeper.
+    pub fn into_connection(self) -> Connection<D>
+        ensures { result ≡ self.connection }
+    {
+        let SqlKeeper {
+            connection,
+            doubt: _,
+            plan: _,
+            calls: _,
+            faults: _,
+            tells: _,
+            alloc: _,
+        } = self;
+        connection
     }
 }
 
@@ -174,6 +207,7 @@ impl<D: Lasting> SqlKeeper<D> {
         ensures unchanged { told_by D.Store self.new ≡ told_by D.Store self.old }
         ensures loads { HasCleanDisk (database D.Store self.new) → IfOk result (λ loaded. Loads (database D.Store self.old) (database D.Store self.new) loaded.items) }
         ensures refused { HasCleanDisk (database D.Store self.new) → IsTrue (database D.Store self.new).is_open → OnErr result (Keeps (database D.Store self.old) (database D.Store self.new)) }
+        ensures read { HasCleanDisk (database D.Store self.new) → IfOk result (λ loaded. IsRead (database D.Store self.old) (database D.Store self.new) loaded.items) }
         ensures failed { HasCleanDisk (database D.Store self.new) → result ≡ Err KeeperRefusal.Fault → FailsToLoad (database D.Store self.old) (database D.Store self.new) }
         ensures clean { HasCleanDisk (database D.Store self.new) → HasCleanDisk (database D.Store self.old) }
     {
@@ -207,6 +241,7 @@ impl<D: Lasting> SqlKeeper<D> {
         ensures reopened { Reopened result (told_by D.Store self.old) (doubtful self.old) (told_by D.Store self.new) (doubtful self.new) }
         ensures same { self.new ≡ record self.old { connection = self.new.connection; doubt = self.new.doubt } }
         ensures settles { HasCleanDisk (database D.Store self.new) → OnOk result (Settles (database D.Store self.old) (database D.Store self.new) self.old.doubt) }
+        ensures reads { HasCleanDisk (database D.Store self.new) → OnOk result (IsReadAgain D.Store self.old.connection) }
         ensures refused { HasCleanDisk (database D.Store self.new) → IsTrue (database D.Store self.new).is_open → OnErr result (Keeps (database D.Store self.old) (database D.Store self.new)) }
         ensures failed { HasCleanDisk (database D.Store self.new) → result ≡ Err KeeperRefusal.Fault → FailsToSettle D.Store self.old.connection self.new.connection self.old.doubt }
     {
@@ -238,6 +273,7 @@ impl<D: Lasting> Keeper for SqlKeeper<D> {
     fn load(&mut self, alloc: Global) -> Result<Vec<Row>, KeeperRefusal>
         requires { doubtful self.old ≡ None }
         ensures loads { HasCleanDisk (database D.Store self.new) → IfOk result (λ loaded. Loads (database D.Store self.old) (database D.Store self.new) loaded.items) }
+        ensures read { HasCleanDisk (database D.Store self.new) → IfOk result (λ loaded. IsRead (database D.Store self.old) (database D.Store self.new) loaded.items) }
         ensures refused { HasCleanDisk (database D.Store self.new) → IsTrue (database D.Store self.new).is_open → OnErr result (Keeps (database D.Store self.old) (database D.Store self.new)) }
         ensures failed { HasCleanDisk (database D.Store self.new) → result ≡ Err KeeperRefusal.Fault → IsSome (planned self.old) ⊎ FailsToLoad (database D.Store self.old) (database D.Store self.new) }
         ensures planned { IsSome (planned self.old) → result ≡ Err KeeperRefusal.Fault }
@@ -310,6 +346,7 @@ impl<D: Lasting> Keeper for SqlKeeper<D> {
 
     fn reopen(&mut self) -> Result<(), KeeperRefusal>
         ensures settles { HasCleanDisk (database D.Store self.new) → OnOk result (Settles (database D.Store self.old) (database D.Store self.new) self.old.doubt) }
+        ensures reads { HasCleanDisk (database D.Store self.new) → OnOk result (IsReadAgain D.Store self.old.connection) }
         ensures refused { HasCleanDisk (database D.Store self.new) → IsTrue (database D.Store self.new).is_open → OnErr result (Keeps (database D.Store self.old) (database D.Store self.new)) }
         ensures failed { HasCleanDisk (database D.Store self.new) → result ≡ Err KeeperRefusal.Fault → IsSome (planned self.old) ⊎ FailsToSettle D.Store self.old.connection self.new.connection self.old.doubt }
         ensures planned { IsSome (planned self.old) → result ≡ Err KeeperRefusal.Fault }

@@ -3,7 +3,7 @@ ghost use Rattle.std.specs.Prelude.{◌≡◌, ◌≤◌, ◌^◌, ◌-◌, None
 ghost use Rattle.sqlite.specs.Held.{state};
 ghost use Rattle.sqlite.specs.State.{HasCleanDisk, Shown};
 ghost use Rattle.sqlite.specs.Values.{bound};
-ghost use Rattle.history_sqlite.specs.Causes.{insert_text, update_text, select_text, IsRefused, IsUnanswered, FailsToLoad, FailsToMake};
+ghost use Rattle.history_sqlite.specs.Causes.{insert_text, update_text, select_text, IsRefused, IsUnanswered, IsRead, FailsToLoad, FailsToMake};
 ghost use Rattle.history_sqlite.specs.Columns.{columns_of, row_read, values_of};
 ghost use Rattle.history_sqlite.specs.Tables.{Adds, Advances, Makes, Keeps, Gives, Loads};
 ghost use Rattle.history_keeper.specs.Changes.{IsTimely};
@@ -147,6 +147,7 @@ pub fn load_rows<D: Alter>(
     alloc: Global,
 ) -> Result<Vec<Row>, KeeperRefusal>
     ensures loads { HasCleanDisk (state D.Store connection.new) → IfOk result (λ loaded. Loads (state D.Store connection.old) (state D.Store connection.new) loaded.items) }
+    ensures read { HasCleanDisk (state D.Store connection.new) → IfOk result (λ loaded. IsRead (state D.Store connection.old) (state D.Store connection.new) loaded.items) }
     ensures refused { HasCleanDisk (state D.Store connection.new) → IsTrue (state D.Store connection.new).is_open → OnErr result (Keeps (state D.Store connection.old) (state D.Store connection.new)) }
     ensures cause { HasCleanDisk (state D.Store connection.new) → result ≡ Err KeeperRefusal.Fault → FailsToLoad (state D.Store connection.old) (state D.Store connection.new) }
     ensures clean { HasCleanDisk (state D.Store connection.new) → HasCleanDisk (state D.Store connection.old) }

@@ -1,57 +1,53 @@
-//! The two tables, and the number of their schema.
-ghost use Rattle.std.specs.Prelude.{◌≡◌, false, [], OnOk};
+//! The two tables: how they are made, and where they are taken as they are.
+ghost use Rattle.std.specs.Prelude.{◌≡◌, ◌⊎◌, [], IsTrue, OnOk, OnErr, IfErr};
 ghost use Rattle.sqlite.specs.Held.{state};
-ghost use Rattle.sqlite.specs.State.{HasCleanDisk};
-ghost use Rattle.history_sqlite.specs.Tables.{LeavesTables, Opens};
+ghost use Rattle.sqlite.specs.State.{HasCleanDisk, Survives};
+ghost use Rattle.history_sqlite.specs.Finding.{HasNeither, IsOurs, FailsToOpen, IsNotMade};
+ghost use Rattle.history_sqlite.specs.Tables.{LeavesTables, Opens, MakesBoth};
 
+use crate::finding::{Found, find_tables};
 use crate::refusal::refusal_of_error;
 use history_keeper::KeeperRefusal;
-use sqlite::{Alter, Connection, Error};
+use sqlite::{Alter, Connection, Error, ErrorCode};
 
-/// The number of the schema that this crate writes and reads.
-pub const SCHEMA_NUMBER: i64 = 1;
-
-/// Makes both tables where neither is there. Else the schema's number has to be 1, and it is a fault
-/// where it isn't. The connection must be in no transaction. Where it is told `Ok`, the rows are left,
-/// and a blank database has the tables and no rows, while the disk returns what was written.
+/// Makes both tables where neither is there. Else they have to be ours, and it is a fault where they
+/// aren't. The connection must be in no transaction. Where it is told `Ok`, the rows are left, and an empty
+/// database has the tables, their number and no rows. Where it is refused, the rows are left, and an empty
+/// database is left empty. All this holds while the disk returns what was written.
 pub fn open_tables<D: Alter>(connection: &mut Connection<D>) -> Result<(), KeeperRefusal>
     ensures opens { HasCleanDisk (state D.Store connection.new) → OnOk result (Opens (state D.Store connection.old) (state D.Store connection.new)) }
+    ensures ours { HasCleanDisk (state D.Store connection.new) → OnOk result (HasNeither connection.old.schema ⊎ IsOurs D.Store connection.old) }
+    ensures refused { HasCleanDisk (state D.Store connection.new) → IsTrue (state D.Store connection.new).is_open → OnErr result (LeavesTables (state D.Store connection.old) (state D.Store connection.new)) }
+    ensures cause { HasCleanDisk (state D.Store connection.new) → result ≡ Err KeeperRefusal.Fault → FailsToOpen D.Store connection.old connection.new }
     ensures clean { HasCleanDisk (state D.Store connection.new) → HasCleanDisk (state D.Store connection.old) }
 {
     if !connection.is_autocommit() {
         return Err(KeeperRefusal::Fault);
     }
-    match count_tables(connection) {
-        Ok(0) => match make_tables(connection) {
+    match find_tables(connection)? {
+        Found::Empty => match make_tables(connection) {
             Ok(()) => Ok(()),
             Err(error) => Err(refusal_of_error(error)),
         },
-        Ok(_) => check_number(connection),
-        Err(error) => Err(refusal_of_error(error)),
+        Found::Ours => Ok(()),
+        Found::Other => Err(KeeperRefusal::Fault),
     }
 }
 
-// How many of the two tables are there.
-fn count_tables<D: Alter>(connection: &mut Connection<D>) -> Result<i64, Error>
-    ensures mode { connection.old.in_transaction ≡ false → connection.new.in_transaction ≡ false }
-    ensures leaves { HasCleanDisk (state D.Store connection.new) → OnOk result (LeavesTables (state D.Store connection.old) (state D.Store connection.new)) }
-    ensures clean { HasCleanDisk (state D.Store connection.new) → HasCleanDisk (state D.Store connection.old) }
-{
-    let row = connection.query_row(
-        "SELECT count(*) FROM sqlite_schema WHERE type = 'table' AND name COLLATE NOCASE IN ('schema', 'history')",
-        &[],
-    )?;
-    row.get(0)
-}
-
-/// Makes both tables and writes the number, in one transaction. Where it is told `Ok`, a blank
-/// database has the tables and no rows, while the disk returns what was written. It is refused where
-/// the tables are there.
+/// Makes both tables and writes the number, in one transaction. Where it is told `Ok`, an empty database
+/// has the tables, their number and no rows. Where it is refused, the rows are left, and an empty database
+/// is left empty. A crash leaves what it could leave before, or both tables with the number. All this holds
+/// while the disk returns what was written.
 pub fn make_tables<D: Alter>(connection: &mut Connection<D>) -> Result<(), Error>
-    requires { connection.old.in_transaction ≡ false }
     ensures opens { HasCleanDisk (state D.Store connection.new) → OnOk result (Opens (state D.Store connection.old) (state D.Store connection.new)) }
+    ensures refused { HasCleanDisk (state D.Store connection.new) → IsTrue (state D.Store connection.new).is_open → OnErr result (LeavesTables (state D.Store connection.old) (state D.Store connection.new)) }
+    ensures whole { Survives (state D.Store connection.old) (state D.Store connection.new) (MakesBoth (state D.Store connection.old)) }
+    ensures cause { HasCleanDisk (state D.Store connection.new) → IfErr result (IsNotMade D.Store connection.old) }
     ensures clean { HasCleanDisk (state D.Store connection.new) → HasCleanDisk (state D.Store connection.old) }
 {
+    if !connection.is_autocommit() {
+        return Err(Error::SqliteFailure(ErrorCode::TransactionState));
+    }
     let mut transaction = connection.transaction();
     transaction.execute("CREATE TABLE schema (number INTEGER NOT NULL) STRICT", &[])?;
     transaction.execute(
@@ -61,22 +57,4 @@ pub fn make_tables<D: Alter>(connection: &mut Connection<D>) -> Result<(), Error
     transaction.execute("INSERT INTO schema VALUES (1)", &[])?;
     transaction.commit()?;
     Ok(())
-}
-
-// The table of the number has one row, and its number is 1.
-fn check_number<D: Alter>(connection: &mut Connection<D>) -> Result<(), KeeperRefusal>
-    ensures opens { HasCleanDisk (state D.Store connection.new) → OnOk result (Opens (state D.Store connection.old) (state D.Store connection.new)) }
-    ensures clean { HasCleanDisk (state D.Store connection.new) → HasCleanDisk (state D.Store connection.old) }
-{
-    match connection.query_all("SELECT number FROM schema", &[]) {
-        Ok(rows) => match rows.as_slice() {
-            [row] => match row.get::<i64>(0) {
-                Ok(SCHEMA_NUMBER) => Ok(()),
-                Ok(_) => Err(KeeperRefusal::Fault),
-                Err(error) => Err(refusal_of_error(error)),
-            },
-            _ => Err(KeeperRefusal::Fault),
-        },
-        Err(error) => Err(refusal_of_error(error)),
-    }
 }

@@ -168,6 +168,28 @@ const HISTORY: &str = "CREATE TABLE history (
   time_changed INTEGER NOT NULL
 ) STRICT;";
 
+// Columns and rules of the tables that are other ones than a keeper makes.
+const OTHER_COLUMNS: [(&str, &str); 6] = [
+    (
+        "  time_changed INTEGER NOT NULL\n",
+        "  time_changed INTEGER NOT NULL,\n  more INTEGER\n",
+    ),
+    (
+        "  flags INTEGER NOT NULL,\n  state INTEGER NOT NULL,\n",
+        "  state INTEGER NOT NULL,\n  flags INTEGER NOT NULL,\n",
+    ),
+    ("  reason INTEGER NOT NULL,\n", "  reason TEXT NOT NULL,\n"),
+    ("tag TEXT NOT NULL UNIQUE", "tag TEXT NOT NULL"),
+    (
+        "  flags INTEGER NOT NULL,\n",
+        "  flags INTEGER NOT NULL CHECK (flags < 4),\n",
+    ),
+    (
+        "(number INTEGER NOT NULL)",
+        "(number INTEGER NOT NULL, more INTEGER)",
+    ),
+];
+
 // How many rows a keeper over this database finds.
 fn found(alloc: Global, tables: &str, rows: &str) -> Result<usize, KeeperRefusal> {
     let mut connection = match Connection::open_in_memory(alloc) {
@@ -186,11 +208,19 @@ fn found(alloc: Global, tables: &str, rows: &str) -> Result<usize, KeeperRefusal
 fn other_tables_and_rows_are_a_fault(rt: HostRuntime) -> Result<(), Fail> {
     let alloc = rt.alloc();
     let tables = format!(in alloc; "{SCHEMA}{HISTORY}")?;
-    let one = "INSERT INTO schema VALUES (1);";
+    let one = "INSERT INTO schema (number) VALUES (1);";
     assert!(rt; found(alloc, "", "") == Ok(0));
     assert!(rt; found(alloc, tables.as_str(), one) == Ok(0));
     assert!(rt; found(alloc, SCHEMA, one) == Err(KeeperRefusal::Fault));
     assert!(rt; found(alloc, HISTORY, "") == Err(KeeperRefusal::Fault));
+    assert!(rt; found(alloc, "CREATE TABLE other (a INTEGER) STRICT;", "") == Ok(0));
+    for (old, new) in OTHER_COLUMNS {
+        let other = tables.replace(alloc, old, new)?;
+        assert!(rt;
+            found(alloc, other.as_str(), one) == Err(KeeperRefusal::Fault),
+            "{new}"
+        );
+    }
     let cases = [
         ("INSERT INTO schema VALUES (1), (1);", "", None),
         ("INSERT INTO schema VALUES (2);", "", None),
@@ -323,6 +353,8 @@ fn another_file_is_left_as_it_was(rt: HostRuntime) -> Result<(), Fail> {
         b"no database at all, but a text of some length",
     )?;
     assert!(rt; is_left(&rt, "history_sqlite_left/no.db")?);
+    fs::write(&rt, "history_sqlite_left/byte.db", b"x")?;
+    assert!(rt; is_left(&rt, "history_sqlite_left/byte.db")?);
     assert!(rt;
         SqlKeeper::file(&rt, "history_sqlite_left/none/no.db").err() == Some(KeeperRefusal::Fault)
     );

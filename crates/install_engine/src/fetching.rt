@@ -1,5 +1,5 @@
 //! The fetch of a payload.
-ghost use Rattle.std.specs.Prelude.{◌≡◌, ◌≢◌, ◌+◌, ◌*◌, ◌<◌, ◌≤◌, length, take, OnErr, IfOk, IfSome, IfNone, Some};
+ghost use Rattle.std.specs.Prelude.{◌≡◌, ◌≢◌, ◌+◌, ◌*◌, ◌<◌, ◌≤◌, length, take, OnOk, OnErr, IfOk, IfSome, IfNone, Some};
 ghost use Rattle.sha2.specs.Sha256.{sha256};
 ghost use Rattle.outer_traits.specs.Faults.{Rose};
 ghost use Rattle.outer_traits.specs.Shelves.{file_of, bytes_of, StandsAt};
@@ -28,6 +28,7 @@ pub fn fetch<P: Shelf>(shelf: &mut P, hold: Hold) -> (Ticket, Fetched)
 
     ensures blocks { block_count result.1 ≡ hold.blocks.count }
     ensures cause { IfNone (told result.1) (Rose (P.faults shelf.old) (P.faults shelf.new)) }
+    ensures quiet { IfSome (told result.1) (λ _. P.faults shelf.new ≡ P.faults shelf.old) }
     ensures unchanged { P.files shelf.new ≡ P.files shelf.old }
     ensures counts { P.faults shelf.old ≤ P.faults shelf.new }
 {
@@ -64,6 +65,7 @@ pub fn fetch_blocks<P: Shelf>(
 
     ensures blocks { block_count result ≡ blocks.count }
     ensures cause { IfNone (told result) (Rose (P.faults shelf.old) (P.faults shelf.new)) }
+    ensures quiet { IfSome (told result) (λ _. P.faults shelf.new ≡ P.faults shelf.old) }
     ensures unchanged { P.files shelf.new ≡ P.files shelf.old }
     ensures counts { P.faults shelf.old ≤ P.faults shelf.new }
 {
@@ -112,6 +114,7 @@ fn read_front<P: Shelf>(
     ensures ended { IfOk result (λ came. came < size → IfSome (P.files shelf.old) (λ all. length (bytes_of all name.now) ≤ came)) }
     ensures count { blocks.new.count ≡ blocks.old.count }
     ensures cause { OnErr result (Rose (P.faults shelf.old) (P.faults shelf.new)) }
+    ensures quiet { OnOk result (P.faults shelf.new ≡ P.faults shelf.old) }
     ensures unchanged { P.files shelf.new ≡ P.files shelf.old }
     ensures counts { P.faults shelf.old ≤ P.faults shelf.new }
 {
@@ -140,6 +143,7 @@ fn read_piece<P: Shelf>(
     ensures ended { IfOk result (λ more. more ≡ 0 → 0 < most → IfSome (P.files shelf.old) (λ all. length (bytes_of all name.now) ≤ at)) }
     ensures count { blocks.new.count ≡ blocks.old.count }
     ensures cause { OnErr result (Rose (P.faults shelf.old) (P.faults shelf.new)) }
+    ensures quiet { OnOk result (P.faults shelf.new ≡ P.faults shelf.old) }
     ensures unchanged { P.files shelf.new ≡ P.files shelf.old }
     ensures counts { P.faults shelf.old ≤ P.faults shelf.new }
 {

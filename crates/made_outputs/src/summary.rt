@@ -68,6 +68,8 @@ pub fn write_summary<T: Sink>(
     ensures whole { OnOk result (Took (summary boards clients log.now) (T.taken out.old) (T.taken out.new)) }
     ensures front { OnErr result (TookFront (summary boards clients log.now) (T.taken out.old) (T.taken out.new)) }
     ensures cause { IsErrOf result OutputStop.SinkFault → Rose (T.faults out.old) (T.faults out.new) }
+    ensures quiet { OnOk result (T.faults out.new ≡ T.faults out.old) }
+    ensures quiet_no_memory { IsErrOf result OutputStop.NoMemory → T.faults out.new ≡ T.faults out.old }
     ensures counts { T.faults out.old ≤ T.faults out.new }
 {
     let mut text = Vec::new(alloc);

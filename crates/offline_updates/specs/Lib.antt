@@ -1,1 +1,2 @@
 pub mod Waiting
+pub use Rattle.history_keeper.specs.Histories

@@ -52,10 +52,11 @@ fn path_of(folder: &String, name: &Digest) -> Result<String, AllocError>
     Ok(path)
 }
 
-// How long a file is, if it is there.
+// How long a file is, if it is there. A folder or a pipe under its name can't be read: that is a fault.
 fn length_at(rt: &impl Files, path: &str) -> io::Result<Option<u64>> {
     match fs::metadata(rt, path) {
-        Ok(facts) => Ok(Some(facts.len())),
+        Ok(facts) if facts.is_file() => Ok(Some(facts.len())),
+        Ok(_) => Err(io::Error::from(ErrorKind::InvalidInput)),
         Err(fault) if fault.kind() == ErrorKind::NotFound => Ok(None),
         Err(fault) => Err(fault),
     }

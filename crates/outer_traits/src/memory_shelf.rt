@@ -69,6 +69,7 @@ impl Shelf for MemoryShelf {
 
         ensures answer { IfOk result (λ answer. answer ≡ option_map length (file_of self.old.files name.now)) }
         ensures unchanged { self.new.files ≡ self.old.files }
+        ensures quiet { OnOk result (self.new.plan.faults ≡ self.old.plan.faults) }
         ensures counts { self.old.plan.faults ≤ self.new.plan.faults }
     {
         if self.plan.fails_next() {
@@ -87,6 +88,7 @@ impl Shelf for MemoryShelf {
 
         ensures bytes { IfOk result (λ n. StandsAt (bytes_of self.old.files name.now) at (take n into.new)) }
         ensures unchanged { self.new.files ≡ self.old.files }
+        ensures quiet { OnOk result (self.new.plan.faults ≡ self.old.plan.faults) }
         ensures counts { self.old.plan.faults ≤ self.new.plan.faults }
     {
         if self.plan.fails_next() {

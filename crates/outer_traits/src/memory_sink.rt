@@ -1,5 +1,5 @@
 //! A sink in memory.
-ghost use Rattle.std.specs.Prelude.{◌≡◌, ◌≤◌, ◌<◌, ◌-◌, ◌++◌, ◌↔◌, ◌⊎◌, [], min, length, take, OnErr, IfOk, IsErr};
+ghost use Rattle.std.specs.Prelude.{◌≡◌, ◌≤◌, ◌<◌, ◌-◌, ◌++◌, ◌↔◌, ◌⊎◌, [], min, length, take, OnOk, OnErr, IfOk, IsErr};
 ghost use Rattle.outer_traits.specs.Plans.{fresh, FailsNext, after_call, after_fault};
 
 use crate::failed::Failed;
@@ -70,6 +70,7 @@ impl Sink for MemorySink {
         ensures added { IfOk result (λ n. self.new ≡ record self.old { taken = self.old.taken ++ take n piece.now; plan = after_call self.old.plan }) }
 
         ensures some { IfOk result (λ n. 0 < length piece.now → 0 < n) }
+        ensures quiet { OnOk result (self.new.plan.faults ≡ self.old.plan.faults) }
         ensures counts { self.old.plan.faults ≤ self.new.plan.faults }
     {
         let space = self.room - self.taken.len();

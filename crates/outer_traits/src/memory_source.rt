@@ -1,5 +1,5 @@
 //! A source in memory.
-ghost use Rattle.std.specs.Prelude.{◌≡◌, ◌≤◌, ◌<◌, ◌↔◌, ◌++◌, [], min, length, take, drop, OnErr, IfOk, IsErr};
+ghost use Rattle.std.specs.Prelude.{◌≡◌, ◌≤◌, ◌<◌, ◌↔◌, ◌++◌, [], min, length, take, drop, OnOk, OnErr, IfOk, IsErr};
 ghost use Rattle.outer_traits.specs.Plans.{fresh, FailsNext, after_call, after_fault};
 
 use crate::copying::copy_front;
@@ -66,6 +66,7 @@ impl Source for MemorySource {
 
         ensures came { IfOk result (λ n. self.old.left ≡ take n into.new ++ self.new.left) }
         ensures ended { IfOk result (λ n. n ≡ 0 → 0 < length into.new → self.new.left ≡ []) }
+        ensures quiet { OnOk result (self.new.plan.faults ≡ self.old.plan.faults) }
         ensures counts { self.old.plan.faults ≤ self.new.plan.faults }
     {
         if self.plan.fails_next() {

@@ -1,5 +1,5 @@
 //! Where payloads lie.
-ghost use Rattle.std.specs.Prelude.{◌≡◌, ◌≤◌, ◌<◌, ℕ, List, Option, option_map, length, take, OnErr, IfOk, IfSome};
+ghost use Rattle.std.specs.Prelude.{◌≡◌, ◌≤◌, ◌<◌, ℕ, List, Option, option_map, length, take, OnOk, OnErr, IfOk, IfSome};
 ghost use Rattle.outer_traits.specs.Faults.{Rose};
 ghost use Rattle.outer_traits.specs.Shelves.{file_of, bytes_of, StandsAt};
 
@@ -19,6 +19,7 @@ pub trait Shelf {
         ensures answer { IfOk result (λ answer. IfSome (files self.old) (λ all. answer ≡ option_map length (file_of all name.now))) }
         ensures unchanged { files self.new ≡ files self.old }
         ensures cause { OnErr result (Rose (faults self.old) (faults self.new)) }
+        ensures quiet { OnOk result (faults self.new ≡ faults self.old) }
         ensures counts { faults self.old ≤ faults self.new };
 
     /// Puts the bytes from that place on at the front of `into` and says how many. None, for a slice
@@ -29,5 +30,6 @@ pub trait Shelf {
         ensures ended { IfOk result (λ n. n ≡ 0 → 0 < length into.new → IfSome (files self.old) (λ all. length (bytes_of all name.now) ≤ at)) }
         ensures unchanged { files self.new ≡ files self.old }
         ensures cause { OnErr result (Rose (faults self.old) (faults self.new)) }
+        ensures quiet { OnOk result (faults self.new ≡ faults self.old) }
         ensures counts { faults self.old ≤ faults self.new };
 }

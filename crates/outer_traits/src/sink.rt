@@ -21,6 +21,7 @@ pub trait Sink {
         ensures took { IfOk result (λ n. Took (take n piece.now) (taken self.old) (taken self.new)) }
         ensures unchanged { OnErr result (taken self.new ≡ taken self.old) }
         ensures cause { OnErr result (Rose (faults self.old) (faults self.new)) }
+        ensures quiet { OnOk result (faults self.new ≡ faults self.old) }
         ensures counts { faults self.old ≤ faults self.new };
 }
 
@@ -29,6 +30,7 @@ pub fn write_whole<T: Sink>(out: &mut T, bytes: &[u8]) -> Result<(), Failed>
     ensures whole { OnOk result (Took bytes.now (T.taken out.old) (T.taken out.new)) }
     ensures front { OnErr result (TookFront bytes.now (T.taken out.old) (T.taken out.new)) }
     ensures cause { OnErr result (Rose (T.faults out.old) (T.faults out.new)) }
+    ensures quiet { OnOk result (T.faults out.new ≡ T.faults out.old) }
     ensures counts { T.faults out.old ≤ T.faults out.new }
 {
     let mut rest = bytes;

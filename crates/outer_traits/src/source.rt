@@ -23,6 +23,7 @@ pub trait Source {
         ensures ended { IfOk result (λ n. n ≡ 0 → 0 < length into.new → AtEnd (left self.new)) }
         ensures unchanged { OnErr result (left self.new ≡ left self.old) }
         ensures cause { OnErr result (Rose (faults self.old) (faults self.new)) }
+        ensures quiet { OnOk result (faults self.new ≡ faults self.old) }
         ensures counts { faults self.old ≤ faults self.new };
 }
 
@@ -75,6 +76,9 @@ pub fn read_whole<S: Source>(
     ensures within { IfOk result (λ bytes. vec_len bytes ≤ limit) }
     ensures too_long { IsErrOf result ReadStop.TooLong → MoreCame limit (S.left source.old) (S.left source.new) }
     ensures fault { IsErrOf result ReadStop.SourceFault → Rose (S.faults source.old) (S.faults source.new) }
+    ensures quiet { OnOk result (S.faults source.new ≡ S.faults source.old) }
+    ensures quiet_too_long { IsErrOf result ReadStop.TooLong → S.faults source.new ≡ S.faults source.old }
+    ensures quiet_no_memory { IsErrOf result ReadStop.NoMemory → S.faults source.new ≡ S.faults source.old }
     ensures front { OnErr result (SomeCame (S.left source.old) (S.left source.new)) }
     ensures counts { S.faults source.old ≤ S.faults source.new }
 {
@@ -95,6 +99,9 @@ fn read_by_pieces<S: Source>(
     ensures within { IfOk result (λ bytes. vec_len bytes ≤ limit) }
     ensures too_long { IsErrOf result ReadStop.TooLong → MoreCame limit (S.left source.old) (S.left source.new) }
     ensures fault { IsErrOf result ReadStop.SourceFault → Rose (S.faults source.old) (S.faults source.new) }
+    ensures quiet { OnOk result (S.faults source.new ≡ S.faults source.old) }
+    ensures quiet_too_long { IsErrOf result ReadStop.TooLong → S.faults source.new ≡ S.faults source.old }
+    ensures quiet_no_memory { IsErrOf result ReadStop.NoMemory → S.faults source.new ≡ S.faults source.old }
     ensures front { OnErr result (SomeCame (S.left source.old) (S.left source.new)) }
     ensures counts { S.faults source.old ≤ S.faults source.new }
 {

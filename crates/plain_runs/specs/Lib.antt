@@ -1,1 +1,15 @@
 pub mod Ran
+pub use Rattle.emulated_boards.specs.Boards
+pub use Rattle.emulated_boards.specs.Conditions
+pub use Rattle.emulated_boards.specs.Images
+pub use Rattle.update_log.specs.Pasts
+pub use Rattle.update_log.specs.Steps
+pub use Rattle.daemon_core.specs.Annals
+pub use Rattle.daemon_core.specs.Housed
+pub use Rattle.daemon_core.specs.Planned
+pub use Rattle.daemon_core.specs.Returns
+pub use Rattle.daemon_core.specs.Turns
+pub use Rattle.device_claims.specs.Claims
+pub use Rattle.device_claims.specs.States
+pub use Rattle.install_engine.specs.Runs
+pub use Rattle.install_engine.specs.RunsIn

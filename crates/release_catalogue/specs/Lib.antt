@@ -6,3 +6,10 @@ pub mod Places
 pub mod Reading
 pub mod Requirements
 pub mod Words
+pub use Rattle.fw_base.specs.Digests
+pub use Rattle.fw_base.specs.Lines
+pub use Rattle.fw_base.specs.Names
+pub use Rattle.guid_ids.specs.Identifiers
+pub use Rattle.version_formats.specs.VersionOrder
+pub use Rattle.version_formats.specs.Versions
+pub use Rattle.fw_patterns.specs.Reading as FwPatternsReading

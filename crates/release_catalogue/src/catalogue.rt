@@ -1,17 +1,20 @@
 //! The catalogue.
-ghost use Rattle.std.specs.Prelude.{◌≡◌, ◌≤◌, ◌<◌, All, IfOk, Some, length, slice_get};
+ghost use Rattle.std.specs.Prelude.{◌≡◌, ◌+◌, ◌≤◌, ◌<◌, All, IfOk, Some, length, slice_get};
 ghost use Rattle.serde_json.specs.View.{view};
 ghost use Rattle.release_catalogue.specs.Reading.{Gives};
 ghost use Rattle.release_catalogue.specs.Faults.{Tells};
-ghost use Rattle.release_catalogue.specs.Components.{components_at, releases_in};
+ghost use Rattle.release_catalogue.specs.Components.{components_at, components_behind, releases_in, within_limits};
 ghost use Rattle.release_catalogue.specs.Places.{chosen_place, matching_places};
 
-use crate::component::components;
+use crate::component::{
+    COMPONENTS_MAX, Taken, components, components_behind, has_too_many_releases, section_spot,
+};
 use crate::fault::CatalogueFault;
 use crate::guid_index::{GuidIndex, index_of};
 use crate::lookup::{find_in, releases_in_for};
+use crate::reason::Reason;
 use crate::reference::ReleaseRef;
-use crate::spot::ReadStop;
+use crate::spot::{Level, ReadStop, Spot, fault_at};
 use fw_base::{Listed, NoMemory};
 use fw_facts::Component;
 use guid_ids::Guid;
@@ -62,6 +65,25 @@ impl Catalogue {
         Ok(Catalogue::of(alloc, components)?)
     }
 
+    /// The catalogue of a list of components that have an index of this level, where some were taken before.
+    pub fn read_behind(
+        alloc: Global,
+        taken: Taken,
+        level: Level,
+        value: &Value,
+        spot: Spot,
+        base: Spot,
+    ) -> Result<Catalogue, ReadStop>
+        requires few_before { taken.components ≤ 4096 }
+        requires few_releases_before { taken.releases ≤ 20000 }
+        ensures read { Gives (λ catalogue. catalogue) result (components_behind taken level spot base (view value.now)) }
+        ensures few { IfOk result (λ catalogue. taken.components + length catalogue ≤ 4096) }
+        ensures few_releases { IfOk result (λ catalogue. taken.releases + releases_in catalogue ≤ 20000) }
+    {
+        let components = components_behind(alloc, taken, level, value, spot, base)?;
+        Ok(Catalogue::of(alloc, components)?)
+    }
+
     /// The catalogue of a list of components: at most 4,096, with at most 20,000 releases in all, and at
     /// most 64 requirements in each.
     pub fn of(alloc: Global, components: Vec<Component>) -> Result<Catalogue, NoMemory>
@@ -75,6 +97,34 @@ impl Catalogue {
             components: Listed::of(components),
             index,
         })
+    }
+
+    /// The catalogue of a list of components, of which each has at most 64 requirements. Past the limits on
+    /// components and releases the fault is that of a section with too many.
+    pub fn from_components(
+        alloc: Global,
+        components: Vec<Component>,
+    ) -> Result<Catalogue, CatalogueFault>
+        requires { All (λ c. length c.requirements ≤ 64) components.items }
+        ensures { Tells (λ catalogue. catalogue) result (within_limits components.items) }
+    {
+        if COMPONENTS_MAX < components.len() || has_too_many_releases(components.as_slice()) {
+            let stop = fault_at(section_spot(), Reason::TooMany);
+            return Err(CatalogueFault::from_stop(stop));
+        }
+        match Catalogue::of(alloc, components) {
+            Ok(made) => Ok(made),
+            Err(NoMemory) => Err(CatalogueFault::NoMemory),
+        }
+    }
+
+    /// The components, in order. Takes no memory.
+    pub fn into_components(self) -> Vec<Component>
+        ensures { result.items ≡ self }
+    {
+        let Catalogue { components, index } = self;
+        drop(index);
+        components.into_items()
     }
 
     /// The limits that every catalogue keeps. Does nothing.

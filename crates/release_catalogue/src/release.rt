@@ -96,16 +96,17 @@ pub fn releases(
     alloc: Global,
     value: &Value,
     taken: usize,
+    level: Level,
     base: Spot,
     spot: Spot,
 ) -> Result<Vec<Release>, ReadStop>
     requires { taken ≤ 20000 }
-    ensures read { Gives (λ v. v.items) result (releases_at taken base spot (view value.now)) }
+    ensures read { Gives (λ v. v.items) result (releases_at level taken base spot (view value.now)) }
     ensures within { IfOk result (λ v. taken + length v.items ≤ 20000) }
 {
     let values = items(value, spot)?;
     if RELEASES_MAX - taken < count(values) {
         return Err(fault_at(spot, Reason::TooMany));
     }
-    entries(alloc, values, base, Level::Second)
+    entries(alloc, values, base, level)
 }

@@ -1,6 +1,7 @@
 //! Places in the document while it is read, and what is wrong there.
 ghost use Rattle.std.specs.Prelude.{◌≡◌};
 ghost use Rattle.release_catalogue.specs.Reading.{entry_spot, field_of};
+ghost use Rattle.release_catalogue.specs.Components.{below};
 ghost use Rattle.release_catalogue.specs.Faults.{told_place};
 ghost use Rattle.release_catalogue.specs.declared.spot.ReadStop.TheVariants.{NoMemory as OutOfMemory};
 
@@ -25,6 +26,19 @@ pub enum Level {
     First,
     Second,
     Third,
+}
+
+impl Level {
+    /// The index behind this one.
+    pub fn below(self) -> Level
+        ensures { result ≡ below self }
+    {
+        match self {
+            Level::Whole => Level::Whole,
+            Level::First => Level::Second,
+            Level::Second | Level::Third => Level::Third,
+        }
+    }
 }
 
 /// What is wrong at a place.

@@ -12,6 +12,7 @@ pub enum Word {
     Machine,
     Quirks,
     Components,
+    Remotes,
     Boards,
     Clients,
     Boots,
@@ -75,6 +76,8 @@ pub enum Word {
     Scripts,
     Do,
     Device,
+    Order,
+    Enabled,
 }
 
 impl Word {
@@ -88,6 +91,7 @@ impl Word {
             Word::Machine => "machine",
             Word::Quirks => "quirks",
             Word::Components => "components",
+            Word::Remotes => "remotes",
             Word::Boards => "boards",
             Word::Clients => "clients",
             Word::Boots => "boots",
@@ -151,6 +155,8 @@ impl Word {
             Word::Scripts => "scripts",
             Word::Do => "do",
             Word::Device => "device",
+            Word::Order => "order",
+            Word::Enabled => "enabled",
         }
     }
 

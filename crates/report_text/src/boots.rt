@@ -22,6 +22,8 @@ fn write_event<T: Sink>(
     ensures whole { OnOk result (Took (lines_of sheets.now None event.now) (T.taken out.old) (T.taken out.new)) }
     ensures front { OnErr result (TookFront (lines_of sheets.now None event.now) (T.taken out.old) (T.taken out.new)) }
     ensures cause { IsErrOf result ReportStop.SinkFault → Rose (T.faults out.old) (T.faults out.new) }
+    ensures quiet { OnOk result (T.faults out.new ≡ T.faults out.old) }
+    ensures quiet_no_memory { IsErrOf result ReportStop.NoMemory → T.faults out.new ≡ T.faults out.old }
     ensures counts { T.faults out.old ≤ T.faults out.new }
 {
     buffer.clear();
@@ -40,6 +42,8 @@ pub fn write_alone<T: Sink>(
     ensures whole { OnOk result (Took (in_turn (lines_alone sheets.now) [] log.now) (T.taken out.old) (T.taken out.new)) }
     ensures front { OnErr result (TookFront (in_turn (lines_alone sheets.now) [] log.now) (T.taken out.old) (T.taken out.new)) }
     ensures cause { IsErrOf result ReportStop.SinkFault → Rose (T.faults out.old) (T.faults out.new) }
+    ensures quiet { OnOk result (T.faults out.new ≡ T.faults out.old) }
+    ensures quiet_no_memory { IsErrOf result ReportStop.NoMemory → T.faults out.new ≡ T.faults out.old }
     ensures counts { T.faults out.old ≤ T.faults out.new }
 {
     let mut buffer = Vec::new(alloc);

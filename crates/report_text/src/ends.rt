@@ -15,6 +15,8 @@ pub fn write_first<T: Sink>(out: &mut T) -> Result<(), ReportStop>
     ensures whole { OnOk result (Took first_line (T.taken out.old) (T.taken out.new)) }
     ensures front { OnErr result (TookFront first_line (T.taken out.old) (T.taken out.new)) }
     ensures cause { IsErrOf result ReportStop.SinkFault → Rose (T.faults out.old) (T.faults out.new) }
+    ensures quiet { OnOk result (T.faults out.new ≡ T.faults out.old) }
+    ensures quiet_no_memory { IsErrOf result ReportStop.NoMemory → T.faults out.new ≡ T.faults out.old }
     ensures counts { T.faults out.old ≤ T.faults out.new }
 {
     write_whole(out, b"fwupdemu report 1\n")?;
@@ -38,6 +40,8 @@ pub fn write_last<T: Sink>(alloc: Global, events: u64, out: &mut T) -> Result<()
     ensures whole { OnOk result (Took (last_line events) (T.taken out.old) (T.taken out.new)) }
     ensures front { OnErr result (TookFront (last_line events) (T.taken out.old) (T.taken out.new)) }
     ensures cause { IsErrOf result ReportStop.SinkFault → Rose (T.faults out.old) (T.faults out.new) }
+    ensures quiet { OnOk result (T.faults out.new ≡ T.faults out.old) }
+    ensures quiet_no_memory { IsErrOf result ReportStop.NoMemory → T.faults out.new ≡ T.faults out.old }
     ensures counts { T.faults out.old ≤ T.faults out.new }
 {
     let mut buffer = Vec::new(alloc);

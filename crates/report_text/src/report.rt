@@ -95,6 +95,8 @@ fn write_event<T: Sink>(
     ensures whole { OnOk result (Took (lines_over facts.now state.now.views state.now.rows event.now) (T.taken out.old) (T.taken out.new)) }
     ensures front { OnErr result (TookFront (lines_over facts.now state.now.views state.now.rows event.now) (T.taken out.old) (T.taken out.new)) }
     ensures cause { IsErrOf result ReportStop.SinkFault → Rose (T.faults out.old) (T.faults out.new) }
+    ensures quiet { OnOk result (T.faults out.new ≡ T.faults out.old) }
+    ensures quiet_no_memory { IsErrOf result ReportStop.NoMemory → T.faults out.new ≡ T.faults out.old }
     ensures counts { T.faults out.old ≤ T.faults out.new }
 {
     text_of(buffer, facts, state, event)?;
@@ -136,6 +138,8 @@ fn write_events<T: Sink>(
     ensures whole { OnOk result (Took (in_turn (lines_in facts.now opening) [] log.now) (T.taken out.old) (T.taken out.new)) }
     ensures front { OnErr result (TookFront (in_turn (lines_in facts.now opening) [] log.now) (T.taken out.old) (T.taken out.new)) }
     ensures cause { IsErrOf result ReportStop.SinkFault → Rose (T.faults out.old) (T.faults out.new) }
+    ensures quiet { OnOk result (T.faults out.new ≡ T.faults out.old) }
+    ensures quiet_no_memory { IsErrOf result ReportStop.NoMemory → T.faults out.new ≡ T.faults out.old }
     ensures counts { T.faults out.old ≤ T.faults out.new }
 {
     let mut buffer = Vec::new(alloc);
@@ -161,6 +165,8 @@ fn write_log<T: Sink>(
     ensures whole { OnOk result (Took (in_turn (lines_in facts.now rows.now) [] log.now) (T.taken out.old) (T.taken out.new)) }
     ensures front { OnErr result (TookFront (in_turn (lines_in facts.now rows.now) [] log.now) (T.taken out.old) (T.taken out.new)) }
     ensures cause { IsErrOf result ReportStop.SinkFault → Rose (T.faults out.old) (T.faults out.new) }
+    ensures quiet { OnOk result (T.faults out.new ≡ T.faults out.old) }
+    ensures quiet_no_memory { IsErrOf result ReportStop.NoMemory → T.faults out.new ≡ T.faults out.old }
     ensures counts { T.faults out.old ≤ T.faults out.new }
 {
     match first_faulty(alloc, rows)? {
@@ -185,6 +191,8 @@ fn write_over<T: Sink>(
     ensures whole { OnOk result (Took (in_turn (lines_in facts.now opening) [] log.now) (T.taken out.old) (T.taken out.new)) }
     ensures front { OnErr result (TookFront (in_turn (lines_in facts.now opening) [] log.now) (T.taken out.old) (T.taken out.new)) }
     ensures cause { IsErrOf result ReportStop.SinkFault → Rose (T.faults out.old) (T.faults out.new) }
+    ensures quiet { OnOk result (T.faults out.new ≡ T.faults out.old) }
+    ensures quiet_no_memory { IsErrOf result ReportStop.NoMemory → T.faults out.new ≡ T.faults out.old }
     ensures counts { T.faults out.old ≤ T.faults out.new }
 {
     let mut state = state_over(alloc, facts, rows)?;
@@ -223,6 +231,8 @@ pub fn write_report<T: Sink>(
     ensures whole { OnOk result (Took (report facts.now rows.now log.now) (T.taken out.old) (T.taken out.new)) }
     ensures front { OnErr result (TookFront (report facts.now rows.now log.now) (T.taken out.old) (T.taken out.new)) }
     ensures cause { IsErrOf result ReportStop.SinkFault → Rose (T.faults out.old) (T.faults out.new) }
+    ensures quiet { OnOk result (T.faults out.new ≡ T.faults out.old) }
+    ensures quiet_no_memory { IsErrOf result ReportStop.NoMemory → T.faults out.new ≡ T.faults out.old }
     ensures counts { T.faults out.old ≤ T.faults out.new }
 {
     write_parts(alloc, facts, rows, log.items(), out)
@@ -242,6 +252,8 @@ fn write_parts<T: Sink>(
     ensures whole { OnOk result (Took (report facts.now rows.now log.now) (T.taken out.old) (T.taken out.new)) }
     ensures front { OnErr result (TookFront (report facts.now rows.now log.now) (T.taken out.old) (T.taken out.new)) }
     ensures cause { IsErrOf result ReportStop.SinkFault → Rose (T.faults out.old) (T.faults out.new) }
+    ensures quiet { OnOk result (T.faults out.new ≡ T.faults out.old) }
+    ensures quiet_no_memory { IsErrOf result ReportStop.NoMemory → T.faults out.new ≡ T.faults out.old }
     ensures counts { T.faults out.old ≤ T.faults out.new }
 {
     write_first(out)?;

@@ -1,2 +1,5 @@
 pub mod Rows
 pub mod Indexes
+pub use Rattle.history_keeper.specs.Changes
+pub use Rattle.history_keeper.specs.Histories
+pub use Rattle.history_keeper.specs.Numbers

@@ -7,3 +7,16 @@ pub mod Quirks
 pub mod Sites
 pub mod Texts
 pub mod Told
+pub use Rattle.fw_base.specs.Names
+pub use Rattle.guid_ids.specs.Identifiers
+pub use Rattle.fw_facts.specs.Flags as FwFactsFlags
+pub use Rattle.quirk_files.specs.Files
+pub use Rattle.quirk_files.specs.Values
+pub use Rattle.release_catalogue.specs.Components
+pub use Rattle.release_catalogue.specs.Faults
+pub use Rattle.release_catalogue.specs.Kinds
+pub use Rattle.release_catalogue.specs.Reading
+pub use Rattle.site_types.specs.Limits
+pub use Rattle.site_parts.specs.Places
+pub use Rattle.site_scripts.specs.Boots
+pub use Rattle.site_scripts.specs.Clients

@@ -1,1 +1,2 @@
 pub mod Limits
+pub use Rattle.emulated_boards.specs.Plans

@@ -20,3 +20,13 @@ pub mod CoreViews
 pub mod CoreBoards
 pub mod CoreSteps
 pub mod CoreAfter
+pub use Rattle.version_formats.specs.VersionOrder
+pub use Rattle.fw_facts.specs.Flags
+pub use Rattle.fw_facts.specs.Machines
+pub use Rattle.fw_facts.specs.Problems
+pub use Rattle.fw_facts.specs.Views
+pub use Rattle.requirements.specs.Requirements
+pub use Rattle.release_catalogue.specs.Lookup
+pub use Rattle.device_list.specs.Lists
+pub use Rattle.history_keeper.specs.Changes
+pub use Rattle.history_keeper.specs.Histories

@@ -37,7 +37,14 @@ returns-clause-played g c =
     c.resume_with.ensures.played files (AskAnswer.Hold c.args.hold.blocks.count c.args.hold.ticket.release) (
       note_of f.result.1,
       refl,
-      note-fetched c.args.house.now.annals.facts 0 c.requires.hold.0 (Some c.args.entry) files c.args.hold f.result.1 c.requires.hold.1 f.ensures.found f.ensures.digest,
+      note-fetched c.args.house.now.annals.facts 0 c.requires.hold.0 (Some c.args.entry) files c.args.hold f.result.1 c.requires.hold.1 f.ensures.found (record {
+        digest = f.ensures.digest;
+        size = f.ensures.size;
+        other_length = f.ensures.other_length;
+        other_digest = f.ensures.other_digest;
+        hashed = f.ensures.hashed;
+        blocks = rw f.ensures.blocks (sized-enough c.args.hold.size c.args.hold.blocks.count c.requires.hold.1.blocks_are);
+      }),
     )
 
 pub returns-clause-told : goal.returns-clause-told

@@ -12,3 +12,7 @@ returns-clause-loads g c clean =
 
 pub returns-clause-cause : goal.returns-clause-cause
 returns-clause-cause g c clean is = inr (c.in_ok-table.table.items, c.in_ok-table.ensures.shown clean, rw c.deref.ensures.value at (c.read_rows.ensures.cause is))
+
+pub returns-clause-read : goal.returns-clause-read
+returns-clause-read g c clean =
+    IfOk-weaker c.read_rows.result _ _ (λ loaded read. (c.in_ok-table.table.items, c.in_ok-table.ensures.shown clean, read ∙ ap (map row_read) c.deref.ensures.value)) c.read_rows.ensures.read

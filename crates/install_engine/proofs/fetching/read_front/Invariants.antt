@@ -8,7 +8,7 @@ invariant-pieces g l = record {
   front : IfSome (g.P.Shelf.files l.fn.shelf) (λ all. StandsAt (bytes_of all l.name) 0 (take l.came l.blocks.bytes));
   count : l.blocks.count ≡ l.fn.blocks.count;
   unchanged : g.P.Shelf.files l.shelf ≡ g.P.Shelf.files l.fn.shelf;
-  counts : g.P.Shelf.faults l.fn.shelf ≤ g.P.Shelf.faults l.shelf;
+  quiet : g.P.Shelf.faults l.shelf ≡ g.P.Shelf.faults l.fn.shelf;
 }
 
 abbrev pub decreases-pieces : goal.decreases-pieces

@@ -1,4 +1,4 @@
-use Rattle.std.proofs.Common.{◌≤◌, ◌<◌, ◌-◌, length, vec_len}
+use Rattle.std.proofs.Common.{◌≡◌, ◌≤◌, ◌<◌, ◌-◌, length, vec_len}
 use Rattle.outer_traits.specs.Sources.{Came}
 use Rattle.outer_traits.proofs.source.read_by_pieces.Given as goal
 
@@ -6,7 +6,7 @@ abbrev pub invariant-loop-bytes : goal.invariant-loop-bytes
 invariant-loop-bytes g l = record {
   came : Came l.bytes.items (g.S.Source.left l.fn.source) (g.S.Source.left l.source);
   within : vec_len l.bytes ≤ l.limit;
-  counts : g.S.Source.faults l.fn.source ≤ g.S.Source.faults l.source;
+  quiet : g.S.Source.faults l.source ≡ g.S.Source.faults l.fn.source;
   room : 0 < length l.buffer;
 }
 

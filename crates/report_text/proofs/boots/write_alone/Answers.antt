@@ -1,4 +1,4 @@
-use Rattle.std.proofs.Common.{arith, []}
+use Rattle.std.proofs.Common.{[]}
 use Rattle.std.proofs.lemmas.Result.{err_from_is_err_and}
 use Rattle.report_text.specs.Report.{in_turn, lines_alone}
 use Rattle.report_text.proofs.Events.{event_written, event_stopped}
@@ -12,5 +12,5 @@ returns-in_err-write_event-clause-front g c =
 pub loop-event-preserved : goal.loop-event-preserved
 loop-event-preserved g c = record {
   so_far = event_written (in_turn (lines_alone c.args.sheets.now) [] c.args.log.now) (lines_alone c.args.sheets.now) c.args.log.now c.loop-event.event-index c.event-item.result _ _ _ c.loop-event-test.true c.event-item.is c.loop-event.invariant.so_far c.in_ok-write_event.ensures.whole;
-  counts = omega (arith, c.loop-event.invariant.counts, c.in_ok-write_event.ensures.counts);
+  quiet = rw c.in_ok-write_event.ensures.quiet c.loop-event.invariant.quiet;
 }

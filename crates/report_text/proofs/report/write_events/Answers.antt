@@ -1,4 +1,4 @@
-use Rattle.std.proofs.Common.{arith, [], refl}
+use Rattle.std.proofs.Common.{[], refl}
 use Rattle.std.proofs.lemmas.Result.{err_from_is_err_and}
 use Rattle.outer_traits.proofs.Fronts.{still_front}
 use Rattle.report_text.specs.Report.{in_turn, lines_in}
@@ -27,7 +27,7 @@ loop-event-preserved g c = record {
   so_far =
       event_written (in_turn (lines_in c.args.facts.now g.opening) [] c.args.log.now) (lines_in c.args.facts.now g.opening) c.args.log.now c.loop-event.event-index c.event-item.result _ _ _ c.loop-event-test.true c.event-item.is c.loop-event.invariant.so_far
       (lines-took c.args.facts.now g.opening c.loop-event.state c.args.log.now c.loop-event.event-index c.event-item.result _ _ c.loop-event.invariant.stands c.loop-event.invariant.log c.in_ok-write_event.ensures.whole);
-  counts = omega (arith, c.loop-event.invariant.counts, c.in_ok-write_event.ensures.counts);
+  quiet = rw c.in_ok-write_event.ensures.quiet c.loop-event.invariant.quiet;
   log = follow-log c.args.log.now c.loop-event.event-index c.event-item.result _ _ c.loop-event-test.true c.event-item.is c.loop-event.invariant.log c.in_ok-follow.ensures.log;
   stands = c.in_ok-follow.ensures.stands;
 }

@@ -1,4 +1,4 @@
-use Rattle.std.proofs.Common.{◌≡◌, ◌≤◌, [], take, drop, reverse}
+use Rattle.std.proofs.Common.{◌≡◌, [], take, drop, reverse}
 use Rattle.outer_traits.proofs.Fronts.{StillToWrite}
 use Rattle.update_log.specs.Core.{Stands}
 use Rattle.report_text.specs.Report.{in_turn, lines_in}
@@ -10,7 +10,7 @@ ghost-follow g a = g.opening
 abbrev pub invariant-loop-event : goal.invariant-loop-event
 invariant-loop-event g l = record {
   so_far : StillToWrite (in_turn (lines_in l.facts g.opening) [] l.log) (in_turn (lines_in l.facts g.opening) (reverse (take l.event-index l.log)) (drop l.event-index l.log)) (g.T.Sink.taken l.fn.out) (g.T.Sink.taken l.out);
-  counts : g.T.Sink.faults l.fn.out ≤ g.T.Sink.faults l.out;
+  quiet : g.T.Sink.faults l.out ≡ g.T.Sink.faults l.fn.out;
   log : l.state.log ≡ take l.event-index l.log;
   stands : Stands l.facts g.opening l.state;
 }

@@ -36,7 +36,14 @@ returns-clause-ended g c =
     subst (λ (t : Ticket). Ended c.claim_fetched.result (ClaimPlays g.N.Naming.name.facts files c.args.pass.now.number t.request t.release) c.args.pass.now c.claim_fetched.new.pass) f.ensures.ticket
     (c.claim_fetched.ensures.ended files
     (subst (λ (t : Ticket). IsFetched g.N.Naming.name.facts files t.release (note_of f.result.1)) (sym f.ensures.ticket)
-    (note-fetched g.N.Naming.name.facts c.args.pass.now.number c.args.given.ticket.request None files c.args.given f.result.1 c.requires.hold f.ensures.found f.ensures.digest)))
+    (note-fetched g.N.Naming.name.facts c.args.pass.now.number c.args.given.ticket.request None files c.args.given f.result.1 c.requires.hold f.ensures.found (record {
+      digest = f.ensures.digest;
+      size = f.ensures.size;
+      other_length = f.ensures.other_length;
+      other_digest = f.ensures.other_digest;
+      hashed = f.ensures.hashed;
+      blocks = rw f.ensures.blocks (sized-enough c.args.given.size c.args.given.blocks.count c.requires.hold.blocks_are);
+    }))))
 
 pub returns-clause-told : goal.returns-clause-told
 returns-clause-told g c =

@@ -1,7 +1,9 @@
-use Rattle.std.proofs.Common.{◌≡◌, ◌∙◌, Some, inr, sym, ap}
+use Rattle.std.proofs.Common.{◌≡◌, ◌∙◌, Some, inr, sym, ap, subst}
 use Rattle.std.proofs.lemmas.Result.{on_ok_weaker, on_err_weaker}
+use Rattle.sqlite.specs.State.{HasCleanDisk}
 use Rattle.history_sqlite.specs.Keeping.{Keeping}
 use Rattle.history_sqlite.specs.Telling.{database}
+use Rattle.history_sqlite.proofs.Opening.{where_ok}
 use Rattle.history_sqlite.proofs.TellingLemmas.{settled}
 use Rattle.history_sqlite.proofs.sql_keeper.SqlKeeper.settle.Goals as goal
 
@@ -23,3 +25,12 @@ returns-in-Some-clause-failed g c clean is =
     let old = c.args.self.now in
     let doubt : old.doubt ≡ Some c.in-Some.doubt = sym (ap (λ (k : Keeping g.row.D.Denot). k.doubt) c.read.ensures.same) ∙ sym (ap (λ (k : Keeping g.row.D.Denot). k.doubt) c.self-2.view_is) ∙ c.in-Some.is in
     inr (c.in-Some.doubt, doubt, c.read.new.self.connection, c.write.ensures.failed clean is)
+
+pub returns-in-Some-clause-reads : goal.returns-in-Some-clause-reads
+returns-in-Some-clause-reads g c clean =
+    where_ok c.write.result (c.read.new.self.connection, c.in_ok-_rows._rows.items, c.in_ok-_rows.ensures.read (c.write.ensures.clean clean))
+
+pub returns-clause-reads : goal.returns-clause-reads
+returns-clause-reads g c clean =
+    let late : HasCleanDisk (database g.D.Store c.read.new.self) = subst (λ k. HasCleanDisk (database g.D.Store k)) c.self-in_default.view_is clean in
+    (c.read.new.self.connection, c.in_ok-_rows._rows.items, c.in_ok-_rows.ensures.read late)

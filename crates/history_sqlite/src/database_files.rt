@@ -1,0 +1,100 @@
+//! How files become a connection.
+ghost use Rattle.std.specs.Prelude.{◌≡◌, ◌↔◌, IsTrue, IfOk};
+ghost use Rattle.sqlite.specs.Files.{file_state, IsOpened, Finds};
+ghost use Rattle.sqlite.specs.Held.{IsNew};
+ghost use Rattle.sqlite.specs.State.{HasCleanDisk};
+ghost use Rattle.history_sqlite.specs.Opened.{IsLoneByte};
+
+use crate::refusal::refusal_of_error;
+use history_keeper::KeeperRefusal;
+use sqlite::{Connection, File, FileStore, Files, Options, Unknown};
+use sqlite_disk::Disk;
+use sqlite_std_file::OpenError;
+use std::alloc::Global;
+use std::hash::{BuildHasher, RandomState};
+use std::io;
+use std::rt::HostRuntime;
+
+/// How many pages of a file are kept in memory. All are taken as the file is opened, so they are few: a
+/// commit goes down two trees of at most four levels, and a load goes through each page once.
+pub const CACHED_PAGES: usize = 64;
+
+/// Opens the file at the path and its log, or makes them. It is a fault where they can't be opened, where
+/// another process has them, or where the file is no database. Such a file is left as it was.
+pub fn open_path(
+    rt: &HostRuntime,
+    path: &str,
+) -> Result<Connection<FileStore<File>>, KeeperRefusal> {
+    if path == ":memory:" || path.starts_with("file:") {
+        return Err(KeeperRefusal::Fault);
+    }
+    let files = match sqlite_std_file::open(rt, path, Unknown) {
+        Ok(files) => files,
+        Err(error) => return Err(refusal_of_open(error)),
+    };
+    let seed = match RandomState::new(rt) {
+        Ok(state) => state.hash_one(&0u8),
+        Err(_) => return Err(KeeperRefusal::Fault),
+    };
+    connect(rt.alloc(), files, seed)
+}
+
+// Want of memory is told as that. All else is a fault.
+fn refusal_of_open(error: OpenError) -> KeeperRefusal {
+    match error {
+        OpenError::OutOfMemory => KeeperRefusal::NoMemory,
+        OpenError::Io(error) if error.kind() == io::ErrorKind::OutOfMemory => {
+            KeeperRefusal::NoMemory
+        }
+        _ => KeeperRefusal::Fault,
+    }
+}
+
+/// Opens these files as a database, which is made where there is none yet. A file of one byte is none, and
+/// isn't written over, but where the byte is zero: a crash while a database is made may leave that one.
+/// Where it is told `Ok`, the database is the one that the files held, while the disk returns what was
+/// written.
+pub fn connect<D: Disk + Drop>(
+    alloc: Global,
+    files: Files<D>,
+    seed: u64,
+) -> Result<Connection<FileStore<D>>, KeeperRefusal>
+    requires log { IsTrue (D.Disk.is_usable files.log) }
+    requires db { IsTrue (D.Disk.is_usable files.db) }
+    ensures opened { IfOk result (λ connection. HasCleanDisk (file_state connection) → IsOpened connection) }
+    ensures found { IfOk result (λ connection. HasCleanDisk (file_state connection) → Finds files connection) }
+    ensures fresh { IfOk result IsNew }
+    ensures left { IfOk result (λ connection. HasCleanDisk (file_state connection) → ¬ IsLoneByte (D.Disk.seen files.db)) }
+{
+    let mut files = files;
+    match has_lone_byte(&mut files.db) {
+        Ok(false) => {}
+        Ok(true) | Err(_) => return Err(KeeperRefusal::Fault),
+    }
+    match Connection::open_files(alloc, files, options(seed)) {
+        Ok(connection) => Ok(connection),
+        Err((error, _)) => Err(refusal_of_error(error)),
+    }
+}
+
+fn options(seed: u64) -> Options {
+    let mut options = Options::new(seed);
+    options.cache_pages = CACHED_PAGES;
+    options
+}
+
+// Whether the file is one byte that isn't zero.
+fn has_lone_byte<D: Disk>(db: &mut D) -> io::Result<bool>
+    requires { IsTrue (D.Disk.is_usable db.old) }
+    ensures ok { IfOk result (λ lone. IsTrue (D.Disk.is_clean db.new) → (IsTrue lone ↔ IsLoneByte (D.Disk.seen db.old))) }
+    ensures seen { D.Disk.seen db.new ≡ D.Disk.seen db.old }
+    ensures usable { IsTrue (D.Disk.is_usable db.new) }
+    ensures clean { IsTrue (D.Disk.is_clean db.new) → IsTrue (D.Disk.is_clean db.old) }
+{
+    if db.len()? != 1 {
+        return Ok(false);
+    }
+    let mut byte = [0];
+    db.read_at(0, &mut byte)?;
+    Ok(byte[0] != 0)
+}

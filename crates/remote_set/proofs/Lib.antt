@@ -1,0 +1,9 @@
+pub mod Orders
+pub mod Placing
+pub mod Names
+pub mod Noting
+pub mod Left
+pub mod Sizes
+pub mod Alone
+pub mod PartsLeft
+pub mod Wholes

@@ -1,0 +1,12 @@
+pub mod Words
+pub mod Reading
+pub mod Events
+pub mod Rows
+pub mod Lanes
+pub mod Pieces
+pub mod Marks
+pub mod Spans
+pub mod Tables
+pub mod Pages
+pub mod Stops
+pub mod Views

@@ -1,0 +1,7 @@
+//! Tests of the viewer by its public call.
+//!
+//! They stand in a crate of their own, since a crate that has tests is proved a second time with them.
+#![tactic(auto)]
+
+#[cfg(test)]
+mod pages;
