@@ -56,7 +56,8 @@ use Rattle.daemon_core.proofs.ClaimTurns.{claim-served}
 use Rattle.daemon_core.proofs.Held.{held-resumed}
 use Rattle.daemon_core.proofs.HeldOnce.{out-once}
 use Rattle.daemon_core.proofs.ResumeAccepted.{resumable, resumed-home, whole-resumed}
-use Rattle.daemon_core.proofs.ResumeHolds.{hold-device, row-within}
+use Rattle.daemon_core.proofs.ResumeHolds.{hold-device}
+use Rattle.update_log.proofs.HoldsMade.{row-within}
 use Rattle.daemon_core.proofs.ResumeKept.{Answers, resume-legal, resumes}
 
 -- ---- what may be answered

@@ -6,9 +6,10 @@ use Rattle.std.proofs.lemmas.List.{map-append, take-append-drop, get_or_default}
 use Rattle.std.proofs.lemmas.List.Elements.{All-append, All-take, All-drop, All-map}
 use Rattle.plugin_order.specs.declared.sheet.PluginSheet.{PluginSheet}
 use Rattle.plugin_order.specs.Sheets.{name_at}
-use Rattle.plugin_order.specs.Chains.{first_or, Leads, IsCycle}
+use Rattle.plugin_order.specs.Chains.{first_or, Leads, IsCycle, IsApart}
 use Rattle.plugin_order.specs.Arranged.{ShowsCycle}
 use Rattle.plugin_order.proofs.ChainLaws.{IsCycle-turned}
+use Rattle.plugin_order.proofs.Apart.{IsApart-turned}
 
 first_is : (f : ℕ → List ℕ) (c : List ℕ) (at : ℕ) (ys : List (List ℕ)) → at < length c
     → slice_index_or (map f (drop at c) ++ ys) 0 [] ≡ f (slice_index c at)
@@ -19,8 +20,8 @@ first_is f (x ∷ xs) (suc i) ys h = first_is f xs i ys (omega arith)
 pub shows : (sheets : List PluginSheet) (c : List ℕ) (at : ℕ) (shown : List (List ℕ)) → at < length c
     → ((k : ℕ) → k < length c → is_lt (slice_cmp nat_cmp (name_at sheets (slice_index c k)) (name_at sheets (slice_index c at))) ≡ false)
     → shown ≡ map (name_at sheets) (drop at c) ++ map (name_at sheets) (take at c)
-    → (rule : ℕ → ℕ → Bool) → IsCycle rule c → ShowsCycle rule sheets shown
-shows sheets c at shown h least is rule cycle =
+    → IsApart c → (rule : ℕ → ℕ → Bool) → IsCycle rule c → ShowsCycle rule sheets shown
+shows sheets c at shown h least is apart rule cycle =
     let f : ℕ → List ℕ = name_at sheets in
     let NotLess : List ℕ → Type 0 = λ name. is_lt (slice_cmp nat_cmp name (f (slice_index c at))) ≡ false in
     let each : All (λ p. NotLess (f p)) c = λ k d lt. (
@@ -36,6 +37,7 @@ shows sheets c at shown h least is rule cycle =
     record {
       plugins = drop at c ++ take at c;
       cycle = IsCycle-turned rule (take at c) (drop at c) (subst (IsCycle rule) (sym whole) cycle);
+      apart = IsApart-turned (take at c) (drop at c) (subst IsApart (sym whole) apart);
       named = is ∙ sym (map-append f (drop at c) (take at c));
       least = subst (λ (name : List ℕ). All (λ other. is_lt (slice_cmp nat_cmp other name) ≡ false) shown) (sym first)
           (subst (λ (xs : List (List ℕ)). All NotLess xs) (sym is) all);

@@ -1,3 +1,4 @@
+pub mod Apart
 pub mod ChainLaws
 pub mod Counting
 pub mod Found

@@ -8,7 +8,7 @@ use Rattle.plugin_order.specs.declared.sheet.PluginSheet.{PluginSheet}
 use Rattle.plugin_order.specs.declared.arrangement.Arrangement.{Arrangement}
 use Rattle.plugin_order.specs.declared.arrangement.OrderFault.{OrderFault}
 use Rattle.plugin_order.specs.declared.arrangement.OrderFault.TheVariants.{DuplicateName, Cycle, NoMemory}
-use Rattle.plugin_order.specs.Chains.{IsLongest, Leads, IsCycle}
+use Rattle.plugin_order.specs.Chains.{IsLongest, Leads, IsCycle, IsApart}
 use Rattle.plugin_order.specs.Sheets.{names, runs_before, is_better, name_at, conflicts_at}
 
 -- k is the length of the longest chain of order rules that ends in p
@@ -73,10 +73,11 @@ pub record IsFirstRepeated (sheets : List PluginSheet) (name : List ℕ) : Type 
   pub repeats : IsRepeat sheets at
   pub first : (p : ℕ) → p < at → IsRepeat sheets p → ⊥
 
--- the names of a cycle, from the least of them on
+-- the names of a cycle of plugins that differ, from the least of them on
 pub record ShowsCycle (rule : ℕ → ℕ → Bool) (sheets : List PluginSheet) (shown : List (List ℕ)) : Type 0 where
   pub plugins : List ℕ
   pub cycle : IsCycle rule plugins
+  pub apart : IsApart plugins
   pub named : shown ≡ map (name_at sheets) plugins
   pub least : All (λ name. is_lt (slice_cmp nat_cmp name (slice_index_or shown 0 [])) ≡ false) shown
 

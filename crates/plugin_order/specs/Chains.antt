@@ -1,5 +1,5 @@
 -- Chains and cycles of a rule between plugins. A plugin is the place of its sheet in the list.
-use Rattle.std.specs.Prelude.{◌≡◌, ℕ, ◌≤◌, Bool, List, [], ◌∷◌, length, IsTrue}
+use Rattle.std.specs.Prelude.{◌≡◌, ℕ, ◌≤◌, ◌==◌, Bool, List, [], ◌∷◌, length, count_by, IsTrue}
 
 -- from p on, each next plugin of the list is reached by the rule
 abbrev pub Chain : (ℕ → ℕ → Bool) → ℕ → List ℕ → Type 0
@@ -25,3 +25,7 @@ Leads rule (p ∷ ps) r = IsTrue (rule p (first_or ps r)) × Leads rule ps r
 abbrev pub IsCycle : (ℕ → ℕ → Bool) → List ℕ → Type 0
 IsCycle rule [] = ⊥
 IsCycle rule (p ∷ ps) = Leads rule (p ∷ ps) p
+
+-- no plugin stands in the list twice
+abbrev pub IsApart : List ℕ → Type 0
+IsApart ps = (p : ℕ) → count_by (λ q. q == p) ps ≤ 1

@@ -3,7 +3,7 @@ ghost use Rattle.std.specs.Prelude.{◌≡◌, ℕ, ◌<◌, ◌++◌, Bool, tru
 ghost use Rattle.std.specs.Ordering.{nat_cmp, is_lt};
 ghost use Rattle.std.specs.Cmp.Lexicographic.{slice_cmp};
 ghost use Rattle.plugin_order.specs.Sheets.{name_at};
-ghost use Rattle.plugin_order.specs.Chains.{IsCycle};
+ghost use Rattle.plugin_order.specs.Chains.{IsCycle, IsApart};
 ghost use Rattle.plugin_order.specs.Arranged.{ShowsCycle};
 
 use crate::rules::name_at;
@@ -12,10 +12,11 @@ use fw_base::{Name, NoMemory};
 use std::alloc::Global;
 use std::cmp::Ordering;
 
-/// The names of a cycle. It begins with the least.
+/// The names of a cycle of plugins that differ. It begins with the least.
 pub fn named(alloc: Global, sheets: &[PluginSheet], cycle: &[usize]) -> Result<Vec<Name>, NoMemory>
     requires some { 0 < length cycle.now }
     requires inside { (k : ℕ) → k < length cycle.now → slice_index cycle.now k < length sheets.now }
+    requires apart { IsApart cycle.now }
     ensures { IfOk result (λ shown. (rule : ℕ → ℕ → Bool) → IsCycle rule cycle.now → ShowsCycle rule sheets.now shown.items) }
 {
     let (before, from_least) = cycle.split_at(least_at(sheets, cycle));

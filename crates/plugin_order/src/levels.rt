@@ -1,6 +1,6 @@
 //! The longest chain from each plugin, or a cycle.
 ghost use Rattle.std.specs.Prelude.{◌≡◌, ℕ, ◌+◌, ◌<◌, ◌≤◌, ◌⊎◌, Option, Some, None, IsTrue, IfSome, IfNone, IfOk, length, vec_len, slice_index, drop};
-ghost use Rattle.plugin_order.specs.Chains.{IsLongest, IsCycle};
+ghost use Rattle.plugin_order.specs.Chains.{IsLongest, IsCycle, IsApart};
 ghost use Rattle.plugin_order.specs.Table.{holds, height_of};
 ghost use Rattle.plugin_order.specs.Heights.{IsHeight, IsStuck, IsLevels};
 
@@ -15,7 +15,7 @@ pub enum Levels {
     Cycle(Vec<usize>),
 }
 
-/// The length of the longest chain of rules from each plugin, or a cycle of rules.
+/// The length of the longest chain of rules from each plugin, or a cycle of rules between plugins that differ.
 pub fn find_levels(alloc: Global, rules: &Rules) -> Result<Levels, NoMemory>
     ensures { IfOk result (IsLevels rules.now) }
 {
@@ -119,7 +119,7 @@ fn collected(alloc: Global, count: usize, heights: &[Option<u32>]) -> Result<Vec
     Ok(all)
 }
 
-/// A cycle, by a walk through plugins without a height: each leads to another.
+/// A cycle, by a walk through plugins without a height: each leads to another, and the walk ends where it comes back.
 fn cycle_from(
     alloc: Global,
     rules: &Rules,
@@ -130,7 +130,8 @@ fn cycle_from(
     requires at { start < rules.now.count }
     requires open { height_of heights.now start ≡ None }
     requires stuck { IsStuck rules.now heights.now }
-    ensures { IfOk result (λ cycle. IsCycle (holds rules.now) cycle.items) }
+    ensures cycle { IfOk result (λ cycle. IsCycle (holds rules.now) cycle.items) }
+    ensures apart { IfOk result (λ cycle. IsApart cycle.items) }
 {
     let mut path: Vec<usize> = Vec::new(alloc);
     let mut steps = [None; 64];

@@ -7,7 +7,8 @@ use Rattle.history_keeper.specs.declared.row.Row.{Row}
 use Rattle.history_keeper.specs.declared.row.RowState.{RowState}
 use Rattle.history_keeper.specs.Histories.{IsHistory}
 use Rattle.update_log.proofs.HistoryKept.{wait-kept}
-use Rattle.update_log.proofs.LegalOnce.{PastKept, past-kept, untaken-unstarted}
+use Rattle.update_log.proofs.LegalOnce.{PastKept, past-kept}
+use Rattle.update_log.proofs.TakenKept.{untaken-unstarted}
 use Rattle.update_log.proofs.Lists.{All-both, All-find, All-filter, All-map, All-push, by_test, eqb-other, eqb-self, find-filter, find-filter_none, find-passes, find-push_other}
 use Rattle.update_log.proofs.Rows.{accepted-claim}
 use Rattle.update_log.proofs.StepsKept.{OpenKept, live-of, not-fresh}

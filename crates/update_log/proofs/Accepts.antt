@@ -1,8 +1,11 @@
 -- What an accepted request had.
-use Rattle.std.proofs.Common.{◌≡◌, ℕ, Bool, true, false, List, [], ◌∷◌, refl, ap, sym, ◌∙◌}
-use Rattle.std.specs.Prelude.{Option, Some, None, if◌then◌else◌, option_map, option_and_then, slice_get, find, filter}
-use Rattle.std.specs.List.{AllByRecursion}
-use Rattle.device_list.specs.Lists.{place}
+use Rattle.std.proofs.Common.{◌≡◌, ℕ, Bool, true, false, List, [], ◌∷◌, refl, ap, sym, ◌∙◌, subst}
+use Rattle.std.proofs.lemmas.List.Folds.{find_at}
+use Rattle.std.specs.Prelude.{Option, Some, None, if◌then◌else◌, option_map, option_and_then, slice_get, find, filter, position, nat_lt, length}
+use Rattle.std.specs.List.{AllByRecursion, position_or_len}
+use Rattle.std.specs.Str.{bytes_eq}
+use Rattle.device_list.specs.Lists.{names, place}
+use Rattle.device_list.specs.declared.selector.Selector.{Selector}
 use Rattle.fw_facts.specs.Views.{guids_of}
 use Rattle.fw_facts.specs.declared.release.Component.{Component}
 use Rattle.fw_facts.specs.declared.view.DeviceView.{DeviceView}
@@ -10,7 +13,8 @@ use Rattle.history_keeper.specs.declared.row.Row.{Row}
 use Rattle.release_catalogue.specs.Lookup.{Chosen, all_releases, chosen, provides}
 use Rattle.release_catalogue.specs.declared.reference.ReleaseRef.{ReleaseRef}
 use Rattle.requirements.specs.declared.unmet.Unmet.{Unmet}
-use Rattle.update_log.proofs.Lists.{by_test}
+use Rattle.update_log.proofs.Lists.{by_test, find-passes}
+use Rattle.update_log.proofs.Openings.{bytes-same}
 use Rattle.update_log.specs.Known.{Target, target, target_at, target_of, views}
 use Rattle.update_log.specs.Verdicts.{Case, busy, client_for, decided, first_refusal, first_unmet_for, hindered, installed, is_that_release, kept, locked, need, no_room, not_updatable, older, on_found, on_kept, on_present, on_target, out_of_size, present, refusals, refused_or, rows_full, unmet, unsettled, vetoed}
 use Rattle.update_log.specs.declared.decision.Decision.{Decision}
@@ -133,3 +137,37 @@ target-matches facts views request t h = at (place request.device views) h
     at : (o : Option ℕ) → option_and_then (target_at facts views request.version) o ≡ Some t → provides (guids_of t.view) t.chosen.component ≡ true
     at None g = cc
     at (Some place) g = at-view place (slice_get views place) g
+
+-- What is found in a list at the first place that passes a test passes it.
+found-passes : {X : Type 0} (p : X → Bool) (xs : List X) (i : ℕ) (x : X) → position p xs ≡ Some i → slice_get xs i ≡ Some x → p x ≡ true
+found-passes p xs i x at h =
+    let first : find p xs ≡ slice_get xs (position_or_len p xs) = find_at p xs in
+    by_test (nat_lt (position_or_len p xs) (length xs)) _
+    (λ t. let same : position_or_len p xs ≡ i = some-same (position_or_len p xs) i (rw t at at) in
+    find-passes p xs x (first ∙ ap (slice_get xs) same ∙ h))
+    (λ t. let bad : None ≡ Some i = rw t at at in cc)
+
+-- A target that was looked for by a device ID is that device.
+pub target-device : (facts : Facts) (views : List DeviceView) (request : Request) (device : List ℕ) (t : Target)
+    → request.device ≡ Selector.Id device → target facts views request ≡ Some t → t.view.sheet.device ≡ device
+target-device facts views request device t by h = at (place request.device views) refl h
+  where
+    at-chosen : (place : ℕ) (view : DeviceView) (o : Option Chosen) → option_map (λ c. let u : Target = record { place = place; view = view; chosen = c } in u) o ≡ Some t → view ≡ t.view
+    at-chosen place view None g = cc
+    at-chosen place view (Some c) g =
+        ap (λ (u : Target). u.view) (some-same (record { place = place; view = view; chosen = c }) t g)
+
+    named : (p : ℕ) (view : DeviceView) → place request.device views ≡ Some p → slice_get views p ≡ Some view → view.sheet.device ≡ device
+    named p view e g =
+        let passes : names request.device view ≡ true = found-passes (names request.device) views p view e g in
+        let same : bytes_eq device view.sheet.device ≡ true = subst (λ (s : Selector). names s view ≡ true) by passes in
+        sym (bytes-same device view.sheet.device same)
+
+    at-view : (p : ℕ) (o : Option DeviceView) → place request.device views ≡ Some p → slice_get views p ≡ o → option_and_then (target_of facts request.version p) o ≡ Some t → t.view.sheet.device ≡ device
+    at-view p None e s g = cc
+    at-view p (Some view) e s g =
+        subst (λ (v : DeviceView). v.sheet.device ≡ device) (at-chosen p view (chosen facts.catalogue (guids_of view) request.version) g) (named p view e s)
+
+    at : (o : Option ℕ) → place request.device views ≡ o → option_and_then (target_at facts views request.version) o ≡ Some t → t.view.sheet.device ≡ device
+    at None e g = cc
+    at (Some p) e g = at-view p (slice_get views p) e refl g

@@ -7,16 +7,17 @@ use Rattle.history_keeper.specs.declared.row.RowState.{RowState}
 use Rattle.history_keeper.specs.Histories.{IsHistory}
 use Rattle.update_log.proofs.Accepts.{accepts-target}
 use Rattle.update_log.proofs.CoreTraces.{Tied, each-tied, tied-left, tied-stepped, tied-taken, with_end}
-use Rattle.update_log.proofs.LegalOnce.{PastKept, live-others, past-kept}
+use Rattle.update_log.proofs.LegalOnce.{PastKept, live-others, past-held, past-kept}
 use Rattle.update_log.proofs.Lists.{All-map, by_test, eqb-other, eqb-self}
 use Rattle.update_log.proofs.Rows.{accepted-claim}
 use Rattle.update_log.proofs.StepsFew.{end-few}
-use Rattle.update_log.proofs.TakenKept.{taken-by_resume}
+use Rattle.update_log.proofs.TakenKept.{taken-by_resume, untaken-unstarted}
+use Rattle.update_log.proofs.HoldsMade.{HoldsMade}
 use Rattle.update_log.specs.CoreSteps.{HasPlace, traces_on}
 use Rattle.update_log.specs.Holding.{holds, live, request_held}
 use Rattle.update_log.specs.Known.{Target, rows, target, views}
 use Rattle.update_log.specs.Legal.{IsLegal, ResumeAllowed, next_entry}
-use Rattle.update_log.specs.Once.{how_many, is_pending, takes}
+use Rattle.update_log.specs.Once.{how_many, is_pending, strokes, takes}
 use Rattle.update_log.specs.Shows.{Campaign}
 use Rattle.update_log.specs.Steps.{first_trace, trace, traced}
 use Rattle.update_log.specs.Verdicts.{case_of, verdict}
@@ -76,9 +77,9 @@ resume-others facts opening past client entry fetched stored row k a =
 
 -- What a resumption begins with.
 resume-traced : (facts : Facts) (opening : List Row) (past : List Event) (client entry : ℕ) (fetched : Option FetchNote) (stored : Stored) (row : Row)
-    → ResumeAllowed facts opening past client entry fetched ResumeAnswer.Begun stored row → (t : Trace) × (traced facts (views facts opening past) (request_held (holds past) client) ≡ Some t)
-resume-traced facts opening past client entry fetched stored row a =
-    let b = taken-by_resume facts opening past client entry fetched stored row a in
+    → HoldsMade facts opening past → strokes entry past ≡ [] → ResumeAllowed facts opening past client entry fetched ResumeAnswer.Begun stored row → (t : Trace) × (traced facts (views facts opening past) (request_held (holds past) client) ≡ Some t)
+resume-traced facts opening past client entry fetched stored row made fresh a =
+    let b = taken-by_resume facts opening past client entry fetched stored row made fresh a in
     let request = b.0 in
     let t = b.1 in
     let is = b.3 in
@@ -103,10 +104,13 @@ tied-after c opening past (Event.Claim client request fetched (ClaimAnswer.Kept 
 tied-after c opening past (Event.Claim client request fetched (ClaimAnswer.Refused refusal)) traces v l h = h
 tied-after c opening past (Event.Schedule client request answer) traces v l h = h
 tied-after c opening past (Event.Resume client entry fetched ResumeAnswer.Begun stored) traces v l h =
-    let k = past-kept c opening past v l.0 in
+    let both = past-held c opening past v l.0 in
+    let k = both.kept in
     let row = l.2.0 in
     let a = l.2.1 in
-    let t = resume-traced c.facts opening past client entry fetched stored row a in
+    let pending : is_pending row.state ≡ true = (let p : row.state ≡ RowState.Pending = a.pending in rw p refl) in
+    let none : how_many (takes entry) past ≡ 0 = k.waiting.untaken entry row a.row_is pending in
+    let t = resume-traced c.facts opening past client entry fetched stored row both.made (untaken-unstarted c.facts opening past entry none (k.taken.begun entry)) a in
     tied-resume c.facts opening past client entry fetched stored traces t.0 h t.1
     (resume-others c.facts opening past client entry fetched stored row k a)
 tied-after c opening past (Event.Resume client entry fetched (ResumeAnswer.Refused refusal) stored) traces v l h = h

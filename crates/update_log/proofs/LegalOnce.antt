@@ -10,13 +10,14 @@ use Rattle.history_keeper.specs.Histories.{IsHistory}
 use Rattle.history_keeper.specs.declared.change.Change.{Change}
 use Rattle.history_keeper.specs.declared.row.Row.{Row}
 use Rattle.history_keeper.specs.declared.row.RowState.{RowState}
+use Rattle.update_log.proofs.HoldsMade.{HoldsMade, holds-step}
 use Rattle.update_log.proofs.Lists.{All-append, All-both, All-filter, All-map, by_test, eqb-other, eqb-self}
 use Rattle.update_log.proofs.MarksKept.{MarkKept, MarkOf, MarksKept, OpenMarks, how_many-append, marks-boot, marks-end, marks-none, marks-quiet, marks-start, open-marks}
 use Rattle.update_log.proofs.Openings.{distinct-tags, entries-from, tags-differ}
 use Rattle.update_log.proofs.RowsKept.{RowsKept, RowsStep, closed-settled, fixed, judged-settled, rows-step}
 use Rattle.update_log.proofs.StepsKept.{StepsKept, not-fresh, open-started, steps-boot, steps-claim, steps-end, steps-none, steps-quiet, steps-resumed, steps-start}
 use Rattle.update_log.proofs.StrokeFacts.{few-writes, writes}
-use Rattle.update_log.proofs.TakenKept.{Taken, TakenKept, WaitingKept, goes_on-grows, row_of-known, taken-at_most, taken-boot, taken-claim, taken-end, taken-none, taken-quiet, taken-resume, taken-schedule, taken-start, waiting-advanced, waiting-boot, waiting-claim, waiting-none, waiting-resume, waiting-same, waiting-schedule}
+use Rattle.update_log.proofs.TakenKept.{Taken, TakenKept, WaitingKept, goes_on-grows, row_of-known, taken-at_most, taken-boot, taken-claim, taken-end, taken-none, taken-quiet, taken-resume, taken-schedule, taken-start, untaken-unstarted, waiting-advanced, waiting-boot, waiting-claim, waiting-none, waiting-resume, waiting-same, waiting-schedule}
 use Rattle.update_log.specs.Holding.{live, open_steps}
 use Rattle.update_log.specs.Known.{Fate, board_of, doubt, fate, fate_stored, reason_of, refusal_number, row_of, rows, rows_by, seen}
 use Rattle.update_log.specs.Legal.{Allowed, BootTakes, IsLegal, ResumeAllowed, closing_stored}
@@ -79,13 +80,8 @@ pub live-others : (facts : Facts) (opening : List Row) (past : List Event) (entr
 live-others facts opening past entry none h =
     All-map _ _ (live past) h (λ l u. eqb-other entry l.entry (λ s. let one : how_many (takes l.entry) past ≡ 1 = u.once in let zero_is : how_many (takes l.entry) past ≡ 0 = subst (λ (x : ℕ). how_many (takes x) past ≡ 0) s none in let bad : 1 ≡ 0 = sym one ∙ zero_is in cc))
 
--- nothing was started of an entry that no event took
-pub untaken-unstarted : (facts : Facts) (opening : List Row) (past : List Event) (entry : ℕ) → how_many (takes entry) past ≡ 0 → (strokes entry past ≡ []) ⊎ Taken facts opening past entry → strokes entry past ≡ []
-untaken-unstarted facts opening past entry none (inl n) = n
-untaken-unstarted facts opening past entry none (inr u) = let one : how_many (takes entry) past ≡ 1 = u.once in let zero_is : how_many (takes entry) past ≡ 0 = none in let bad : 1 ≡ 0 = sym one ∙ zero_is in cc
-
-pub past-resume : (facts : Facts) (opening : List Row) (past : List Event) (client entry : ℕ) (fetched : Option FetchNote) (answer : ResumeAnswer) (stored : Stored) (row : Row) → PastKept facts opening past → RowsStep facts opening past (Event.Resume client entry fetched answer stored) → ResumeAllowed facts opening past client entry fetched answer stored row → PastKept facts opening (Event.Resume client entry fetched answer stored ∷ past)
-past-resume facts opening past client entry fetched ResumeAnswer.Begun stored row k r a =
+pub past-resume : (facts : Facts) (opening : List Row) (past : List Event) (client entry : ℕ) (fetched : Option FetchNote) (answer : ResumeAnswer) (stored : Stored) (row : Row) → PastKept facts opening past → HoldsMade facts opening past → RowsStep facts opening past (Event.Resume client entry fetched answer stored) → ResumeAllowed facts opening past client entry fetched answer stored row → PastKept facts opening (Event.Resume client entry fetched answer stored ∷ past)
+past-resume facts opening past client entry fetched ResumeAnswer.Begun stored row k made r a =
     let pending : is_pending row.state ≡ true = (let p : row.state ≡ RowState.Pending = a.pending in rw p refl) in
     let none : how_many (takes entry) past ≡ 0 = k.waiting.untaken entry row a.row_is pending in
     record {
@@ -95,11 +91,11 @@ past-resume facts opening past client entry fetched ResumeAnswer.Begun stored ro
           (row_of-known (rows facts opening past) entry row k.rows_kept.valid.entries a.row_is)
           (untaken-unstarted facts opening past entry none (k.taken.begun entry))
           (live-others facts opening past entry none k.taken.live_taken);
-      taken = taken-resume facts opening past client entry fetched ResumeAnswer.Begun stored row k.rows_kept k.taken k.waiting r.goes_on a;
+      taken = taken-resume facts opening past client entry fetched ResumeAnswer.Begun stored row made k.rows_kept k.taken k.waiting r.goes_on a;
       waiting = waiting-resume facts opening past client entry fetched ResumeAnswer.Begun stored row k.rows_kept k.taken k.waiting a;
       marks = marks-quiet facts opening past (Event.Resume client entry fetched ResumeAnswer.Begun stored) k.marks r.goes_on (λ e. refl) (λ board. refl) refl;
     }
-past-resume facts opening past client entry fetched (ResumeAnswer.Refused refusal) stored row k r a =
+past-resume facts opening past client entry fetched (ResumeAnswer.Refused refusal) stored row k made r a =
     by_test (is_keeper_fault refusal) _
     (λ t. past-advanced facts opening past event (fate_stored stored) entry RowState.Begun (reason_of (rows facts opening past) entry) (time_of past) k r (rw t refl)
     refl (λ e. refl) refl (λ e. refl) (λ P h. h) (λ e. refl) (λ e. refl) (λ board. refl))
@@ -117,8 +113,8 @@ past-give_back c opening past client (Back.Pending entry) k r =
 past-give_back c opening past client (Back.Entry entry) k r =
     past-quiet c.facts opening past (Event.GiveBack client (Back.Entry entry)) k r refl (λ e. refl) refl (λ e. refl) (λ P h. All-filter P P _ (live past) h (λ x w _. w)) (λ e. refl) (λ e. refl) (λ board. refl)
 
-pub past-step : (c : Campaign) (opening : List Row) (past : List Event) (event : Event) → PastKept c.facts opening past → BootTakes past event → Allowed c opening past event → PastKept c.facts opening (event ∷ past)
-past-step c opening past (Event.Boot number time limit found boards) k b a =
+pub past-step : (c : Campaign) (opening : List Row) (past : List Event) (event : Event) → PastKept c.facts opening past → HoldsMade c.facts opening past → BootTakes past event → Allowed c opening past event → PastKept c.facts opening (event ∷ past)
+past-step c opening past (Event.Boot number time limit found boards) k made b a =
     let r = rows-step c opening past (Event.Boot number time limit found boards) k.rows_kept b a in
     record {
       rows_kept = r.kept;
@@ -127,11 +123,11 @@ past-step c opening past (Event.Boot number time limit found boards) k b a =
       waiting = waiting-boot c.facts opening past number time limit found boards k.rows_kept k.taken k.waiting;
       marks = marks-boot c opening past number time limit found boards a.0 k.steps k.taken k.marks r.goes_on a.1;
     }
-past-step c opening past (Event.Query client query) k b a =
+past-step c opening past (Event.Query client query) k made b a =
     past-quiet c.facts opening past (Event.Query client query) k (rows-step c opening past (Event.Query client query) k.rows_kept b a) refl (λ e. refl) refl (λ e. refl) (λ P h. h) (λ e. refl) (λ e. refl) (λ board. refl)
-past-step c opening past (Event.Ask client request pending answer) k b a =
+past-step c opening past (Event.Ask client request pending answer) k made b a =
     past-quiet c.facts opening past (Event.Ask client request pending answer) k (rows-step c opening past (Event.Ask client request pending answer) k.rows_kept b a) refl (λ e. refl) refl (λ e. refl) (λ P h. h) (λ e. refl) (λ e. refl) (λ board. refl)
-past-step c opening past (Event.Claim client request fetched answer) k b a =
+past-step c opening past (Event.Claim client request fetched answer) k made b a =
     let r = rows-step c opening past (Event.Claim client request fetched answer) k.rows_kept b a in
     record {
       rows_kept = r.kept;
@@ -140,7 +136,7 @@ past-step c opening past (Event.Claim client request fetched answer) k b a =
       waiting = waiting-claim c.facts opening past client request fetched answer a.0 k.rows_kept k.taken k.waiting a.1;
       marks = marks-quiet c.facts opening past (Event.Claim client request fetched answer) k.marks r.goes_on (λ e. refl) (λ board. refl) refl;
     }
-past-step c opening past (Event.Schedule client request answer) k b a =
+past-step c opening past (Event.Schedule client request answer) k made b a =
     let r = rows-step c opening past (Event.Schedule client request answer) k.rows_kept b a in
     record {
       rows_kept = r.kept;
@@ -149,9 +145,9 @@ past-step c opening past (Event.Schedule client request answer) k b a =
       waiting = waiting-schedule c.facts opening past client request answer k.rows_kept k.taken k.waiting a;
       marks = marks-quiet c.facts opening past (Event.Schedule client request answer) k.marks r.goes_on (λ e. refl) (λ board. refl) refl;
     }
-past-step c opening past (Event.Resume client entry fetched answer stored) k b a =
-    past-resume c.facts opening past client entry fetched answer stored a.0 k (rows-step c opening past (Event.Resume client entry fetched answer stored) k.rows_kept b a) a.1
-past-step c opening past (Event.Start client entry op) k b a =
+past-step c opening past (Event.Resume client entry fetched answer stored) k made b a =
+    past-resume c.facts opening past client entry fetched answer stored a.0 k made (rows-step c opening past (Event.Resume client entry fetched answer stored) k.rows_kept b a) a.1
+past-step c opening past (Event.Start client entry op) k made b a =
     let r = rows-step c opening past (Event.Start client entry op) k.rows_kept b a in
     record {
       rows_kept = r.kept;
@@ -160,7 +156,7 @@ past-step c opening past (Event.Start client entry op) k b a =
       waiting = waiting-same c.facts opening past (Event.Start client entry op) k.waiting k.rows_kept.valid.entries refl (λ e _. refl) (λ e _. refl);
       marks = marks-start c.facts opening past client entry op k.marks;
     }
-past-step c opening past (Event.End client entry op outcome told seen) k b a =
+past-step c opening past (Event.End client entry op outcome told seen) k made b a =
     let r = rows-step c opening past (Event.End client entry op outcome told seen) k.rows_kept b a in
     let st = open-started past entry (record { client = client; entry = entry; op = op }) k.steps.open_are a.open_is in
     record {
@@ -170,34 +166,51 @@ past-step c opening past (Event.End client entry op outcome told seen) k b a =
       waiting = waiting-same c.facts opening past (Event.End client entry op outcome told seen) k.waiting k.rows_kept.valid.entries refl (λ e _. refl) (λ e _. refl);
       marks = marks-end c opening past client entry op outcome told seen k.steps k.taken k.marks a;
     }
-past-step c opening past (Event.Finish client entry state stored) k b a =
+past-step c opening past (Event.Finish client entry state stored) k made b a =
     past-advanced c.facts opening past (Event.Finish client entry state stored) (fate_stored stored) entry state (reason_of (rows c.facts opening past) entry) (time_of past) k (rows-step c opening past (Event.Finish client entry state stored) k.rows_kept b a) refl
     (let f = a.2 in let s = closed-settled c.facts opening past entry a.1 stored f.closing in let e : state ≡ closing_stored a.1 stored = f.state_is in rw e s)
     (λ e. refl) refl (λ e. refl) (λ P h. All-filter P P _ (live past) h (λ x w _. w)) (λ e. refl) (λ e. refl) (λ board. refl)
-past-step c opening past (Event.Judge client entry version state stored) k b a =
+past-step c opening past (Event.Judge client entry version state stored) k made b a =
     past-advanced c.facts opening past (Event.Judge client entry version state stored) (fate_stored stored) entry state (reason_of (rows c.facts opening past) entry) (time_of past) k (rows-step c opening past (Event.Judge client entry version state stored) k.rows_kept b a) refl
     (let f = a.2 in let e : state ≡ judge version a.0 = f.state_is in rw e (judged-settled version a.0))
     (λ e. refl) refl (λ e. refl) (λ P h. h) (λ e. refl) (λ e. refl) (λ board. refl)
-past-step c opening past (Event.Unplug client device answer) k b a =
+past-step c opening past (Event.Unplug client device answer) k made b a =
     past-quiet c.facts opening past (Event.Unplug client device answer) k (rows-step c opening past (Event.Unplug client device answer) k.rows_kept b a) refl (λ e. refl) refl (λ e. refl) (λ P h. h) (λ e. refl) (λ e. refl) (λ board. refl)
-past-step c opening past (Event.Plug client device answer) k b a =
+past-step c opening past (Event.Plug client device answer) k made b a =
     past-quiet c.facts opening past (Event.Plug client device answer) k (rows-step c opening past (Event.Plug client device answer) k.rows_kept b a) refl (λ e. refl) refl (λ e. refl) (λ P h. h) (λ e. refl) (λ e. refl) (λ board. refl)
-past-step c opening past (Event.GiveBack client what) k b a =
+past-step c opening past (Event.GiveBack client what) k made b a =
     past-give_back c opening past client what k (rows-step c opening past (Event.GiveBack client what) k.rows_kept b a)
-past-step c opening past Event.Cut k b a =
+past-step c opening past Event.Cut k made b a =
     past-quiet c.facts opening past Event.Cut k (rows-step c opening past Event.Cut k.rows_kept b a) refl (λ e. refl) refl (λ e. refl) (λ P h. h) (λ e. refl) (λ e. refl) (λ board. refl)
 
-pub past-kept : (c : Campaign) (opening : List Row) (past : List Event) → IsHistory opening → IsLegal c opening past → PastKept c.facts opening past
-past-kept c opening [] valid legal =
+-- what each legal past keeps, its holds with it
+pub record PastHeld (facts : Facts) (opening : List Row) (past : List Event) : Type 0 where
+  pub kept : PastKept facts opening past
+  pub made : HoldsMade facts opening past
+
+pub past-held : (c : Campaign) (opening : List Row) (past : List Event) → IsHistory opening → IsLegal c opening past → PastHeld c.facts opening past
+past-held c opening [] valid legal =
     record {
-      rows_kept = record { valid = record { entries = entries-from 1 opening valid.entries; tags = distinct-tags opening valid.tags }; doubt_next = tt; doubt_off = λ _. refl };
-      steps = steps-none c.facts opening;
-      taken = taken-none c.facts opening (entries-from 1 opening valid.entries);
-      waiting = waiting-none c.facts opening (entries-from 1 opening valid.entries);
-      marks = marks-none c.facts opening;
+      kept = record {
+        rows_kept = record { valid = record { entries = entries-from 1 opening valid.entries; tags = distinct-tags opening valid.tags }; doubt_next = tt; doubt_off = λ _. refl };
+        steps = steps-none c.facts opening;
+        taken = taken-none c.facts opening (entries-from 1 opening valid.entries);
+        waiting = waiting-none c.facts opening (entries-from 1 opening valid.entries);
+        marks = marks-none c.facts opening;
+      };
+      made = tt;
     }
-past-kept c opening (event ∷ past) valid legal =
-    past-step c opening past event (past-kept c opening past valid legal.0) legal.1 legal.2
+past-held c opening (event ∷ past) valid legal =
+    let old = past-held c opening past valid legal.0 in
+    let k = old.kept in
+    let r = rows-step c opening past event k.rows_kept legal.1 legal.2 in
+    record {
+      kept = past-step c opening past event old.kept old.made legal.1 legal.2;
+      made = holds-step c opening past event k.rows_kept.valid.entries r.goes_on legal.2 old.made;
+    }
+
+pub past-kept : (c : Campaign) (opening : List Row) (past : List Event) → IsHistory opening → IsLegal c opening past → PastKept c.facts opening past
+past-kept c opening past valid legal = let all = past-held c opening past valid legal in all.kept
 
 pub taking-map : (entry : ℕ) (P Q : List Event → Event → Type 0) (past : List Event) → ((before : List Event) (event : Event) → P before event → Q before event) → AtTaking entry P past → AtTaking entry Q past
 taking-map entry P Q [] h a = a
@@ -208,7 +221,7 @@ taking-map entry P Q (event ∷ past) h a =
 
 pub unfixed : (facts : Facts) (opening : List Row) (entry : ℕ) (r : Row) (before : List Event) (event : Event) → TakenBy facts opening (fixed r) before event → TakenBy facts opening r before event
 unfixed facts opening entry r before event (request, t, note, w) =
-    (request, t, note, record { request_is = w.request_is; target_is = w.target_is; digest = w.digest; matches = w.matches; met = w.met; payload = w.payload; whole = w.whole })
+    (request, t, note, record { request_is = w.request_is; tag = w.tag; unstarted = w.unstarted; target_is = w.target_is; device = w.device; digest = w.digest; matches = w.matches; met = w.met; payload = w.payload; whole = w.whole })
 
 pub row-found : (o : Option Row) (row : Row) → option_map fixed o ≡ Some row → (r : Row) × (o ≡ Some r) × (fixed r ≡ row)
 row-found None row h = cc

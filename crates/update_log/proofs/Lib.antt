@@ -8,6 +8,7 @@ pub mod Rows
 pub mod StepsKept
 pub mod RowsKept
 pub mod Accepts
+pub mod HoldsMade
 pub mod TakenKept
 pub mod MarksKept
 pub mod LegalOnce

@@ -15,7 +15,8 @@ use Rattle.history_keeper.specs.declared.change.Change.{Change}
 use Rattle.history_keeper.specs.declared.row.Row.{Row}
 use Rattle.history_keeper.specs.declared.row.RowState.{RowState}
 use Rattle.release_catalogue.specs.declared.reference.ReleaseRef.{ReleaseRef}
-use Rattle.update_log.proofs.Accepts.{accepts-target, target-matches, target-met}
+use Rattle.update_log.proofs.Accepts.{accepts-target, target-device, target-matches, target-met}
+use Rattle.update_log.proofs.HoldsMade.{HoldsMade, IsOfRow, request-made}
 use Rattle.update_log.proofs.Lists.{All-find, All-map, All-push, by_test, eqb-other, eqb-self, find-passes, find-push_other}
 use Rattle.update_log.proofs.Openings.{EntriesFrom, bytes-same}
 use Rattle.update_log.proofs.Rows.{accepted-claim, changed-grows, rows_by-refused}
@@ -23,7 +24,7 @@ use Rattle.update_log.proofs.RowsKept.{GoesOn, NextChange, RowsKept, claim-not_k
 use Rattle.update_log.proofs.StrokeFacts.{and-true}
 use Rattle.update_log.specs.Holding.{blocks_fetched, blocks_fetched_if, held, holds, live, request_held}
 use Rattle.update_log.specs.Known.{Fate, Target, doubt, fate_stored, new_row, reason_of, refusal_number, row_of, row_with_tag, rows, rows_by, rows_found, seen, target, views}
-use Rattle.update_log.specs.Legal.{ClaimAllowed, ResumeAllowed, ResumeAnswered, ResumeFetched, ScheduleAllowed, ScheduleAnswered, StartAllowed, is_fetched, is_whole, next_entry}
+use Rattle.update_log.specs.Legal.{ClaimAllowed, ResumeAllowed, ResumeAnswered, ResumeFetched, ScheduleAllowed, ScheduleAnswered, StartAllowed, request_of_row, is_fetched, is_whole, next_entry}
 use Rattle.update_log.specs.Once.{AtTaking, TakenBy, accepted, accepts, how_many, is_pending, is_pending_row, strokes, takes}
 use Rattle.update_log.specs.Pasts.{is_keeper_fault, time_of}
 use Rattle.update_log.specs.Shows.{told}
@@ -134,6 +135,19 @@ pub whole-of : (note : FetchNote) (o : Option Target) (t : Target) → o ≡ Som
 whole-of note None t e h = cc
 whole-of note (Some u) t e h = let s : u ≡ t = cc in ap (λ (v : Target). is_whole note v.chosen) (sym s) ∙ h
 
+-- nothing was started of the next entry
+pub unstarted-new : (facts : Facts) (opening : List Row) (past : List Event) → TakenKept facts opening past → strokes (length (rows facts opening past) + 1) past ≡ []
+unstarted-new facts opening past k = at (k.begun (length (rows facts opening past) + 1))
+  where
+    at : (strokes (length (rows facts opening past) + 1) past ≡ []) ⊎ Taken facts opening past (length (rows facts opening past) + 1) → strokes (length (rows facts opening past) + 1) past ≡ []
+    at (inl n) = n
+    at (inr u) = let le = u.known in absurd (omega arith)
+
+-- nothing was started of an entry that no event took
+pub untaken-unstarted : (facts : Facts) (opening : List Row) (past : List Event) (entry : ℕ) → how_many (takes entry) past ≡ 0 → (strokes entry past ≡ []) ⊎ Taken facts opening past entry → strokes entry past ≡ []
+untaken-unstarted facts opening past entry none (inl n) = n
+untaken-unstarted facts opening past entry none (inr u) = let one : how_many (takes entry) past ≡ 1 = u.once in let zero_is : how_many (takes entry) past ≡ 0 = none in let bad : 1 ≡ 0 = sym one ∙ zero_is in cc
+
 -- the entry that an accepted claim takes
 pub taken-new : (facts : Facts) (opening : List Row) (past : List Event) (client : ℕ) (request : Request) (fetched : FetchNote) (entry : ℕ) (t : Target) → RowsKept facts opening past → TakenKept facts opening past → entry ≡ length (rows facts opening past) + 1 → target facts (views facts opening past) request ≡ Some t → first_unmet_for facts client (views facts opening past) t ≡ None → is_whole fetched t.chosen ≡ true → Taken facts opening (Event.Claim client request fetched (ClaimAnswer.Entry entry) ∷ past) entry
 taken-new facts opening past client request fetched entry t r k next e met whole =
@@ -147,7 +161,7 @@ taken-new facts opening past client request fetched entry t r k next e met whole
       accepted_once = rw (eqb-self entry, k.unaccepted entry fresh) refl;
       row = fixed row;
       row_is = rw new (ap (option_map fixed) (find-push_new (λ x. x.entry == entry) (rows facts opening past) row none (eq-eqb (length (rows facts opening past) + 1) entry (sym next))));
-      taking = rw (eqb-self entry) (request, t, fetched, record { request_is = refl; target_is = e; digest = refl; matches = target-matches facts (views facts opening past) request t e; met = met; payload = refl; whole = whole });
+      taking = rw (eqb-self entry) (request, t, fetched, record { request_is = refl; tag = refl; unstarted = unstarted-new facts opening past k; target_is = e; device = refl; digest = refl; matches = target-matches facts (views facts opening past) request t e; met = met; payload = refl; whole = whole });
     }
 
 pub taken-claimed : (facts : Facts) (opening : List Row) (past : List Event) (client : ℕ) (request : Request) (fetched : FetchNote) (entry : ℕ) → TakenKept facts opening past → entry ≡ length (rows facts opening past) + 1 → GoesOn (rows facts opening past) (rows facts opening (Event.Claim client request fetched (ClaimAnswer.Entry entry) ∷ past)) → Taken facts opening (Event.Claim client request fetched (ClaimAnswer.Entry entry) ∷ past) entry → TakenKept facts opening (Event.Claim client request fetched (ClaimAnswer.Entry entry) ∷ past)
@@ -432,11 +446,14 @@ accepted-resume note t (Decision.Accept device release blocks) h = at (is_fetche
     at false w k = cc
 
 -- the event that resumes a pending row takes its entry
-pub taken-by_resume : (facts : Facts) (opening : List Row) (past : List Event) (client entry : ℕ) (fetched : Option FetchNote) (stored : Stored) (row : Row) → ResumeAllowed facts opening past client entry fetched ResumeAnswer.Begun stored row → TakenBy facts opening (fixed row) past (Event.Resume client entry fetched ResumeAnswer.Begun stored)
-taken-by_resume facts opening past client entry fetched stored row a = at fetched a.fetched_is
+pub taken-by_resume : (facts : Facts) (opening : List Row) (past : List Event) (client entry : ℕ) (fetched : Option FetchNote) (stored : Stored) (row : Row) → HoldsMade facts opening past → strokes entry past ≡ [] → ResumeAllowed facts opening past client entry fetched ResumeAnswer.Begun stored row → TakenBy facts opening (fixed row) past (Event.Resume client entry fetched ResumeAnswer.Begun stored)
+taken-by_resume facts opening past client entry fetched stored row made fresh a = at fetched a.fetched_is
   where
     zero_client : client ≡ 0
     zero_client = a.client_is
+
+    entry_is : row.entry ≡ entry
+    entry_is = eqb-true row.entry entry (find-passes (λ r. r.entry == entry) (rows facts opening past) row a.row_is)
 
     at : (fetched : Option FetchNote) → ResumeFetched facts opening past entry fetched ResumeAnswer.Begun → TakenBy facts opening (fixed row) past (Event.Resume client entry fetched ResumeAnswer.Begun stored)
     at None f = absurd f.2
@@ -452,13 +469,18 @@ taken-by_resume facts opening past client entry fetched stored row a = at fetche
         let met : first_unmet_for facts row.client (views facts opening past) t ≡ None = (let m = target-met k t has.none in rw r at m) in
         let both = and-true _ (unwrap_or (option_map (λ x. bytes_eq x.digest t.chosen.release.digest) (row_of (rows facts opening past) entry)) true) has.that in
         let that : bytes_eq row.digest t.chosen.release.digest ≡ true = rw r at both.1 in
-        let hold_is : request_held (holds past) client ≡ Some held.request = rw zero_client (ap (option_map (λ h. h.request)) f.1) in (
+        let hold_is : request_held (holds past) client ≡ Some held.request = rw zero_client (ap (option_map (λ h. h.request)) f.1) in
+        let of_row : IsOfRow (rows facts opening past) held = All-find (IsOfRow (rows facts opening past)) (λ (x : Held). x.client == 0) (holds past) held made f.1 in
+        let own : held.request ≡ request_of_row row = request-made (rows facts opening past) held entry row of_row f.2 r in (
           held.request,
           t,
           note,
           record {
             request_is = hold_is;
+            tag = ap (λ (x : Request). x.tag) own;
+            unstarted = subst (λ (x : ℕ). strokes x past ≡ []) (sym entry_is) fresh;
             target_is = e;
+            device = target-device facts (views facts opening past) held.request row.device t (ap (λ (x : Request). x.device) own) e;
             digest = sym (bytes-same row.digest t.chosen.release.digest that);
             matches = target-matches facts (views facts opening past) held.request t e;
             met = met;
@@ -468,8 +490,8 @@ taken-by_resume facts opening past client entry fetched stored row a = at fetche
         )
 
 -- the entry that a resume takes
-pub taken-resumed : (facts : Facts) (opening : List Row) (past : List Event) (client entry : ℕ) (fetched : Option FetchNote) (stored : Stored) (row : Row) → RowsKept facts opening past → TakenKept facts opening past → WaitingKept facts opening past → GoesOn (rows facts opening past) (rows facts opening (Event.Resume client entry fetched ResumeAnswer.Begun stored ∷ past)) → ResumeAllowed facts opening past client entry fetched ResumeAnswer.Begun stored row → TakenKept facts opening (Event.Resume client entry fetched ResumeAnswer.Begun stored ∷ past)
-taken-resumed facts opening past client entry fetched stored row r k q g a =
+pub taken-resumed : (facts : Facts) (opening : List Row) (past : List Event) (client entry : ℕ) (fetched : Option FetchNote) (stored : Stored) (row : Row) → HoldsMade facts opening past → RowsKept facts opening past → TakenKept facts opening past → WaitingKept facts opening past → GoesOn (rows facts opening past) (rows facts opening (Event.Resume client entry fetched ResumeAnswer.Begun stored ∷ past)) → ResumeAllowed facts opening past client entry fetched ResumeAnswer.Begun stored row → TakenKept facts opening (Event.Resume client entry fetched ResumeAnswer.Begun stored ∷ past)
+taken-resumed facts opening past client entry fetched stored row made r k q g a =
     record {
       untaken = λ e h. rw (other-past e h) (k.untaken e (omega (arith, grows)));
       unaccepted = λ e h. k.unaccepted e (omega (arith, grows));
@@ -512,7 +534,7 @@ taken-resumed facts opening past client entry fetched stored row r k q g a =
       accepted_once = q.accepted_once entry row found pending;
       row = fixed row;
       row_is = goes_on-fixed (rows facts opening past) (rows facts opening (Event.Resume client entry fetched ResumeAnswer.Begun stored ∷ past)) entry g known ∙ ap (option_map fixed) found;
-      taking = rw (eqb-self entry) (taken-by_resume facts opening past client entry fetched stored row a);
+      taking = rw (eqb-self entry) (taken-by_resume facts opening past client entry fetched stored row made (untaken-unstarted facts opening past entry none (k.begun entry)) a);
     }
 
     begins : (e : ℕ) → (strokes e past ≡ []) ⊎ Taken facts opening past e → (strokes e past ≡ []) ⊎ Taken facts opening (Event.Resume client entry fetched ResumeAnswer.Begun stored ∷ past) e
@@ -523,9 +545,9 @@ taken-resumed facts opening past client entry fetched stored row r k q g a =
     goes-on e f (inl n) = inl (rw f n)
     goes-on e f (inr u) = inr (taken-on facts opening past (Event.Resume client entry fetched ResumeAnswer.Begun stored) e g f refl u)
 
-pub taken-resume : (facts : Facts) (opening : List Row) (past : List Event) (client entry : ℕ) (fetched : Option FetchNote) (answer : ResumeAnswer) (stored : Stored) (row : Row) → RowsKept facts opening past → TakenKept facts opening past → WaitingKept facts opening past → GoesOn (rows facts opening past) (rows facts opening (Event.Resume client entry fetched answer stored ∷ past)) → ResumeAllowed facts opening past client entry fetched answer stored row → TakenKept facts opening (Event.Resume client entry fetched answer stored ∷ past)
-taken-resume facts opening past client entry fetched ResumeAnswer.Begun stored row r k q g a = taken-resumed facts opening past client entry fetched stored row r k q g a
-taken-resume facts opening past client entry fetched (ResumeAnswer.Refused refusal) stored row r k q g a =
+pub taken-resume : (facts : Facts) (opening : List Row) (past : List Event) (client entry : ℕ) (fetched : Option FetchNote) (answer : ResumeAnswer) (stored : Stored) (row : Row) → HoldsMade facts opening past → RowsKept facts opening past → TakenKept facts opening past → WaitingKept facts opening past → GoesOn (rows facts opening past) (rows facts opening (Event.Resume client entry fetched answer stored ∷ past)) → ResumeAllowed facts opening past client entry fetched answer stored row → TakenKept facts opening (Event.Resume client entry fetched answer stored ∷ past)
+taken-resume facts opening past client entry fetched ResumeAnswer.Begun stored row made r k q g a = taken-resumed facts opening past client entry fetched stored row made r k q g a
+taken-resume facts opening past client entry fetched (ResumeAnswer.Refused refusal) stored row made r k q g a =
     taken-quiet facts opening past (Event.Resume client entry fetched (ResumeAnswer.Refused refusal) stored) k g (λ e. refl) (λ e h. refl) (λ e h. refl) (inl refl) k.begun
 
 pub waiting-resume : (facts : Facts) (opening : List Row) (past : List Event) (client entry : ℕ) (fetched : Option FetchNote) (answer : ResumeAnswer) (stored : Stored) (row : Row) → RowsKept facts opening past → TakenKept facts opening past → WaitingKept facts opening past → ResumeAllowed facts opening past client entry fetched answer stored row → WaitingKept facts opening (Event.Resume client entry fetched answer stored ∷ past)

@@ -121,12 +121,29 @@ payload_taken (Event.Claim client request fetched answer) = Some fetched
 payload_taken (Event.Resume client entry fetched answer stored) = fetched
 payload_taken _ = None
 
--- An entry was taken well. In the log before, a release was chosen for its request that has the
--- digest of its row, whose component provides a GUID of the device, and whose requirements hold. The
--- payload has the release's digest and size.
+-- The steps of an entry that were started and ended, the newest first.
+pub data Stroke : Type 0 where
+  Started : Op → Stroke
+  Ended : Op → Stroke
+
+abbrev pub strokes : ℕ → List Event → List Stroke
+strokes entry [] = []
+strokes entry (Event.Start client started op ∷ past) =
+    if started == entry then Started op ∷ strokes entry past else strokes entry past
+strokes entry (Event.End client ended op outcome told seen ∷ past) =
+    if ended == entry then Ended op ∷ strokes entry past else strokes entry past
+strokes entry (_ ∷ past) = strokes entry past
+
+-- An entry was taken well. Its request has the tag of its row. In the log before, none of its steps was
+-- started, and a release was chosen for its request that has the digest of its row: for the device of
+-- that row, of which the release's component provides a GUID, and whose requirements hold. The payload has
+-- the release's digest and size.
 pub record TakenWell (facts : Facts) (opening : List Row) (before : List Event) (event : Event) (row : Row) (request : Request) (t : Target) (note : FetchNote) : Type 0 where
   pub request_is : request_taken before event ≡ Some request
+  pub tag : request.tag ≡ row.tag
+  pub unstarted : strokes row.entry before ≡ []
   pub target_is : target facts (views facts opening before) request ≡ Some t
+  pub device : t.view.sheet.device ≡ row.device
   pub digest : t.chosen.release.digest ≡ row.digest
   pub matches : IsTrue (provides (guids_of t.view) t.chosen.component)
   pub met : first_unmet_for facts row.client (views facts opening before) t ≡ None
@@ -141,19 +158,6 @@ TakenBy facts opening row before event =
 abbrev pub AtTaking : ℕ → (List Event → Event → Type 0) → List Event → Type 0
 AtTaking entry Fact [] = ⊥
 AtTaking entry Fact (event ∷ past) = MatchBool (takes entry event) (Fact past event) (AtTaking entry Fact past)
-
--- The steps of an entry that were started and ended, the newest first.
-pub data Stroke : Type 0 where
-  Started : Op → Stroke
-  Ended : Op → Stroke
-
-abbrev pub strokes : ℕ → List Event → List Stroke
-strokes entry [] = []
-strokes entry (Event.Start client started op ∷ past) =
-    if started == entry then Started op ∷ strokes entry past else strokes entry past
-strokes entry (Event.End client ended op outcome told seen ∷ past) =
-    if ended == entry then Ended op ∷ strokes entry past else strokes entry past
-strokes entry (_ ∷ past) = strokes entry past
 
 -- The steps begin with prepare, rise strictly, and each is ended before the next is started.
 abbrev pub InOrder : List Stroke → Type 0

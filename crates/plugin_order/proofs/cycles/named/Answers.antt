@@ -13,3 +13,4 @@ returns c =
     (c.in_ok-push_names-2.ensures
     ∙ ap (λ (xs : List (List ℕ)). xs ++ map (name_at c.args.sheets.now) c.split_at.result.0.now) first
     ∙ ap (λ (ps : List ℕ). map (name_at c.args.sheets.now) (drop c.least_at.result c.args.cycle.now) ++ map (name_at c.args.sheets.now) ps) c.split_at.ensures.front)
+    c.requires.apart

@@ -1,0 +1,91 @@
+-- What a hold says of the row that made it.
+use Rattle.std.proofs.Common.{◌≡◌, ℕ, ◌≤◌, ◌+◌, true, false, not, List, [], ◌∷◌, length, refl, ap, sym, ◌∙◌, subst, arith, ◌⊎◌, inl, inr}
+use Rattle.std.specs.Prelude.{Option, Some, None, IfSome, ◌==◌, nat_le, option_map}
+use Rattle.std.specs.List.{AllByRecursion}
+use Rattle.std.proofs.lemmas.Bool.{leb-false, leb-true}
+use Rattle.history_keeper.specs.declared.row.Row.{Row}
+use Rattle.update_log.proofs.Lists.{All-filter, All-map, All-push, by_test}
+use Rattle.update_log.proofs.Openings.{EntriesFrom}
+use Rattle.update_log.proofs.Rows.{changed-grows}
+use Rattle.update_log.proofs.RowsKept.{GoesOn, fixed, fixed_row, goes_on-fixed, row_of-past}
+use Rattle.update_log.specs.Holding.{holds, without_client}
+use Rattle.update_log.specs.Known.{row_of, rows}
+use Rattle.update_log.specs.Legal.{Allowed, PendingAllowed, request_of_row}
+use Rattle.update_log.specs.Shows.{Campaign}
+use Rattle.update_log.specs.declared.answer.AskAnswer.{AskAnswer}
+use Rattle.update_log.specs.declared.event.Event.{Event}
+use Rattle.update_log.specs.declared.facts.Facts.{Facts}
+use Rattle.update_log.specs.declared.live.Held.{Held}
+use Rattle.update_log.specs.declared.request.Request.{Request}
+
+-- There is a row of this entry, and the request is what such a row makes.
+abbrev pub RowMade : List Row → Request → ℕ → Type 0
+RowMade all request entry = (entry ≤ length all) × ((f : Row) × (fixed_row all entry ≡ Some f) × (request ≡ request_of_row f))
+
+-- A hold that a row made is of that row's request.
+abbrev pub IsOfRow : List Row → Held → Type 0
+IsOfRow all h = IfSome h.pending (RowMade all h.request)
+
+-- So is each hold of a past.
+abbrev pub HoldsMade : Facts → List Row → List Event → Type 0
+HoldsMade facts opening past = AllByRecursion (IsOfRow (rows facts opening past)) (holds past)
+
+grows : (old new : List Row) → GoesOn old new → length old ≤ length new
+grows old new (inl e) = omega (arith, ap length e)
+grows old new (inr g) = omega (arith, changed-grows g.0 old, ap length g.2)
+
+made-on : (old new : List Row) (request : Request) (o : Option ℕ) → GoesOn old new → IfSome o (RowMade old request) → IfSome o (RowMade new request)
+made-on old new request None g k = tt
+made-on old new request (Some e) g k =
+    let more = grows old new g in
+    let le = k.0 in
+    (omega (arith, more, le), (k.1.0, goes_on-fixed old new e g k.0 ∙ k.1.1, k.1.2))
+
+pub row-within : (all : List Row) (e : ℕ) (row : Row) → EntriesFrom 1 all → row_of all e ≡ Some row → e ≤ length all
+row-within all e row v f =
+    by_test (nat_le (1 + length all) e) (e ≤ length all)
+    (λ t. let none : row_of all e ≡ None = row_of-past 1 all e v (leb-true (1 + length all) e t) in let bad : Some row ≡ None = sym f ∙ none in cc)
+    (λ t. let lt = leb-false (1 + length all) e t in omega (arith, lt))
+
+made-own : (facts : Facts) (opening : List Row) (past : List Event) (client : ℕ) (request : Request) (o : Option ℕ) → EntriesFrom 1 (rows facts opening past) → IfSome o (λ entry. (row : Row) × PendingAllowed facts opening past client request entry row) → IfSome o (RowMade (rows facts opening past) request)
+made-own facts opening past client request None v k = tt
+made-own facts opening past client request (Some e) v k =
+    let w = k.1 in
+    (row-within (rows facts opening past) e k.0 v w.row_is, (fixed k.0, ap (option_map fixed) w.row_is, w.request_is))
+
+fewer-made : (all : List Row) (client : ℕ) (hs : List Held) → AllByRecursion (IsOfRow all) hs → AllByRecursion (IsOfRow all) (without_client client hs)
+fewer-made all client hs k = All-filter (IsOfRow all) (IsOfRow all) (λ (h : Held). not (h.client == client)) hs k (λ h s _. s)
+
+step : (c : Campaign) (opening : List Row) (past : List Event) (event : Event) → EntriesFrom 1 (rows c.facts opening past) → Allowed c opening past event → HoldsMade c.facts opening past → AllByRecursion (IsOfRow (rows c.facts opening (event ∷ past))) (holds past)
+    → HoldsMade c.facts opening (event ∷ past)
+step c opening past (Event.Boot number time limit found boards) v a old k = tt
+step c opening past (Event.Query client query) v a old k = k
+step c opening past (Event.Ask client request pending (AskAnswer.Hold blocks release)) v a old k =
+    let h : Held = record { client = client; request = request; pending = pending; blocks = blocks; release = release } in
+    All-push (IsOfRow (rows c.facts opening past)) (without_client client (holds past)) h (fewer-made (rows c.facts opening past) client (holds past) old) (made-own c.facts opening past client request pending v a.pending_is)
+step c opening past (Event.Ask client request pending (AskAnswer.Kept entry state)) v a old k = k
+step c opening past (Event.Ask client request pending (AskAnswer.Refused refusal)) v a old k = k
+step c opening past (Event.Claim client request fetched answer) v a old k = fewer-made (rows c.facts opening (Event.Claim client request fetched answer ∷ past)) client (holds past) k
+step c opening past (Event.Schedule client request answer) v a old k = k
+step c opening past (Event.Resume client entry fetched answer stored) v a old k = fewer-made (rows c.facts opening (Event.Resume client entry fetched answer stored ∷ past)) client (holds past) k
+step c opening past (Event.Start client entry op) v a old k = k
+step c opening past (Event.End client entry op outcome told seen) v a old k = k
+step c opening past (Event.Finish client entry state stored) v a old k = k
+step c opening past (Event.Judge client entry version state stored) v a old k = k
+step c opening past (Event.Unplug client device answer) v a old k = k
+step c opening past (Event.Plug client device answer) v a old k = k
+step c opening past (Event.GiveBack client what) v a old k = fewer-made (rows c.facts opening (Event.GiveBack client what ∷ past)) client (holds past) k
+step c opening past Event.Cut v a old k = k
+
+pub holds-step : (c : Campaign) (opening : List Row) (past : List Event) (event : Event) → EntriesFrom 1 (rows c.facts opening past) → GoesOn (rows c.facts opening past) (rows c.facts opening (event ∷ past)) → Allowed c opening past event → HoldsMade c.facts opening past → HoldsMade c.facts opening (event ∷ past)
+holds-step c opening past event v g a old =
+    step c opening past event v a old
+    (All-map (IsOfRow (rows c.facts opening past)) (IsOfRow (rows c.facts opening (event ∷ past))) (holds past) old (λ h k. made-on (rows c.facts opening past) (rows c.facts opening (event ∷ past)) h.request h.pending g k))
+
+-- The request of a hold that a row made is that of the row as it is now.
+pub request-made : (all : List Row) (h : Held) (entry : ℕ) (row : Row) → IsOfRow all h → h.pending ≡ Some entry → row_of all entry ≡ Some row → h.request ≡ request_of_row row
+request-made all h entry row k p r =
+    let m : RowMade all h.request entry = subst (λ (o : Option ℕ). IfSome o (RowMade all h.request)) p k in
+    let s : Some (fixed row) ≡ Some m.1.0 = sym (ap (option_map fixed) r) ∙ m.1.1 in
+    let same : fixed row ≡ m.1.0 = cc in
+    m.1.2 ∙ sym (ap request_of_row same)
