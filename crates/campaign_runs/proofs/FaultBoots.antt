@@ -11,6 +11,8 @@ use Rattle.client_plays.specs.Plays.{Leaves, Plays, TaskPlays}
 use Rattle.client_plays.specs.Scripts.{BootPlayed, EarlierPlayed, PlayedSo, items_of, scripts_in, tasks}
 use Rattle.client_plays.specs.Tools.{Files}
 use Rattle.client_plays.proofs.BootLaws.{items-none}
+use Rattle.client_plays.proofs.IdleLaws.{fresh-idle, none-idle}
+use Rattle.client_plays.proofs.OrderLaws.{first-nothing}
 use Rattle.client_plays.proofs.PlayLaws.{item-unplayed, task-unplayed}
 use Rattle.client_plays.proofs.ScriptLaws.{until-nothing}
 
@@ -44,6 +46,8 @@ none-played wanting facts opening files scripts =
     record {
       daemon = refl;
       clients = λ client c. subst (λ (xs : List Item). PlayedSo false wanting client (Plays facts opening (files client) client) xs []) (sym (items-none client)) refl;
+      order = tt;
+      idle = none-idle;
     }
 
 pub faults-played : (wanting : Bool) (facts : Facts) (opening : List Row) (files : ℕ → Files) (scripts : List (List (List Item))) (past : List Event) → AllFaults past → BootPlayed wanting facts opening files (scripts_in scripts (boots past)) past
@@ -55,6 +59,8 @@ faults-played wanting facts opening files scripts (event ∷ past) a =
       clients = λ client c.
           nothing-played (off (event ∷ past)) wanting client (Plays facts opening (files client) client) (items_of (scripts_in scripts (boots (event ∷ past))) client) (mine client (event ∷ past))
           (item-unplayed facts opening (files client) client) f.1 (nothing-mine event past client f.0);
+      order = first-nothing (event ∷ past) (nothing-mine event past 0 f.0);
+      idle = fresh-idle event past f.0;
     }
 
 pub faults-earlier : (wanting : Bool) (facts : Facts) (opening : List Row) (files : ℕ → Files) (scripts : List (List (List Item))) (past : List Event) → AllFaults past → EarlierPlayed wanting facts opening files scripts past

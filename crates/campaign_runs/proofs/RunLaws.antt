@@ -35,6 +35,8 @@ played-told before now facts opening files of_boot past h p =
     record {
       daemon = so-told (off past) before now 0 (TaskPlays facts (files 0)) (tasks facts opening (began past)) (mine 0 past) h p.daemon;
       clients = λ client c. so-told (off past) before now client (Plays facts opening (files client) client) (items_of of_boot client) (mine client past) h (p.clients client c);
+      order = p.order;
+      idle = p.idle;
     }
 
 by_test : (b : Bool) (G : Type 0) → (b ≡ true → G) → (b ≡ false → G) → G
@@ -177,6 +179,8 @@ boot-files wanting facts opening now files of_boot past e p =
     record {
       daemon = subst (λ (f : Files). PlayedSo (off past) wanting 0 (TaskPlays facts f) (tasks facts opening (began past)) (mine 0 past)) (e 0) p.daemon;
       clients = λ client c. subst (λ (f : Files). PlayedSo (off past) wanting client (Plays facts opening f client) (items_of of_boot client) (mine client past)) (e client) (p.clients client c);
+      order = p.order;
+      idle = p.idle;
     }
 
 pub same-files : {K : Type 0} (faults : K → ℕ) (wanting before : Bool) (now files : ℕ → Files) (of_boot : List (List Item)) (old new : Housed K) → ((client : ℕ) → now client ≡ files client) → BootMore faults wanting before now of_boot old new → BootMore faults wanting before files of_boot old new

@@ -9,3 +9,5 @@ pub mod ListLaws
 pub mod BootLaws
 pub mod FaultLaws
 pub mod ShelfCounts
+pub mod IdleLaws
+pub mod OrderLaws

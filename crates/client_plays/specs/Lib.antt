@@ -1,4 +1,5 @@
 pub mod Moments
+pub mod Idle
 pub mod Tools
 pub mod Faults
 pub mod Has
@@ -12,6 +13,7 @@ pub use Rattle.emulated_boards.specs.Images
 pub use Rattle.update_log.specs.Holding
 pub use Rattle.update_log.specs.Known
 pub use Rattle.update_log.specs.Legal
+pub use Rattle.update_log.specs.Once
 pub use Rattle.update_log.specs.Pasts
 pub use Rattle.update_log.specs.Steps
 pub use Rattle.offline_updates.specs.Waiting

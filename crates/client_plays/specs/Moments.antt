@@ -1,6 +1,6 @@
 -- What a client did in the boot that runs.
-use Rattle.std.specs.Prelude.{◌≡◌, ◌≢◌, ℕ, false, List, [], ◌∷◌, ◌++◌, if◌then◌else◌}
-use Rattle.std.specs.List.{list_any}
+use Rattle.std.specs.Prelude.{◌≡◌, ◌≢◌, ◌<◌, ℕ, false, List, [], ◌∷◌, ◌++◌, if◌then◌else◌}
+use Rattle.std.specs.List.{list_any, AllByRecursion}
 use Rattle.update_log.specs.declared.event.Event.{Event}
 use Rattle.update_log.specs.Pasts.{is_boot, is_of}
 
@@ -42,3 +42,11 @@ pub record Did (client : ℕ) (moments : List Moment) (old new : List Event) : T
   pub own : mine client new ≡ mine client old ++ moments
   pub others : (other : ℕ) → other ≢ client → mine other new ≡ mine other old
   pub grew : Grew old new
+
+-- No client did anything in the boot that runs. The daemon itself may have.
+abbrev pub NoClients : List Event → Type 0
+NoClients past = (client : ℕ) → 0 < client → mine client past ≡ []
+
+-- The daemon's own events of the boot that runs came first: before each of them no client did anything in it.
+abbrev pub DaemonFirst : List Event → Type 0
+DaemonFirst past = AllByRecursion (λ m. NoClients m.before) (mine 0 past)

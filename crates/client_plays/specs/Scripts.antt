@@ -11,7 +11,8 @@ use Rattle.update_log.specs.Legal.{may_judge}
 use Rattle.update_log.specs.Steps.{view_of_row}
 use Rattle.offline_updates.specs.Waiting.{entries_where, is_pending}
 use Rattle.client_scripts.specs.declared.item.Item.{Item}
-use Rattle.client_plays.specs.Moments.{Moment, began, mine}
+use Rattle.client_plays.specs.Idle.{EndsIdle}
+use Rattle.client_plays.specs.Moments.{DaemonFirst, Moment, began, mine}
 use Rattle.client_plays.specs.Plays.{Leaves, Plays, Task, TaskPlays, ToJudge, ToResume}
 use Rattle.client_plays.specs.Tools.{Files}
 
@@ -73,10 +74,13 @@ tasks facts opening (boot ∷ past) =
     ++ map ToResume (entries_where is_pending (rows facts opening (boot ∷ past)))
 
 -- The boot that runs was played: the daemon did its tasks, each client its script, and nobody else
--- did anything. `wanting` says that memory was wanting; `files` has the files of each client's shelf.
+-- did anything. The daemon's events came before all clients', and the boot ends idle. `wanting` says that
+-- memory was wanting; `files` has the files of each client's shelf.
 pub record BootPlayed (wanting : Bool) (facts : Facts) (opening : List Row) (files : ℕ → Files) (of_boot : List (List Item)) (past : List Event) : Type 0 where
   pub daemon : PlayedSo (off past) wanting 0 (TaskPlays facts (files 0)) (tasks facts opening (began past)) (mine 0 past)
   pub clients : (client : ℕ) → 0 < client → PlayedSo (off past) wanting client (Plays facts opening (files client) client) (items_of of_boot client) (mine client past)
+  pub order : DaemonFirst past
+  pub idle : EndsIdle past
 
 -- The boots before the one that runs were.
 abbrev pub EarlierPlayed : Bool → Facts → List Row → (ℕ → Files) → List (List (List Item)) → List Event → Type 0

@@ -3,23 +3,28 @@ use Rattle.std.proofs.Common.{◌≡◌, ◌≢◌, ℕ, ◌<◌, ◌≤◌, Boo
 use Rattle.history_keeper.specs.declared.row.Row.{Row}
 use Rattle.update_log.specs.declared.event.Event.{Event}
 use Rattle.update_log.specs.declared.facts.Facts.{Facts}
+use Rattle.update_log.specs.Legal.{IsLegal}
 use Rattle.update_log.specs.Pasts.{boots, off}
+use Rattle.update_log.specs.Shows.{Campaign}
 use Rattle.daemon_core.specs.Annals.{SameFacts}
 use Rattle.daemon_core.specs.Housed.{Housed, past, rows_before}
 use Rattle.daemon_core.specs.Turns.{FaultsCounted}
 use Rattle.client_scripts.specs.declared.item.Item.{Item}
 use Rattle.client_plays.specs.Endings.{HouseBootPlayed, HouseWent, IsCounted, IsFresh, IsIdle}
-use Rattle.client_plays.specs.Moments.{Moment, began, mine}
+use Rattle.client_plays.specs.Moments.{Moment, NoClients, began, mine}
 use Rattle.client_plays.specs.Plays.{Plays, Task, TaskPlays}
 use Rattle.client_plays.specs.Scripts.{PlayedSo, items_of, tasks}
 use Rattle.client_plays.specs.Tools.{Files}
+use Rattle.client_plays.specs.Idle.{EndsIdle}
+use Rattle.client_plays.proofs.IdleLaws.{ends-idle, fresh-idle}
 use Rattle.client_plays.proofs.MomentLaws.{grew-began, grew-boots, grew-both, grew-nothing, grew-off, mine-boot}
+use Rattle.client_plays.proofs.OrderLaws.{daemon-first, first-nothing, first-stays}
 use Rattle.client_plays.proofs.PlayLaws.{task-unplayed}
 use Rattle.client_plays.proofs.RestLaws.{before-same, rest-both, rest-here, so-left}
 use Rattle.client_plays.proofs.ScriptLaws.{until-nothing}
 use Rattle.campaign_runs.specs.Runs.{ReadLast}
 use Rattle.campaign_runs.proofs.RunLaws.{grew-faulted}
-use Rattle.client_threads.specs.Clients.{ClientsPlayed, NoClients}
+use Rattle.client_threads.specs.Clients.{ClientsPlayed}
 use Rattle.client_threads.proofs.Plays.{left-off, still-played}
 
 -- Nobody did anything in a boot that has just begun.
@@ -48,6 +53,8 @@ boot-off faults files of_boot h i f o =
         daemon = subst (λ (m : List Moment). PlayedSo (off (past h)) false 0 (TaskPlays facts (files 0)) all m) (sym (fresh-mine (past h) 0 f))
             (so-left (off (past h)) false 0 (TaskPlays facts (files 0)) all [] o (until-nothing false 0 (TaskPlays facts (files 0)) all (task-unplayed facts (files 0) 0)));
         clients = λ client c. left-off facts opening (files client) client (items_of of_boot client) (mine client (past h)) (off (past h)) false o (fresh-mine (past h) client f);
+        order = first-nothing (past h) (fresh-mine (past h) 0 f);
+        idle = subst EndsIdle (sym f.are) (fresh-idle f.boot f.before f.is);
       };
       grew = grew-nothing (past h);
       rest = rest-here faults h i;
@@ -96,10 +103,15 @@ module _ {K : Type 0} (faults : K → ℕ) (now : Bool) (files : Files) (old mid
         (subst (λ (o : List Row). P old.annals.facts o (then client)) (before-same old.annals mid.annals s)
         (subst (λ (fs : Facts). P fs (rows_before mid.annals) (then client)) s.facts (p.clients client c))))
 
-    pub boot-played : HouseBootPlayed faults (now || wanting) told of_boot old new
-    boot-played =
+    pub boot-played : (c : Campaign) (opening : List Row) → IsLegal c opening (past new) → HouseBootPlayed faults (now || wanting) told of_boot old new
+    boot-played c opening legal =
         record {
-          played = record { daemon = tasks-played; clients = scripts-played };
+          played = record {
+            daemon = tasks-played;
+            clients = scripts-played;
+            order = first-stays (past mid) (past new) p.daemon (daemon-first (past mid) (no-clients_yet f));
+            idle = ends-idle c opening (past new) legal p.rest.idle;
+          };
           grew = grew-both (past old) (past mid) (past new) h.went.did.grew p.grew;
           rest = rest-both faults old mid new h.rest p.rest;
         }

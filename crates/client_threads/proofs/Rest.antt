@@ -16,7 +16,7 @@ use Rattle.daemon_core.proofs.Planned.{keeps-picked, plans-picked}
 use Rattle.client_scripts.specs.declared.item.Item.{Item}
 use Rattle.client_plays.specs.Endings.{AtRest, IsCounted, IsIdle}
 use Rattle.client_plays.specs.Faults.{ShelvesCount}
-use Rattle.client_plays.specs.Moments.{Grew, mine}
+use Rattle.client_plays.specs.Moments.{Grew, NoClients, mine}
 use Rattle.client_plays.specs.Plays.{Plays}
 use Rattle.client_plays.specs.Scripts.{PlayedSo, items_of}
 use Rattle.client_plays.specs.Tools.{Files, ShelfTold}
@@ -28,7 +28,7 @@ use Rattle.shared_daemon.proofs.Logs.{past-entries}
 use Rattle.shared_daemon.proofs.Seeing.{before-named}
 use Rattle.campaign_runs.specs.Runs.{ReadLast}
 use Rattle.client_threads.specs.Begins.{CanBegin, name_of}
-use Rattle.client_threads.specs.Clients.{ClientsPlayed, NoClients, PlayedBehind}
+use Rattle.client_threads.specs.Clients.{ClientsPlayed, PlayedBehind}
 use Rattle.client_threads.proofs.Pasts.{log-grew, on-loaded, on-read}
 use Rattle.client_threads.proofs.ShelfFaults.{count-closed}
 use Rattle.client_threads.proofs.Plays.{items-beyond, left-off, left-wanting, nothing-so}

@@ -1,6 +1,5 @@
 -- What each client of a boot does behind the lock, and what all of them do to a house.
 use Rattle.std.specs.Prelude.{◌≡◌, ◌<◌, ℕ, Bool, List, []}
-use Rattle.update_log.specs.declared.event.Event.{Event}
 use Rattle.update_log.specs.Pasts.{off}
 use Rattle.daemon_core.specs.Housed.{Housed, past, rows_before}
 use Rattle.client_scripts.specs.declared.item.Item.{Item}
@@ -32,10 +31,6 @@ pub record PlayedScript {P : Type 0} (files : P → Files) (faults : P → ℕ) 
   pub went : Went new.wanting (Plays name.facts name.opening (files old.shelf) old.pass.number) (items_of of_boot old.pass.number) old.pass new.pass
   pub shelf : ShelfStays (shelf_told files faults old.shelf) (shelf_told files faults new.shelf)
   pub told : FaultsTold (own old.pass) (own new.pass) (faults old.shelf) (faults new.shelf)
-
--- No client did anything in the boot that runs. The daemon itself may have.
-abbrev pub NoClients : List Event → Type 0
-NoClients past = (client : ℕ) → 0 < client → mine client past ≡ []
 
 -- The clients of a boot went through their scripts, the daemon itself did nothing, and the house is at rest.
 pub record ClientsPlayed {K : Type 0} (faults : K → ℕ) (wanting : Bool) (files : ℕ → Files) (of_boot : List (List Item)) (old new : Housed K) : Type 0 where

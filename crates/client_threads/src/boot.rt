@@ -10,11 +10,12 @@ ghost use Rattle.shared_daemon.specs.Names.{HasNothing, IsLogOf, IsPass, KeepsNa
 ghost use Rattle.client_plays.specs.Endings.{HouseBootPlayed, IsCounted, IsFresh, IsIdle, IsScriptItem};
 ghost use Rattle.client_plays.specs.Faults.{ShelvesCount};
 ghost use Rattle.client_plays.specs.Has.{shelves_told, tools_of};
+ghost use Rattle.client_plays.specs.Moments.{NoClients};
 ghost use Rattle.client_plays.specs.Shelves.{files_for};
 ghost use Rattle.client_plays.specs.Tools.{Serves, ShelvesStay};
 ghost use Rattle.campaign_runs.specs.Runs.{ReadLast};
 ghost use Rattle.client_threads.specs.Begins.{CanBegin, name_of};
-ghost use Rattle.client_threads.specs.Clients.{ClientsPlayed, NoClients, PlayedBehind};
+ghost use Rattle.client_threads.specs.Clients.{ClientsPlayed, PlayedBehind};
 
 use crate::clients::{Client, play_all};
 use crate::dealing::{deal_out, either, take_back};
@@ -197,5 +198,6 @@ pub(crate) fn play_boot<
     let mut house = house;
     let now = do_tasks_first(alloc, &mut house, shelves, plugins);
     let (house, wanting) = play_clients(rt, alloc, house, shelves, of_boot, plugins, gate);
+    house.known();
     (house, either(now, wanting))
 }

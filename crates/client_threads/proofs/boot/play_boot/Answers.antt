@@ -7,7 +7,7 @@ use Rattle.client_plays.proofs.ToolLaws.{shelves-both, shelves-here}
 use Rattle.client_threads.proofs.Boots.{boot-off, boot-played, no-clients_yet, still-booted, still-counted, still-read}
 use Rattle.client_threads.proofs.Pasts.{on-unread}
 use Rattle.client_threads.proofs.Shelves.{enough-stay}
-use Rattle.daemon_core.specs.Housed.{past}
+use Rattle.daemon_core.specs.Housed.{past, rows_before}
 use Rattle.client_plays.proofs.ShelfCounts.{shelves-count_both, shelves-count_here}
 use Rattle.client_threads.proofs.boot.play_boot.Goals as goal
 
@@ -56,7 +56,7 @@ returns-clause-played g c =
     subst (λ (w : Bool). HouseBootPlayed g.K.Keeper.faults w told c.args.of_boot.now c.args.house c.play_clients-house.result.0) (sym c.either.ensures)
     (boot-played g.K.Keeper.faults c.do_tasks_first-now.result (told 0) c.args.house c.do_tasks_first-now.new.house c.do_tasks_first-now.ensures.went c.play_clients-house.result.1 told then c.args.of_boot.now c.play_clients-house.result.0 c.requires.fresh refl
     (files-stay (shelves_told g.P.Shelf.files g.P.Shelf.faults c.args.shelves.now.items) (shelves_told g.P.Shelf.files g.P.Shelf.faults c.do_tasks_first-now.new.shelves.items) c.do_tasks_first-now.ensures.kept)
-    c.play_clients-house.ensures.played)
+    c.play_clients-house.ensures.played c.known-2.ensures.annals.legal.0 (rows_before c.play_clients-house.result.0.annals) c.known-2.ensures.annals.legal.3)
 
 pub returns-clause-kept : goal.returns-clause-kept
 returns-clause-kept g c =
