@@ -285,6 +285,36 @@ def devices_of(boards):
 
 # ---- the campaign
 
+def remotes_of(document):
+    """The remotes, the document's own first, each with its components without what an enabled one before it has too."""
+    remotes = [{"name": "local", "components": document["components"]}, *document.get("remotes", [])]
+    left, earlier = {}, {}
+    for at in sorted(range(len(remotes)), key=lambda at: remotes[at].get("order", 0)):
+        if not remotes[at].get("enabled", True):
+            continue
+        components = remotes[at]["components"]
+        left[at] = [{**one, "releases": [it for it in one["releases"] if all(compared(it["version"], old) for old in earlier.get(one["id"], []))]}
+                    for one in components]
+        for one in components:
+            earlier.setdefault(one["id"], []).extend(it["version"] for it in one["releases"])
+    return remotes, left
+
+
+def merged(document):
+    """The components of the enabled remotes, by order."""
+    return [one for components in remotes_of(document)[1].values() for one in components]
+
+
+def remotes_told(document):
+    """What the command `remotes` prints."""
+    remotes, left = remotes_of(document)
+    count = lambda components: sum(len(it["releases"]) for it in components)
+    lines = [f"remote {it['name']} order {it.get('order', 0)} {'enabled' if it.get('enabled', True) else 'disabled'} "
+             f"components {len(it['components'])} releases {count(it['components'])} kept {count(left.get(at, []))}"
+             for at, it in enumerate(remotes)]
+    return "\n".join([*lines, f"releases {count(merged(document))}"]) + "\n"
+
+
 class Cut(Exception):
     """The power is cut in place of an event."""
 
@@ -320,7 +350,7 @@ class Campaign:
     """A campaign as it is played; `rows` is the history, also that of a former call."""
 
     def __init__(self, document, shelf, rows=()):
-        self.machine, self.components = document["machine"], document["components"]
+        self.machine, self.components = document["machine"], merged(document)
         self.features = [it.get("features", []) for it in document["clients"]]
         self.boots, self.shelf, self.rows = document["boots"], shelf, list(rows)
         sheets = with_quirks([sheet_of(it) for it in document["boards"]], document.get("quirks", []))

@@ -120,10 +120,16 @@ def nests():
     return found
 
 
+def remotes(components):
+    """Returns two remotes with these components, of which the first isn't enabled."""
+    return [{"name": f"r{it}", "enabled": it == 1, "components": components} for it in range(2)]
+
+
 def lists():
     """Returns documents with long lists: what they are, their text, and what must be told."""
     item, release = {"do": "get-devices"}, {"version": "1", "sha256": "0" * 64, "size": 0}
     some = {"id": "c", "provides": [], "releases": [release] * 5000}
+    bare = {**some, "releases": []}
     board = document()["boards"][1]
     boards = [{**board, "port": f"p{i}", "physical": f"p{i}", "parent": f"p{i - 1}"} for i in range(256)]
     del boards[0]["parent"]
@@ -142,6 +148,11 @@ def lists():
         ("a release more", {"components": [some] * 4 + [{**some, "releases": [release]}]},
          "components 4 0 0 releases: too-many"),
         ("4,096 components", {"components": [{**some, "releases": []}] * 4096}, None),
+        ("20,000 releases of remotes", {"components": [], "remotes": remotes([some] * 2)}, None),
+        ("a release more of a remote", {"components": [some], "remotes": remotes([some] * 2)}, "remotes 1 1 0 releases: too-many"),
+        ("4,096 components of remotes", {"components": [], "remotes": remotes([bare] * 2048)}, None),
+        ("a component more of a remote", {"components": [bare], "remotes": remotes([bare] * 2048)},
+         "remotes 1 0 0 components: too-many"),
         ("16 clients", {"clients": [{}] * 16}, None),
         ("64 quirk files", {"quirks": ["[x]\n"] * 64}, None),
         ("a list of a million", {"x": Raw("[" + "1," * 999999 + "1]")}, None),

@@ -79,6 +79,7 @@ def document():
                 "releases": releases,
             }
         ],
+        "remotes": [{"name": "testing", "order": 5, "enabled": True, "components": []}],
         "boards": [
             {
                 "port": "usb1",
@@ -257,6 +258,19 @@ def component_fields():
     yield from requirement_fields()
 
 
+def remote_fields():
+    """Returns the fields of a remote, beside one component of the document's own."""
+    at, top = "remotes 0 0 0", ("remotes", 0)
+    named = name(gone="missing")
+    named["bad"] = named["bad"] + [("local", "repeated")]
+    yield Field((*top, "name"), f"{at} name", **named)
+    yield Field((*top, "order"), f"{at} order", **number(0, 1000))
+    yield Field((*top, "enabled"), f"{at} enabled", **flag())
+    one = {"id": "c", "provides": [], "releases": []}
+    many = {"kind": "list", "good": [[], [one] * 4095], "bad": [([one] * 4096, "too-many")]}
+    yield Field((*top, "components"), f"{at} components", gone="missing", **many)
+
+
 def requirement_fields():
     """Returns the fields of requirements."""
     low = ("components", 0, "requires")
@@ -351,9 +365,10 @@ def section_fields():
     """Returns the sections."""
     yield Field(("format",), "format 0 0 0 format", "number", "missing", [1], [(v, WRONG) for v in (0, 2, -1, Raw("1.0"))])
     yield Field(("machine",), "document 0 0 0 machine", "object", "missing")
-    kinds = {"quirks": ("[x]\n", 64), "components": (None, 4096), "boards": (None, 256), "clients": ({}, 16)}
+    kinds = {"quirks": ("[x]\n", 64), "components": (None, 4096), "remotes": (None, 16), "boards": (None, 256), "clients": ({}, 16)}
     for part, (entry, most) in kinds.items():
-        found = Field((part,), f"document 0 0 0 {part}", "list", None if part == "quirks" else "missing", [], [([entry] * (most + 1), "too-many")])
+        gone = None if part in ("quirks", "remotes") else "missing"
+        found = Field((part,), f"document 0 0 0 {part}", "list", gone, [], [([entry] * (most + 1), "too-many")])
         found.else_told = "bad-reference" if part == "boards" else "too-many"
         yield found
     entry = {"time": 1, "scripts": []}
@@ -362,7 +377,7 @@ def section_fields():
 
 def fields():
     """Returns every field."""
-    groups = (section_fields, machine_fields, component_fields, board_fields, boot_fields)
+    groups = (section_fields, machine_fields, component_fields, remote_fields, board_fields, boot_fields)
     return [it for group in groups for it in group()]
 
 

@@ -12,7 +12,7 @@ LIMIT = 300.0
 
 NAME = r"[!-~]{1,64}"
 NUMBER = r"(?:0|[1-9][0-9]*)"
-SECTIONS = "document|format|machine|quirks|components|boards|clients|boots"
+SECTIONS = "document|format|machine|quirks|components|remotes|boards|clients|boots"
 REASON = (
     r"(?:not-json|wrong-kind|missing|bad-guid|bad-version|bad-digest|bad-pattern \d+|bad-compare|too-many|repeated"
     r"|bad-quirk [1-5] \d+|bad-reference)"
@@ -68,6 +68,7 @@ BELOW = re.compile(rb"  [^\n]+")
 REQUIREMENT = rf"  {NUMBER} (?:holds|unmet {CAUSE})\n"
 LINES = {
     b"check": r"ok boards \d+ components \d+ clients \d+ boots \d+\n",
+    b"remotes": rf"(?:remote {NAME} order \d+ (?:en|dis)abled components \d+ releases \d+ kept \d+\n)+releases \d+\n",
     b"explain": rf"explain {NAME} {NAME}\n(?:{REQUIREMENT})*verdict (?:accept|refused {REFUSAL})\n",
     b"make": r"boards \d+ clients \d+ accepted \d+ writes \d+ success \d+ failed \d+ kept \d+\n",
     b"ids": r"(?:[^\n]{1,255} [0-9a-f]{8}(?:-[0-9a-f]{4}){3}-[0-9a-f]{12}\n){1,64}",

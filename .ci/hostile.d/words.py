@@ -7,7 +7,7 @@ from documents import RICH
 from kinds import Kind
 from trial import call, fault_of
 
-FORMS = ["run", "check", "explain", "ids", "make", "help", "--", "-", "-h", "--help", "--clients", "--clients=3", "", "RUN"]
+FORMS = ["run", "check", "remotes", "explain", "ids", "make", "help", "--", "-", "-h", "--help", "--clients", "--clients=3", "", "RUN"]
 VALUES = ["usb1", "usb2", "1.1.0", "9", "1", "0", "16", "17", "256", "257", "04", "+4", "1.0", "com.example.hub", "é", "a b"]
 NUMBER = re.compile(r"[1-9][0-9]{0,8}")
 NAME = re.compile(rb"[!-~]{1,64}")
@@ -69,7 +69,7 @@ def is_command(words):
         return made(words[1:])
     if values is None:
         return False
-    if words[0] in ("run", "check"):
+    if words[0] in ("run", "check", "remotes"):
         return not values
     if words[0] == "explain":
         return len(values) == 2 and all(NAME.fullmatch(os.fsencode(it)) for it in values)

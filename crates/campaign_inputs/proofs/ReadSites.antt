@@ -21,6 +21,7 @@ use Rattle.release_catalogue.specs.Kinds.{items_at, items_len, list_at, name_at,
 use Rattle.release_catalogue.specs.Components.{components_at}
 use Rattle.site_types.specs.declared.site.Site.{Site}
 use Rattle.site_parts.specs.Places.{spot_in, whole_spot}
+use Rattle.site_remotes.specs.Remotes.{local, remotes_at}
 use Rattle.site_scripts.specs.declared.boots.Boot.{Boot}
 use Rattle.site_scripts.specs.declared.verb.Verb.{Verb}
 use Rattle.site_scripts.specs.declared.verb.Verb.TheVariants as verbs
@@ -251,7 +252,8 @@ setting_done d =
     (good_after (λ (m : Machine). m.pool ≤ 16384) (needed whole_spot words.Machine d) (machine_at (field_of whole_spot words.Machine)) (λ (found : Data). machine_done (field_of whole_spot words.Machine) found))
     (λ (machine : Machine) few.
     good_after P (optional whole_spot words.Quirks quirks_at [] d) _ (λ quirks.
-    good_after P (the whole_spot words.Components (λ _. components_at) d) _ (λ catalogue. few)))))
+    good_after P (the whole_spot words.Components (λ _. components_at) d) _ (λ catalogue.
+    good_after P (optional whole_spot words.Remotes (remotes_at (local catalogue)) (local catalogue ∷ []) d) _ (λ remotes. few))))))
 
 record IsSite (site : Site) : Type 0 where
   boards : length site.boards ≤ 256

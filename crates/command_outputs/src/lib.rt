@@ -1,4 +1,4 @@
-//! What the commands print that run no campaign: `check` and `ids`.
+//! What the commands print that run no campaign: `check`, `remotes` and `ids`.
 //!
 //! What each prints is a definition of bytes (`specs/Printed.antt`). A writer gives them to a sink: whole,
 //! or a front of them where the sink failed, and nothing where there was no memory.
@@ -7,10 +7,12 @@
 pub mod check;
 pub mod ids;
 mod line;
+pub mod remotes;
 pub mod stop;
 
 pub use check::{Sections, write_check};
 pub use ids::write_ids;
+pub use remotes::write_remotes;
 pub use stop::OutputStop;
 
 #[cfg(test)]

@@ -14,4 +14,6 @@ mod help;
 #[cfg(test)]
 mod identifiers;
 #[cfg(test)]
+mod remotes;
+#[cfg(test)]
 mod statuses;

@@ -101,6 +101,7 @@ abbrev pub by_values : List ℕ → List (List ℕ) → Option Command
 by_values name values =
     if bytes_eq name (codes "run") then alone commands.Run values
     else if bytes_eq name (codes "check") then alone commands.Check values
+    else if bytes_eq name (codes "remotes") then alone commands.Remotes values
     else if bytes_eq name (codes "explain") then explain_of values
     else None
 

@@ -12,6 +12,8 @@ pub enum Command {
     Run,
     /// Reads a document, and says what it has.
     Check,
+    /// Reads a document, and says what its remotes have and how much of it is merged.
+    Remotes,
     /// Says whether an install of this version at this port would be accepted, and why.
     Explain { port: Name, version: Version },
     /// Says the GUID of each text, of which there are 1 to 64.

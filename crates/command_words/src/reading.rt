@@ -55,6 +55,9 @@ fn by_values(name: &[u8], before: &[&[u8]], behind: &[&[u8]]) -> Option<Command>
     if name == b"check".as_slice() {
         return alone(Command::Check, before, behind);
     }
+    if name == b"remotes".as_slice() {
+        return alone(Command::Remotes, before, behind);
+    }
     if name == b"explain".as_slice() {
         return explain(before, behind);
     }

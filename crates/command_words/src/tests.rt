@@ -112,6 +112,7 @@ fn shown_command(alloc: Global, command: &Command) -> Result<String, AllocError>
     match command {
         Command::Run => String::from_str(alloc, "run"),
         Command::Check => String::from_str(alloc, "check"),
+        Command::Remotes => String::from_str(alloc, "remotes"),
         Command::Explain { port, version } => shown_explain(alloc, port, version),
         Command::Ids { texts } => shown_texts(alloc, texts.items()),
         Command::Make { boards, clients } => format!(in alloc; "make {boards} {clients}"),

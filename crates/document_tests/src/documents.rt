@@ -12,6 +12,7 @@ mod components;
 mod limits;
 mod machine;
 mod order;
+mod remotes;
 mod whole;
 
 /// The base document.

@@ -86,7 +86,8 @@ values-fit : (name : List ℕ) (values : List (List ℕ)) → Holds CommandFits 
 values-fit name values =
     holds-if CommandFits (bytes_eq name (codes "run")) _ _ (holds-if CommandFits (is_none values) (Some commands.Run) None tt tt)
     (holds-if CommandFits (bytes_eq name (codes "check")) _ _ (holds-if CommandFits (is_none values) (Some commands.Check) None tt tt)
-    (holds-if CommandFits (bytes_eq name (codes "explain")) _ None (explain-fits values) tt))
+    (holds-if CommandFits (bytes_eq name (codes "remotes")) _ _ (holds-if CommandFits (is_none values) (Some commands.Remotes) None tt tt)
+    (holds-if CommandFits (bytes_eq name (codes "explain")) _ None (explain-fits values) tt)))
 
 ids-fit : (texts : List (List ℕ)) → Holds CommandFits (ids_of texts)
 ids-fit texts = holds-if CommandFits _ (Some (commands.Ids texts)) None tt tt

@@ -32,6 +32,7 @@ pub keeps-same : {P : Type 0} (command : Option Command) (old new : List P) → 
 keeps-same None old new e = e
 keeps-same (Some commands.Run) old new e = tt
 keeps-same (Some commands.Check) old new e = e
+keeps-same (Some commands.Remotes) old new e = e
 keeps-same (Some (commands.Explain port version)) old new e = e
 keeps-same (Some (commands.Ids texts)) old new e = e
 keeps-same (Some (commands.Make boards clients)) old new e = e

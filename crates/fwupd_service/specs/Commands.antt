@@ -12,7 +12,7 @@ use Rattle.command_words.specs.declared.command.Command.{Command}
 use Rattle.command_words.specs.declared.command.Command.TheVariants as commands
 use Rattle.document_commands.specs.declared.ended.Ended.{Ended}
 use Rattle.document_commands.specs.declared.ended.Ended.TheVariants as ends
-use Rattle.document_commands.specs.Ends.{CheckEnds}
+use Rattle.document_commands.specs.Ends.{CheckEnds, RemotesEnds}
 use Rattle.document_commands.specs.Explains.{ExplainEnds}
 use Rattle.run_status.specs.declared.status.Status.{Status}
 use Rattle.run_status.specs.declared.status.Status.TheVariants as statuses
@@ -24,6 +24,7 @@ abbrev pub keeps_history : Option Command → Bool
 keeps_history None = false
 keeps_history (Some commands.Run) = true
 keeps_history (Some commands.Check) = false
+keeps_history (Some commands.Remotes) = false
 keeps_history (Some (commands.Explain port version)) = false
 keeps_history (Some (commands.Ids texts)) = false
 keeps_history (Some (commands.Make boards clients)) = false
@@ -33,6 +34,7 @@ abbrev pub KeepsShelves : {P : Type 0} → Option Command → List P → List P 
 KeepsShelves None old new = new ≡ old
 KeepsShelves (Some commands.Run) old new = Unit {0}
 KeepsShelves (Some commands.Check) old new = new ≡ old
+KeepsShelves (Some commands.Remotes) old new = new ≡ old
 KeepsShelves (Some (commands.Explain port version)) old new = new ≡ old
 KeepsShelves (Some (commands.Ids texts)) old new = new ≡ old
 KeepsShelves (Some (commands.Make boards clients)) old new = new ≡ old
@@ -54,11 +56,17 @@ ended_status (ends.Plugins fault) = statuses.Plugins fault
 ended_status ends.SinkFault = statuses.SinkFault
 ended_status ends.NoMemory = statuses.NoMemory
 
--- `check` and `explain`: the status tells how the command ended over what came, and nothing else happened.
+-- `check`, `remotes` and `explain`: the status tells how the command ended over what came, and nothing else happened.
 pub record Checked {K : Type 0} (status : Status) (keeper : K) (left : Left K) (old new before after : Option (List ℕ)) : Type 0 where
   pub ended : Ended
   pub status_is : status ≡ ended_status ended
   pub ends : CheckEnds ended old new before after
+  pub nothing : NothingHappened keeper left
+
+pub record RemotesTold {K : Type 0} (status : Status) (keeper : K) (left : Left K) (old new before after : Option (List ℕ)) : Type 0 where
+  pub ended : Ended
+  pub status_is : status ≡ ended_status ended
+  pub ends : RemotesEnds ended old new before after
   pub nothing : NothingHappened keeper left
 
 pub record Explained {K : Type 0} (sheets : List PluginSheet) (vetoes : MachineFacts → List PluginVetoes) (port version : List ℕ) (status : Status) (keeper : K) (left : Left K) (old new before after : Option (List ℕ)) : Type 0 where
@@ -98,6 +106,7 @@ abbrev pub CommandFits : Command → Type 0
 CommandFits (commands.Make boards clients) = MakeFits boards clients
 CommandFits commands.Run = Unit {0}
 CommandFits commands.Check = Unit {0}
+CommandFits commands.Remotes = Unit {0}
 CommandFits (commands.Explain port version) = Unit {0}
 CommandFits (commands.Ids texts) = Unit {0}
 
@@ -109,6 +118,8 @@ CommandEnds told doubted faults shelves now sheets vetoes (commands.Make boards 
     (new ≡ old) × MakeEnds boards clients sheets vetoes status keeper left before after
 CommandEnds told doubted faults shelves now sheets vetoes commands.Check status keeper left old new before after =
     Checked status keeper left old new before after
+CommandEnds told doubted faults shelves now sheets vetoes commands.Remotes status keeper left old new before after =
+    RemotesTold status keeper left old new before after
 CommandEnds told doubted faults shelves now sheets vetoes (commands.Explain port version) status keeper left old new before after =
     Explained sheets vetoes port version status keeper left old new before after
 CommandEnds told doubted faults shelves now sheets vetoes (commands.Ids texts) status keeper left old new before after =

@@ -24,7 +24,10 @@ fn is_kept(command: &Command) -> bool
 {
     match command {
         Command::Run => true,
-        Command::Check | Command::Explain { .. } | Command::Ids { .. } | Command::Make { .. } =>
-            false,
+        Command::Check
+        | Command::Remotes
+        | Command::Explain { .. }
+        | Command::Ids { .. }
+        | Command::Make { .. } => false,
     }
 }

@@ -2,13 +2,13 @@
 ghost use Rattle.std.specs.Prelude.{◌≡◌, ◌⊎◌, ◌≤◌, length, map};
 ghost use Rattle.site_making.specs.Settled.{vetoes_of};
 ghost use Rattle.outer_traits.specs.Faults.{Rose};
-ghost use Rattle.fwupd_service.specs.Commands.{Checked, Explained, NothingHappened, Written, ended_status};
+ghost use Rattle.fwupd_service.specs.Commands.{Checked, Explained, NothingHappened, RemotesTold, Written, ended_status};
 ghost use Rattle.command_outputs.specs.Printed.{ids_output};
 
 use crate::ran::Ran;
 use command_outputs::{OutputStop, write_ids};
 use command_words::Text;
-use document_commands::{Ended, check, explain};
+use document_commands::{Ended, check, explain, remotes};
 use fw_base::Name;
 use history_keeper::Keeper;
 use outer_traits::{Shelf, Sink, Source};
@@ -52,6 +52,29 @@ pub(crate) fn run_check<S: Source, P: Shelf, K: Keeper, T: Sink>(
     ensures shelves { result.shelves.items ≡ shelves.items }
 {
     let ended = check(alloc, source, out);
+    Ran::nothing(alloc, ended_status(ended), shelves, keeper)
+}
+
+/// The command `remotes`.
+pub(crate) fn run_remotes<S: Source, P: Shelf, K: Keeper, T: Sink>(
+    alloc: Global,
+    source: &mut S,
+    shelves: Vec<P>,
+    keeper: K,
+    out: &mut T,
+) -> Ran<P, K>
+    ensures ends { RemotesTold result.status keeper
+        (record { log = result.log; opening = result.opening; boards = result.boards; keeper = result.keeper })
+        (S.left source.old) (S.left source.new) (T.taken out.old) (T.taken out.new) }
+    ensures source_fault { result.status ≡ Status.SourceFault → Rose (S.faults source.old) (S.faults source.new) }
+    ensures source_quiet { (result.status ≡ Status.SourceFault) ⊎ (S.faults source.new ≡ S.faults source.old) }
+    ensures sink_fault { result.status ≡ Status.SinkFault → Rose (T.faults out.old) (T.faults out.new) }
+    ensures sink_quiet { (result.status ≡ Status.SinkFault) ⊎ (T.faults out.new ≡ T.faults out.old) }
+    ensures source_counts { S.faults source.old ≤ S.faults source.new }
+    ensures sink_counts { T.faults out.old ≤ T.faults out.new }
+    ensures shelves { result.shelves.items ≡ shelves.items }
+{
+    let ended = remotes(alloc, source, out);
     Ran::nothing(alloc, ended_status(ended), shelves, keeper)
 }
 

@@ -8,7 +8,7 @@ ghost use Rattle.command_words.specs.Commands.{command_of};
 ghost use Rattle.fwupd_service.specs.Commands.{CommandEnds, CommandFits, KeepsShelves, WordsEnd};
 
 use crate::make::make;
-use crate::others::{run_check, run_explain, run_ids};
+use crate::others::{run_check, run_explain, run_ids, run_remotes};
 use crate::ran::Ran;
 use crate::run::run;
 use command_words::{Command, WordsFault, read_words};
@@ -24,7 +24,7 @@ use std::thread::Threads;
 ///
 /// `run` reads a document from the source, plays its campaign over the shelves, the keeper and the plugins,
 /// and writes the report of what happened to the sink. `make` plays a generated campaign over a keeper and
-/// shelves of its own, and writes what its log counts. `check`, `explain` and `ids` play none. The clients of
+/// shelves of its own, and writes what its log counts. `check`, `remotes`, `explain` and `ids` play none. The clients of
 /// a boot run on threads, and the gate is told of each step of a client before it is made. There are at most
 /// 64 plugins, and the keeper is in no doubt.
 pub fn run_campaign<
@@ -117,6 +117,7 @@ fn obey<
             )
         }
         Command::Check => run_check(alloc, source, shelves, keeper, out),
+        Command::Remotes => run_remotes(alloc, source, shelves, keeper, out),
         Command::Explain { port, version } => {
             run_explain(
                 alloc, source, *port, *version, shelves, keeper, plugins, out,

@@ -20,3 +20,5 @@ pub use Rattle.site_types.specs.Limits
 pub use Rattle.site_parts.specs.Places
 pub use Rattle.site_scripts.specs.Boots
 pub use Rattle.site_scripts.specs.Clients
+pub use Rattle.remote_set.specs.Merged
+pub use Rattle.site_remotes.specs.Remotes

@@ -1,6 +1,6 @@
 -- The document: the site that it states, or its first fault. The lines of a `do` are the sections in
 -- their order: word, kind, default.
-use Rattle.std.specs.Prelude.{ℕ, List, [], length, map, Result, Ok}
+use Rattle.std.specs.Prelude.{ℕ, List, [], ◌∷◌, length, map, Result, Ok}
 use Rattle.serde_json.specs.Data.{Data}
 use Rattle.release_catalogue.specs.declared.word.Word.TheVariants as words
 use Rattle.release_catalogue.specs.declared.spot.Fault.{Fault}
@@ -11,6 +11,9 @@ use Rattle.site_types.specs.declared.site.Site.{Site}
 use Rattle.site_scripts.specs.Boots.{boots_at}
 use Rattle.site_scripts.specs.Clients.{clients_at}
 use Rattle.site_parts.specs.Places.{spot_in, whole_spot}
+use Rattle.remote_set.specs.Merged.{merged}
+use Rattle.site_remotes.specs.Remotes.{local, remotes_at}
+use Rattle.site_remotes.specs.Told.{site_remotes}
 use Rattle.site_files.specs.declared.document.Setting.{Setting}
 use Rattle.site_files.specs.declared.document.Course.{Course}
 use Rattle.site_files.specs.Boards.{boards_at, ports_of}
@@ -18,7 +21,7 @@ use Rattle.site_files.specs.Machines.{machine_at}
 use Rattle.site_files.specs.Quirks.{quirks_at}
 use Rattle.site_files.specs.Texts.{json_at}
 
--- The machine, the quirks and the catalogue.
+-- The machine, the quirks and the remotes: the section `components` is the first of those.
 unfoldable pub setting_at : Data → Result Setting Fault
 setting_at d = do
   here ← object_at whole_spot d
@@ -26,7 +29,8 @@ setting_at d = do
   machine ← the whole_spot words.Machine machine_at d
   quirks ← optional whole_spot words.Quirks quirks_at [] d
   catalogue ← the whole_spot words.Components (λ _. components_at) d
-  Ok (record { machine = machine; quirks = quirks; catalogue = catalogue })
+  remotes ← optional whole_spot words.Remotes (remotes_at (local catalogue)) (local catalogue ∷ []) d
+  Ok (record { machine = machine; quirks = quirks; remotes = remotes })
 
 -- The boards, the clients and the boots.
 unfoldable pub course_at : Data → Result Course Fault
@@ -41,13 +45,14 @@ course_at d = do
     scripts = map (λ boot. boot.scripts) boots;
   })
 
--- The site of its parts.
+-- The site of its parts. Its catalogue is that of the remotes, merged.
 abbrev pub site_in : Setting → Course → Site
 site_in setting course = record {
   machine = setting.machine.facts;
   pool = setting.machine.pool;
   quirks = setting.quirks;
-  catalogue = setting.catalogue;
+  catalogue = merged setting.remotes;
+  remotes = site_remotes setting.remotes;
   boards = course.boards;
   features = course.features;
   boots = course.boots;

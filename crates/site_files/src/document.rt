@@ -1,10 +1,12 @@
 //! The sections of the document.
-ghost use Rattle.std.specs.Prelude.{◌≡◌, IfOk};
+ghost use Rattle.std.specs.Prelude.{◌≡◌, ◌≤◌, ◌∷◌, [], IfOk, None, length};
 ghost use Rattle.serde_json.specs.View.{view};
 ghost use Rattle.release_catalogue.specs.declared.word.Word.TheVariants as words;
 ghost use Rattle.release_catalogue.specs.Reading.{Gives, the};
 ghost use Rattle.release_catalogue.specs.Kinds.{number_at};
+ghost use Rattle.remote_set.specs.Merged.{first_repeated};
 ghost use Rattle.site_parts.specs.Places.{spot_in};
+ghost use Rattle.site_remotes.specs.Remotes.{IsWithin, local};
 ghost use Rattle.site_files.specs.Sites.{course_at, setting_at, site_at, site_in, site_of};
 ghost use Rattle.site_files.specs.Told.{Tells};
 ghost use Rattle.site_types.specs.Limits.{CanBeSettled};
@@ -15,13 +17,15 @@ use crate::machine::{Machine, read_machine};
 use crate::quirks::quirks_or_none;
 use crate::text::json;
 use client_scripts::Item;
-use fw_base::{Listed, Name};
+use fw_base::{Listed, Name, NoMemory};
 use quirk_files::QuirkBook;
 use release_catalogue::kinds::{number, object};
 use release_catalogue::members::needed;
 use release_catalogue::{Catalogue, ReadStop, Word};
+use remote_set::Remote;
 use serde_json::Value;
 use site_parts::{spot_in, whole_spot};
+use site_remotes::{gather, local, remotes_or_local};
 use site_scripts::{part, read_boots, read_clients};
 use site_types::{Site, SiteBoard};
 use std::alloc::Global;
@@ -32,7 +36,8 @@ use update_log::BootPlan;
 pub struct Setting {
     pub machine: Machine,
     pub quirks: QuirkBook,
-    pub catalogue: Catalogue,
+    /// The section `components` is the first.
+    pub remotes: Listed<Remote>,
 }
 
 /// Who takes part in it, and what they do.
@@ -45,7 +50,7 @@ pub struct Course {
 }
 
 /// The site that a document states, which is a JSON text, or its first fault: sections in the order
-/// `format`, `machine`, `quirks`, `components`, `boards`, `clients`, `boots`, in a list its kind, its
+/// `format`, `machine`, `quirks`, `components`, `remotes`, `boards`, `clients`, `boots`, in a list its kind, its
 /// count and then its entries, in an entry the fields in the order of their table. Bytes that
 /// `serde_json` gives no reading of are `not-json` at `document 0 0 0 text`.
 /// A campaign can be made of a site that was read: its boards have planned faults with rising calls,
@@ -74,17 +79,22 @@ pub fn site(alloc: Global, value: &Value) -> Result<Site, ReadStop>
 {
     let setting = read_setting(alloc, value)?;
     let course = read_course(alloc, value)?;
-    Ok(site_in(setting, course))
+    Ok(site_in(alloc, setting, course)?)
 }
 
-fn site_in(setting: Setting, course: Course) -> Site
-    ensures { result ≡ site_in setting course }
+/// The site of its parts: the remotes are merged.
+fn site_in(alloc: Global, setting: Setting, course: Course) -> Result<Site, NoMemory>
+    requires few { length setting.remotes ≤ 17 }
+    requires within { IsWithin setting.remotes }
+    requires named { first_repeated setting.remotes ≡ None }
+    ensures { IfOk result (λ site. site ≡ site_in setting course) }
 {
     let Setting {
         machine,
         quirks,
-        catalogue,
+        remotes,
     } = setting;
+    let gathered = gather(alloc, remotes.into_items())?;
     let Machine { facts, pool } = machine;
     let Course {
         boards,
@@ -92,21 +102,25 @@ fn site_in(setting: Setting, course: Course) -> Site
         boots,
         scripts,
     } = course;
-    Site {
+    Ok(Site {
         machine: facts,
         pool,
         quirks,
-        catalogue,
+        catalogue: gathered.catalogue,
+        remotes: gathered.remotes,
         boards,
         features,
         boots,
         scripts,
-    }
+    })
 }
 
 #[tactic(auto, unfolding(crate::specs::Sites::setting_at))]
 fn read_setting(alloc: Global, value: &Value) -> Result<Setting, ReadStop>
-    ensures { Gives (λ s. s) result (setting_at (view value.now)) }
+    ensures read { Gives (λ s. s) result (setting_at (view value.now)) }
+    ensures few { IfOk result (λ s. length s.remotes ≤ 17) }
+    ensures within { IfOk result (λ s. IsWithin s.remotes) }
+    ensures named { IfOk result (λ s. first_repeated s.remotes ≡ None) }
 {
     let whole = whole_spot();
     object(value, whole)?;
@@ -118,11 +132,21 @@ fn read_setting(alloc: Global, value: &Value) -> Result<Setting, ReadStop>
     )?;
     let quirks = quirks_or_none(alloc, value, whole)?;
     let catalogue = Catalogue::read(alloc, needed(value, whole, Word::Components)?)?;
+    let remotes = remotes_or_local(alloc, value, whole, own_remote(catalogue))?;
     Ok(Setting {
         machine,
         quirks,
-        catalogue,
+        remotes: Listed::of(remotes),
     })
+}
+
+/// The section `components` as a remote, which is within the limits of a document.
+fn own_remote(catalogue: Catalogue) -> Remote
+    ensures value { result ≡ local catalogue }
+    ensures within { IsWithin (local catalogue ∷ []) }
+{
+    catalogue.within_limits();
+    local(catalogue)
 }
 
 /// The document's form, which has the number 1.

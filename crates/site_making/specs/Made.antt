@@ -144,6 +144,7 @@ made_site boards clients = record {
   pool = 64;
   quirks = [];
   catalogue = made_component ∷ [];
+  remotes = [];
   boards = map made_board (range_with_len 1 boards);
   features = map (λ c. []) (range_with_len 1 clients);
   boots = made_boot ∷ [];

@@ -40,6 +40,7 @@ pub fn make_site(alloc: Global, boards: u32, clients: u32) -> Result<Site, NoMem
         pool: POOL_BLOCKS,
         quirks: QuirkBook::new(alloc),
         catalogue: made_catalogue(alloc)?,
+        remotes: Listed::of(Vec::new(alloc)),
         boards: made_boards(alloc, boards)?,
         features: no_features(alloc, clients)?,
         boots: made_boots(alloc)?,

@@ -47,11 +47,13 @@ pub fn settle_site(
         pool,
         quirks,
         catalogue,
+        remotes,
         boards,
         features,
         boots,
         scripts,
     } = site;
+    drop(remotes);
     let vetoes = vetoes_of(alloc, plugins)?;
     let running = Running::of(alloc, arrangement, plugins)?;
     let sheets = settled_sheets(alloc, &quirks, &running, boards.items())?;

@@ -5,6 +5,7 @@ use fw_base::{Listed, Name};
 use fw_facts::{MachineFacts, Sheet};
 use quirk_files::QuirkBook;
 use release_catalogue::Catalogue;
+use site_remotes::SiteRemote;
 use update_log::BootPlan;
 
 /// A board as the document states it.
@@ -26,7 +27,10 @@ pub struct Site {
     pub pool: u32,
     /// The quirks of all files, in reading order.
     pub quirks: QuirkBook,
+    /// What the remotes have, merged.
     pub catalogue: Catalogue,
+    /// The remotes, in the order of the document: the section `components` is the first.
+    pub remotes: Listed<SiteRemote>,
     pub boards: Listed<SiteBoard>,
     /// The features of each client, client 1 first.
     pub features: Listed<Listed<Name>>,

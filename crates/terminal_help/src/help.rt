@@ -12,6 +12,7 @@ const COMMANDS: &str = "
 Commands:
   run                   plays the campaign of a document, and writes the report
   check                 counts a document's sections, or names its first fault
+  remotes               counts what each remote has, and what of it is merged
   explain PORT VERSION  tells which requirements hold for the device there
   ids TEXT ..           writes the GUID of each text
   make N [--clients C]  plays a generated campaign of N boards and C clients

@@ -22,7 +22,7 @@ pub fn meaning(reason: Reason) -> &'static str {
         }
         Reason::TooMany => "the list is longer than this field allows",
         Reason::Repeated => {
-            "another board has this port already, or the planned faults aren't in rising order of their calls"
+            "another board has this port or another remote this name already, or planned faults don't rise by their calls"
         }
         Reason::BadQuirk { .. } => {
             "the quirk file has a fault: the first number says which, the second in which line"

@@ -8,6 +8,9 @@ returns-in-Make-clause-shelves g c = rw c.make.ensures.shelves (stay-same _)
 pub returns-in-Check-clause-shelves : goal.returns-in-Check-clause-shelves
 returns-in-Check-clause-shelves g c = rw c.run_check.ensures.shelves (stay-same _)
 
+pub returns-in-Remotes-clause-shelves : goal.returns-in-Remotes-clause-shelves
+returns-in-Remotes-clause-shelves g c = rw c.run_remotes.ensures.shelves (stay-same _)
+
 pub returns-in-Explain-clause-shelves : goal.returns-in-Explain-clause-shelves
 returns-in-Explain-clause-shelves g c = rw c.run_explain.ensures.shelves (stay-same _)
 
@@ -25,6 +28,9 @@ returns-in-Make-clause-own_shelves g c = keeps-same (Some c.args.command.now) _ 
 
 pub returns-in-Check-clause-own_shelves : goal.returns-in-Check-clause-own_shelves
 returns-in-Check-clause-own_shelves g c = keeps-same (Some c.args.command.now) _ _ c.run_check.ensures.shelves
+
+pub returns-in-Remotes-clause-own_shelves : goal.returns-in-Remotes-clause-own_shelves
+returns-in-Remotes-clause-own_shelves g c = keeps-same (Some c.args.command.now) _ _ c.run_remotes.ensures.shelves
 
 pub returns-in-Explain-clause-own_shelves : goal.returns-in-Explain-clause-own_shelves
 returns-in-Explain-clause-own_shelves g c = keeps-same (Some c.args.command.now) _ _ c.run_explain.ensures.shelves

@@ -1,0 +1,5 @@
+pub mod Remotes
+pub mod Told
+pub use Rattle.release_catalogue.specs.Components
+pub use Rattle.release_catalogue.specs.Reading
+pub use Rattle.remote_set.specs.Merged
