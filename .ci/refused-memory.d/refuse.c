@@ -8,6 +8,7 @@
 #include <stdatomic.h>
 #include <stdio.h>
 #include <stdlib.h>
+#include <sys/syscall.h>
 #include <unistd.h>
 
 static atomic_long asked;
@@ -101,4 +102,11 @@ __attribute__((destructor)) static void tell(void) {
 		if (length > 0 && write(atoi(where), line, (size_t)length) < 0)
 			return;
 	}
+}
+
+/* The program ends by this call, which runs no destructor. */
+void _exit(int status) {
+	tell();
+	syscall(SYS_exit_group, status);
+	__builtin_unreachable();
 }
