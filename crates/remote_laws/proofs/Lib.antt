@@ -1,0 +1,5 @@
+pub mod Equals
+pub mod Order
+pub mod Firsts
+pub mod Searches
+pub mod Finds
