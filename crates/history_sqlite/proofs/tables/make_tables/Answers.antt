@@ -7,7 +7,7 @@ use Rattle.sqlite.proofs.StateLemmas.{survives_then}
 use Rattle.sqlite.proofs.Callers.{survives_begin}
 use Rattle.history_sqlite.specs.Tables.{HoldsRows, IsNumbered, MakesBoth, no_schema, schema_number}
 use Rattle.history_sqlite.proofs.Making.{makes, made_within}
-use Rattle.history_sqlite.proofs.Opening.{not_again, in_one}
+use Rattle.history_sqlite.proofs.Opening.{not_again, older_not_again, in_one}
 use Rattle.history_sqlite.proofs.tables.make_tables.Goals as goal
 
 pub returns-clause-opens : goal.returns-clause-opens
@@ -27,7 +27,8 @@ returns-clause-opens g c clean =
     let second = c.in_ok-execute-2.ensures.runs clean2 first.1.mode in
     let third = c.in_ok-execute-3.ensures.runs clean3 second.1.mode in
     let last = c.in_ok-commit.ensures.ok late in (
-      λ rows holds. absurd (not_again (state g.D.Store start) (state g.D.Store one) c.in_ok-execute.field-0 (rw begun holds.schema) first.0),
+      λ rows holds. absurd (not_again holds.layout (state g.D.Store start) (state g.D.Store one) c.in_ok-execute.field-0 (rw begun holds.schema) first.0),
+      λ rows holds. absurd (older_not_again (state g.D.Store start) (state g.D.Store one) c.in_ok-execute.field-0 (rw begun holds.schema) first.0),
       λ blank.
           let was : start.schema ≡ no_schema = rw begun blank.schema in
           let limit : start.step_limit ≡ None = rw begun blank.unlimited in
