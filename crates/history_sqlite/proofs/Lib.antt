@@ -5,5 +5,6 @@ pub mod Making
 pub mod Opening
 pub mod ReadBack
 pub mod Selecting
+pub mod TakingOver
 pub mod TellingLemmas
 pub mod Updating
