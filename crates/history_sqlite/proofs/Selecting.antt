@@ -15,12 +15,13 @@ use Rattle.std.specs.List.{AllByRecursion, flat_map}
 use Rattle.std.specs.List.Sorted.{IsPermutation}
 use Rattle.sqlite.specs.Tree.{Trees, IsAscending}
 use Rattle.sqlite.specs.declared.error.Error.{Error}
-use Rattle.sqlite.specs.State.{State, Shown, FailsToQuery}
-use Rattle.sqlite.proofs.Callers.{reads_as}
+use Rattle.sqlite.specs.State.{State, Shown, FailsToQuery, CommitsShowing, Survives}
+use Rattle.sqlite.proofs.Callers.{reads_as, never_commits}
+use Rattle.sqlite.proofs.StateLemmas.{survives_weaker}
 use Rattle.history_keeper.specs.declared.row.Row.{Row}
 use Rattle.history_sqlite.specs.Causes.{select_text, older_select_text}
 use Rattle.history_sqlite.specs.Columns.{columns_of, older_columns_of}
-use Rattle.history_sqlite.specs.Tables.{Layout, history_schema, older_schema, rows_tree, stored, older_stored, AreNumbered, HoldsRows, HoldsOlderRows}
+use Rattle.history_sqlite.specs.Tables.{Layout, history_schema, older_schema, rows_tree, stored, older_stored, AreNumbered, HoldsRows, HoldsOlderRows, TakesAll}
 use Rattle.history_sqlite.proofs.Effects.{stays, older_stays, show_changes_nothing, query_stays, plain_at}
 use Rattle.history_sqlite.proofs.Layouts.{overlaid, query_of, project, older_project, select_is, select_plain, older_select_is, older_select_plain}
 use Rattle.history_sqlite.proofs.Inserting.{lower}
@@ -104,3 +105,8 @@ older_gives old new rows shown h limit asked =
 pub older_gives_nothing : (old new : State) (rows : List Row) (e : Error) → HoldsOlderRows old rows → new.step_limit ≡ old.step_limit → IsTrue new.is_open → FailsToQuery older_select_text [] old new e → HoldsOlderRows new rows
 older_gives_nothing old new rows e h limit is_open failed =
     older_stays old new rows h limit is_open (query_stays older_select_text [] old new e (plain_at older_schema older_select_text old h.schema older_select_plain) failed)
+
+-- the select of the older rows writes nothing
+pub asks_only : (old new : State) → Survives old new (CommitsShowing older_select_text [] old) → Survives old new (TakesAll old)
+asks_only old new = survives_weaker old new (CommitsShowing older_select_text [] old) (TakesAll old)
+    (λ clean db commits rows h. absurd (never_commits older_select_text [] old db (plain_at older_schema older_select_text old h.schema older_select_plain) commits))

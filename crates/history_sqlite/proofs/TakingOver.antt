@@ -1,6 +1,5 @@
 -- What the statements do by which the rows of schema 1 are taken over.
-use Rattle.std.proofs.Common.{◌≡◌, ℕ, ℤ, pos, negsuc, ◌+◌, List, [], ◌∷◌, ◌++◌, length, map, drop, take, Bool, true, false, cond, not, None, Some, Ok, IsTrue, refl, sym, ap, subst, ◌∙◌, arith}
-use Rattle.std.specs.declared.cmp.Ordering.TheVariants.{Equal}
+use Rattle.std.proofs.Common.{◌≡◌, ℕ, ℤ, pos, negsuc, ◌+◌, List, [], ◌∷◌, ◌++◌, length, map, Bool, true, false, cond, None, Some, Ok, IsTrue, inl, refl, sym, ap, subst, ◌∙◌, arith}
 use Rattle.std.specs.Ordering.{is_eq}
 use Rattle.std.specs.List.Sorted.{IsPermutation}
 use Rattle.sqlite.specs.declared.types.Value.{Value}
@@ -25,13 +24,14 @@ use Rattle.sqlite.specs.Rows.{Written}
 use Rattle.sqlite_tied.specs.Compute.{everything}
 use Rattle.sqlite.specs.Listing.{understood}
 use Rattle.sqlite.specs.Effect.{Database}
-use Rattle.sqlite.specs.State.{State, mode_of, Executes, Shows}
+use Rattle.sqlite.specs.State.{State, mode_of, Executes, Shows, Survives}
+use Rattle.sqlite.proofs.StateLemmas.{survives_then}
 use Rattle.sqlite.proofs.Callers.{IsPlain, command_of, statement_of, runs_as, one_permutation}
 use Rattle.history_keeper.specs.declared.row.Row.{Row}
 use Rattle.history_sqlite.specs.Causes.{insert_text, renumber_text}
 use Rattle.history_sqlite.specs.Columns.{columns_of, taken_over}
-use Rattle.history_sqlite.specs.Tables.{Layout, create_history_text, schema_table, history_table, older_schema, history_schema, rows_tree, stored, IsNumbered, schema_number, older_number, AreNumbered, HoldsRows}
-use Rattle.history_sqlite.specs.Taking.{HoldsCopies, Copies, IsUntaken, AreTaken}
+use Rattle.history_sqlite.specs.Tables.{Layout, create_history_text, schema_table, history_table, older_schema, history_schema, rows_tree, stored, IsNumbered, schema_number, older_number, AreNumbered, HoldsRows, HoldsOlderRows, LoadsOlder, TakesAll, TakesOver}
+use Rattle.history_sqlite.specs.Taking.{HoldsCopies, Copies, CopiesAll, IsUntaken, AreTaken, MayWriteOver, WritesOver}
 use Rattle.history_sqlite.proofs.Effects.{went, same_value, history_made}
 use Rattle.history_sqlite.proofs.Layouts.{one_step_of}
 use Rattle.history_sqlite.proofs.Inserting.{puts}
@@ -146,16 +146,13 @@ renumbered old new rows count h inside ran =
 
 -- ---- the rows, one after the other
 
-pub number_at : (from : ℕ) (rows : List Row) (k : ℕ) (row : Row) → AreNumbered from (take k rows ++ row ∷ []) → row.entry ≡ from + length (take k rows)
-number_at from rows k row low = last from (take k rows) low
-  where
-    last : (from : ℕ) (before : List Row) → AreNumbered from (before ++ row ∷ []) → row.entry ≡ from + length before
-    last from [] low = omega (arith, low.0)
-    last from (first ∷ rest) low = let e = last (from + 1) rest low.1 in omega (arith, e)
+number_at : (from : ℕ) (before : List Row) (row : Row) → AreNumbered from (before ++ row ∷ []) → row.entry ≡ from + length before
+number_at from [] row low = omega (arith, low.0)
+number_at from (first ∷ rest) row low = let e = number_at (from + 1) rest row low.1 in omega (arith, e)
 
-pub numbered_front : (from : ℕ) (before after : List Row) → AreNumbered from (before ++ after) → AreNumbered from before
-numbered_front from [] after low = tt
-numbered_front from (row ∷ before) after low = (low.0, numbered_front (from + 1) before after low.1)
+numbered_front : (from : ℕ) (before rest : List Row) → AreNumbered from (before ++ rest) → AreNumbered from before
+numbered_front from [] rest low = tt
+numbered_front from (row ∷ before) rest low = (low.0, numbered_front (from + 1) before rest low.1)
 
 pub numbered_over : (from : ℕ) (rows : List Row) → AreNumbered from rows → AreNumbered from (map taken_over rows)
 numbered_over from [] low = tt
@@ -164,14 +161,50 @@ numbered_over from (row ∷ rows) low = (low.0, numbered_over (from + 1) rows lo
 -- ---- the commit
 
 pub committed : (last three : State) (rows : List Row) → AreTaken three rows → AreNumbered 1 rows → Shows three last three.now three.now false → last.step_limit ≡ None → HoldsRows last rows
-committed last three rows taken low end limit = record {
+committed last three rows taken low ends limit = record {
   layout = Layout.TakenOver;
-  is_open = end.is_open;
-  schema = ap (λ (d : Database). d.schema) end.now_is ∙ taken.schema;
-  settled = end.committed_is ∙ sym end.now_is;
-  autocommit = end.mode;
+  is_open = ends.is_open;
+  schema = ap (λ (d : Database). d.schema) ends.now_is ∙ taken.schema;
+  settled = ends.committed_is ∙ sym ends.now_is;
+  autocommit = ends.mode;
   unlimited = limit;
-  number = (taken.number.0, ap (λ (d : Database). d.trees 0) end.now_is ∙ taken.number.1);
-  table = ap (λ (d : Database). d.trees 3) end.now_is ∙ taken.table;
+  number = (taken.number.0, ap (λ (d : Database). d.trees 0) ends.now_is ∙ taken.number.1);
+  table = ap (λ (d : Database). d.trees 3) ends.now_is ∙ taken.table;
   entries = low;
 }
+
+-- ---- copies, one after the other
+
+pub survives_same : (s : State) → Survives s s (λ _. ⊥)
+survives_same s = record { clean = omega arith; shield = λ h. h; counts = omega arith; limit = refl; closes = λ clean h. inl h; crash = λ clean db h. inl h }
+
+pub survives_both : (a b c : State) → Survives a b (λ _. ⊥) → Survives b c (λ _. ⊥) → Survives a c (λ _. ⊥)
+survives_both a b c = survives_then a b c (λ _. ⊥) (λ _. ⊥) (λ _. ⊥) (λ _ db none. none) (λ _ db none. none)
+
+pub copies_none : (start : State) → CopiesAll start start []
+copies_none start h low = h
+
+pub copies_more : (start now next : State) (before all : List Row) (row : Row) → all ≡ before ++ row ∷ [] → CopiesAll start now before → Copies now next row → CopiesAll start next all
+copies_more start now next before all row more done one h low =
+    let numbered : AreNumbered 1 (before ++ row ∷ []) = subst (AreNumbered 1) more low in
+    let here = done h (numbered_front 1 before (row ∷ []) numbered) in
+    let next_entry : row.entry ≡ length before + 1 = let e = number_at 1 before row numbered in omega (arith, e) in
+    subst (HoldsCopies next) (sym more) (one before here next_entry)
+
+-- what the transaction begins with
+pub untaken : (s : State) (rows : List Row) → HoldsOlderRows s rows → IsUntaken (record s { in_transaction = true })
+untaken s rows h = record { inside = refl; schema = h.schema; number = h.number }
+
+-- ---- the whole
+
+pub takes : (old mid new : State) (loaded : List Row) → LoadsOlder old mid loaded → WritesOver mid new loaded → TakesOver old new
+takes old mid new loaded loads writes rows holds =
+    let given = loads rows holds in
+    let low = subst (AreNumbered 1) (sym given.0) (numbered_over 1 rows holds.entries) in
+    subst (HoldsRows new) given.0 (writes rows given.1 low)
+
+pub may_take : (old mid : State) (loaded : List Row) (db : Trees) → LoadsOlder old mid loaded → MayWriteOver mid loaded db → TakesAll old db
+may_take old mid loaded db loads may rows holds =
+    let given = loads rows holds in
+    let low = subst (AreNumbered 1) (sym given.0) (numbered_over 1 rows holds.entries) in
+    let left = may rows given.1 low in (left.0, left.1 ∙ ap (map stored) given.0)
