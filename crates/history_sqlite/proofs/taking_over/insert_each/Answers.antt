@@ -7,8 +7,8 @@ use Rattle.history_keeper.specs.declared.row.Row.{Row}
 use Rattle.history_sqlite.proofs.TakingOver.{survives_same, survives_both, copies_none, copies_more}
 use Rattle.history_sqlite.proofs.taking_over.insert_each.Goals as goal
 
-pub loop-row-initially : goal.loop-row-initially
-loop-row-initially g c =
+pub loop-row-init : goal.loop-row-init
+loop-row-init g c =
     let start = state g.D.Store c.args.transaction.now.conn.now in
     record { same_reference = refl; copies = λ clean. copies_none start; inside = λ clean inside. inside; survives = survives_same start }
 
