@@ -1,5 +1,5 @@
 -- What is found where a database is opened.
-use Rattle.std.proofs.Common.{◌≡◌, inl, ℕ, List, [], true, false, None, Result, Ok, Err, OnOk, IsTrue, Bool, not, refl, sym, ap, subst, ◌∙◌}
+use Rattle.std.proofs.Common.{◌≡◌, inl, ℕ, List, [], true, false, None, Result, Ok, Err, OnOk, IsTrue, Bool, not, is_some, refl, sym, ap, subst, ◌∙◌}
 use Rattle.std.specs.Result.{is_ok}
 use Rattle.sqlite.specs.Order.{Row as Values}
 use Rattle.sqlite.specs.declared.error.Error.{Error}
@@ -60,14 +60,13 @@ pub ours_opens : (old new : State) → IsFound old new Ours → (IsTrue new.is_o
 ours_opens old new found keeps = (
   λ rows holds.
       let same = show_changes_nothing number_text [] old new found.1.0 (plain_here old rows holds) found.1.1 in (keeps same.0.is_open).0 rows holds,
-  λ rows holds. absurd (subst HasBoth holds.schema found.0).rows,
-  λ blank. absurd (subst HasBoth blank.schema found.0).numbers,
+  (λ rows holds. absurd (subst HasBoth holds.schema found.0).rows, λ blank. absurd (subst HasBoth blank.schema found.0).numbers),
 )
 
 -- nothing was taken over yet where the older tables are found
 untaken : (layout : Layout) → HasOlder (history_schema layout) → ⊥
-untaken Layout.Anew h = let e = h.untaken in cc
-untaken Layout.TakenOver h = let e = h.untaken in cc
+untaken Layout.Anew h = let e : true ≡ false = ap is_some h.untaken in cc
+untaken Layout.TakenOver h = let e : true ≡ false = ap is_some h.untaken in cc
 
 -- what was found before the taking over
 module _ (old mid : State) (found : IsFound old mid Older) (keeps : IsTrue mid.is_open → KeepsAny old mid) where
@@ -78,8 +77,7 @@ module _ (old mid : State) (found : IsFound old mid Older) (keeps : IsTrue mid.i
   pub older_opens : (new : State) → TakesOver mid new → Opens old new
   older_opens new takes = (
     λ rows holds. absurd (untaken holds.layout (subst HasOlder holds.schema found.0)),
-    λ rows holds. takes rows (older_left rows holds),
-    λ blank. absurd (subst HasOlder blank.schema found.0).numbers,
+    (λ rows holds. takes rows (older_left rows holds), λ blank. absurd (subst HasOlder blank.schema found.0).numbers),
   )
 
   pub older_refused : (new : State) → KeepsOlder mid new → LeavesTables old new
@@ -102,7 +100,7 @@ pub older_not_again : (old new : State) (count : ℕ) → old.now.schema ≡ old
 older_not_again = refused_at older_schema older_made_twice
 
 pub opened_after : (old mid new : State) → LeavesTables old mid → Opens mid new → Opens old new
-opened_after old mid new left opens = (λ rows holds. opens.0 rows (left.0.0 rows holds), λ rows holds. opens.1.0 rows (left.0.1 rows holds), λ blank. opens.1.1 (left.1 blank))
+opened_after old mid new left opens = (λ rows holds. opens.0 rows (left.0.0 rows holds), (λ rows holds. opens.1.0 rows (left.0.1 rows holds), λ blank. opens.1.1 (left.1 blank)))
 
 -- a connection that doesn't commit by itself is in a transaction
 pub in_one : (mode told : Bool) → told ≡ false → told ≡ not mode → IsTrue mode

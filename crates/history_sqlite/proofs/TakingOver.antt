@@ -1,5 +1,5 @@
 -- What the statements do by which the rows of schema 1 are taken over.
-use Rattle.std.proofs.Common.{◌≡◌, ℕ, ℤ, pos, negsuc, ◌+◌, List, [], ◌∷◌, ◌++◌, length, map, Bool, true, false, cond, None, Some, Ok, IsTrue, inl, refl, sym, ap, subst, ◌∙◌, arith}
+use Rattle.std.proofs.Common.{◌≡◌, ℕ, ℤ, pos, negsuc, ◌+◌, List, [], ◌∷◌, ◌++◌, length, map, Bool, true, false, cond, None, Some, Result, Ok, Err, IsTrue, inl, inr, refl, sym, ap, subst, ◌∙◌, arith}
 use Rattle.std.specs.Ordering.{is_eq}
 use Rattle.std.specs.List.Sorted.{IsPermutation}
 use Rattle.sqlite.specs.declared.types.Value.{Value}
@@ -24,13 +24,15 @@ use Rattle.sqlite.specs.Rows.{Written}
 use Rattle.sqlite_tied.specs.Compute.{everything}
 use Rattle.sqlite.specs.Listing.{understood}
 use Rattle.sqlite.specs.Effect.{Database}
-use Rattle.sqlite.specs.State.{State, mode_of, Executes, Shows, Survives}
+use Rattle.sqlite.specs.State.{State, mode_of, Executes, ExecutesInside, IsRolledBack, KeepsCommit, Shows, Survives}
+use Rattle.sqlite.specs.Steps.{FailsToCommit}
+use Rattle.sqlite.specs.declared.error.Error.{Error}
 use Rattle.sqlite.proofs.StateLemmas.{survives_then}
 use Rattle.sqlite.proofs.Callers.{IsPlain, command_of, statement_of, runs_as, one_permutation}
 use Rattle.history_keeper.specs.declared.row.Row.{Row}
 use Rattle.history_sqlite.specs.Causes.{insert_text, renumber_text}
 use Rattle.history_sqlite.specs.Columns.{columns_of, taken_over}
-use Rattle.history_sqlite.specs.Tables.{Layout, create_history_text, schema_table, history_table, older_schema, history_schema, rows_tree, stored, IsNumbered, schema_number, older_number, AreNumbered, HoldsRows, HoldsOlderRows, LoadsOlder, TakesAll, TakesOver}
+use Rattle.history_sqlite.specs.Tables.{Layout, create_history_text, schema_table, history_table, older_schema, history_schema, rows_tree, stored, IsNumbered, schema_number, older_number, AreNumbered, HoldsRows, HoldsOlderRows, KeepsOlder, LoadsOlder, TakesAll, TakesOver}
 use Rattle.history_sqlite.specs.Taking.{HoldsCopies, Copies, CopiesAll, IsUntaken, AreTaken, MayWriteOver, WritesOver}
 use Rattle.history_sqlite.proofs.Effects.{went, same_value, history_made}
 use Rattle.history_sqlite.proofs.Layouts.{one_step_of}
@@ -208,3 +210,39 @@ may_take old mid loaded db loads may rows holds =
     let given = loads rows holds in
     let low = subst (AreNumbered 1) (sym given.0) (numbered_over 1 rows holds.entries) in
     let left = may rows given.1 low in (left.0, left.1 ∙ ap (map stored) given.0)
+
+-- ---- nothing is committed within
+
+pub inside_keeps : (sql : List ℕ) (params : Values) (old new : State) (r : Result ℕ Error) → ExecutesInside 0 sql params old new r → KeepsCommit old new
+inside_keeps sql params old new (Ok count) h = record { was_open = λ _. h.1.was_open; committed = λ _. h.1.committed_is }
+inside_keeps sql params old new (Err e) (inl (ran, inl same)) = record { was_open = λ _. same.0.was_open; committed = λ _. same.0.committed_is }
+inside_keeps sql params old new (Err e) (inl (ran, inr back)) = record { was_open = back.was_open; committed = λ o. (back.undone o).1 }
+inside_keeps sql params old new (Err e) (inr late) = let same = late.2 in record { was_open = λ _. same.0.was_open; committed = λ _. same.0.committed_is }
+
+pub keeps_same : (s : State) → KeepsCommit s s
+keeps_same s = record { was_open = λ o. o; committed = λ _. refl }
+
+pub keeps_then : (a b c : State) → KeepsCommit a b → KeepsCommit b c → KeepsCommit a c
+keeps_then a b c one two = record { was_open = λ o. one.was_open (two.was_open o); committed = λ o. two.committed o ∙ one.committed (two.was_open o) }
+
+-- a transaction that is rolled back leaves the rows of schema 1
+pub undone_over : (old three last : State) → KeepsCommit (record old { in_transaction = true }) three → IsRolledBack three last → last.step_limit ≡ old.step_limit → IsTrue last.is_open → KeepsOlder old last
+undone_over old three last kept back limit is_open rows h =
+    let undone = back.undone is_open in
+    let same = kept.committed (back.was_open is_open) in
+    let now : last.now ≡ old.now = undone.0 ∙ same ∙ h.settled in
+    record {
+      is_open = is_open;
+      schema = ap (λ (d : Database). d.schema) now ∙ h.schema;
+      settled = undone.1 ∙ same ∙ h.settled ∙ sym now;
+      autocommit = back.autocommit;
+      unlimited = limit ∙ h.unlimited;
+      number = (h.number.0, ap (λ (d : Database). d.trees 0) now ∙ h.number.1);
+      table = ap (λ (d : Database). d.trees 1) now ∙ h.table;
+      entries = h.entries;
+    }
+
+-- why a commit is refused that ends a transaction
+pub refused_commit : (three last : State) (e : Error) → IsTrue three.in_transaction → FailsToCommit three last e → IsRolledBack three last
+refused_commit three last e inside (inl failed) = failed.3
+refused_commit three last e inside (inr late) = absurd (let no : true ≡ false = sym inside ∙ late.1 in cc)

@@ -2,7 +2,7 @@
 ghost use Rattle.std.specs.Prelude.{◌≡◌, [], false, IsTrue, Any, map, Some, None, IfOk, IfErr, OnOk, OnErr};
 ghost use Rattle.std.specs.List.{AllByRecursion};
 ghost use Rattle.sqlite.specs.Held.{state};
-ghost use Rattle.sqlite.specs.State.{HasCleanDisk, Shown, Survives};
+ghost use Rattle.sqlite.specs.State.{HasCleanDisk, KeepsCommit, Shown, Survives};
 ghost use Rattle.history_sqlite.specs.Causes.{older_select_text, FailsToLoadOlder, FailsToTakeOver, IsNotCopied, IsNotWritten, IsUnanswered};
 ghost use Rattle.history_sqlite.specs.Columns.{older_row_read};
 ghost use Rattle.history_sqlite.specs.Tables.{GivesOlder, KeepsOlder, LoadsOlder, TakesAll, TakesOver};
@@ -115,6 +115,8 @@ fn write_over<D: Alter>(
     ensures same_reference { transaction.new.conn.ghost_name ≡ transaction.old.conn.ghost_name }
     ensures copies { HasCleanDisk (state D.Store transaction.new.conn.now) → OnOk result (CopiesOver (state D.Store transaction.old.conn.now) (state D.Store transaction.new.conn.now) rows.now) }
     ensures cause { HasCleanDisk (state D.Store transaction.new.conn.now) → IsTrue transaction.old.conn.now.in_transaction → IfErr result (IsNotWritten D.Store) }
+    ensures inside { HasCleanDisk (state D.Store transaction.new.conn.now) → IsTrue transaction.old.conn.now.in_transaction → OnOk result (IsTrue transaction.new.conn.now.in_transaction) }
+    ensures kept { HasCleanDisk (state D.Store transaction.new.conn.now) → IsTrue transaction.old.conn.now.in_transaction → KeepsCommit (state D.Store transaction.old.conn.now) (state D.Store transaction.new.conn.now) }
     ensures survives { Survives (state D.Store transaction.old.conn.now) (state D.Store transaction.new.conn.now) (λ _. ⊥) }
 {
     transaction.execute("CREATE TABLE history2 (entry INTEGER PRIMARY KEY, tag TEXT NOT NULL UNIQUE, client INTEGER NOT NULL, device BLOB NOT NULL, component TEXT NOT NULL, version_old TEXT NOT NULL, version_new TEXT NOT NULL, digest BLOB NOT NULL, flags INTEGER NOT NULL, state INTEGER NOT NULL, reason INTEGER NOT NULL, time_added INTEGER NOT NULL, time_changed INTEGER NOT NULL, duration INTEGER NOT NULL, protocol TEXT, retry_of INTEGER) STRICT", &[])?;
@@ -133,6 +135,7 @@ fn insert_each<D: Alter>(
     ensures copies { HasCleanDisk (state D.Store transaction.new.conn.now) → OnOk result (CopiesAll (state D.Store transaction.old.conn.now) (state D.Store transaction.new.conn.now) rows.now) }
     ensures inside { HasCleanDisk (state D.Store transaction.new.conn.now) → IsTrue transaction.old.conn.now.in_transaction → OnOk result (IsTrue transaction.new.conn.now.in_transaction) }
     ensures cause { HasCleanDisk (state D.Store transaction.new.conn.now) → IsTrue transaction.old.conn.now.in_transaction → IfErr result (IsNotWritten D.Store) }
+    ensures kept { HasCleanDisk (state D.Store transaction.new.conn.now) → IsTrue transaction.old.conn.now.in_transaction → KeepsCommit (state D.Store transaction.old.conn.now) (state D.Store transaction.new.conn.now) }
     ensures survives { Survives (state D.Store transaction.old.conn.now) (state D.Store transaction.new.conn.now) (λ _. ⊥) }
 {
     for row in rows {
@@ -151,6 +154,7 @@ fn insert_inside<D: Alter>(
     ensures copies { HasCleanDisk (state D.Store transaction.new.conn.now) → OnOk result (Copies (state D.Store transaction.old.conn.now) (state D.Store transaction.new.conn.now) row.now) }
     ensures inside { HasCleanDisk (state D.Store transaction.new.conn.now) → IsTrue transaction.old.conn.now.in_transaction → OnOk result (IsTrue transaction.new.conn.now.in_transaction) }
     ensures cause { HasCleanDisk (state D.Store transaction.new.conn.now) → IsTrue transaction.old.conn.now.in_transaction → IfErr result (IsNotWritten D.Store) }
+    ensures kept { HasCleanDisk (state D.Store transaction.new.conn.now) → IsTrue transaction.old.conn.now.in_transaction → KeepsCommit (state D.Store transaction.old.conn.now) (state D.Store transaction.new.conn.now) }
     ensures survives { Survives (state D.Store transaction.old.conn.now) (state D.Store transaction.new.conn.now) (λ _. ⊥) }
 {
     let columns = columns_of_row(row);

@@ -1,8 +1,8 @@
-use Rattle.std.proofs.Common.{[], arith, inl, inr, refl}
+use Rattle.std.proofs.Common.{[], Ok, Err, arith, inl, inr, refl}
 use Rattle.std.proofs.lemmas.Result.{err_from_is_err_and}
 use Rattle.sqlite.specs.Held.{state}
 use Rattle.sqlite.specs.State.{HasCleanDisk}
-use Rattle.history_sqlite.proofs.TakingOver.{made_over, renumbered, survives_both}
+use Rattle.history_sqlite.proofs.TakingOver.{made_over, renumbered, survives_both, inside_keeps, keeps_then}
 use Rattle.history_sqlite.specs.Causes.{renumber_text}
 use Rattle.history_sqlite.specs.Tables.{create_history_text}
 use Rattle.history_sqlite.proofs.taking_over.write_over.Goals as goal
@@ -57,3 +57,50 @@ returns-in_err-execute-2-clause-survives g c =
 pub returns-in_err-insert_each-clause-survives : goal.returns-in_err-insert_each-clause-survives
 returns-in_err-insert_each-clause-survives g c =
     survives_both (state g.D.Store c.args.transaction.now.conn.now) (state g.D.Store c.execute.new.self.conn.now) (state g.D.Store c.insert_each.new.transaction.conn.now) c.execute.ensures.survives c.insert_each.ensures.survives
+
+pub returns-clause-inside : goal.returns-clause-inside
+returns-clause-inside g c clean inside =
+    let clean2 : HasCleanDisk (state g.D.Store c.insert_each.new.transaction.conn.now) = omega (arith, clean, c.execute-2.ensures.survives.clean) in
+    let clean1 : HasCleanDisk (state g.D.Store c.execute.new.self.conn.now) = omega (arith, clean2, c.insert_each.ensures.survives.clean) in
+    let first = c.in_ok-execute.ensures.runs clean1 inside in
+    let still = c.in_ok-insert_each.ensures.inside clean2 first.1.mode in
+    (c.in_ok-execute-2.ensures.runs clean still).1.mode
+
+pub returns-clause-kept : goal.returns-clause-kept
+returns-clause-kept g c clean inside =
+    let start = state g.D.Store c.args.transaction.now.conn.now in
+    let one = state g.D.Store c.execute.new.self.conn.now in
+    let two = state g.D.Store c.insert_each.new.transaction.conn.now in
+    let three = state g.D.Store c.execute-2.new.self.conn.now in
+    let clean2 : HasCleanDisk two = omega (arith, clean, c.execute-2.ensures.survives.clean) in
+    let clean1 : HasCleanDisk one = omega (arith, clean2, c.insert_each.ensures.survives.clean) in
+    let first = c.in_ok-execute.ensures.runs clean1 inside in
+    let still = c.in_ok-insert_each.ensures.inside clean2 first.1.mode in
+    keeps_then start two three (keeps_then start one two (inside_keeps _ _ start one (Ok c.in_ok-execute.field-0) first) (c.insert_each.ensures.kept clean2 first.1.mode))
+    (inside_keeps _ _ two three (Ok c.in_ok-execute-2.field-0) (c.in_ok-execute-2.ensures.runs clean still))
+
+pub returns-in_err-execute-clause-kept : goal.returns-in_err-execute-clause-kept
+returns-in_err-execute-clause-kept g c clean inside =
+    inside_keeps _ _ (state g.D.Store c.args.transaction.now.conn.now) (state g.D.Store c.execute.new.self.conn.now) (Err c.in_err-execute.field-0.0) (c.in_err-execute.ensures.runs clean inside)
+
+pub returns-in_err-insert_each-clause-kept : goal.returns-in_err-insert_each-clause-kept
+returns-in_err-insert_each-clause-kept g c clean inside =
+    let start = state g.D.Store c.args.transaction.now.conn.now in
+    let one = state g.D.Store c.execute.new.self.conn.now in
+    let two = state g.D.Store c.insert_each.new.transaction.conn.now in
+    let clean1 : HasCleanDisk one = omega (arith, clean, c.insert_each.ensures.survives.clean) in
+    let first = c.in_ok-execute.ensures.runs clean1 inside in
+    keeps_then start one two (inside_keeps _ _ start one (Ok c.in_ok-execute.field-0) first) (c.insert_each.ensures.kept clean first.1.mode)
+
+pub returns-in_err-execute-2-clause-kept : goal.returns-in_err-execute-2-clause-kept
+returns-in_err-execute-2-clause-kept g c clean inside =
+    let start = state g.D.Store c.args.transaction.now.conn.now in
+    let one = state g.D.Store c.execute.new.self.conn.now in
+    let two = state g.D.Store c.insert_each.new.transaction.conn.now in
+    let three = state g.D.Store c.execute-2.new.self.conn.now in
+    let clean2 : HasCleanDisk two = omega (arith, clean, c.execute-2.ensures.survives.clean) in
+    let clean1 : HasCleanDisk one = omega (arith, clean2, c.insert_each.ensures.survives.clean) in
+    let first = c.in_ok-execute.ensures.runs clean1 inside in
+    let still = c.in_ok-insert_each.ensures.inside clean2 first.1.mode in
+    keeps_then start two three (keeps_then start one two (inside_keeps _ _ start one (Ok c.in_ok-execute.field-0) first) (c.insert_each.ensures.kept clean2 first.1.mode))
+    (inside_keeps _ _ two three (Err c.in_err-execute-2.field-0.0) (c.in_err-execute-2.ensures.runs clean still))

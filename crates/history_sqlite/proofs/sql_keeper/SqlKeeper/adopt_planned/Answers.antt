@@ -14,7 +14,7 @@ returns-clause-opens g c clean =
     let set = c.set_step_limit.new.self in
     let made = c.open_tables.new.connection in
     let opens = opened_after (state g.D.Store first) (state g.D.Store set) (state g.D.Store made) (unlimited g.D.Store first set c.set_step_limit.ensures) (c.in_ok-open_tables.ensures.opens (c.load_rows.ensures.clean clean)) in
-    let loads = c.in_ok-_rows.ensures.loads clean in (λ rows holds. (loads rows (opens.0 rows holds)).1, λ rows holds. (loads (map taken_over rows) (opens.1.0 rows holds)).1, λ blank. (loads [] (opens.1.1 blank)).1)
+    let loads = c.in_ok-_rows.ensures.loads clean in (λ rows holds. (loads rows (opens.0 rows holds)).1, (λ rows holds. (loads (map taken_over rows) (opens.1.0 rows holds)).1, λ blank. (loads [] (opens.1.1 blank)).1))
 
 pub returns-clause-adopted : goal.returns-clause-adopted
 returns-clause-adopted g c clean = subst (IsAdopted g.D.Store) c.set_step_limit.ensures (c.in_ok-open_tables.ensures.adopted (c.load_rows.ensures.clean clean))
