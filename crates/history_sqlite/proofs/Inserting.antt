@@ -55,8 +55,19 @@ cast_link (Some n) = cast_whole n
 
 pub cast_stored : (layout : Layout) (row : Row) → cast_row (rows_table layout) (stored row) ≡ stored row
 cast_stored layout row =
-    rw (cast_null, cast_whole row.entry, cast_whole row.client, cast_whole row.flags, cast_whole (state_number row.state), cast_whole row.reason, cast_whole row.time_added, cast_whole row.time_changed,
-    cast_whole row.duration, cast_text row.protocol, cast_link row.retry_of)
+    rw (
+      cast_null,
+      cast_whole row.entry,
+      cast_whole row.client,
+      cast_whole row.flags,
+      cast_whole (state_number row.state),
+      cast_whole row.reason,
+      cast_whole row.time_added,
+      cast_whole row.time_changed,
+      cast_whole row.duration,
+      cast_text row.protocol,
+      cast_link row.retry_of,
+    )
 
 pub lower : (m n : ℕ) → m < n → value_cmp (Int (pos m)) (Int (pos n)) ≡ Less
 lower m n h = value_cmp-Int (pos m) (pos n) ∙ grind (arith, ints, nat_tests)
