@@ -4,6 +4,7 @@ use Rattle.std.specs.Result.{is_ok}
 use Rattle.sqlite.specs.Order.{Row as Values}
 use Rattle.sqlite.specs.declared.error.Error.{Error}
 use Rattle.sqlite.specs.Schema.{Schema}
+use Rattle.sqlite_schema.specs.Names.{same_name}
 use Rattle.sqlite.specs.Store.{Ghosts}
 use Rattle.sqlite.specs.Held.{Held, state}
 use Rattle.sqlite.specs.Listing.{understood, listing_schema}
@@ -55,16 +56,22 @@ numberless_keeps old new e limit is_open h = (
   λ rows holds. older_stays old new rows holds limit is_open (query_stays number_text [] old new e (older_plain_here old rows holds) h),
 )
 
+-- where the older tables alone are there, this crate's aren't
+not_both : HasBoth older_schema → ⊥
+unfolding same_name
+not_both h = absurd h.rows
+
 -- what is ours is left as it is
 pub ours_opens : (old new : State) → IsFound old new Ours → (IsTrue new.is_open → KeepsAny old new) → Opens old new
 ours_opens old new found keeps = (
   λ rows holds.
       let same = show_changes_nothing number_text [] old new found.1.0 (plain_here old rows holds) found.1.1 in (keeps same.0.is_open).0 rows holds,
-  (λ rows holds. absurd (subst HasBoth holds.schema found.0).rows, λ blank. absurd (subst HasBoth blank.schema found.0).numbers),
+  (λ rows holds. absurd (not_both (subst HasBoth holds.schema found.0)), λ blank. absurd (subst HasBoth blank.schema found.0).numbers),
 )
 
 -- nothing was taken over yet where the older tables are found
 untaken : (layout : Layout) → HasOlder (history_schema layout) → ⊥
+unfolding same_name
 untaken Layout.Anew h = let e : true ≡ false = ap is_some h.untaken in cc
 untaken Layout.TakenOver h = let e : true ≡ false = ap is_some h.untaken in cc
 

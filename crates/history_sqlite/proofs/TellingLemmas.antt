@@ -4,6 +4,7 @@ use Rattle.std.specs.Option.{ForSome}
 use Rattle.sqlite.specs.declared.types.Value.TheVariants.{Int, Text}
 use Rattle.sqlite.specs.Values.{or_null}
 use Rattle.sqlite.specs.State.{State, HasCleanDisk}
+use Rattle.sqlite_schema.specs.Names.{same_name}
 use Rattle.history_keeper.specs.declared.row.Row.{Row}
 use Rattle.history_keeper.specs.declared.row.RowState.{RowState}
 use Rattle.history_keeper.specs.declared.row.RowState.TheVariants.{Pending, Success, Failed, NeedsReboot, Begun}
@@ -41,6 +42,7 @@ rows_again [] = refl
 rows_again (row ∷ rows) = rw (row_again row, rows_again rows)
 
 tree_is : (layout : Layout) → tree_of_rows (history_schema layout) ≡ rows_tree layout
+unfolding same_name
 tree_is Layout.Anew = refl
 tree_is Layout.TakenOver = refl
 
