@@ -1,4 +1,4 @@
-use Rattle.std.proofs.Common.{refl, sym, subst}
+use Rattle.std.proofs.Common.{ap, refl, sym, subst, ◌∙◌}
 use Rattle.std.specs.Prelude.{None}
 use Rattle.device_claims.specs.declared.claim.Parts.{Parts}
 use Rattle.claim_runs.specs.Known.{RunsFor}
@@ -15,15 +15,13 @@ make_steps-requires-clause-runs g c =
 pub returns-in-Ok-clause-ran : goal.returns-in-Ok-clause-ran
 returns-in-Ok-clause-ran g c =
     let b = c.index-plugins-plugin.result in
-    let by = (goal.Plugin-dyn g (b.vtable, b.value)).steps b.value in
-    ran-at by _ c.args.taken.entry c.finish.result c.new-claim.result (parts_taken c.args.taken) c.args.pass.now c.finish.new.pass
-    (steps-at (λ d. (goal.Plugin-dyn g (d.vtable, d.value)).steps d.value) c.args.plugins.now c.args.taken.plugin b c.requires.served c.index-plugins-plugin.is) c.new-claim.ensures.parts
-    (ran-after by c.args.taken.entry c.finish.result c.new-claim.result c.in-Ok.claim c.args.pass.now c.make_steps.new.pass c.finish.new.pass c.in-Ok.ensures.made c.finish.ensures.closed)
+    ran-at _ _ c.args.taken.entry c.finish.result c.new-claim.result (parts_taken c.args.taken) c.args.pass.now c.finish.new.pass
+    (steps-at (λ d. (goal.Plugin-dyn g (d.vtable, d.value)).steps d.value) c.args.plugins.now c.args.taken.plugin b c.requires.served c.index-plugins-plugin.is ∙ sym (ap (λ v. (goal.Plugin-dyn g v).steps v.1) c.deref_box-1.ensures.1)) c.new-claim.ensures.parts
+    (ran-after _ c.args.taken.entry c.finish.result c.new-claim.result c.in-Ok.claim c.args.pass.now c.make_steps.new.pass c.finish.new.pass c.in-Ok.ensures.made c.finish.ensures.closed)
 
 pub returns-in-Err-clause-ran : goal.returns-in-Err-clause-ran
 returns-in-Err-clause-ran g c =
     let b = c.index-plugins-plugin.result in
-    let by = (goal.Plugin-dyn g (b.vtable, b.value)).steps b.value in
-    ran-at by _ c.args.taken.entry Outcome.Off c.new-claim.result (parts_taken c.args.taken) c.args.pass.now c.make_steps.new.pass
-    (steps-at (λ d. (goal.Plugin-dyn g (d.vtable, d.value)).steps d.value) c.args.plugins.now c.args.taken.plugin b c.requires.served c.index-plugins-plugin.is) c.new-claim.ensures.parts
+    ran-at _ _ c.args.taken.entry Outcome.Off c.new-claim.result (parts_taken c.args.taken) c.args.pass.now c.make_steps.new.pass
+    (steps-at (λ d. (goal.Plugin-dyn g (d.vtable, d.value)).steps d.value) c.args.plugins.now c.args.taken.plugin b c.requires.served c.index-plugins-plugin.is ∙ sym (ap (λ v. (goal.Plugin-dyn g v).steps v.1) c.deref_box-1.ensures.1)) c.new-claim.ensures.parts
     c.in-Err.ensures.gone
