@@ -72,13 +72,13 @@ impl<'a, R: Wait, K: Keeper, N: Naming, P: Shelf, G: Gate> Player<K, N, P> for S
 
     ghost plugins = { λ s. length s.plugins.now };
 
-    ghost work = { λ s. steps_at (λ b. (⟦<dyn Plugin as Plugin>⟧ b.vtable).steps b.value) s.plugins.now };
+    ghost work = { λ s. steps_at (λ p. (Plugin-box p).steps p.value) s.plugins.now };
 
     fn play(&self, daemon: &Daemon<K, N>, client: &mut Client<P>)
         requires may { MayPlay daemon.now.id N.name client.old }
         requires proper { All (All IsScriptItem) self.now.of_boot.now }
         requires served { length N.name.facts.vetoes ≤ length self.now.plugins.now }
-        ensures played { PlayedScript P.files (steps_at (λ b. (⟦<dyn Plugin as Plugin>⟧ b.vtable).steps b.value) self.now.plugins.now) P.faults daemon.now.id N.name self.now.of_boot.now client.old client.new }
+        ensures played { PlayedScript P.files (steps_at (λ p. steps p) self.now.plugins.now) P.faults daemon.now.id N.name self.now.of_boot.now client.old client.new }
     {
         let items = script_of(self.of_boot, client.pass.number() as usize - 1);
         client.wanting = play_script(
