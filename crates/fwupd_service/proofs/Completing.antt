@@ -116,7 +116,7 @@ module _ {K Q : Type 0} (told : K → Option (List Row)) (doubted : K → Option
 
   -- What a campaign came to that was played.
   ended : (shelves : List ShelfTold) (sheets : List PluginSheet) (vetoes : MachineFacts → List PluginVetoes) (started : List Q) (site : Site) (campaign : Campaign) (left : Left K) (text : Campaign → List ℕ) (before after : Option (List ℕ)) (status : Status)
-      → AreStarted words campaign.facts started → IsCampaignOf site sheets (vetoes site.machine) campaign → IsHistory left.opening → any_fault left.log ≡ false
+      → AreStarted words sheets campaign.facts started → IsCampaignOf site sheets (vetoes site.machine) campaign → IsHistory left.opening → any_fault left.log ≡ false
       → CampaignEnds told (means_for (work_of words started) shelves) status (with_plans campaign.facts (map shown_by campaign.boards.items) campaign.boots) left.opening campaign.scripts left.log left.keeper (text campaign) before after
       → RunDone told left.keeper (SiteWentWhole shelves sheets vetoes words site left text before after) status
   ended shelves sheets vetoes started site campaign left text before after statuses.Done a s valid quiet e = record { campaign = campaign; settled = s; started = started; started_are = a; whole = e.1 }
@@ -152,7 +152,7 @@ module _ {K Q : Type 0} (told : K → Option (List Row)) (doubted : K → Option
           no-fault-told (with_plans campaign.facts (map shown_by campaign.boards.items) campaign.boots) left.opening left.log w.true_log.legal
           (counted-none (2 ^ 64 - 1) (keeper_faults (past_of left.log)) (faults keeper) (faults left.keeper) w.keeper_stands.counted held.no_fault held.counting)
 
-      went : (started : List Q) (campaign : Campaign) → AreStarted words campaign.facts started → IsOpened (limits.Shelves (length shelves)) sheets vetoes old new campaign → Went told doubted faults shelves now (work_of words started) status campaign keeper left (report campaign.facts left.opening left.log) before after → RunDone told left.keeper Complete status
+      went : (started : List Q) (campaign : Campaign) → AreStarted words sheets campaign.facts started → IsOpened (limits.Shelves (length shelves)) sheets vetoes old new campaign → Went told doubted faults shelves now (work_of words started) status campaign keeper left (report campaign.facts left.opening left.log) before after → RunDone told left.keeper Complete status
       went started campaign a o (inl w) =
           let same : o.site ≡ site = site-same (length shelves) sheets old new site given o.bytes o.site o.came o.states.read o.states.stated in
           let settled : IsCampaignOf site sheets (vetoes site.machine) campaign = subst (λ (x : Site). IsCampaignOf x sheets (vetoes x.machine) campaign) same o.settled in
@@ -172,7 +172,7 @@ fault-status sheets Complete faults.NoMemory can h = tt
 -- The same of `make`, whose status blames no history.
 module _ {K Q : Type 0} (boards clients : ℕ) (sheets : List PluginSheet) (vetoes : MachineFacts → List PluginVetoes) (words : PluginWords Q) where
   -- A generated campaign that was played came to no more than that.
-  summed : (status : Status) (started : List Q) (campaign : Campaign) (left : Left K) (own : List Row) (before after : Option (List ℕ)) → AreStarted words campaign.facts started → IsCampaignOf (made_site boards clients) sheets (vetoes (made_site boards clients).machine) campaign → BlamesNoHistory status
+  summed : (status : Status) (started : List Q) (campaign : Campaign) (left : Left K) (own : List Row) (before after : Option (List ℕ)) → AreStarted words sheets campaign.facts started → IsCampaignOf (made_site boards clients) sheets (vetoes (made_site boards clients).machine) campaign → BlamesNoHistory status
       → CampaignEnds (λ (rows : List Row). Some rows) (means_for (work_of words started) (own_shelves clients)) status (with_plans campaign.facts (map shown_by campaign.boards.items) campaign.boots) left.opening campaign.scripts left.log own (summary boards clients left.log) before after
       → MakeDone (SiteWentWhole (own_shelves clients) sheets vetoes words (made_site boards clients) left (λ _. summary boards clients left.log) before after) status
   summed statuses.Done started campaign left own before after a s n e = record { campaign = campaign; settled = s; started = started; started_are = a; whole = e.1 }

@@ -48,7 +48,7 @@ pub record SiteWentWhole {K Q : Type 0} (shelves : List ShelfTold) (sheets : Lis
   pub campaign : Campaign
   pub settled : IsCampaignOf site sheets (vetoes site.machine) campaign
   pub started : List Q
-  pub started_are : AreStarted words campaign.facts started
+  pub started_are : AreStarted words sheets campaign.facts started
   pub whole : WentWhole (means_for (work_of words started) shelves) (with_plans campaign.facts (map shown_by campaign.boards.items) campaign.boots) left.opening campaign.scripts left.log (text campaign) before after
 
 -- All was done, or else memory was wanting, or the input or the output failed; or, where the keeper doesn't

@@ -77,7 +77,7 @@ pub record MakeBegan {K Q : Type 0} (boards clients : ℕ) (sheets : List Plugin
   pub campaign : Campaign
   pub settled : IsCampaignOf (made_site boards clients) sheets (vetoes (made_site boards clients).machine) campaign
   pub started : List Q
-  pub started_are : AreStarted words campaign.facts started
+  pub started_are : AreStarted words sheets campaign.facts started
   pub went : MadeOrNothing boards clients (work_of words started) status campaign keeper left before after
 
 abbrev pub MakeEnds : {K Q : Type 0} → ℕ → ℕ → List PluginSheet → (MachineFacts → List PluginVetoes) → PluginWords Q → Status → K → Left K → Option (List ℕ) → Option (List ℕ) → Type 0

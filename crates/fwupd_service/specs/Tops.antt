@@ -80,7 +80,7 @@ pub record RunWent {K Q : Type 0} (told : K → Option (List Row)) (doubted : K 
   pub campaign : Campaign
   pub opened : IsOpened (limits.Shelves (length shelves)) sheets vetoes old new campaign
   pub started : List Q
-  pub started_are : AreStarted words campaign.facts started
+  pub started_are : AreStarted words sheets campaign.facts started
   pub went : Went told doubted faults shelves now (work_of words started) status campaign keeper left (report campaign.facts left.opening left.log) before after
 
 abbrev pub RunEnds : {K Q : Type 0} → (K → Option (List Row)) → (K → Option Change) → (K → ℕ) → List ShelfTold → List ShelfTold → List PluginSheet → (MachineFacts → List PluginVetoes) → PluginWords Q → Status → K → Left K → Option (List ℕ) → Option (List ℕ) → Option (List ℕ) → Option (List ℕ) → Type 0

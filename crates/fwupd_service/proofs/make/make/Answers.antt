@@ -21,7 +21,7 @@ returns-in-Ok-clause-ends g c = inr (record {
   campaign = c.in-Ok.ready.campaign;
   settled = c.in-Ok.ensures.settled;
   started = c.in-Ok.ready.plugins.items;
-  started_are = c.in-Ok.ensures.plugins;
+  started_are = record { running = c.in-Ok.ensures.running; vetoes = c.in-Ok.ensures.plugins };
   went = c.make_ready.ensures.went;
 })
 

@@ -27,7 +27,7 @@ returns-in-Ok-clause-ends g c =
       campaign = c.in-Ok.ready.campaign;
       opened = opened-many c.len.result (length shelves) count c.in-Ok.ensures.opened;
       started = c.in-Ok.ready.plugins.items;
-      started_are = c.in-Ok.ensures.plugins;
+      started_are = record { running = c.in-Ok.ensures.running; vetoes = c.in-Ok.ensures.plugins };
       went = c.run_ready.ensures.went;
     })
 
