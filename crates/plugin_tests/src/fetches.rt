@@ -1,10 +1,10 @@
 //! What no clause says: that fetches succeed, and what they give on files from outside.
 ghost use Rattle.std.specs.Prelude.{◌≡◌};
 
-use crate::fetch_blocks;
 use block_pool::{HEAD_BYTES, Pool};
 use daemon_core::Fetched;
 use fw_base::Digest;
+use install_engine::fetch_blocks;
 use outer_traits::{Failed, MemoryShelf, Shelf};
 use std::alloc::{AllocError, Global};
 use std::test::Fail;

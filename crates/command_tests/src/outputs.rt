@@ -1,5 +1,5 @@
 //! What is printed, in examples.
-use crate::{OutputStop, Sections, write_check, write_ids};
+use command_outputs::{OutputStop, Sections, write_check, write_ids};
 use command_words::Text;
 use outer_traits::MemorySink;
 use std::alloc::Global;

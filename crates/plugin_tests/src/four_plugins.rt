@@ -1,8 +1,9 @@
 //! What no clause says: the order of the four, and whole updates through the box of each.
 ghost use Rattle.std.specs.Prelude.{◌≡◌, ◌≤◌, ◌+◌};
 
-use super::*;
-use block_pool::{BadBlocks, Payload, Pool};
+use crate::payloads::{NEW, OLD, sealed};
+use block_pool::{Payload, Pool};
+use board_plugins::{Capsule, Flash, Loader, Power};
 use emulated_boards::{Board, Mark};
 use fw_base::Listed;
 use fw_facts::{DeviceFlag, MachineFacts, MachineTest, Mode, Seen, VetoRule};
@@ -70,32 +71,10 @@ fn power_vetoes_built_in_devices_on_battery(rt: HostRuntime) -> Result<(), Fail>
     Ok(())
 }
 
-const OLD: &[u8] = b"EMU1 00010000\n";
-
-const NEW: &[u8] = b"EMU1 00010100\n";
-
 fn shows(raw: u32) -> Seen {
     Seen::Home {
         raw,
         mode: Mode::Runtime,
-    }
-}
-
-// A payload of these bytes.
-fn sealed(rt: &impl Abort, pool: &mut Pool, bytes: &[u8]) -> Payload
-    ensures conserved { pool.new.free + result.count ≡ pool.old.free }
-    ensures capacity { pool.new.capacity ≡ pool.old.capacity }
-{
-    assert!(rt; bytes.len() <= 4096);
-    let digest = Sha256::digest(bytes);
-    let mut blocks = pool.take(1).expect(rt, "a block");
-    blocks.fill(0, bytes);
-    match blocks.seal(bytes.len() as u32, &digest) {
-        Ok(payload) => payload,
-        Err(BadBlocks { found: _, blocks }) => {
-            pool.give(blocks);
-            panic!(rt; "the bytes have this digest")
-        }
     }
 }
 

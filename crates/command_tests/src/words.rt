@@ -1,5 +1,5 @@
 //! Words, and the command that they are.
-use crate::{Command, Text, WordsFault, read_words};
+use command_words::{Command, Text, WordsFault, read_words};
 use fw_base::Name;
 use std::alloc::{AllocError, Global};
 use std::test::Fail;

@@ -4,8 +4,9 @@ ghost use Rattle.emulated_boards.specs.Boards.{BoardStep, enter_loader, leave_lo
 ghost use Rattle.emulated_boards.specs.Images.{payload_image};
 ghost use Rattle.plugin_trait.specs.Steps.{Untouched};
 
-use super::*;
-use block_pool::{BadBlocks, Payload, Pool};
+use crate::payloads::{NEW, OLD, sealed};
+use block_pool::{Payload, Pool};
+use device_claims::Begun;
 use emulated_boards::{Board, BoardFault, Mark};
 use fw_base::{Listed, Name};
 use fw_facts::{DeviceFlag, DeviceFlags, MachineFacts, Mode, VetoRule};
@@ -101,28 +102,6 @@ fn walk(claim: Begun, plugin: &dyn Plugin) -> (Board, Payload)
     let (reloaded, _) = joined.reload(plugin);
     let (closed, _) = reloaded.cleanup(plugin);
     closed.into_parts()
-}
-
-const OLD: &[u8] = b"EMU1 00010000\n";
-
-const NEW: &[u8] = b"EMU1 00010100\n";
-
-// A payload of these bytes.
-fn sealed(rt: &impl Abort, pool: &mut Pool, bytes: &[u8]) -> Payload
-    ensures conserved { pool.new.free + result.count ≡ pool.old.free }
-    ensures capacity { pool.new.capacity ≡ pool.old.capacity }
-{
-    assert!(rt; bytes.len() <= 4096);
-    let digest = Sha256::digest(bytes);
-    let mut blocks = pool.take(1).expect(rt, "a block");
-    blocks.fill(0, bytes);
-    match blocks.seal(bytes.len() as u32, &digest) {
-        Ok(payload) => payload,
-        Err(BadBlocks { found: _, blocks }) => {
-            pool.give(blocks);
-            panic!(rt; "the bytes have this digest")
-        }
-    }
 }
 
 // The board behind a claim with these flags, of which one side fits.

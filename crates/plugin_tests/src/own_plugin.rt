@@ -3,12 +3,12 @@ ghost use Rattle.emulated_boards.specs.Boards.{BoardStep, enter_loader, leave_lo
 ghost use Rattle.emulated_boards.specs.Images.{payload_image};
 ghost use Rattle.plugin_trait.specs.Steps.{Untouched};
 
-use super::*;
 use block_pool::Payload;
 use emulated_boards::{Board, BoardFault};
 use fw_base::{Listed, Name};
 use fw_facts::{DeviceFlags, MachineFacts, MachineTest, VetoRule};
 use plugin_order::PluginSheet;
+use plugin_trait::{Plugin, start_all};
 use std::alloc::Global;
 use std::test::Fail;
 

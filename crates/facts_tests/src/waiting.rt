@@ -1,8 +1,8 @@
 //! What no clause says: that the calls succeed.
-use crate::{pending, to_judge};
 use fw_base::Name;
 use guid_ids::device_id;
 use history_keeper::{Row, RowState};
+use offline_updates::{pending, to_judge};
 use std::test::Fail;
 use version_formats::Version;
 
