@@ -148,11 +148,20 @@ enum Told {
     Wrong(Crashed),
 }
 
-/// The first crash that leaves something else than the rows in one of these schemas.
-fn first_wrong(alloc: Global, left: &Halted, allowed: &[Found]) -> Result<Option<Crashed>, Fail> {
+/// Whether a crash may leave this: what is taken over, and after a stop the older rows too.
+fn may_stand(found: Found, whole: bool) -> bool {
+    match found {
+        Found::Ours => true,
+        Found::Older => !whole,
+        Found::Empty | Found::Other => false,
+    }
+}
+
+/// The first crash that leaves something else than the rows, in a schema that may stand.
+fn first_wrong(alloc: Global, left: &Halted, whole: bool) -> Result<Option<Crashed>, Fail> {
     for crashed in CRASHES {
         match kept_by(alloc, after(alloc, left, crashed)?)? {
-            Some(found) if allowed.contains(&found) => {}
+            Some(found) if may_stand(found, whole) => {}
             _ => return Ok(Some(crashed)),
         }
     }
@@ -179,15 +188,12 @@ fn opening(alloc: Global, older: &Halted, stop: Stop, calls: u64) -> Result<Told
         Some(files) => files,
         None => return Ok(Told::Gone),
     };
-    let (told, allowed): (Told, &[Found]) = if go_on(&mut files) {
-        (Told::Whole, &[Found::Ours])
-    } else {
-        (Told::Stopped, &[Found::Older, Found::Ours])
-    };
+    let whole = go_on(&mut files);
     let left = halt(alloc, files)?;
-    match first_wrong(alloc, &left, allowed)? {
+    match first_wrong(alloc, &left, whole)? {
         Some(crashed) => Ok(Told::Wrong(crashed)),
-        None => Ok(told),
+        None if whole => Ok(Told::Whole),
+        None => Ok(Told::Stopped),
     }
 }
 
