@@ -78,7 +78,7 @@ module _ (lasts : Bool) (old new : State) (lasting : IsTrue lasts → HasCleanDi
 
 -- a load leaves the rows, whatever it answers
 pub load_keeps : {V E : Type 0} (items : V → List Row) (old new : State) (r : Result V E) → IfOk r (λ loaded. Loads old new (items loaded)) → OnErr r (Keeps old new) → Keeps old new
-load_keeps items old new (Ok loaded) loads refused rows holds = (loads rows holds).1
+load_keeps items old new (Ok loaded) loads refused = λ rows holds. (loads rows holds).1
 load_keeps items old new (Err e) loads refused = refused
 
 kept_is : (change : Change) (keep : Bool) (rows : List Row) → keep ≡ true → kept (Some (record { change = change; keep = keep })) rows ≡ changed change rows
