@@ -1,13 +1,13 @@
 //! The stop at each call of a file of schema 1 whose rows are taken over. What each crash left is one of schema 1 with
 //! the same rows, or one of this schema, which has them with the values for what schema 1 doesn't tell.
 use crate::files::{
-    CRASHES, Crashed, Halted, Stop, after, first, go_on, halt, opened, stopping, stopping_again,
+    CRASHES, Crashed, Halted, Stop, after, first, go_on, halt, opened, rows_of, stopping,
+    stopping_again,
 };
 use crate::stopping::Stopping;
 use fw_base::Name;
 use guid_ids::DeviceId;
-use history_keeper::{Keeper, Row, RowState};
-use history_sqlite::SqlKeeper;
+use history_keeper::{Row, RowState};
 use history_sqlite::finding::{Found, find_tables};
 use sqlite::Files;
 use std::alloc::Global;
@@ -127,12 +127,16 @@ fn are_the_rows(alloc: Global, rows: &[Row]) -> Result<bool, Fail> {
     Ok(entry == ROWS)
 }
 
-/// What these files have, by their tables and their number, where a keeper over them has the rows.
-fn kept_by(alloc: Global, files: Files<Stopping>) -> Result<Option<Found>, Fail> {
+/// What these files have of the tables.
+fn tables_of(alloc: Global, files: Files<Stopping>) -> Result<Found, Fail> {
     let mut connection = opened(alloc, files)?;
-    let found = find_tables(&mut connection)?;
-    let mut keeper = SqlKeeper::adopt(alloc, connection)?;
-    let rows = keeper.load(alloc)?;
+    Ok(find_tables(&mut connection)?)
+}
+
+/// What the crash left of the tables, where a keeper then has the rows.
+fn kept_by(alloc: Global, left: &Halted, crashed: Crashed) -> Result<Option<Found>, Fail> {
+    let found = tables_of(alloc, after(alloc, left, crashed)?)?;
+    let rows = rows_of(alloc, after(alloc, left, crashed)?)?;
     if are_the_rows(alloc, &rows)? {
         Ok(Some(found))
     } else {
@@ -165,7 +169,7 @@ fn may_stand(found: Found, whole: bool) -> bool {
 /// The first crash that leaves something else than the rows, in a schema that may stand.
 fn first_wrong(alloc: Global, left: &Halted, whole: bool) -> Result<Option<Crashed>, Fail> {
     for crashed in CRASHES {
-        match kept_by(alloc, after(alloc, left, crashed)?)? {
+        match kept_by(alloc, left, crashed)? {
             Some(found) if may_stand(found, whole) => {}
             _ => return Ok(Some(crashed)),
         }
@@ -217,7 +221,7 @@ fn first_otherwise(alloc: Global, older: &Halted, stop: Stop) -> Result<(u64, To
 fn older_rows_are_taken_over_whole_or_not_at_all(rt: HostRuntime) -> Result<(), Fail> {
     let alloc = rt.alloc();
     let older = older_files(alloc)?;
-    let kept = kept_by(alloc, after(alloc, &older, Crashed::Lost)?)?;
+    let kept = kept_by(alloc, &older, Crashed::Lost)?;
     assert_eq!(rt; kept, Some(Found::Older));
     for stop in [Stop::Log, Stop::Database] {
         let (calls, told) = first_otherwise(alloc, &older, stop)?;
