@@ -10,6 +10,7 @@ use history_sqlite::statements::insert;
 use history_sqlite::tables::open_tables;
 use sqlite::{Connection, MemStore};
 use std::alloc::Global;
+use std::slice;
 use std::test::Fail;
 use version_formats::Version;
 
@@ -42,11 +43,17 @@ fn row(alloc: Global, entry: u32, tag: u32) -> Result<Row, Fail>
     })
 }
 
+/// Puts a row behind the others.
+fn put(rows: &mut Vec<Row>, row: &Row) -> Result<(), Fail> {
+    rows.extend_from_slice(slice::from_ref(row))?;
+    Ok(())
+}
+
 /// The rows of these entries.
 pub(crate) fn rows(alloc: Global, past: &[Past]) -> Result<Vec<Row>, Fail> {
     let mut rows = Vec::new(alloc);
     for (entry, tag) in past {
-        rows.push(row(alloc, *entry, *tag)?)?;
+        put(&mut rows, &row(alloc, *entry, *tag)?)?;
     }
     Ok(rows)
 }

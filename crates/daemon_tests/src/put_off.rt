@@ -12,6 +12,7 @@ use plugin_trait::Plugin;
 use sha2::{Digest as _, Sha256};
 use std::alloc::Global;
 use std::process::Abort;
+use std::slice;
 use std::sync::Wait;
 use std::test::Fail;
 use update_log::{Found, Op, Stored};
@@ -57,11 +58,17 @@ fn row(entry: u32, port: &str, version: &str, flags: u8, state: RowState) -> Res
     })
 }
 
+/// Puts a row behind the others.
+fn put(rows: &mut Vec<Row>, row: &Row) -> Result<(), Fail> {
+    rows.extend_from_slice(slice::from_ref(row))?;
+    Ok(())
+}
+
 /// The first board's install was put off, and the second board's was begun, of that version.
 fn rows(alloc: Global, begun: &str) -> Result<Vec<Row>, Fail> {
     let mut rows = Vec::new(alloc);
-    rows.push(row(1, "usb1", "1.1.0", 1, RowState::Pending)?)?;
-    rows.push(row(2, "usb2", begun, 0, RowState::Begun)?)?;
+    put(&mut rows, &row(1, "usb1", "1.1.0", 1, RowState::Pending)?)?;
+    put(&mut rows, &row(2, "usb2", begun, 0, RowState::Begun)?)?;
     Ok(rows)
 }
 

@@ -8,6 +8,7 @@ use history_keeper::{
     Change, Keeper, KeeperPlan, KeeperRefusal, MemoryKeeper, Row, RowState, first_faulty,
 };
 use std::alloc::Global;
+use std::slice;
 use std::test::Fail;
 use version_formats::Version;
 
@@ -32,11 +33,17 @@ fn row(entry: u32, tag: &[u8], device: &[u8], state: RowState) -> Result<Row, Fa
     })
 }
 
+/// Puts a row behind the others.
+fn put(rows: &mut Vec<Row>, row: &Row) -> Result<(), Fail> {
+    rows.extend_from_slice(slice::from_ref(row))?;
+    Ok(())
+}
+
 fn keeper(alloc: Global, call: u32, keep: bool) -> Result<MemoryKeeper, Fail>
     ensures { IfOk result (λ keeper. doubtful keeper ≡ None) }
 {
     let mut rows = Vec::new(alloc);
-    rows.push(row(1, b"t1", b"usb1", RowState::Begun)?)?;
+    put(&mut rows, &row(1, b"t1", b"usb1", RowState::Begun)?)?;
     let mut plan = Vec::new(alloc);
     plan.push(KeeperPlan { call, keep })?;
     Ok(MemoryKeeper::new(rows, plan))
@@ -155,10 +162,13 @@ fn as_many_rows_as_a_history_has(rt: HostRuntime) -> Result<(), Fail> {
             b'a' + (number / 256 % 16) as u8,
             b'a' + (number / 4096 % 16) as u8,
         ];
-        rows.push(row(number + 1, &tag, &tag, RowState::Begun)?)?;
+        put(&mut rows, &row(number + 1, &tag, &tag, RowState::Begun)?)?;
     }
     assert_eq!(rt; first_faulty(alloc, &rows)?, None);
-    rows.push(row(65_537, b"pppp", b"usb1", RowState::Success)?)?;
+    put(
+        &mut rows,
+        &row(65_537, b"pppp", b"usb1", RowState::Success)?,
+    )?;
     assert_eq!(rt; first_faulty(alloc, &rows)?, Some(65_536));
     Ok(())
 }

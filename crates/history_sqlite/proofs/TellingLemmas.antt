@@ -1,5 +1,5 @@
 -- What a keeper tells after each statement.
-use Rattle.std.proofs.Common.{◌≡◌, ℕ, pos, Bool, true, false, List, [], ◌∷◌, map, Option, Some, None, IsTrue, option_map, unwrap_or, refl, sym, ap, subst, ◌∙◌}
+use Rattle.std.proofs.Common.{◌≡◌, ℕ, pos, Bool, true, false, List, [], ◌∷◌, map, Option, Some, None, Result, Ok, Err, IfOk, IfSome, OnErr, IsTrue, option_map, unwrap_or, refl, sym, ap, subst, ◌∙◌}
 use Rattle.std.specs.Option.{ForSome}
 use Rattle.sqlite.specs.declared.types.Value.TheVariants.{Int, Text}
 use Rattle.sqlite.specs.Values.{or_null}
@@ -13,7 +13,7 @@ use Rattle.history_keeper.specs.declared.plan.Doubt.{Doubt}
 use Rattle.history_keeper.specs.Changes.{Suits, changed}
 use Rattle.history_keeper.specs.Memories.{kept}
 use Rattle.history_sqlite.specs.Columns.{state_in, state_number, text_in, integer_in}
-use Rattle.history_sqlite.specs.Tables.{Layout, history_schema, rows_tree, stored, HoldsRows, Loads, Makes}
+use Rattle.history_sqlite.specs.Tables.{Layout, history_schema, rows_tree, stored, HoldsRows, Keeps, Loads, Makes}
 use Rattle.history_sqlite.specs.Telling.{row_in, tree_of_rows, rows_in, told, Knows, SuitsDoubt, Settles}
 
 state_again : (s : RowState) → unwrap_or (state_in (Int (pos (state_number s)))) Begun ≡ s
@@ -60,6 +60,26 @@ module _ (lasts : Bool) (old new : State) (lasting : IsTrue lasts → HasCleanDi
       let r = makes (lasting k.0).0 (rows_in old) k.1 (suits (rows_in old) refl) in
       let same = told_rows new (changed change (rows_in old)) r in (ap Some same, (k.0, knows new (changed change (rows_in old)) r, tt))
   after_change false change doubt k suits makes = (refl, tt)
+
+  -- a call that leaves the rows leaves what is told
+  pub after_keeping : (tells : Bool) (doubt : Option Doubt) → Knows tells lasts old doubt → (HasCleanDisk new → IsTrue new.is_open → Keeps old new)
+      → (told tells new ≡ told tells old) × Knows tells lasts new doubt
+  after_keeping true doubt k keeps =
+      let r = keeps (lasting k.0).0 (lasting k.0).1 (rows_in old) k.1 in
+      let same = told_rows new (rows_in old) r in (ap Some same, (k.0, knows new (rows_in old) r, subst (SuitsDoubt doubt) (sym same) k.2))
+  after_keeping false doubt k keeps = (refl, tt)
+
+  -- the rows that are loaded are those that are told
+  pub told_loaded : {V E : Type 0} (items : V → List Row) (r : Result V E) (tells : Bool) (doubt : Option Doubt) → Knows tells lasts old doubt
+      → (HasCleanDisk new → IfOk r (λ loaded. Loads old new (items loaded))) → IfOk r (λ loaded. IfSome (told tells old) (λ all. items loaded ≡ all))
+  told_loaded items (Ok loaded) true doubt k loads = (loads (lasting k.0).0 (rows_in old) k.1).0
+  told_loaded items (Ok loaded) false doubt k loads = tt
+  told_loaded items (Err e) tells doubt k loads = tt
+
+-- a load leaves the rows, whatever it answers
+pub load_keeps : {V E : Type 0} (items : V → List Row) (old new : State) (r : Result V E) → IfOk r (λ loaded. Loads old new (items loaded)) → OnErr r (Keeps old new) → Keeps old new
+load_keeps items old new (Ok loaded) loads refused = λ rows holds. (loads rows holds).1
+load_keeps items old new (Err e) loads refused = refused
 
 kept_is : (change : Change) (keep : Bool) (rows : List Row) → keep ≡ true → kept (Some (record { change = change; keep = keep })) rows ≡ changed change rows
 kept_is change true rows h = refl

@@ -17,6 +17,7 @@ use outer_traits::MemoryShelf;
 use plugin_trait::Plugin;
 use std::alloc::Global;
 use std::process::Abort;
+use std::slice;
 use std::test::Fail;
 use update_log::Request;
 use version_formats::Version;
@@ -215,10 +216,16 @@ fn row(alloc: Global, entry: u32) -> Result<Row, Fail> {
     })
 }
 
+/// Puts a row behind the others.
+fn put(rows: &mut Vec<Row>, row: &Row) -> Result<(), Fail> {
+    rows.extend_from_slice(slice::from_ref(row))?;
+    Ok(())
+}
+
 fn rows(alloc: Global, count: u32) -> Result<Vec<Row>, Fail> {
     let mut rows = Vec::new(alloc);
     for entry in 1..=count {
-        rows.push(row(alloc, entry)?)?;
+        put(&mut rows, &row(alloc, entry)?)?;
     }
     Ok(rows)
 }

@@ -11,6 +11,7 @@ use log_stories::Story;
 use release_catalogue::{Catalogue, ReleaseRef};
 use serde_json::Value;
 use std::alloc::Global;
+use std::slice;
 use std::test::Fail;
 use update_log::{Facts, InstallFlags, PluginVetoes, Request};
 use version_formats::{Format, Version};
@@ -184,12 +185,18 @@ pub fn row(
     })
 }
 
+/// Puts a row behind the others.
+pub fn put(rows: &mut Vec<Row>, row: &Row) -> Result<(), Fail> {
+    rows.extend_from_slice(slice::from_ref(row))?;
+    Ok(())
+}
+
 /// The rows that hinder a request.
 fn rows_at(alloc: Global, level: Level) -> Result<Vec<Row>, Fail> {
     let mut rows = Vec::new(alloc);
     if level.has(4) {
         let tag = if level.has(0) { "t1" } else { "earlier" };
-        rows.push(row(1, tag, 2, RowState::Begun, [10; 32])?)?;
+        put(&mut rows, &row(1, tag, 2, RowState::Begun, [10; 32])?)?;
     }
     Ok(rows)
 }

@@ -1,6 +1,6 @@
 //! The verdict and the plain program decide the same, and what was meant.
 use crate::scenes::{
-    Level, client_at, pool_at, release_at, request, request_at, row, story_at, story_over,
+    Level, client_at, pool_at, put, release_at, request, request_at, row, story_at, story_over,
 };
 use device_list::Selector;
 use fw_base::Name;
@@ -283,7 +283,7 @@ fn a_device_out_of_its_port(rt: HostRuntime) -> Result<(), Fail> {
 /// The machine of that level, over one row that was put off by a client.
 fn put_off(alloc: Global, level: Level, client: u32, digest: [u8; 32]) -> Result<Story, Fail> {
     let mut rows = Vec::new(alloc);
-    rows.push(row(1, "t1", client, RowState::Pending, digest)?)?;
+    put(&mut rows, &row(1, "t1", client, RowState::Pending, digest)?)?;
     story_over(alloc, level, pool_at(level), rows)
 }
 
@@ -511,9 +511,12 @@ fn full(alloc: Global, tag: &str, last: RowState) -> Result<Vec<Row>, Fail> {
     let mut rows = Vec::new(alloc);
     for entry in 1..65_536 {
         let tag = format!(in alloc; "r{entry}")?;
-        rows.push(row(entry, tag.as_str(), 2, RowState::Success, [10; 32])?)?;
+        put(
+            &mut rows,
+            &row(entry, tag.as_str(), 2, RowState::Success, [10; 32])?,
+        )?;
     }
-    rows.push(row(65_536, tag, 2, last, [10; 32])?)?;
+    put(&mut rows, &row(65_536, tag, 2, last, [10; 32])?)?;
     Ok(rows)
 }
 

@@ -11,6 +11,7 @@ use log_stories::Story;
 use release_catalogue::Catalogue;
 use serde_json::Value;
 use std::alloc::Global;
+use std::slice;
 use std::test::Fail;
 use update_log::{Facts, InstallFlags, PluginVetoes, Query, Request};
 use version_formats::{Format, Version};
@@ -210,12 +211,18 @@ fn row(alloc: Global, entry: u32, port: &str, state: RowState, reason: u8) -> Re
     })
 }
 
+/// Puts a row behind the others.
+fn put(rows: &mut Vec<Row>, row: &Row) -> Result<(), Fail> {
+    rows.extend_from_slice(slice::from_ref(row))?;
+    Ok(())
+}
+
 /// So many rows of installs that went well.
 fn rows(alloc: Global, count: u32) -> Result<Vec<Row>, Fail> {
     let mut rows = Vec::new(alloc);
     for before in 0..count {
         let entry = before.saturating_add(1);
-        rows.push(row(alloc, entry, "usb1", RowState::Success, 0)?)?;
+        put(&mut rows, &row(alloc, entry, "usb1", RowState::Success, 0)?)?;
     }
     Ok(rows)
 }
@@ -271,13 +278,13 @@ const WORDS: &str =
 
 fn hindered_rows(alloc: Global) -> Result<Vec<Row>, Fail> {
     let mut rows = Vec::new(alloc);
-    rows.push(row(alloc, 1, "usb1", RowState::Failed, 4)?)?;
+    put(&mut rows, &row(alloc, 1, "usb1", RowState::Failed, 4)?)?;
     let mut second = row(alloc, 2, "usb1", RowState::Pending, 0)?;
     second.duration = 30;
     second.protocol = Some(Name::read(b"org.usb.dfu")?);
-    rows.push(second)?;
-    rows.push(row(alloc, 3, "gone", RowState::Begun, 0)?)?;
-    rows.push(row(alloc, 4, "away", RowState::NeedsReboot, 0)?)?;
+    put(&mut rows, &second)?;
+    put(&mut rows, &row(alloc, 3, "gone", RowState::Begun, 0)?)?;
+    put(&mut rows, &row(alloc, 4, "away", RowState::NeedsReboot, 0)?)?;
     Ok(rows)
 }
 

@@ -228,6 +228,12 @@ pub(crate) fn again(alloc: Global, files: Files<Stopping>) -> Result<StoppingKee
     Ok(StoppingKeeper { keeper })
 }
 
+/// The rows of these files.
+pub(crate) fn rows_of(alloc: Global, files: Files<Stopping>) -> Result<Vec<Row>, Fail> {
+    let mut it = again(alloc, files)?;
+    Ok(it.keeper.load(alloc)?)
+}
+
 // How many of these rows have the tag of this one.
 fn rows_with_tag(rows: &[Row], row: &Row) -> usize {
     let mut same = 0usize;
@@ -241,8 +247,7 @@ fn rows_with_tag(rows: &[Row], row: &Row) -> usize {
 
 /// Whether a tag has two rows in these files, or there is no row.
 pub(crate) fn has_wrong_tags(alloc: Global, files: Files<Stopping>) -> Result<bool, Fail> {
-    let mut it = again(alloc, files)?;
-    let rows = it.keeper.load(alloc)?;
+    let rows = rows_of(alloc, files)?;
     for row in &rows {
         if rows_with_tag(&rows, row) != 1 {
             return Ok(true);

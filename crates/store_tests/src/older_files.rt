@@ -1,15 +1,15 @@
 //! The stop at each call of a file of schema 1 whose rows are taken over. What each crash left is one of schema 1 with
 //! the same rows, or one of this schema, which has them with the values for what schema 1 doesn't tell.
 use crate::files::{
-    CRASHES, Crashed, Halted, Stop, after, first, go_on, halt, opened, stopping, stopping_again,
+    CRASHES, Crashed, Halted, Stop, after, first, go_on, halt, opened, rows_of, stopping,
+    stopping_again,
 };
 use crate::stopping::Stopping;
 use fw_base::Name;
 use guid_ids::DeviceId;
-use history_keeper::{Keeper, Row, RowState};
-use history_sqlite::SqlKeeper;
+use history_keeper::{Row, RowState};
 use history_sqlite::finding::{Found, find_tables};
-use sqlite::{Connection, FileStore, Files};
+use sqlite::Files;
 use std::alloc::Global;
 use std::test::Fail;
 use version_formats::Version;
@@ -19,12 +19,16 @@ const TABLES: &str = "CREATE TABLE schema (number INTEGER NOT NULL) STRICT;
 CREATE TABLE history (entry INTEGER PRIMARY KEY, tag TEXT NOT NULL UNIQUE, client INTEGER NOT NULL, device BLOB NOT NULL, component TEXT NOT NULL, version_old TEXT NOT NULL, version_new TEXT NOT NULL, digest BLOB NOT NULL, flags INTEGER NOT NULL, state INTEGER NOT NULL, reason INTEGER NOT NULL, time_added INTEGER NOT NULL, time_changed INTEGER NOT NULL) STRICT;
 INSERT INTO schema VALUES (1);";
 
-/// A row of these tables, behind its entry, its tag, its state and its reason.
+/// The insert of rows into them, up to the first row.
+const INSERT: &str =
+    "INSERT INTO history (entry, tag, state, reason, client, device, component, version_old, version_new, digest, flags, time_added, time_changed) VALUES ";
+
+/// What all rows have behind their entry, their tag, their state and their reason.
 const VALUES: &str =
     "3, x'0202020202020202020202020202020202020202', 'org.example.board', '1.0.0', '1.1.0', x'0707070707070707070707070707070707070707070707070707070707070707', 5, 1000, 1001";
 
 /// So many rows, which take more than one page of the file.
-const ROWS: u32 = 60;
+const ROWS: u32 = 40;
 
 /// Stops counted up to here are enough.
 const MOST: u64 = 1000;
@@ -62,31 +66,32 @@ fn row(alloc: Global, entry: u32) -> Result<Row, Fail> {
     })
 }
 
-/// Adds the row of this entry to the table of schema 1.
-fn add(
-    alloc: Global,
-    connection: &mut Connection<FileStore<Stopping>>,
-    entry: u32,
-) -> Result<(), Fail> {
+/// The values of the row of this entry, in the order of the insert.
+fn values(alloc: Global, entry: u32) -> Result<String, Fail> {
     let (state, reason) = reached(entry);
     let state = match state {
         RowState::Begun => 100,
         _ => 3,
     };
-    let text = format!(in alloc;
-        "INSERT INTO history (entry, tag, state, reason, client, device, component, version_old, version_new, digest, flags, time_added, time_changed) VALUES ({entry}, 't{entry}', {state}, {reason}, {VALUES})"
-    )?;
-    connection.execute(&text, &[])?;
-    Ok(())
+    Ok(format!(in alloc; "({entry}, 't{entry}', {state}, {reason}, {VALUES})")?)
+}
+
+/// The insert of all rows into the table of schema 1.
+fn insert(alloc: Global) -> Result<String, Fail> {
+    let first = values(alloc, 1)?;
+    let mut text = format!(in alloc; "{INSERT}{first}")?;
+    for at in 1..ROWS {
+        text.push_str(", ")?;
+        text.push_str(values(alloc, at + 1)?.as_str())?;
+    }
+    Ok(text)
 }
 
 /// Files of schema 1 with the rows.
 fn older_files(alloc: Global) -> Result<Halted, Fail> {
     let mut connection = opened(alloc, stopping(alloc, Stop::Log, u64::MAX))?;
     connection.execute_batch(TABLES)?;
-    for at in 0..ROWS {
-        add(alloc, &mut connection, at + 1)?;
-    }
+    connection.execute_batch(insert(alloc)?.as_str())?;
     halt(alloc, connection.into_store().close())
 }
 
@@ -122,12 +127,16 @@ fn are_the_rows(alloc: Global, rows: &[Row]) -> Result<bool, Fail> {
     Ok(entry == ROWS)
 }
 
-/// What these files have, by their tables and their number, where a keeper over them has the rows.
-fn kept_by(alloc: Global, files: Files<Stopping>) -> Result<Option<Found>, Fail> {
+/// What these files have of the tables.
+fn tables_of(alloc: Global, files: Files<Stopping>) -> Result<Found, Fail> {
     let mut connection = opened(alloc, files)?;
-    let found = find_tables(&mut connection)?;
-    let mut keeper = SqlKeeper::adopt(alloc, connection)?;
-    let rows = keeper.load(alloc)?;
+    Ok(find_tables(&mut connection)?)
+}
+
+/// What the crash left of the tables, where a keeper then has the rows.
+fn kept_by(alloc: Global, left: &Halted, crashed: Crashed) -> Result<Option<Found>, Fail> {
+    let found = tables_of(alloc, after(alloc, left, crashed)?)?;
+    let rows = rows_of(alloc, after(alloc, left, crashed)?)?;
     if are_the_rows(alloc, &rows)? {
         Ok(Some(found))
     } else {
@@ -160,7 +169,7 @@ fn may_stand(found: Found, whole: bool) -> bool {
 /// The first crash that leaves something else than the rows, in a schema that may stand.
 fn first_wrong(alloc: Global, left: &Halted, whole: bool) -> Result<Option<Crashed>, Fail> {
     for crashed in CRASHES {
-        match kept_by(alloc, after(alloc, left, crashed)?)? {
+        match kept_by(alloc, left, crashed)? {
             Some(found) if may_stand(found, whole) => {}
             _ => return Ok(Some(crashed)),
         }
@@ -212,7 +221,7 @@ fn first_otherwise(alloc: Global, older: &Halted, stop: Stop) -> Result<(u64, To
 fn older_rows_are_taken_over_whole_or_not_at_all(rt: HostRuntime) -> Result<(), Fail> {
     let alloc = rt.alloc();
     let older = older_files(alloc)?;
-    let kept = kept_by(alloc, after(alloc, &older, Crashed::Lost)?)?;
+    let kept = kept_by(alloc, &older, Crashed::Lost)?;
     assert_eq!(rt; kept, Some(Found::Older));
     for stop in [Stop::Log, Stop::Database] {
         let (calls, told) = first_otherwise(alloc, &older, stop)?;

@@ -3,6 +3,7 @@ ghost use Rattle.std.specs.Prelude.{◌≤◌, OnOk};
 
 use super::*;
 use guid_ids::device_id;
+use std::slice;
 use std::test::Fail;
 use version_formats::Version;
 
@@ -27,11 +28,17 @@ fn row(entry: u32, tag: &[u8], device: &[u8], state: RowState) -> Result<Row, Fa
     })
 }
 
+/// Puts a row behind the others.
+fn put(rows: &mut Vec<Row>, row: &Row) -> Result<(), Fail> {
+    rows.extend_from_slice(slice::from_ref(row))?;
+    Ok(())
+}
+
 fn history(alloc: Global) -> Result<IndexedRows, Fail> {
     let mut list = Vec::new(alloc);
-    list.push(row(1, b"t1", b"usb1", RowState::Success)?)?;
-    list.push(row(2, b"t2", b"usb2", RowState::NeedsReboot)?)?;
-    list.push(row(3, b"t3", b"usb1", RowState::Pending)?)?;
+    put(&mut list, &row(1, b"t1", b"usb1", RowState::Success)?)?;
+    put(&mut list, &row(2, b"t2", b"usb2", RowState::NeedsReboot)?)?;
+    put(&mut list, &row(3, b"t3", b"usb1", RowState::Pending)?)?;
     let mut rows = IndexedRows::new(alloc);
     rows.put(list);
     Ok(rows)
