@@ -259,8 +259,15 @@ pub fn run_claim<R: Wait, K: Keeper, N: Naming, G: Gate>(
         trace,
     } = taken;
     let claim = Begun::new(entry, board, payload, trace);
-    let plugin = &*plugins[plugin as usize];
-    match make_steps(rt, daemon, pass, entry, gate, claim, plugin) {
+    match make_steps(
+        rt,
+        daemon,
+        pass,
+        entry,
+        gate,
+        claim,
+        &*plugins[plugin as usize],
+    ) {
         Ok(claim) => finish(rt, daemon, pass, entry, claim),
         Err(Off) => Outcome::Off,
     }
