@@ -98,7 +98,17 @@ fn run_over<R: Runtime + AllocGlobal + Threads + Wait + Sync, K: Keeper + Send +
         return Err(NoMemory);
     };
     let mut sink = WriteSink::new(&mut gathered);
-    let ran = run_over_folder(rt, host, words, &mut source, SHELF, keeper, &mut sink)?;
+    let plugins = Vec::new(rt.alloc());
+    let ran = run_over_folder(
+        rt,
+        host,
+        words,
+        &mut source,
+        SHELF,
+        plugins,
+        keeper,
+        &mut sink,
+    )?;
     let Ran {
         status,
         log: _,
