@@ -3,7 +3,7 @@ ghost use Rattle.std.specs.Prelude.{◌≡◌, ◌+◌, ◌∷◌, ◌<◌, ◌�
 ghost use Rattle.turn_lock.specs.declared.view.SeatView.TheVariants.{Opening, Idle, Closing};
 ghost use Rattle.turn_lock.specs.Shown.{IsReady, new_pass};
 ghost use Rattle.turn_lock.specs.Views.{CanTakeIn, accounts_of, knowledge_of, own_of};
-ghost use Rattle.turn_lock.specs.Steps.{SitsAt, HasTicket, HasTurn, Finds, MayEnd, Ends};
+ghost use Rattle.turn_lock.specs.Steps.{SitsAt, HasTicket, Finds, MayEnd, Ends};
 
 use crate::chronicle::Chronicle;
 use crate::opening::Start;

@@ -7,13 +7,16 @@ use crate::chronicle::Chronicle;
 use crate::steps::{Found, LockSeat, LockTable, TURNS, bell_of, look, mark, ring};
 use std::hint::spin_loop;
 use std::sync::Wait;
+use std::thread::yield_now;
 
 // At most so many of those in line are awake, with the one that has the turn.
 const MOST_AWAKE: u32 = 4;
 
-// So often a pass looks whose turn is near, before it sleeps. That takes about as long as to fall
-// asleep and to wake up again.
-const LOOKS: u32 = 1000;
+// Whose turn is near looks so often at the turns, and after each of so many rounds it lets another
+// thread run: in all about as long as it takes to fall asleep and to wake up again.
+const LOOKS: u32 = 19;
+
+const ROUNDS: u32 = 53;
 
 /// How many of those who wait are awake beside the one that has the turn.
 pub(crate) fn awake_beside(processors: u32) -> u32 {
@@ -27,7 +30,23 @@ fn is_near<V: Chronicle>(table: &LockTable<V>, ticket: u64, ahead: u32) -> bool
     ticket.wrapping_sub(table.peek(TURNS)) <= u64::from(ahead)
 }
 
-/// Looks again and again while the seat's turn is near, but no longer than a sleep would take.
+// Looks again and again, for one round.
+fn look_often<V: Chronicle>(table: &LockTable<V>, seat: &mut LockSeat<V>, ticket: u64) -> Found
+    requires seat { SitsAt table.now.table_id seat.old.table_id }
+    requires ticket { HasTicket ticket (own_of seat.old.me.0) seat.old.me }
+    ensures seat { seat.new.table_id ≡ seat.old.table_id }
+    ensures found { Finds V.entries V.by seat.old.me result seat.new.me }
+{
+    for _ in 0..LOOKS {
+        match look(table, seat, ticket) {
+            Found::OwnTurn => return Found::OwnTurn,
+            Found::OtherTurn => spin_loop(),
+        }
+    }
+    Found::OtherTurn
+}
+
+/// Looks for a while, if the seat's turn is near.
 fn watch<V: Chronicle>(
     table: &LockTable<V>,
     seat: &mut LockSeat<V>,
@@ -39,13 +58,13 @@ fn watch<V: Chronicle>(
     ensures seat { seat.new.table_id ≡ seat.old.table_id }
     ensures found { Finds V.entries V.by seat.old.me result seat.new.me }
 {
-    for _ in 0..LOOKS {
-        if !is_near(table, ticket, ahead) {
-            return Found::OtherTurn;
-        }
-        match look(table, seat, ticket) {
+    if !is_near(table, ticket, ahead) {
+        return Found::OtherTurn;
+    }
+    for _ in 0..ROUNDS {
+        match look_often(table, seat, ticket) {
             Found::OwnTurn => return Found::OwnTurn,
-            Found::OtherTurn => spin_loop(),
+            Found::OtherTurn => yield_now(),
         }
     }
     Found::OtherTurn
