@@ -126,8 +126,8 @@ pub(crate) fn mark<V: Chronicle>(table: &LockTable<V>, seat: &mut LockSeat<V>, b
     ensures seat { seat.new.table_id ≡ seat.old.table_id }
     ensures same { seat.new.me ≡ seat.old.me }
 {
-    let marked = table.fetch_or::<Ring>(seat, bell, MARK) | MARK;
-    (marked % (1 << 32)) as u32
+    let was = table.fetch_or::<Ring>(seat, bell, MARK);
+    ((was | MARK) % (1 << 32)) as u32
 }
 
 /// Ring: where the bell of this ticket is marked, its number rises, which takes the mark away, and
