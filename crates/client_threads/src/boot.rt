@@ -31,6 +31,7 @@ use shared_daemon::{Daemon, Naming, Pass};
 use std::alloc::Global;
 use std::marker::Brand;
 use std::sync::Wait;
+use std::thread;
 use std::thread::Threads;
 use turn_lock::Refused;
 
@@ -82,6 +83,14 @@ fn play_behind<
     (house, wanting)
 }
 
+// How many of the clients can run at once: one at least.
+fn processors<R: Threads>(rt: &R) -> u32 {
+    match thread::available_parallelism(rt) {
+        Ok(count) => u32::try_from(count.get()).unwrap_or(u32::MAX),
+        Err(_) => 1,
+    }
+}
+
 // Puts the house behind the lock of a daemon, with a pass for each client, and lets the clients play. Where
 // there is no memory for that, they are left, and it says so.
 fn play_named<
@@ -115,7 +124,7 @@ fn play_named<
     let Ok(clients) = Vec::with_capacity(alloc, of_boot.len()) else {
         return (house, true);
     };
-    match Daemon::<K, N>::begin(alloc, house, of_boot.len() as u32) {
+    match Daemon::<K, N>::begin(alloc, house, of_boot.len() as u32, processors(rt)) {
         Ok((daemon, passes)) => play_behind(
             rt, daemon, passes, clients, shelves, of_boot, plugins, gate,
         ),

@@ -159,7 +159,7 @@ pub fn day<R: Abort + Wait, K: Keeper + Drop, N: Naming, G: Gate>(
     requires start { chronicle house ≡ N.name.start }
     requires nothing { HasNothing (chronicle house) }
 {
-    match Daemon::<K, N>::begin(alloc, house, 2) {
+    match Daemon::<K, N>::begin(alloc, house, 2, 1) {
         Ok((daemon, mut passes)) => {
             let told = play_all(rt, &daemon, &mut passes, shelf, asks);
             let house = daemon.close(passes);

@@ -123,7 +123,7 @@ fn day<R: Abort + Wait, K: Keeper, N: Naming, G: Gate>(
     requires put_off { IsPutOff N.name tasks.now.put_off N.name.start }
     requires begun { HasRow N.name tasks.now.begun N.name.start }
 {
-    match Daemon::<K, N>::begin(alloc, house, 0) {
+    match Daemon::<K, N>::begin(alloc, house, 0, 1) {
         Ok((daemon, mut passes)) => {
             let answers = play(rt, &daemon, &mut passes, shelf, tasks);
             let house = daemon.close(passes);

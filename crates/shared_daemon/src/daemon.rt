@@ -44,11 +44,12 @@ impl<K: Keeper, N: Naming> Model for Daemon<K, N> {
 impl<K: Keeper, N: Naming> Daemon<K, N> {
     /// A daemon round a house, with a pass for the daemon itself, which is pass 0, and one for each of so
     /// many clients. The house was booted, and no client has anything out. `Refused` is want of memory,
-    /// and hands the house back.
+    /// and hands the house back. No more clients in line are awake than there are processors.
     pub fn begin(
         alloc: Global,
         house: House<K>,
         clients: u32,
+        processors: u32,
     ) -> Result<(Daemon<K, N>, Vec<Pass>), Refused<House<K>>>
         requires few { clients ≤ 16 }
         requires name { KeepsName K.faults N.name house }
@@ -63,7 +64,7 @@ impl<K: Keeper, N: Naming> Daemon<K, N> {
         ensures refused { IfErr result (λ refused. refused.value ≡ house) }
     {
         house.known();
-        match TurnLock::new(alloc, Named::of(house), clients + 1) {
+        match TurnLock::new(alloc, Named::of(house), clients + 1, processors) {
             Ok((lock, passes)) => Ok((Daemon { lock }, passes)),
             Err(refused) => {
                 let Refused { value } = refused;

@@ -1,18 +1,21 @@
-/* The steps of the lock in src/steps.rt and src/lock.rt, as a model for the tool spin, which looks at every order in
-   which they can come. No clause of the crate says that `enter` returns. Here, for so many passes and turns, spin tells
-   each state from which nothing goes on though a pass hasn't had all its turns.
+/* The steps of the lock in src/steps.rt, src/waiting.rt and src/lock.rt, as a model for the tool spin, which looks at
+   every order in which they can come. No clause of the crate says that `enter` returns. Here, for so many passes and
+   turns, spin tells each state from which nothing goes on though a pass hasn't had all its turns.
 
    What the model leaves out makes none of these states fewer. A sleep ends by a wake-up alone; a real one may also end
-   by itself, which is to look once more. Of a bell's number only this counts: whether it is still the one that was
-   read. (So it doesn't wrap; in the program a wake-up would be lost where a bell rang 2^32 times between the reading
-   and the sleep.) The passes take so many turns in all, however these are dealt: three each is one way of many. A pass
-   between two turns is like any other, so of these only the first draws a ticket.
+   by itself, which is to look once more. How often a pass looks before it sleeps isn't said: it may stop at any moment.
+   Of a bell's number only this counts: whether it is marked, and whether it is still the one that was read. (So it
+   doesn't wrap; in the program a wake-up would be lost where a bell rang 2^31 times between the mark and the sleep.)
+   The passes take so many turns in all, however these are dealt: three each is one way of many. A pass between two turns
+   is like any other, so of these only the first draws a ticket.
 
    Each of the words below leaves a mistake in, and spin must find a state of each in which a pass sleeps for ever:
-   LOOK_BEFORE_BELL   the turns are looked at before the bell is read
+   LOOK_BEFORE_MARK   the turns are looked at before the bell is marked, and not after
+   SLEEP_UNMARKED     whoever was woken ahead and looked in vain sleeps again, and doesn't mark the bell anew
    NO_RING            whoever ends a turn wakes nobody
-   RING_BEFORE_END    the next bell rings before the turn ends
-   PEEK_BEFORE_END    whether the next ticket was drawn is asked before the turn ends
+   AHEAD_ALONE        the ticket after the next is woken, and the next isn't, since it was woken ahead
+   RING_BEFORE_END    the bells ring before the turn ends
+   PEEK_BEFORE_END    whether a bell is marked is asked before the turn ends
    WAKE_WITHOUT_RING  sleepers are woken, and the bell keeps its number */
 
 #ifndef PASSES
@@ -26,12 +29,14 @@
 #ifndef BELLS
 #define BELLS 3
 #endif
-
 /* How many tickets were drawn, and how many turns have ended. */
 byte tickets, turns;
 
-/* Of each pass: the bell that it has read, or BELLS where it has read none since it last woke; whether that has rung
-   since; and whether the pass sleeps. */
+/* Which bells are marked. */
+bool marked[BELLS];
+
+/* Of each pass: the bell whose number it has read, or BELLS where it has read none that still matters; whether that
+   has rung since; and whether the pass sleeps. */
 byte bell[PASSES];
 bool rang[PASSES];
 bool asleep[PASSES];
@@ -49,9 +54,13 @@ inline draw() {
 	}
 }
 
-/* Reads the bell. */
-inline read_bell() {
-	bell[me] = ticket % BELLS
+/* Marks the bell of its ticket, and has its number. */
+inline mark() {
+	d_step {
+		bell[me] = ticket % BELLS;
+		rang[me] = false;
+		marked[ticket % BELLS] = true
+	}
 }
 
 /* The turn has come: no bell is waited for any more. */
@@ -60,8 +69,8 @@ inline stop_waiting() {
 	rang[me] = false
 }
 
-/* Sleeps on the bell, unless it has rung since it was read. The test and the falling asleep are one step, as they are
-   for the system's own call. */
+/* Sleeps on the bell, unless it has rung since it was marked. The test and the falling asleep are one step, as they
+   are for the system's own call. */
 inline park() {
 	d_step {
 		asleep[me] = !rang[me];
@@ -71,48 +80,76 @@ inline park() {
 	!asleep[me]
 }
 
-/* Waits until the turn of the ticket has come: reads the bell, and looks at the turns. */
+#ifdef SLEEP_UNMARKED
+#define MARK_ANEW \
+		if \
+		:: woken -> d_step { bell[me] = ticket % BELLS; rang[me] = false } \
+		:: !woken -> mark() \
+		fi;
+#else
+#define MARK_ANEW mark();
+#endif
+
+/* Waits until the turn of the ticket has come: looks at the turns, or marks the bell, looks once more, and sleeps. */
 inline wait_for() {
 	do
-#ifdef LOOK_BEFORE_BELL
 	:: d_step {
 			turns == ticket -> stop_waiting()
 		}
 		break
+#ifdef LOOK_BEFORE_MARK
 	:: turns != ticket ->
-		read_bell();
+		mark();
 		park()
 #else
-	:: read_bell();
+	:: MARK_ANEW
 		if
 		:: d_step {
 				turns == ticket -> stop_waiting()
 			}
 			break
 		:: turns != ticket -> park()
-		fi
+		fi;
+#ifdef SLEEP_UNMARKED
+		woken = true
+#endif
 #endif
 	od
+#ifdef SLEEP_UNMARKED
+	;
+	woken = false
+#endif
 }
 
-/* The bell of the next ticket gets another number. */
+/* Whether the bell of that ticket is marked, and its number. */
+inline peek(number) {
+	found = marked[(number) % BELLS];
+	bell[me] = (found -> (number) % BELLS : BELLS);
+	rang[me] = false
+}
+
+/* The bell whose number was read gets the next one, which has no mark, unless it has done so already. */
 inline ring() {
-	d_step {
-		next = (ticket + 1) % BELLS;
-		other = 0;
+	found = !rang[me];
+	next = (found -> bell[me] : 0);
+	bell[me] = BELLS;
+	rang[me] = false;
+#ifndef WAKE_WITHOUT_RING
+	if
+	:: found ->
+		marked[next] = false;
 		do
 		:: other < PASSES -> rang[other] = (rang[other] || bell[other] == next) && !asleep[other]; other++
 		:: else -> break
 		od;
-		next = 0;
 		other = 0
-	}
+	:: else
+	fi
+#endif
 }
 
 /* Those who sleep on that bell wake. */
 inline wake() {
-	next = (ticket + 1) % BELLS;
-	other = 0;
 	do
 	:: other < PASSES ->
 		if
@@ -124,6 +161,7 @@ inline wake() {
 		other++
 	:: else -> break
 	od;
+	found = false;
 	next = 0;
 	other = 0
 }
@@ -136,58 +174,69 @@ inline end_turn() {
 	}
 }
 
+/* Rings the bell of that ticket, if it is marked. */
+inline call(number) {
+	d_step {
+		peek(number)
+	}
+	if
+	:: d_step { found -> ring() }
+		if
+		:: d_step { found -> wake() }
+		:: !found
+		fi
+	:: !found
+	fi
+}
+
 /* The pass is between two turns. */
 inline rest() {
 	ticket = 0;
 	busy = busy & ~(1 << me)
 }
 
-#ifdef WAKE_WITHOUT_RING
-#define RING
-#else
-#define RING ring();
-#endif
-
-/* Ends the turn, and then rings the bell of the next ticket, if that was drawn. */
+/* Ends the turn, and then rings for the next ticket and for the one behind it. */
 inline leave() {
 #ifdef RING_BEFORE_END
-	if
-	:: tickets != ticket + 1 ->
-		RING
-		d_step { wake() }
-	:: tickets == ticket + 1
-	fi;
+	call(ticket + 1);
+	call(ticket + 2);
 	end_turn();
-	d_step { rest() }
 #else
 #ifdef PEEK_BEFORE_END
-	if
-	:: tickets != ticket + 1 ->
-		end_turn();
-		RING
-		d_step { wake(); rest() }
-	:: tickets == ticket + 1 ->
-		end_turn();
-		d_step { rest() }
-	fi
-#else
+	d_step {
+		peek(ticket + 1)
+	}
 	end_turn();
 	if
-#ifndef NO_RING
-	:: tickets != ticket + 1 ->
-		RING
-		d_step { wake(); rest() }
-	:: d_step { tickets == ticket + 1 -> rest() }
+	:: d_step { found -> ring() }
+		if
+		:: d_step { found -> wake() }
+		:: !found
+		fi
+	:: !found
+	fi;
+	call(ticket + 2);
 #else
-	:: d_step { true -> rest() }
+	end_turn();
+#ifndef NO_RING
+#ifndef AHEAD_ALONE
+	call(ticket + 1);
 #endif
-	fi
+	call(ticket + 2);
 #endif
 #endif
+#endif
+	d_step {
+		rest()
+	}
 }
 
 proctype pass(byte me) {
 	byte ticket, next, other;
+	bool found;
+#ifdef SLEEP_UNMARKED
+	bool woken;
+#endif
 end:	do
 	:: draw(); wait_for(); leave()
 	od

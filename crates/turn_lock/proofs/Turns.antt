@@ -260,9 +260,10 @@ module _ {X E : Type 0} (entries : X → List E) (by : E → ℕ) (seats : ℕ) 
   bells_change ws a b bells (suc zero) n low is = absurd (omega arith)
   bells_change ws a b bells (suc (suc i)) n low is = (set bells i n, ap (λ (us : List ℕ). set us (suc (suc i)) n) is)
 
-  pub rings : (slots id word : ℕ) (me : Seated X E) → 2 ≤ word → (st : Step (Option X)) → Allows R slots id me word (λ n. (n + 1) % 2 ^ 64) (Rings st me)
-  rings slots id word me low st = λ s r sized at fits.
-      let n = (get_or s.words word 0 + 1) % 2 ^ 64 in
+  -- a bell may get any number
+  pub rings : (slots id word : ℕ) (me : Seated X E) (f : ℕ → ℕ) → 2 ≤ word → (st : Step (Option X)) → Allows R slots id me word f (Rings st me)
+  rings slots id word me f low st = λ s r sized at fits.
+      let n = f (get_or s.words word 0) in
       let changed = bells_change s.words _ _ r.bells word n low r.words in
       let rung : St = record { words = set s.words word n; homes = s.homes; views = s.views } in
       let kept : R rung = record {

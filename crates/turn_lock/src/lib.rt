@@ -14,6 +14,7 @@ mod rule;
 mod steps;
 mod turn;
 mod view;
+mod waiting;
 
 pub use chronicle::Chronicle;
 pub use lock::TurnLock;

@@ -8,8 +8,9 @@ use crate::chronicle::Chronicle;
 use crate::closing::gather;
 use crate::opening::{OwnTable, Refused, Start, lay, make_passes};
 use crate::pass::Pass;
-use crate::steps::{VALUE, call_next, draw, pass_on, put, take, wait_for};
+use crate::steps::{VALUE, draw, pass_on, put, take};
 use crate::turn::Turn;
+use crate::waiting::{awake_beside, call_next, wait_for};
 use std::alloc::Global;
 use std::marker::Model;
 use std::snapshot::Snapshot;
@@ -21,6 +22,7 @@ use std::sync::Wait;
 pub struct TurnLock<V: Chronicle> {
     table: OwnTable<V>,
     seats: u32,
+    ahead: u32,
 }
 
 impl<V: Chronicle> Model for TurnLock<V> {
@@ -38,12 +40,14 @@ impl<V: Chronicle> Model for TurnLock<V> {
 }
 
 impl<V: Chronicle> TurnLock<V> {
-    /// A lock round the value, and its passes, which are numbered from 0.
+    /// A lock round the value, and its passes, which are numbered from 0. Of those in line for a
+    /// turn no more are awake than there are processors, which is told once.
     /// No other call takes memory. `Refused` is want of memory, and hands the value back.
     pub fn new(
         alloc: Global,
         value: V,
         seats: u32,
+        processors: u32,
     ) -> Result<(TurnLock<V>, Vec<Pass<V::Entry>>), Refused<V>>
         requires seats { 1 ≤ seats }
 
@@ -66,7 +70,15 @@ impl<V: Chronicle> TurnLock<V> {
         };
         let (table, opener) = lay(alloc, value, &start)?;
         make_passes(&table.shared, opener, &mut passes, seats);
-        Ok((TurnLock { table, seats }, passes))
+        let ahead = awake_beside(processors);
+        Ok((
+            TurnLock {
+                table,
+                seats,
+                ahead,
+            },
+            passes,
+        ))
     }
 
     /// Waits until it is the pass's turn. No clause says that it comes.
@@ -84,7 +96,7 @@ impl<V: Chronicle> TurnLock<V> {
     {
         let mut seat = pass.lend();
         let ticket = draw(&self.table.shared, &mut seat);
-        wait_for(rt, &self.table.shared, &mut seat, ticket);
+        wait_for(rt, &self.table.shared, &mut seat, ticket, self.ahead);
         let value = take(&self.table.shared, &mut seat);
         Turn { value, seat }
     }
@@ -103,7 +115,7 @@ impl<V: Chronicle> TurnLock<V> {
         let Turn { value, mut seat } = turn;
         put(&self.table.shared, &mut seat, value);
         let ended = pass_on(&self.table.shared, &mut seat);
-        call_next(&self.table.shared, &mut seat, ended);
+        call_next(&self.table.shared, &mut seat, ended, self.ahead);
         pass.regain(seat);
     }
 
@@ -118,7 +130,11 @@ impl<V: Chronicle> TurnLock<V> {
         ensures mine { All (HasItsEntries V.by self.start (V.entries result)) passes.items }
         ensures makers { All (λ e. V.by e < self.seats) (beyond self.start (V.entries result)) }
     {
-        let TurnLock { table, seats: _ } = self;
+        let TurnLock {
+            table,
+            seats: _,
+            ahead: _,
+        } = self;
         let closer = gather(&table.shared, passes);
         let mut closed = table.close_with(closer);
         let Some(value) = closed.take(VALUE) else {

@@ -1,9 +1,9 @@
-//! The eight kinds of atomic step, one function each, and the wait for a turn.
+//! The nine kinds of atomic step, one function each.
 ghost use Rattle.std.specs.Prelude.{◌≡◌, ◌+◌, ◌∷◌, ◌<◌, ◌≤◌, ℕ, [], length};
 ghost use Rattle.turn_lock.specs.declared.view.SeatView.TheVariants.{Opening, Idle, Closing};
 ghost use Rattle.turn_lock.specs.Shown.{IsReady, new_pass};
 ghost use Rattle.turn_lock.specs.Views.{CanTakeIn, accounts_of, knowledge_of, own_of};
-ghost use Rattle.turn_lock.specs.Steps.{SitsAt, HasTicket, HasTurn, Finds, MayEnd, Ends};
+ghost use Rattle.turn_lock.specs.Steps.{SitsAt, HasTicket, Finds, MayEnd, Ends};
 
 use crate::chronicle::Chronicle;
 use crate::opening::Start;
@@ -11,7 +11,6 @@ use crate::pass::Pass;
 use crate::rule::{Draw, InTurn, Look, MakePass, PassOn, Ring, TakeIn};
 use crate::view::SeatView;
 use atomic_table::{Seat, Shared};
-use std::sync::Wait;
 
 // The word that counts the tickets drawn, and the word that counts the turns ended, both modulo 2^64.
 pub(crate) const TICKETS: usize = 0;
@@ -22,6 +21,9 @@ pub(crate) const TURNS: usize = 1;
 const FIRST_BELL: usize = 2;
 
 const BELLS: u64 = 16;
+
+// The bit of a bell that says that a pass sleeps on it.
+const MARK: u64 = 1;
 
 // So many words a lock's table has.
 pub(crate) const WORDS: usize = 18;
@@ -110,34 +112,38 @@ pub(crate) fn pass_on<V: Chronicle>(table: &LockTable<V>, seat: &mut LockSeat<V>
 }
 
 // The bell of a ticket, which is given modulo 2^64. Up to 16 that wait have one each.
-fn bell_of(ticket: u64) -> usize
+pub(crate) fn bell_of(ticket: u64) -> usize
     ensures { (FIRST_BELL ≤ result) × (result < WORDS) }
 {
     FIRST_BELL + (ticket % BELLS) as usize
 }
 
-/// Ring: those who sleep on the bell of this ticket wake. Where more wait than there are bells,
-/// one whose turn it is not may wake too, and sleeps again.
+/// Mark: the bell says that a pass sleeps on it, or is about to. The answer is the number that the
+/// bell shows then, of which the system's call sees the low 32 bits.
+pub(crate) fn mark<V: Chronicle>(table: &LockTable<V>, seat: &mut LockSeat<V>, bell: usize) -> u32
+    requires seat { SitsAt table.now.table_id seat.old.table_id }
+    requires bell { (FIRST_BELL ≤ bell) × (bell < WORDS) }
+    ensures seat { seat.new.table_id ≡ seat.old.table_id }
+    ensures same { seat.new.me ≡ seat.old.me }
+{
+    let was = table.fetch_or::<Ring>(seat, bell, MARK);
+    ((was | MARK) % (1 << 32)) as u32
+}
+
+/// Ring: where the bell of this ticket is marked, its number rises, which takes the mark away, and
+/// those who sleep on the bell wake. Of several that ring at once only one does so. Where more wait
+/// than there are bells, one whose turn is far may wake too, and sleeps again.
 pub(crate) fn ring<V: Chronicle>(table: &LockTable<V>, seat: &mut LockSeat<V>, ticket: u64)
     requires seat { SitsAt table.now.table_id seat.old.table_id }
     ensures seat { seat.new.table_id ≡ seat.old.table_id }
     ensures same { seat.new.me ≡ seat.old.me }
 {
     let bell = bell_of(ticket);
-    table.fetch_add::<Ring>(seat, bell, 1);
-    table.wake_all(bell);
-}
-
-/// Lets the pass go on whose ticket is next, if it was drawn.
-/// Where it was not, whoever draws it looks at the turns later, and finds that its turn has come.
-pub(crate) fn call_next<V: Chronicle>(table: &LockTable<V>, seat: &mut LockSeat<V>, ended: u64)
-    requires seat { SitsAt table.now.table_id seat.old.table_id }
-    ensures seat { seat.new.table_id ≡ seat.old.table_id }
-    ensures same { seat.new.me ≡ seat.old.me }
-{
-    let next = ended.wrapping_add(1);
-    if table.peek(TICKETS) != next {
-        ring(table, seat, next);
+    let marked = table.peek(bell);
+    if marked % 2 == MARK
+        && table.compare_exchange::<Ring>(seat, bell, marked, marked.wrapping_add(1)) == marked
+    {
+        table.wake_all(bell);
     }
 }
 
@@ -170,30 +176,4 @@ pub(crate) fn take_in<V: Chronicle>(
     ensures joined { closer.new.me.0 ≡ Closing (knowledge_of pass ∷ accounts_of closer.old.me.0) }
 {
     table.join_seat::<TakeIn>(closer, pass.lend());
-}
-
-/// Looks until the seat's turn has come. It sleeps between two looks, until its bell rings.
-/// No ring is lost: the bell is read before the turns are looked at, and a turn ends before it
-/// rings the next ticket's bell. So a look that came too early read the bell before that ring, and
-/// to park on the number read is to go on at once where the bell has rung since.
-pub(crate) fn wait_for<V: Chronicle, R: Wait>(
-    rt: &R,
-    table: &LockTable<V>,
-    seat: &mut LockSeat<V>,
-    ticket: u64,
-)
-    requires seat { SitsAt table.now.table_id seat.old.table_id }
-    requires ticket { HasTicket ticket (own_of seat.old.me.0) seat.old.me }
-    ensures seat { seat.new.table_id ≡ seat.old.table_id }
-    ensures turn { (x : V) × HasTurn V.entries V.by (own_of seat.old.me.0) x seat.new.me }
-{
-    let bell = bell_of(ticket);
-    for _ in rt.forever() {
-        let rung = table.peek(bell) % (1 << 32);
-        match look(table, seat, ticket) {
-            Found::OwnTurn => return,
-            Found::OtherTurn => table.park(rt, bell, rung as u32),
-        }
-    }
-    unreachable!()
 }

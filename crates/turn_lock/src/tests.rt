@@ -107,7 +107,7 @@ fn items_of(refused: Refused<Counts>) -> Vec<Count>
 
 // The closed list of twenty passes that counted on twenty threads: more than the lock has bells.
 fn twenty_count<R: Threads + Wait + Sync>(rt: &R, alloc: Global) -> Option<Vec<Count>> {
-    match TurnLock::new(alloc, no_counts(alloc), 20) {
+    match TurnLock::new(alloc, no_counts(alloc), 20, 4) {
         Ok((lock, mut passes)) => {
             count_together(rt, &lock, &mut passes);
             let Counts { items } = lock.close(passes);
@@ -139,7 +139,7 @@ fn passes_on_twenty_threads_keep_their_order(rt: HostRuntime) -> Result<(), Fail
 fn closed_at_once(alloc: Global, value: Counts) -> Vec<Count>
     ensures { value.items.items ≡ result.items }
 {
-    match TurnLock::new(alloc, value, 1) {
+    match TurnLock::new(alloc, value, 1, 4) {
         Ok((lock, passes)) => {
             let Counts { items } = lock.close(passes);
             items
@@ -174,7 +174,7 @@ fn look_on<R: Wait>(rt: &R, lock: &TurnLock<Counts>, pass: &mut Pass<Count>) -> 
 
 // Two passes on one thread: the second sees what the first added, and adds nothing.
 fn one_counts_and_one_looks<R: Wait>(rt: &R, alloc: Global) -> Option<(usize, Vec<Count>)> {
-    match TurnLock::new(alloc, no_counts(alloc), 2) {
+    match TurnLock::new(alloc, no_counts(alloc), 2, 4) {
         Ok((lock, mut passes)) => {
             let added = count_one(rt, &lock, &mut passes[0], 5);
             let seen = look_on(rt, &lock, &mut passes[1]);

@@ -1,8 +1,12 @@
 use Rattle.std.proofs.Common.{rules}
+use Rattle.std.specs.Prelude.{ℕ, ◌==◌}
 use mathlib.Core.Option.{none}
+use prog.Atomic.{either}
 use Rattle.atomic_table.specs.Table.{step}
 use Rattle.turn_lock.proofs.Turns.{rings}
 use Rattle.turn_lock.proofs.steps.ring.Goals as goal
 
-pub fetch_add-requires : goal.fetch_add-requires
-fetch_add-requires g c = (search rules, search rules, rings g.V.Chronicle.entries g.V.Chronicle.by _ _ _ _ _ _ c.bell_of-bell.ensures.0 (step 1 c.bell_of-bell.result 1 0 none))
+pub compare_exchange-requires : goal.compare_exchange-requires
+compare_exchange-requires g c =
+    let f : ℕ → ℕ = λ n. either (n == c.peek-marked.result) c.wrapping_add.result n in
+    (search rules, search rules, rings g.V.Chronicle.entries g.V.Chronicle.by _ _ _ _ _ _ f c.bell_of-bell.ensures.0 (step 1 c.bell_of-bell.result c.peek-marked.result c.wrapping_add.result none))
