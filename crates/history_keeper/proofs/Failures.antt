@@ -10,7 +10,7 @@ use Rattle.history_keeper.specs.declared.row.RowState.{RowState}
 use Rattle.history_keeper.specs.Histories.{IsFailure, is_failed}
 use Rattle.history_keeper.specs.Numbers.{IsNumbered}
 
-failed-is : (state : RowState) → is_failed state ≡ true → state ≡ RowState.Failed
+pub failed-is : (state : RowState) → is_failed state ≡ true → state ≡ RowState.Failed
 failed-is RowState.Failed h = refl
 failed-is _ h = cc
 

@@ -105,6 +105,15 @@ front-pairs R rows n all i j d before within =
     let all_within : j < length rows = omega (arith, length-take n rows) in
     rw (get_or-take n rows i d low_i, get_or-take n rows j d low) (all i j d before all_within)
 
+-- What stands in a front of rows stands before its end, and at the same place of the rows.
+pub front-get : (rows : List Row) (n at : ℕ) (r : Row) → slice_get (take n rows) at ≡ Some r → (at < n) × (slice_get rows at ≡ Some r)
+front-get rows n at r there =
+    let within : at < length (take n rows) = slice_get_within (take n rows) at r there in
+    let low : at < n = omega (arith, length-take n rows, within) in
+    let far : at < length rows = omega (arith, length-take n rows, within) in
+    let is : get_or rows at r ≡ r = sym (get_or-take n rows at r low) ∙ get_or_from_slice_get (take n rows) at r r there in
+    (low, slice_get-get_or rows at r far ∙ ap Some is)
+
 -- A front of a history is a history.
 pub history_front : (rows : List Row) (n : ℕ) → IsHistory rows → IsHistory (take n rows)
 history_front rows n h = record {
@@ -117,12 +126,9 @@ history_front rows n h = record {
   where
     linked_front : (at : ℕ) (r : Row) → slice_get (take n rows) at ≡ Some r → IsLinked (take at (take n rows)) r
     linked_front at r there =
-        let within : at < length (take n rows) = slice_get_within (take n rows) at r there in
-        let low : at < n = omega (arith, length-take n rows, within) in
-        let far : at < length rows = omega (arith, length-take n rows, within) in
-        let is : get_or rows at r ≡ r = sym (get_or-take n rows at r low) ∙ get_or_from_slice_get (take n rows) at r r there in
-        let behind : slice_get rows at ≡ Some r = slice_get-get_or rows at r far ∙ ap Some is in
-        subst (λ (rs : List Row). IsLinked rs r) (sym (take-take at n rows (omega (arith, low)))) (h.linked at r behind)
+        let place = front-get rows n at r there in
+        let low : at < n = place.0 in
+        subst (λ (rs : List Row). IsLinked rs r) (sym (take-take at n rows (omega (arith, low)))) (h.linked at r place.1)
 
     entry : (k : ℕ) → k < length (take n rows) → get_or (map (λ (r : Row). r.entry) (take n rows)) k 0 ≡ k + 1
     entry k within =
