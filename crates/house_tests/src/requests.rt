@@ -23,6 +23,7 @@ pub fn request(tag: &str, port: &str) -> Result<Request, Fail> {
         device: device(port)?,
         version: Version::read(b"1.1.0")?,
         flags: PLAIN,
+        retry_of: None,
     })
 }
 
@@ -44,6 +45,7 @@ fn same_version(tag: &str, allow_reinstall: bool) -> Result<Request, Fail> {
             allow_reinstall,
             ..PLAIN
         },
+        retry_of: None,
     })
 }
 
