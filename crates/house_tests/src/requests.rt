@@ -27,6 +27,15 @@ pub fn request(tag: &str, port: &str) -> Result<Request, Fail> {
     })
 }
 
+/// The same, which tries the row of an entry again.
+pub fn retry(tag: &str, port: &str, entry: u32) -> Result<Request, Fail> {
+    let request = request(tag, port)?;
+    Ok(Request {
+        retry_of: Some(entry),
+        ..request
+    })
+}
+
 /// Which version is wanted on the first device.
 #[derive(Clone, Copy)]
 pub enum Wish {
