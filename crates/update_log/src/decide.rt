@@ -6,7 +6,7 @@ ghost use Rattle.history_keeper.specs.Histories.{is_unsettled};
 ghost use Rattle.update_log.specs.Holding.{blocks_of, blocks_out, is_live};
 ghost use Rattle.update_log.specs.Known.{target, row_of, row_with_tag};
 ghost use Rattle.update_log.specs.Verdicts.{decided, pending_of, release_asked, present, is_release, fault_of, retry, row_fault, first_refusal, first_unmet_for, refusals, features_for, client_for, wants_room, wants_row, on_target, on_found, on_present};
-ghost use Rattle.update_log.specs.CoreCase.{HasFew, IsPresent, case_with, target_with, device_refusals, version_refusals, rule_refusals, room_refusals};
+ghost use Rattle.update_log.specs.CoreCase.{HasFew, IsPresent, case_with, target_with, row_refusals, device_refusals, version_refusals, rule_refusals, room_refusals};
 
 use crate::decision::{Decision, Stage};
 use crate::facts::Facts;
@@ -244,20 +244,24 @@ fn row_fault(case: &Case, target: &Target, entry: u32, row: &Row) -> Option<Retr
     of_other_release(row, &target.release.digest)
 }
 
-// What refuses it by the device itself, and by the row that it tries again.
+// What refuses it by an update of the device that runs or waits, and by the row that it tries again.
+fn of_rows(case: &Case, target: &Target) -> Option<Refusal>
+    ensures { result ≡ first_refusal (row_refusals (case_with case.now.facts.now case.now.devices.now case.now.rows.now.rows case.now.live.now case.now.holds.now case.now.client case.now.request.now case.now.stage) (target_with target.now.place target.now.view.now target.now.at target.now.component.now target.now.release.now)) }
+{
+    if let Some(refusal) = busy(target.view) {
+        return Some(refusal);
+    }
+    if let Some(refusal) = unsettled(case, target.view) {
+        return Some(refusal);
+    }
+    retry(case, target)
+}
+
+// What refuses it by the device itself.
 fn of_device(case: &Case, target: &Target) -> Option<Refusal>
     ensures { result ≡ first_refusal (device_refusals (case_with case.now.facts.now case.now.devices.now case.now.rows.now.rows case.now.live.now case.now.holds.now case.now.client case.now.request.now case.now.stage) (target_with target.now.place target.now.view.now target.now.at target.now.component.now target.now.release.now)) }
 {
     let view = target.view;
-    if let Some(refusal) = busy(view) {
-        return Some(refusal);
-    }
-    if let Some(refusal) = unsettled(case, view) {
-        return Some(refusal);
-    }
-    if let Some(refusal) = retry(case, target) {
-        return Some(refusal);
-    }
     if let Some(refusal) = not_updatable(view) {
         return Some(refusal);
     }
@@ -336,6 +340,9 @@ fn refusal(case: &Case, target: &Target) -> Option<Refusal>
     requires few { length target.now.component.now.requirements < 2 ^ 32 }
     ensures { result ≡ first_refusal (refusals (case_with case.now.facts.now case.now.devices.now case.now.rows.now.rows case.now.live.now case.now.holds.now case.now.client case.now.request.now case.now.stage) (target_with target.now.place target.now.view.now target.now.at target.now.component.now target.now.release.now)) }
 {
+    if let Some(refusal) = of_rows(case, target) {
+        return Some(refusal);
+    }
     if let Some(refusal) = of_device(case, target) {
         return Some(refusal);
     }
