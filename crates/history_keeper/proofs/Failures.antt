@@ -1,6 +1,6 @@
 -- A failed row of a device, among rows that are numbered: it is looked for at its place alone.
-use Rattle.std.proofs.Common.{◌≡◌, ℕ, Bool, true, false, ◌&&◌, ◌<◌, ◌+◌, arith, List, length, get_or, Any, refl, sym, ap, subst, ◌∙◌, ◌⊎◌, inl, inr, MatchBool}
-use Rattle.std.specs.Prelude.{Some, slice_get}
+use Rattle.std.proofs.Common.{◌≡◌, ℕ, Bool, true, false, ◌&&◌, ◌<◌, ◌+◌, arith, List, length, get_or, Any, refl, sym, ap, ◌∙◌, ◌⊎◌, inl, inr, MatchBool}
+use Rattle.std.specs.Prelude.{Some}
 use Rattle.std.specs.Str.{bytes_eq}
 use Rattle.std.specs.Cmp.Lexicographic.{bytes_decides}
 use Rattle.std.proofs.lemmas.List.{get_or_default}

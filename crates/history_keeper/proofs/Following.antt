@@ -1,7 +1,7 @@
 -- A row that goes on with a history clashes with none of its rows.
 use Rattle.std.proofs.Common.{◌≡◌, ℕ, Bool, true, false, ◌&&◌, ◌||◌, ◌+◌, not, cond, List, [], ◌∷◌, ◌++◌, length, map, filter, Any, refl, sym, ap, ◌∙◌, inl, inr, MatchBool}
 use Rattle.std.specs.Bool.{OnTrue}
-use Rattle.std.specs.Prelude.{Option, Some, None, nat_eq, filter_map, option_map, unwrap_or}
+use Rattle.std.specs.Prelude.{Option, Some, None, nat_eq, option_map, unwrap_or}
 use Rattle.std.specs.Option.{option_to_list}
 use Rattle.std.specs.List.{list_any}
 use Rattle.std.specs.Str.{bytes_eq}
@@ -10,7 +10,7 @@ use Rattle.std.proofs.lemmas.Bool.{eqb-true, eq-eqb}
 use Rattle.std.proofs.lemmas.List.Elements.{filter_map-append}
 use Rattle.std.proofs.lemmas.List.Folds.{Any-from_list_any, list_any-from_Any}
 use Rattle.history_keeper.specs.declared.row.Row.{Row}
-use Rattle.history_keeper.specs.Histories.{is_unsettled, is_untried, BothRetry, Clashes, Follows, GoesOn, IsLinked, Links, retried_of, tags_of, waiting_of}
+use Rattle.history_keeper.specs.Histories.{is_unsettled, is_untried, Clashes, GoesOn, IsLinked, retried_of, tags_of, waiting_of}
 
 pub list_any-map : {X Y : Type 0} (f : X → Y) (p : Y → Bool) (xs : List X) → list_any p (map f xs) ≡ list_any (λ x. p (f x)) xs
 list_any-map f p [] = refl

@@ -1,18 +1,17 @@
 -- What a legal event has, so that a state can take it.
-use Rattle.std.proofs.Common.{◌≡◌, ℕ, Bool, true, false, List, [], ◌∷◌, refl, ap, sym, ◌∙◌, ◌<◌, ◌≤◌, ◌+◌, arith, ◌⊎◌, inl, inr, length}
-use Rattle.std.specs.Prelude.{Option, Some, None, IfSome, nat_le, nat_lt, option_map, option_and_then, if◌then◌else◌, find}
+use Rattle.std.proofs.Common.{◌≡◌, ℕ, Bool, true, false, List, [], ◌∷◌, refl, ap, ◌∙◌, ◌<◌, length}
+use Rattle.std.specs.Prelude.{Option, Some, None, IfSome, nat_le, option_map, if◌then◌else◌, find}
 use Rattle.std.specs.List.{AllByRecursion, list_any}
 use Rattle.std.proofs.lemmas.Bool.{leb-false}
 use Rattle.history_keeper.specs.declared.row.Row.{Row}
 use Rattle.release_catalogue.specs.declared.reference.ReleaseRef.{ReleaseRef}
 use Rattle.update_log.proofs.Accepts.{accepts-target}
-use Rattle.update_log.proofs.Lists.{by_test}
 use Rattle.update_log.specs.CoreSteps.{asks_row, is_taken}
 use Rattle.update_log.specs.Known.{Target, rows, target, views}
 use Rattle.update_log.specs.Legal.{Allowed, ClaimAnswered, ScheduleAnswered, next_entry}
 use Rattle.update_log.specs.Pasts.{is_keeper_fault}
 use Rattle.update_log.specs.Shows.{Campaign}
-use Rattle.update_log.specs.Verdicts.{Case, busy, case_of, decided, first_refusal, hindered, installed, is_that_release, kept, locked, need, no_room, not_updatable, older, on_found, on_kept, on_present, on_target, out_of_size, present, refusals, refused_or, retry_fault, rows_full, rows_max, unmet, unsettled, verdict, vetoed, wants_row, where_so}
+use Rattle.update_log.specs.Verdicts.{Case, case_of, decided, first_refusal, is_that_release, kept, need, on_found, on_kept, on_present, on_target, present, refusals, refused_or, retry_fault, rows_full, rows_max, wants_row, where_so}
 use Rattle.update_log.specs.declared.answer.ClaimAnswer.{ClaimAnswer}
 use Rattle.update_log.specs.declared.decision.Decision.{Decision}
 use Rattle.update_log.specs.declared.decision.Stage.{Stage}

@@ -2,7 +2,7 @@
 use Rattle.std.proofs.Common.{◌≡◌, ℕ, Bool, true, false, ◌&&◌, not, List, [], ◌∷◌, ◌++◌, refl, ap, sym, ◌∙◌, ◌<◌, ◌≤◌, ◌+◌, arith, length, subst}
 use Rattle.std.proofs.lemmas.Bool.{eqb-true}
 use Rattle.std.proofs.lemmas.List.{reverse-append}
-use Rattle.std.specs.Prelude.{Option, Some, None, IfSome, ◌==◌, find, if◌then◌else◌, option_map, option_and_then, unwrap_or}
+use Rattle.std.specs.Prelude.{Option, Some, None, IfSome, ◌==◌, find, option_map, option_and_then, unwrap_or}
 use Rattle.std.specs.List.{AllByRecursion, list_any}
 use Rattle.std.specs.Option.{option_or}
 use Rattle.std.specs.Str.{bytes_eq}
@@ -11,7 +11,7 @@ use Rattle.history_keeper.specs.declared.change.Change.{Change}
 use Rattle.history_keeper.specs.declared.row.Row.{Row}
 use Rattle.history_keeper.specs.declared.row.RowState.{RowState}
 use Rattle.release_catalogue.specs.declared.reference.ReleaseRef.{ReleaseRef}
-use Rattle.update_log.proofs.Accepts.{HasTarget, NoneRefuses, accepts-target}
+use Rattle.update_log.proofs.Accepts.{NoneRefuses, accepts-target}
 use Rattle.update_log.proofs.LegalOnce.{past-kept}
 use Rattle.update_log.proofs.LinksOnce.{AllLinked, KeepsFailures, KeepsLinks, TriedOnce, all-linked, by-failures, by-links, by-tried, failure-of, failure_of, found-failures, found-links, found-tried, tried-once}
 use Rattle.update_log.proofs.Lists.{All-find, by_test, find-passes}
@@ -19,14 +19,14 @@ use Rattle.update_log.proofs.Openings.{EntriesFrom, bytes-same, entries-from}
 use Rattle.update_log.proofs.Rows.{accepted-claim, rows_by-refused}
 use Rattle.update_log.proofs.RowsKept.{RowsKept}
 use Rattle.update_log.proofs.TakenKept.{row_of-known}
-use Rattle.update_log.proofs.WaitsKept.{AllBegun, IsAccepted, WaitKept, accepted-schedule, asks, decided-not, doubted-claim, doubted-schedule, wait-kept}
+use Rattle.update_log.proofs.WaitsKept.{IsAccepted, WaitKept, accepted-schedule, asks, decided-not, doubted-claim, doubted-schedule, wait-kept}
 use Rattle.update_log.proofs.WaitsOnce.{only-state, state_of}
 use Rattle.update_log.specs.Holding.{live}
 use Rattle.update_log.specs.Known.{Fate, Target, advance, doubt, doubt_by, doubt_found, fate_answered, fate_stored, known, new_row, reason_of, refusal_number, row_of, rows, rows_by, rows_found, target, views}
-use Rattle.update_log.specs.Legal.{Allowed, BootTakes, ClaimAllowed, FinishAllowed, IsLegal, JudgeAllowed, Legal, ResumeAllowed, ScheduleAllowed, may_judge, next_entry}
+use Rattle.update_log.specs.Legal.{Allowed, BootTakes, ClaimAllowed, FinishAllowed, IsLegal, Legal, ResumeAllowed, ScheduleAllowed, may_judge, next_entry}
 use Rattle.update_log.specs.Pasts.{is_keeper_fault, off, past_of, time_of}
 use Rattle.update_log.specs.Shows.{Campaign}
-use Rattle.update_log.specs.Verdicts.{Case, case_of, fault_of, fault_where, is_own, is_retry, not_failed, of_other_device, of_other_release, pending_of, retried, retry, row_fault, verdict}
+use Rattle.update_log.specs.Verdicts.{Case, case_of, fault_of, fault_where, is_own, is_retry, not_failed, of_other_device, pending_of, retried, row_fault, verdict}
 use Rattle.update_log.specs.declared.answer.ClaimAnswer.{ClaimAnswer}
 use Rattle.update_log.specs.declared.answer.ResumeAnswer.{ResumeAnswer}
 use Rattle.update_log.specs.declared.decision.Stage.{Stage}

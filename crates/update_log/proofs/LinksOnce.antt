@@ -1,25 +1,25 @@
 -- Each row that tries another one again tries an earlier failed one of its device, and no two try the same one: in the form
 -- that an induction takes, and which changes keep it. And which changes leave a failed row as it is.
-use Rattle.std.proofs.Common.{◌≡◌, ℕ, zero, suc, Bool, true, false, ◌&&◌, not, List, [], ◌∷◌, ◌++◌, map, take, get_or, refl, ap, sym, ◌∙◌, ◌<◌, ◌≤◌, ◌+◌, arith, length, length-take, subst}
+use Rattle.std.proofs.Common.{◌≡◌, ℕ, zero, suc, Bool, true, false, List, [], ◌∷◌, ◌++◌, map, take, refl, ap, sym, ◌∙◌, ◌<◌, ◌≤◌, ◌+◌, arith, length, length-take, subst}
 use Rattle.std.proofs.lemmas.Bool.{eqb-true}
 use Rattle.std.proofs.lemmas.List.{get_or-take}
 use Rattle.std.proofs.lemmas.List.Folds.{find-append}
 use Rattle.std.proofs.lemmas.Option.{get_or_from_slice_get, slice_get-get_or, slice_get_within}
-use Rattle.std.specs.Prelude.{Option, Some, None, Any, IfSome, AllPairs, ◌==◌, find, if◌then◌else◌, option_map, option_and_then, slice_get, slice_index_or, unwrap_or}
+use Rattle.std.specs.Prelude.{Option, Some, None, Any, IfSome, AllPairs, ◌==◌, find, if◌then◌else◌, option_and_then, slice_get, slice_index_or}
 use Rattle.std.specs.List.{AllByRecursion, list_any}
 use Rattle.std.specs.Option.{option_or}
 use Rattle.history_keeper.proofs.Failures.{failed-is}
 use Rattle.history_keeper.proofs.Prefixes.{front-get}
 use Rattle.history_keeper.specs.Changes.{changed, with_state}
-use Rattle.history_keeper.specs.Histories.{AreLinked, BothRetry, IsFailure, IsLinked, RetriedOnce, is_failed, tries}
+use Rattle.history_keeper.specs.Histories.{AreLinked, BothRetry, IsFailure, RetriedOnce, is_failed, tries}
 use Rattle.history_keeper.specs.declared.change.Change.{Change}
 use Rattle.history_keeper.specs.declared.row.Row.{Row}
 use Rattle.history_keeper.specs.declared.row.RowState.{RowState}
-use Rattle.update_log.proofs.Lists.{All-find, All-map, All-push, by_test, eqb-other, eqb-self, find-passes}
+use Rattle.update_log.proofs.Lists.{All-map, All-push, by_test, eqb-self, find-passes}
 use Rattle.update_log.proofs.MarksKept.{how_many-append}
 use Rattle.update_log.proofs.Openings.{EntriesFrom}
-use Rattle.update_log.proofs.RowsKept.{fixed, with_state-fixed}
-use Rattle.update_log.proofs.WaitsOnce.{found-own, none-many, one-at, two-at}
+use Rattle.update_log.proofs.RowsKept.{with_state-fixed}
+use Rattle.update_log.proofs.WaitsOnce.{found-own, none-many, two-at}
 use Rattle.update_log.specs.Known.{Fate, row_of, rows_by, rows_found}
 use Rattle.update_log.specs.Once.{how_many}
 use Rattle.update_log.specs.declared.event.Found.{Found}

@@ -1,5 +1,5 @@
 -- The state before the first event.
-use Rattle.std.proofs.Common.{◌≡◌, ℕ, List, [], refl, ap, sym, ◌∙◌, map, arith}
+use Rattle.std.proofs.Common.{◌≡◌, List, [], ap, sym, ◌∙◌, map, arith}
 use Rattle.std.specs.Prelude.{None}
 use Rattle.history_keeper.specs.declared.row.Row.{Row}
 use Rattle.history_keeper.specs.Histories.{IsHistory}

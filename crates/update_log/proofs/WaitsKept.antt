@@ -1,5 +1,5 @@
 -- Each legal past keeps that a device has at most one row that waits for its end.
-use Rattle.std.proofs.Common.{◌≡◌, ◌≢◌, ℕ, Bool, true, false, ◌&&◌, not, List, [], ◌∷◌, ◌++◌, map, refl, ap, sym, ◌∙◌, ◌≤◌, ◌+◌, arith, length, subst}
+use Rattle.std.proofs.Common.{◌≡◌, ◌≢◌, ℕ, Bool, true, false, ◌&&◌, not, List, [], ◌∷◌, refl, ap, sym, ◌∙◌, ◌+◌, arith, length, subst}
 use Rattle.std.proofs.lemmas.Bool.{eqb-true, eq-eqb}
 use Rattle.std.proofs.lemmas.Option.{slice_get-map}
 use Rattle.std.specs.Prelude.{Option, Some, None, IfSome, ◌==◌, find, option_map, option_and_then, slice_get, unwrap_or}
@@ -16,7 +16,7 @@ use Rattle.release_catalogue.specs.Lookup.{Chosen, chosen}
 use Rattle.release_catalogue.specs.declared.reference.ReleaseRef.{ReleaseRef}
 use Rattle.update_log.proofs.Accepts.{HasTarget, NoneRefuses, accepts-target, some-same}
 use Rattle.update_log.proofs.LegalOnce.{past-kept}
-use Rattle.update_log.proofs.Lists.{All-both, All-filter, All-find, All-map, All-push, by_test, eqb-other, eqb-self, find-passes}
+use Rattle.update_log.proofs.Lists.{All-both, All-filter, All-find, All-map, All-push, by_test, eqb-other, find-passes}
 use Rattle.update_log.proofs.Openings.{EntriesFrom}
 use Rattle.update_log.proofs.Rows.{accepted-claim, rows_by-refused}
 use Rattle.update_log.proofs.RowsKept.{RowsKept, row_of-past}
@@ -26,7 +26,7 @@ use Rattle.update_log.proofs.WaitsOnce.{KeepsOnce, WaitOnce, by-once, found-once
 use Rattle.update_log.specs.Boards.{Board, devices}
 use Rattle.update_log.specs.Holding.{blocks_fetched, blocks_fetched_if, is_live, live}
 use Rattle.update_log.specs.Known.{Fate, Known, Target, addition, advance, doubt, doubt_by, doubt_found, fate_answered, fate_stored, is_on, known, new_row, reason_of, refusal_number, row_of, rows, rows_by, rows_found, target, target_at, target_of, view_of, views, views_in}
-use Rattle.update_log.specs.Legal.{Allowed, BootTakes, ClaimAllowed, ClaimAnswered, FinishAllowed, IsLegal, JudgeAllowed, ResumeAllowed, ScheduleAllowed, ScheduleAnswered, is_fetched, may_judge, next_entry}
+use Rattle.update_log.specs.Legal.{Allowed, BootTakes, ClaimAllowed, ClaimAnswered, FinishAllowed, IsLegal, JudgeAllowed, ResumeAllowed, ScheduleAllowed, ScheduleAnswered, may_judge, next_entry}
 use Rattle.update_log.specs.Pasts.{is_keeper_fault, off, time_of}
 use Rattle.update_log.specs.Shows.{Campaign}
 use Rattle.update_log.specs.Steps.{judge}
