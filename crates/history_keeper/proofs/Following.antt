@@ -10,7 +10,7 @@ use Rattle.std.proofs.lemmas.Bool.{eqb-true, eq-eqb}
 use Rattle.std.proofs.lemmas.List.Elements.{filter_map-append}
 use Rattle.std.proofs.lemmas.List.Folds.{Any-from_list_any, list_any-from_Any}
 use Rattle.history_keeper.specs.declared.row.Row.{Row}
-use Rattle.history_keeper.specs.Histories.{is_unsettled, is_untried, Clashes, GoesOn, IsLinked, retried_of, tags_of, waiting_of}
+use Rattle.history_keeper.specs.Histories.{is_unsettled, is_untried, Clashes, Follows, GoesOn, IsFailure, IsLinked, Links, retried_of, tags_of, waiting_of}
 
 pub list_any-map : {X Y : Type 0} (f : X → Y) (p : Y → Bool) (xs : List X) → list_any p (map f xs) ≡ list_any (λ x. p (f x)) xs
 list_any-map f p [] = refl
@@ -111,6 +111,24 @@ clash rows row odds entry link =
     by_tag false false false h k l = retry_clash rows row row.retry_of refl l
     by_tag false false true h k l =
         absurd (odds (record { follows = record { entry = entry; tag = h; device = k }; links = record { linked = link; untried = l } }))
+
+-- A row that follows goes on where it links, and one that is linked links where no other one tries the same again.
+pub goes-with : (before : List Row) (tags waiting : List (List ℕ)) (retried : List ℕ) (row : Row) → Follows tags waiting (length before + 1) row → (b : Bool) → MatchBool b (Links before retried row) (Links before retried row → ⊥) → MatchBool b (GoesOn before tags waiting retried row) (GoesOn before tags waiting retried row → ⊥)
+goes-with before tags waiting retried row f true l = record { follows = f; links = l }
+goes-with before tags waiting retried row f false l = λ g. l g.links
+
+pub links-with : (before : List Row) (retried : List ℕ) (row : Row) → IsLinked before row → (b : Bool) → b ≡ is_untried retried row.retry_of → MatchBool b (Links before retried row) (Links before retried row → ⊥)
+links-with before retried row linked true e = record { linked = linked; untried = sym e }
+links-with before retried row linked false e = λ l.
+    let bad : false ≡ true = e ∙ l.untried in cc
+
+-- Where a row tries none again, it is linked; where it tries one, that is looked for.
+pub linked-none : (before : List Row) (row : Row) (o : Option ℕ) → row.retry_of ≡ o → o ≡ None → IsLinked before row
+linked-none before row None e n = rw e tt
+linked-none before row (Some entry) e n = cc
+
+pub linked-some : (before : List Row) (row : Row) (entry : ℕ) (b : Bool) → row.retry_of ≡ Some entry → MatchBool b (Any (IsFailure entry row.device) before) (Any (IsFailure entry row.device) before → ⊥) → MatchBool b (IsLinked before row) (IsLinked before row → ⊥)
+linked-some before row entry b e h = rw e h
 
 -- What is known of the lists as they were noted is known of the rows.
 pub moved : (rows : List Row) (t t' w w' : List (List ℕ)) (s s' : List ℕ) (r r' : Row) → t ≡ t' → w ≡ w' → s ≡ s' → r ≡ r' → GoesOn rows t w s r → GoesOn rows t' w' s' r'
