@@ -335,6 +335,7 @@ class Row:
     state: str
     duration: int
     protocol: str
+    retry_of: int = None
     reason: int = 0
 
 
@@ -485,6 +486,8 @@ class Campaign:
         waits = next((it for it in self.rows if it is not own and it.device == board.sheet["device"] and it.state in OPEN_STATES), None)
         yield f"3 busy {board.entry}" if board.entry is not None else ""
         yield f"4 unsettled {waits.entry}" if waits else ""
+        fault = self.retry_fault(item.get("retry-of"), found, own)
+        yield f"17 retry {fault}" if fault else ""
         yield "5 not-updatable" if "updatable" not in board.flags else ""
         yield "6 locked" if "locked" in board.flags else ""
         yield next((f"7 problem {it}" for it in self.problems(board) if not it.startswith("update-")), "")
@@ -496,6 +499,22 @@ class Campaign:
         yield f"12 size {release['size']} {low} {high}" if not low <= release["size"] <= high else ""
         free = self.machine["pool"]
         yield f"13 no-room {found.blocks} {free}" if stage == "ask" and found.blocks > free else ""
+
+    def retry_fault(self, entry, found, own):
+        """Why the row of that entry can't be tried again, or nothing, also where none is named."""
+        if entry is None:
+            return None
+        row = next((it for it in self.rows if it.entry == entry), None)
+        if row is None:
+            return "no-row"
+        if row.device != found.board.sheet["device"]:
+            return "other-device"
+        if row.state != "failed":
+            return f"not-failed {row.state}"
+        other = next((it for it in self.rows if it is not own and it.retry_of == entry), None)
+        if other:
+            return f"retried {other.entry}"
+        return None if row.digest == found.release["sha256"] else "other-release"
 
     def fetched(self, release):
         """The refusal of a payload, or its bytes."""
@@ -512,7 +531,7 @@ class Campaign:
     def install(self, client, item):
         features, flags, named = self.features[client - 1], item.get("flags", []), item["device"]
         named = named.lower() if is_guid(named) or is_device_id(named) else named
-        asked = f"{item['tag']} {named} {item['version']}"
+        asked = f"{item['tag']} {named} {item['version']}{self.retry_text(item.get('retry-of'))}"
         is_put_off = "offline" in flags
         refusal, found = self.verdict("schedule" if is_put_off else "ask", item, features)
         if is_put_off:
@@ -539,13 +558,13 @@ class Campaign:
     def add_row(self, client, item, found, state):
         row = Row(len(self.rows) + 1, item["tag"], client, found.board.sheet["device"], found.board.version,
                   found.release["version"], found.release["sha256"], item.get("flags", []), state,
-                  found.board.sheet.get("duration", 0), found.board.sheet.get("protocol", "-"))
+                  found.board.sheet.get("duration", 0), found.board.sheet.get("protocol", "-"), item.get("retry-of"))
         self.rows.append(row)
         return row
 
     def resume(self, row):
         """Goes on with an install that was put off, or fails it."""
-        item = {"tag": row.tag, "device": row.device, "version": row.new, "flags": row.flags}
+        item = {"tag": row.tag, "device": row.device, "version": row.new, "flags": row.flags, "retry-of": row.retry_of}
         refusal, found = self.verdict("ask", item, self.features[row.client - 1], row)
         self.event(f"client 0 ask entry {row.entry} {refusal or f'hold {found.blocks}'}")
         if refusal:
@@ -607,9 +626,13 @@ class Campaign:
 
     # -- questions, plugs
 
+    @staticmethod
+    def retry_text(entry):
+        return "" if entry is None else f" retry-of {entry}"
+
     def row_text(self, row):
         port = next((it.port for it in self.devices if it.sheet["device"] == row.device), row.device)
-        return f"{row.entry} {row.tag} {port} {row.old} {row.new} {row.state} {row.reason} {row.duration} {row.protocol}"
+        return f"{row.entry} {row.tag} {port} {row.old} {row.new} {row.state} {row.reason} {row.duration} {row.protocol}{self.retry_text(row.retry_of)}"
 
     @staticmethod
     def release_text(board, component, release):

@@ -37,7 +37,8 @@ def text_of(value):
 
 
 def document():
-    """Returns the document. Its campaign goes well: each of its installs is accepted."""
+    """Returns the document. Its campaign goes well: each of its installs is accepted, but for the last one, which would try a
+    row again while another one waits."""
     requires = [
         {"tag": "id", "text": "org.freedesktop.fwupd", "compare": "ge", "version": "1.8.0"},
         {"tag": "id", "text": "org.kernel", "compare": "glob", "version": "6.*"},
@@ -56,6 +57,7 @@ def document():
     ]
     install = {"do": "install", "device": "usb2", "tag": "t1", "version": "1.1.0", "flags": []}
     later = {"do": "install", "device": "usb2", "tag": "t2", "version": "1.1.0", "flags": ["offline", "allow-reinstall"]}
+    again = {"do": "install", "device": "usb2", "tag": "t3", "version": "1.1.0", "retry-of": 1}
     return {
         "format": 1,
         "machine": {
@@ -132,6 +134,7 @@ def document():
                         later,
                         {"do": "settle", "device": "usb2"},
                         {"do": "get-history"},
+                        again,
                     ],
                     [{"do": "unplug", "device": "usb1"}, {"do": "plug", "device": "usb1"}],
                 ],
@@ -359,6 +362,7 @@ def boot_fields():
     words = ["offline", "allow-reinstall", "allow-older"]
     flags = {"kind": "list", "good": [[], words], "bad": [([v], WRONG) for v in (None, 1, "", "x")]}
     yield Field((*top, "scripts", 0, 3, "flags"), "boots 0 0 3 flags", **flags)
+    yield Field((*top, "scripts", 0, 8, "retry-of"), "boots 0 0 8 retry-of", **number(1, 65536))
 
 
 def section_fields():

@@ -36,13 +36,15 @@ CAUSE = (
     "(?:1 id-missing|2 version-compare|3 no-bootloader-version|4 vendor-mismatch|5 no-such-device|6 no-such-ancestor"
     rf"|7 device-in-use {NUMBER}|8 hardware-missing|9 hardware-forbidden|10 client-feature-missing)"
 )
+STATE = "(?:pending|begun|needs-reboot|success|failed)"
 REFUSAL = (
     rf"(?:1 no-device|2 no-release|3 busy {NUMBER}|4 unsettled {NUMBER}|5 not-updatable|6 locked|7 problem {PROBLEM}"
     rf"|8 same-version|9 older|10 unmet {NUMBER} {CAUSE}|11 veto {NAME}|12 size {NUMBER} {NUMBER} {NUMBER}"
     rf"|13 no-room {NUMBER} {NUMBER}|14 payload (?:missing|shelf-fault|length {NUMBER}|mismatch [0-9a-f]{{64}})"
-    r"|15 rows-full|16 keeper-fault)"
+    r"|15 rows-full|16 keeper-fault"
+    rf"|17 retry (?:no-row|other-device|not-failed {STATE}|retried {NUMBER}|other-release))"
 )
-STATE = "(?:pending|begun|needs-reboot|success|failed)"
+RETRY = rf"(?: retry-of {NUMBER})?"
 ANSWER = rf"(?:hold {NUMBER}|entry {NUMBER}|kept {NUMBER} {STATE}|refused {REFUSAL})"
 SEEN = rf"(?:{NAME} (?:runtime|bootloader)|gone|stranger)"
 MARKS = "(?: (?:entered|began|ended|left))*"
@@ -50,9 +52,9 @@ STEP = "(?:prepare|detach|write|attach|reload|cleanup)"
 QUESTION = rf"(?:get-devices|get-history|(?:get-releases|get-upgrades|get-results|settle) {NAME})"
 EVENTS = [
     rf"boot {NUMBER} time {NUMBER}(?: keeper-fault| doubt kept| doubt lost)*",
-    rf"client {NUMBER} ask {NAME} {NAME} {NAME} {ANSWER}",
+    rf"client {NUMBER} ask {NAME} {NAME} {NAME}{RETRY} {ANSWER}",
     rf"client {NUMBER} (?:claim {NAME}|ask entry {NUMBER}) {ANSWER}",
-    rf"client {NUMBER} schedule {NAME} {NAME} {NAME} {ANSWER}",
+    rf"client {NUMBER} schedule {NAME} {NAME} {NAME}{RETRY} {ANSWER}",
     rf"client {NUMBER} resume {NUMBER} (?:begun|refused {REFUSAL})(?: keeper-fault)?",
     rf"client {NUMBER} entry {NUMBER} start {STEP}",
     rf"client {NUMBER} entry {NUMBER} end {STEP} (?:ok|fault-(?:failed|torn|gone|stranger)) {SEEN}{MARKS}",

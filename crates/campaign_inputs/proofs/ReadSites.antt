@@ -103,7 +103,8 @@ install_done spot d =
     good_after IsDone (the spot words.Device selector_at d) _ (λ device.
     good_after IsDone (the spot words.Tag name_at d) _ (λ tag.
     good_after IsDone (the spot words.Version version_at d) _ (λ version.
-    good_after IsDone (optional spot words.Flags install_flags_at no_install_flags d) _ (λ flags. tt {0}))))
+    good_after IsDone (optional spot words.Flags install_flags_at no_install_flags d) _ (λ flags.
+    good_after IsDone (maybe spot words.RetryOf (number_at 1 65536) d) _ (λ retry_of. tt {0})))))
 
 verb_done : (verb : Verb) (spot : Spot) (d : Data) → Good IsDone (done_at verb spot d)
 unfolding done_at

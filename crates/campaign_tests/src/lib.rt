@@ -32,3 +32,5 @@ mod pasts;
 mod plugins;
 #[cfg(test)]
 mod random;
+#[cfg(test)]
+mod retries;

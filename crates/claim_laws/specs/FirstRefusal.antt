@@ -1,9 +1,9 @@
--- Which refusal comes first: the law that a refusal which is given is met, and that none with a lower number is.
-use Rattle.std.specs.Prelude.{◌≡◌, ◌<◌, Bool, false, not, Option, Some, None, is_some, option_and_then}
+-- Which refusal comes first: the law that a refusal which is given is met, and that none which is tested before it is.
+use Rattle.std.specs.Prelude.{◌≡◌, ◌<◌, ◌==◌, ◌+◌, nat_le, ℕ, Bool, false, not, if◌then◌else◌, Option, Some, None, is_some, option_and_then}
 use Rattle.update_log.specs.declared.decision.Decision.{Decision}
 use Rattle.update_log.specs.declared.refusal.Refusal.{Refusal}
 use Rattle.update_log.specs.Known.{Target, refusal_number, target}
-use Rattle.update_log.specs.Verdicts.{Case, busy, decided, hindered, installed, is_that_release, locked, no_room, not_updatable, older, out_of_size, present, rows_full, unmet, unsettled, vetoed, where_so}
+use Rattle.update_log.specs.Verdicts.{Case, busy, decided, hindered, installed, is_that_release, locked, no_room, not_updatable, older, out_of_size, present, retry, rows_full, unmet, unsettled, vetoed, where_so}
 
 -- The target of the case's request, where its device is found and has the release.
 abbrev pub target_in : Case → Option Target
@@ -32,11 +32,20 @@ found_by c (Refusal.NoRoom blocks left) = option_and_then (no_room c) (target_in
 found_by c (Refusal.Payload note) = None
 found_by c Refusal.RowsFull = option_and_then (rows_full c) (target_in c)
 found_by c Refusal.KeeperFault = None
+found_by c (Refusal.Retry fault) = option_and_then (retry c) (target_in c)
 
--- A refusal is the one that its own test finds, and the test of each with a lower number finds none.
+-- The place of a refusal's test among all: they are tested in the order of their numbers, but for 17, which is tested right
+-- behind 4.
+abbrev pub place_of_number : ℕ → ℕ
+place_of_number number = if number == 17 then 5 else (if nat_le number 4 then number else number + 1)
+
+abbrev pub test_place : Refusal → ℕ
+test_place refusal = place_of_number (refusal_number refusal)
+
+-- A refusal is the one that its own test finds, and each test before that finds none.
 pub record IsFirst (c : Case) (refusal : Refusal) : Type 0 where
   pub met : found_by c refusal ≡ Some refusal
-  pub none_before : (other : Refusal) → refusal_number other < refusal_number refusal → found_by c other ≡ None
+  pub none_before : (other : Refusal) → test_place other < test_place refusal → found_by c other ≡ None
 
 -- So it is with each refusal that is decided.
 abbrev pub FirstIsNamed : Type 0

@@ -20,7 +20,8 @@ pub fn resumptions_complete()
     ensures { ResumptionsComplete }
 {}
 
-/// A refusal that is decided is met, and of those with a lower number none is.
+/// A refusal that is decided is met, and none is of those that are tested before it: in the order of their
+/// numbers, but for 17, which is tested right behind 4.
 pub fn first_is_named()
     ensures { FirstIsNamed }
 {}

@@ -51,6 +51,7 @@ some_request =
       device = Selector.Port [];
       version = [];
       flags = record { offline = false; allow_reinstall = false; allow_older = false };
+      retry_of = None;
     }
 
 -- Every item has a play.

@@ -1,5 +1,6 @@
 -- Parts of lines, in replies and reports.
-use Rattle.std.specs.Prelude.{ℕ, List, ◌++◌, codes, Option, Some, None}
+use Rattle.std.specs.Prelude.{ℕ, List, [], ◌++◌, codes, Option, Some, None}
+use Rattle.std.specs.Fmt.{decimal}
 use Rattle.hex.specs.Hex.{encode_lower}
 use Rattle.guid_ids.specs.Identifiers.{guid_text}
 use Rattle.version_formats.specs.Formats.{render}
@@ -25,6 +26,11 @@ seen_text sheet seen.Stranger = codes "stranger"
 abbrev pub port_text : Option Sheet → List ℕ
 port_text (Some sheet) = sheet.port
 port_text None = codes "-"
+
+-- The entry of the row that a request or a row tries again, where it tries one.
+abbrev pub retry_text : Option ℕ → List ℕ
+retry_text None = []
+retry_text (Some entry) = codes " retry-of " ++ decimal entry
 
 -- A device as its client named it.
 abbrev pub selector_text : Selector → List ℕ

@@ -28,7 +28,7 @@ use Rattle.update_log.specs.declared.event.Query.{Query}
 use Rattle.update_log.specs.declared.event.Query.TheVariants as queries
 use Rattle.update_log.specs.declared.facts.Facts.{Facts}
 use Rattle.update_log.specs.Once.{is_pending}
-use Rattle.client_scripts.specs.Parts.{seen_text}
+use Rattle.client_scripts.specs.Parts.{retry_text, seen_text}
 use Rattle.client_scripts.specs.Words.{order_word, problem_word, state_word}
 
 -- ---- lines
@@ -166,9 +166,9 @@ abbrev pub protocol_text : Option (List ℕ) → List ℕ
 protocol_text None = codes "-"
 protocol_text (Some protocol) = protocol
 
--- The end of a row's line: how long an install takes, and its protocol.
+-- The end of a row's line: how long an install takes, its protocol, and the row that it tries again, if any.
 unfoldable pub terms_text : Row → List ℕ
-terms_text row = codes " " ++ decimal row.duration ++ codes " " ++ protocol_text row.protocol
+terms_text row = codes " " ++ decimal row.duration ++ codes " " ++ protocol_text row.protocol ++ retry_text row.retry_of
 
 -- A row: that front, the version of the release, its state and its reason, and that end.
 unfoldable pub row_text : List DeviceView → Row → List ℕ

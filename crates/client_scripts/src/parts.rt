@@ -2,7 +2,7 @@
 ghost use Rattle.std.specs.Prelude.{◌≡◌, ◌++◌, OnOk};
 ghost use Rattle.std.specs.Option.{option_copied};
 ghost use Rattle.std.specs.Fmt.{decimal};
-ghost use Rattle.client_scripts.specs.Parts.{port_text, seen_text, selector_text, version_text};
+ghost use Rattle.client_scripts.specs.Parts.{port_text, retry_text, seen_text, selector_text, version_text};
 
 use crate::words::mode_word;
 use device_list::Selector;
@@ -50,6 +50,19 @@ pub fn put_port(out: &mut Vec<u8>, sheet: Option<&Sheet>) -> Result<(), AllocErr
     match sheet {
         Some(sheet) => out.extend_from_slice(sheet.port.bytes()),
         None => out.extend_from_slice(b"-"),
+    }
+}
+
+/// Puts behind the text the entry of the row that is tried again, where one is.
+pub fn put_retry(out: &mut Vec<u8>, retry_of: Option<u32>) -> Result<(), AllocError>
+    ensures { OnOk result (out.new.items ≡ out.old.items ++ retry_text retry_of) }
+{
+    match retry_of {
+        Some(entry) => {
+            out.extend_from_slice(b" retry-of ")?;
+            put_number(out, u64::from(entry))
+        }
+        None => Ok(()),
     }
 }
 

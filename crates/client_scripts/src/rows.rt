@@ -5,7 +5,7 @@ ghost use Rattle.client_scripts.specs.Replies.{asked_text, history_reply, port_o
 
 use crate::lines::{LINES_MAX, put_left_out, put_no_device, put_none};
 use crate::named::{device_with, newest_of};
-use crate::parts::put_number;
+use crate::parts::{put_number, put_retry};
 use crate::words::state_word;
 use fw_base::Name;
 use fw_facts::{DeviceView, Seen};
@@ -101,7 +101,8 @@ fn put_terms(out: &mut Vec<u8>, row: &Row) -> Result<(), AllocError>
     out.extend_from_slice(b" ")?;
     put_number(out, u64::from(row.duration))?;
     out.extend_from_slice(b" ")?;
-    put_protocol(out, &row.protocol)
+    put_protocol(out, &row.protocol)?;
+    put_retry(out, row.retry_of)
 }
 
 fn put_protocol(out: &mut Vec<u8>, protocol: &Option<Name>) -> Result<(), AllocError>

@@ -8,11 +8,11 @@ use Rattle.fw_facts.specs.declared.sheet.Sheet.{Sheet}
 use Rattle.history_keeper.specs.declared.row.Row.{Row}
 use Rattle.history_keeper.specs.declared.row.RowState.{RowState}
 use Rattle.history_keeper.specs.Histories.{IsHistory}
-use Rattle.update_log.proofs.HistoryKept.{wait-kept}
 use Rattle.update_log.proofs.Lists.{All-filter, All-find, by_test, eqb-self, find-passes}
 use Rattle.update_log.proofs.MarksKept.{find-many}
 use Rattle.update_log.proofs.Openings.{bytes-same}
 use Rattle.update_log.proofs.WaitsOnce.{state_of, waits_on}
+use Rattle.update_log.proofs.WaitsKept.{wait-kept}
 use Rattle.update_log.specs.Boards.{Board, all_boards, board_with, boards_from, devices, is_device}
 use Rattle.update_log.specs.Holding.{is_live, live}
 use Rattle.update_log.specs.Known.{is_board_of, row_of, rows}

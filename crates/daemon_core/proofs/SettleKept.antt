@@ -15,11 +15,12 @@ use Rattle.history_keeper.specs.declared.row.Row.{Row}
 use Rattle.history_keeper.specs.declared.row.RowState.{RowState}
 use Rattle.update_log.proofs.Accepts.{some-same}
 use Rattle.update_log.proofs.Devices.{devices-differ}
-use Rattle.update_log.proofs.HistoryKept.{AllBegun, rows-history, wait-kept}
+use Rattle.update_log.proofs.HistoryKept.{rows-history}
 use Rattle.update_log.proofs.LegalOnce.{past-kept}
 use Rattle.update_log.proofs.Lists.{All-find, by_test, find-passes}
 use Rattle.update_log.proofs.Openings.{bytes-same, bytes-self}
 use Rattle.update_log.proofs.WaitsOnce.{found-own, state_of}
+use Rattle.update_log.proofs.WaitsKept.{AllBegun, wait-kept}
 use Rattle.update_log.specs.Boards.{Board, devices}
 use Rattle.update_log.specs.Holding.{is_live, live}
 use Rattle.update_log.specs.Known.{Known, known, row_of, rows, view_of, views}

@@ -15,6 +15,7 @@ pub fn request_of_row(row: &Row) -> Request
         device: Selector::Id(row.device),
         version: row.version_new,
         flags: flags_of_number(row.flags),
+        retry_of: row.retry_of,
     }
 }
 

@@ -249,6 +249,7 @@ fn request(tag: &[u8], port: &str) -> Result<Request, Fail> {
             allow_reinstall: false,
             allow_older: false,
         },
+        retry_of: None,
     })
 }
 

@@ -23,13 +23,14 @@ use Rattle.report_text.specs.Lines.{kept_text}
 
 -- ---- the request
 
--- an install of a version at a port, without flags; its tag counts for nothing, since there are no rows
+-- an install of a version at a port, without flags, that tries no row again; its tag counts for nothing, since there are no rows
 abbrev pub asked : List ℕ → List ℕ → Request
 asked port version = record {
   tag = port;
   device = selectors.Port port;
   version = version;
   flags = record { offline = false; allow_reinstall = false; allow_older = false };
+  retry_of = None;
 }
 
 -- ---- its lines

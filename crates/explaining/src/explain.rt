@@ -16,7 +16,7 @@ use std::alloc::{AllocError, Global};
 use update_log::{CoreState, Facts, InstallFlags, Request, Stage, verdict};
 use version_formats::Version;
 
-/// An install of a version at a port, without flags.
+/// An install of a version at a port, without flags, that tries no row again.
 fn asked(port: Name, version: Version) -> Request
     ensures { result ≡ asked port version }
 {
@@ -29,6 +29,7 @@ fn asked(port: Name, version: Version) -> Request
             allow_reinstall: false,
             allow_older: false,
         },
+        retry_of: None,
     }
 }
 

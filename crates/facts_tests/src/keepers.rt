@@ -98,6 +98,53 @@ fn settled_rows_of_one_device_are_many(rt: HostRuntime) -> Result<(), Fail> {
     Ok(())
 }
 
+/// A row that tries the row of an entry again.
+fn retry(entry: u32, tag: &[u8], device: &[u8], state: RowState, tried: u32) -> Result<Row, Fail> {
+    let row = row(entry, tag, device, state)?;
+    Ok(Row {
+        retry_of: Some(tried),
+        ..row
+    })
+}
+
+/// What a second and a third row try again behind a failed one of the device `x`, their devices, and the place of the first
+/// row that breaks a rule: the second one succeeded, and the third one is begun.
+const LINKS: [(u32, &[u8], u32, &[u8], Option<usize>); 8] = [
+    (1, b"x", 9, b"", None),
+    (2, b"x", 9, b"", Some(1)),
+    (3, b"x", 9, b"", Some(1)),
+    (0, b"x", 9, b"", Some(1)),
+    (1, b"y", 9, b"", Some(1)),
+    (1, b"x", 1, b"x", Some(2)),
+    (1, b"x", 2, b"x", Some(2)),
+    (1, b"x", 3, b"x", Some(2)),
+];
+
+/// A row may try an earlier failed one of its device again, and no two the same one. Where 9 stands there is no third row.
+#[test]
+fn rows_that_try_others_again(rt: HostRuntime) -> Result<(), Fail> {
+    for (second, its, third, other, want) in LINKS {
+        let mut rows = Vec::from_slice(
+            rt.alloc(),
+            &[
+                row(1, b"a", b"x", RowState::Failed)?,
+                retry(2, b"b", its, RowState::Success, second)?,
+            ],
+        )?;
+        if third != 9 {
+            rows.extend_from_slice(&[retry(3, b"c", other, RowState::Begun, third)?])?;
+        }
+        assert_eq!(rt; first_faulty(rt.alloc(), &rows)?, want);
+    }
+    let chain = [
+        row(1, b"a", b"x", RowState::Failed)?,
+        retry(2, b"b", b"x", RowState::Failed, 1)?,
+        retry(3, b"c", b"x", RowState::Pending, 2)?,
+    ];
+    assert_eq!(rt; first_faulty(rt.alloc(), &chain)?, None);
+    Ok(())
+}
+
 #[test]
 fn a_failed_commit_is_kept_or_lost(rt: HostRuntime) -> Result<(), Fail> {
     let alloc = rt.alloc();

@@ -1,3 +1,4 @@
-pub mod Following
-pub mod Prefixes
 pub mod Numbered
+pub mod Prefixes
+pub mod Following
+pub mod Failures

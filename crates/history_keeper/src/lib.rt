@@ -14,7 +14,7 @@ pub mod row;
 pub mod stated;
 
 pub use change::Change;
-pub use history::first_faulty;
+pub use history::{first_faulty, is_failed};
 pub use keeper::Keeper;
 pub use memory_keeper::MemoryKeeper;
 pub use plan::{Doubt, KeeperPlan};

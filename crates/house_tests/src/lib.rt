@@ -26,6 +26,8 @@ mod offline;
 #[cfg(test)]
 mod requests;
 #[cfg(test)]
+mod retries;
+#[cfg(test)]
 mod scenes;
 #[cfg(test)]
 mod told;

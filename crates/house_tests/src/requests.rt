@@ -23,6 +23,16 @@ pub fn request(tag: &str, port: &str) -> Result<Request, Fail> {
         device: device(port)?,
         version: Version::read(b"1.1.0")?,
         flags: PLAIN,
+        retry_of: None,
+    })
+}
+
+/// The same, which tries the row of an entry again.
+pub fn retry(tag: &str, port: &str, entry: u32) -> Result<Request, Fail> {
+    let request = request(tag, port)?;
+    Ok(Request {
+        retry_of: Some(entry),
+        ..request
     })
 }
 
@@ -44,6 +54,7 @@ fn same_version(tag: &str, allow_reinstall: bool) -> Result<Request, Fail> {
             allow_reinstall,
             ..PLAIN
         },
+        retry_of: None,
     })
 }
 

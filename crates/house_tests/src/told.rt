@@ -1,7 +1,7 @@
 //! What a house answers, as the tests compare it.
 use history_keeper::RowState;
 use requirements::Unmet;
-use update_log::{Refusal, Stored};
+use update_log::{Refusal, RetryFault, Stored};
 
 /// A refusal that a test waits for.
 #[derive(Clone, Copy, Debug, PartialEq, Eq)]
@@ -12,6 +12,7 @@ pub enum Why {
     NoRoom { need: u32, free: u32 },
     RowsFull,
     KeeperFault,
+    Retry(RetryFault),
     /// None of these.
     Another,
 }
@@ -29,6 +30,7 @@ impl Why {
             },
             Refusal::RowsFull => Why::RowsFull,
             Refusal::KeeperFault => Why::KeeperFault,
+            Refusal::Retry(fault) => Why::Retry(*fault),
             Refusal::NoDevice
             | Refusal::NoRelease
             | Refusal::Busy { entry: _ }

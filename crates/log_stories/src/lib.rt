@@ -8,6 +8,7 @@
 mod lookups;
 pub mod plain;
 mod refusing;
+mod retrying;
 mod scans;
 pub mod story;
 mod target;

@@ -91,7 +91,8 @@ fn is_in_the_way(row: &Row, log: &[Event], device: &DeviceId, own: Option<u32>) 
         && !is_own(own, row.entry)
 }
 
-fn is_own(own: Option<u32>, number: u32) -> bool
+/// Whether the row of that number is the request's own.
+pub fn is_own(own: Option<u32>, number: u32) -> bool
     ensures { result ≡ unwrap_or (option_map (λ entry. entry == number) own) false }
 {
     match own {

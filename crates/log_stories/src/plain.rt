@@ -9,8 +9,8 @@ ghost use Rattle.update_log.specs.Core.{Stands};
 ghost use Rattle.update_log.specs.Holding.{is_live, live};
 ghost use Rattle.update_log.specs.Known.{target, row_of, row_with_tag};
 ghost use Rattle.update_log.specs.Pasts.{past_of};
-ghost use Rattle.update_log.specs.Verdicts.{decided, pending_of, release_asked, present, is_release, first_refusal, first_unmet_for, refusals, features_for, client_for, wants_room, wants_row, on_target, on_found, on_present, verdict};
-ghost use Rattle.update_log.specs.CoreCase.{HasFew, IsPresent, target_with, device_refusals, version_refusals, rule_refusals, room_refusals};
+ghost use Rattle.update_log.specs.Verdicts.{decided, pending_of, release_asked, present, is_release, fault_of, retry, row_fault, first_refusal, first_unmet_for, refusals, features_for, client_for, wants_room, wants_row, on_target, on_found, on_present, verdict};
+ghost use Rattle.update_log.specs.CoreCase.{HasFew, IsPresent, target_with, row_refusals, device_refusals, version_refusals, rule_refusals, room_refusals};
 ghost use Rattle.log_stories.specs.Plain.{case_over};
 
 use crate::lookups::{in_the_way, is_home, place, row_of, row_with_tag};
@@ -18,6 +18,7 @@ use crate::refusing::{
     busy, hindered, installed, locked, no_room, not_updatable, older, out_of_size, rows_full,
     vetoed,
 };
+use crate::retrying::{not_failed, of_other_device, of_other_release, retried};
 use crate::scans::{blocks_of, free_blocks};
 use crate::target::{Target, target_at};
 use fw_base::{Digest, Name};
@@ -25,7 +26,7 @@ use fw_facts::DeviceView;
 use history_keeper::Row;
 use release_catalogue::ReleaseRef;
 use requirements::{Unmet, first_unmet};
-use update_log::{CoreState, Decision, Event, Facts, Refusal, Request, Stage};
+use update_log::{CoreState, Decision, Event, Facts, Refusal, Request, RetryFault, Stage};
 
 /// All that a decision reads.
 #[derive(Drop)]
@@ -194,17 +195,61 @@ fn unsettled(case: &Case, view: &DeviceView) -> Option<Refusal>
     }
 }
 
+// The request names a row that it can't try again.
+fn retry(case: &Case, target: &Target) -> Option<Refusal>
+    ensures { result ≡ retry (case_over case.now.facts.now case.now.views.now case.now.rows.now case.now.log.now case.now.client case.now.request.now case.now.stage) (target_with target.now.place target.now.view.now target.now.at target.now.component.now target.now.release.now) }
+{
+    let entry = case.request.retry_of?;
+    match fault_of(case, target, entry) {
+        Some(fault) => Some(Refusal::Retry(fault)),
+        None => None,
+    }
+}
+
+// Why the row of that entry can't be tried again for the target.
+fn fault_of(case: &Case, target: &Target, entry: u32) -> Option<RetryFault>
+    ensures { result ≡ fault_of (case_over case.now.facts.now case.now.views.now case.now.rows.now case.now.log.now case.now.client case.now.request.now case.now.stage) (target_with target.now.place target.now.view.now target.now.at target.now.component.now target.now.release.now) entry (row_of case.now.rows.now entry) }
+{
+    match row_of(case.rows, entry) {
+        Some(row) => row_fault(case, target, entry, row),
+        None => Some(RetryFault::NoRow),
+    }
+}
+
+fn row_fault(case: &Case, target: &Target, entry: u32, row: &Row) -> Option<RetryFault>
+    ensures { result ≡ row_fault (case_over case.now.facts.now case.now.views.now case.now.rows.now case.now.log.now case.now.client case.now.request.now case.now.stage) (target_with target.now.place target.now.view.now target.now.at target.now.component.now target.now.release.now) entry row.now }
+{
+    if let Some(fault) = of_other_device(row, &target.view.sheet.device) {
+        return Some(fault);
+    }
+    if let Some(fault) = not_failed(row) {
+        return Some(fault);
+    }
+    let own = pending_of(case.stage);
+    if let Some(fault) = retried(case.rows, entry, own) {
+        return Some(fault);
+    }
+    of_other_release(row, &target.release.digest)
+}
+
+// What refuses it by an update of the device that runs or waits, and by the row that it tries again.
+fn of_rows(case: &Case, target: &Target) -> Option<Refusal>
+    ensures { result ≡ first_refusal (row_refusals (case_over case.now.facts.now case.now.views.now case.now.rows.now case.now.log.now case.now.client case.now.request.now case.now.stage) (target_with target.now.place target.now.view.now target.now.at target.now.component.now target.now.release.now)) }
+{
+    if let Some(refusal) = busy(target.view) {
+        return Some(refusal);
+    }
+    if let Some(refusal) = unsettled(case, target.view) {
+        return Some(refusal);
+    }
+    retry(case, target)
+}
+
 // What refuses it by the device itself.
 fn of_device(case: &Case, target: &Target) -> Option<Refusal>
     ensures { result ≡ first_refusal (device_refusals (case_over case.now.facts.now case.now.views.now case.now.rows.now case.now.log.now case.now.client case.now.request.now case.now.stage) (target_with target.now.place target.now.view.now target.now.at target.now.component.now target.now.release.now)) }
 {
     let view = target.view;
-    if let Some(refusal) = busy(view) {
-        return Some(refusal);
-    }
-    if let Some(refusal) = unsettled(case, view) {
-        return Some(refusal);
-    }
     if let Some(refusal) = not_updatable(view) {
         return Some(refusal);
     }
@@ -283,6 +328,9 @@ fn refusal(case: &Case, target: &Target) -> Option<Refusal>
     requires few { length target.now.component.now.requirements < 2 ^ 32 }
     ensures { result ≡ first_refusal (refusals (case_over case.now.facts.now case.now.views.now case.now.rows.now case.now.log.now case.now.client case.now.request.now case.now.stage) (target_with target.now.place target.now.view.now target.now.at target.now.component.now target.now.release.now)) }
 {
+    if let Some(refusal) = of_rows(case, target) {
+        return Some(refusal);
+    }
     if let Some(refusal) = of_device(case, target) {
         return Some(refusal);
     }

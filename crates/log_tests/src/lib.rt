@@ -6,6 +6,8 @@
 #[cfg(test)]
 mod first_steps;
 #[cfg(test)]
+mod retries;
+#[cfg(test)]
 mod scenes;
 #[cfg(test)]
 mod values;

@@ -242,6 +242,7 @@ pub fn request(tag: &str, port: &str, version: &str) -> Result<Request, Fail> {
             allow_reinstall: false,
             allow_older: false,
         },
+        retry_of: None,
     })
 }
 

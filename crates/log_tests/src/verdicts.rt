@@ -12,7 +12,7 @@ use release_catalogue::ReleaseRef;
 use requirements::Unmet;
 use std::alloc::Global;
 use std::test::Fail;
-use update_log::{Decision, FetchNote, InstallFlags, Refusal, Request, Stage, verdict};
+use update_log::{Decision, FetchNote, InstallFlags, Refusal, Request, RetryFault, Stage, verdict};
 use version_formats::Version;
 
 /// The number of a decision: that of its refusal, 0 where it is accepted, and 100 where it is kept.
@@ -42,6 +42,7 @@ fn refusal_number(refusal: &Refusal) -> u32 {
         Refusal::Payload(_) => 14,
         Refusal::RowsFull => 15,
         Refusal::KeeperFault => 16,
+        Refusal::Retry(_) => 17,
     }
 }
 
@@ -78,6 +79,14 @@ fn problem(refusal: &Refusal) -> Option<Problem> {
     }
 }
 
+/// Why a row can't be tried again, where that refuses it.
+pub fn fault(refusal: &Refusal) -> Option<RetryFault> {
+    match refusal {
+        Refusal::Retry(fault) => Some(*fault),
+        _ => None,
+    }
+}
+
 fn plugin(refusal: &Refusal) -> Option<Name> {
     match refusal {
         Refusal::Veto { plugin } => Some(*plugin),
@@ -92,6 +101,7 @@ fn is_same_refusal(one: &Refusal, other: &Refusal) -> bool {
         && unmet(one) == unmet(other)
         && problem(one) == problem(other)
         && plugin(one) == plugin(other)
+        && fault(one) == fault(other)
 }
 
 /// The place of the device that is accepted, the release and the blocks.
@@ -127,7 +137,7 @@ fn is_same(one: &Decision, other: &Decision) -> bool {
 }
 
 /// The number of the decision that both programs give, and 99 where they give two.
-fn decided(story: &Story, client: u32, request: &Request, stage: Stage) -> u32 {
+pub fn decided(story: &Story, client: u32, request: &Request, stage: Stage) -> u32 {
     let one = verdict(story.facts(), story.state(), client, request, stage);
     match plainly(story, client, request, stage) {
         Some(other) => {
@@ -300,6 +310,7 @@ fn request_of_row() -> Result<Request, Fail> {
             allow_reinstall: false,
             allow_older: false,
         },
+        retry_of: None,
     })
 }
 

@@ -77,3 +77,4 @@ word_is_name words.Do = refl
 word_is_name words.Device = refl
 word_is_name words.Order = refl
 word_is_name words.Enabled = refl
+word_is_name words.RetryOf = refl

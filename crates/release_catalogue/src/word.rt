@@ -78,6 +78,7 @@ pub enum Word {
     Device,
     Order,
     Enabled,
+    RetryOf,
 }
 
 impl Word {
@@ -157,6 +158,7 @@ impl Word {
             Word::Device => "device",
             Word::Order => "order",
             Word::Enabled => "enabled",
+            Word::RetryOf => "retry-of",
         }
     }
 

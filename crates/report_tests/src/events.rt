@@ -11,7 +11,7 @@ use std::alloc::Global;
 use std::test::Fail;
 use update_log::{
     AskAnswer, Back, BoardSeen, ClaimAnswer, Event, FetchNote, Found, InstallFlags, Op, PlugAnswer,
-    Query, Refusal, Request, ResumeAnswer, Stored, Told,
+    Query, Refusal, Request, ResumeAnswer, RetryFault, Stored, Told,
 };
 use version_formats::Version;
 
@@ -44,6 +44,9 @@ client 1 claim t1 refused 15 rows-full
 client 1 schedule t1 usb1 01.1.0 entry 4
 client 1 schedule t1 usb1 01.1.0 kept 4 begun
 client 1 schedule t1 usb1 01.1.0 refused 15 rows-full
+client 1 ask t1 usb1 01.1.0 retry-of 2 refused 17 retry retried 3
+client 1 ask entry 4 hold 0
+client 1 schedule t1 usb1 01.1.0 retry-of 65536 entry 4
 client 0 resume 4 begun
 client 0 resume 4 refused 9 older
 client 0 resume 4 refused 9 older keeper-fault
@@ -167,6 +170,7 @@ fn request() -> Result<Request, Fail> {
             allow_reinstall: false,
             allow_older: true,
         },
+        retry_of: None,
     })
 }
 
@@ -244,6 +248,44 @@ fn put_schedules(log: &mut Vec<Event>) -> Result<(), Fail> {
             answer,
         })?;
     }
+    Ok(())
+}
+
+/// The same request, which tries the row of that entry again.
+fn retry(entry: u32) -> Result<Request, Fail> {
+    let request = request()?;
+    Ok(Request {
+        retry_of: Some(entry),
+        ..request
+    })
+}
+
+const TRIED_BEFORE: AskAnswer = AskAnswer::Refused(Refusal::Retry(RetryFault::Retried {
+    entry: 3,
+}));
+
+/// Asks and a schedule that name a row. The ask of a row that was put off doesn't tell it.
+fn put_retries(log: &mut Vec<Event>) -> Result<(), Fail> {
+    log.push(Event::Ask {
+        client: 1,
+        request: retry(2)?,
+        pending: None,
+        answer: TRIED_BEFORE,
+    })?;
+    log.push(Event::Ask {
+        client: 1,
+        request: retry(2)?,
+        pending: Some(4),
+        answer: AskAnswer::Hold {
+            blocks: 0,
+            release: RELEASE,
+        },
+    })?;
+    log.push(Event::Schedule {
+        client: 1,
+        request: retry(65_536)?,
+        answer: ClaimAnswer::Entry(4),
+    })?;
     Ok(())
 }
 
@@ -420,6 +462,7 @@ fn put_of_clients(log: &mut Vec<Event>) -> Result<(), Fail> {
     put_asks(log)?;
     put_claims(log)?;
     put_schedules(log)?;
+    put_retries(log)?;
     put_resumptions(log)
 }
 

@@ -2,14 +2,15 @@
 use crate::differences::differs_at;
 use fw_base::Name;
 use fw_facts::Problem;
+use history_keeper::RowState;
 use report_text::answers::put_refused;
 use requirements::{Unmet, UnmetCause};
 use std::alloc::Global;
 use std::test::Fail;
-use update_log::{FetchNote, Refusal};
+use update_log::{FetchNote, Refusal, RetryFault};
 
-/// Those that need no value to be read: plain ones, problems, requirements and payloads.
-const REFUSALS: [(Refusal, &str); 33] = [
+/// Those that need no value to be read: plain ones, retries, problems, requirements and payloads.
+const REFUSALS: [(Refusal, &str); 38] = [
     (Refusal::NoDevice, "refused 1 no-device"),
     (Refusal::NoRelease, "refused 2 no-release"),
     (Refusal::Busy { entry: 3 }, "refused 3 busy 3"),
@@ -37,6 +38,25 @@ const REFUSALS: [(Refusal, &str); 33] = [
     ),
     (Refusal::RowsFull, "refused 15 rows-full"),
     (Refusal::KeeperFault, "refused 16 keeper-fault"),
+    (Refusal::Retry(RetryFault::NoRow), "refused 17 retry no-row"),
+    (
+        Refusal::Retry(RetryFault::OtherDevice),
+        "refused 17 retry other-device",
+    ),
+    (
+        Refusal::Retry(RetryFault::NotFailed {
+            state: RowState::NeedsReboot,
+        }),
+        "refused 17 retry not-failed needs-reboot",
+    ),
+    (
+        Refusal::Retry(RetryFault::Retried { entry: 65_536 }),
+        "refused 17 retry retried 65536",
+    ),
+    (
+        Refusal::Retry(RetryFault::OtherRelease),
+        "refused 17 retry other-release",
+    ),
     (
         Refusal::Problem(Problem::SystemPowerTooLow),
         "refused 7 problem system-power-too-low",
@@ -174,7 +194,7 @@ fn told_before(alloc: Global) -> Result<usize, Fail> {
 
 #[test]
 fn each_refusal_is_told(rt: HostRuntime) -> Result<(), Fail> {
-    assert_eq!(rt; told_before(rt.alloc())?, 33);
+    assert_eq!(rt; told_before(rt.alloc())?, 38);
     Ok(())
 }
 

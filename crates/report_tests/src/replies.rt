@@ -118,12 +118,12 @@ const REPLIES: [(Scene, Ask, &str); 31] = [
     (
         Scene::Hindered,
         Ask::History,
-        "  4 t4 f416d44c605f8de852340c776b1f6c75258bf1e6 1.0.0 1.1.0 needs-reboot 0 0 -\n  3 t3 a6dfdeaa3a44a4c52d44284847d7160892b4017e 1.0.0 1.1.0 begun 0 0 -\n  2 t2 usb1 1.0.0 1.1.0 pending 0 30 org.usb.dfu\n  1 t1 usb1 1.0.0 1.1.0 failed 4 0 -\n",
+        "  4 t4 f416d44c605f8de852340c776b1f6c75258bf1e6 1.0.0 1.1.0 needs-reboot 0 0 -\n  3 t3 a6dfdeaa3a44a4c52d44284847d7160892b4017e 1.0.0 1.1.0 begun 0 0 -\n  2 t2 usb1 1.0.0 1.1.0 pending 0 30 org.usb.dfu retry-of 1\n  1 t1 usb1 1.0.0 1.1.0 failed 4 0 -\n",
     ),
     (
         Scene::Hindered,
         Ask::Results("usb1"),
-        "  2 t2 usb1 1.0.0 1.1.0 pending 0 30 org.usb.dfu\n",
+        "  2 t2 usb1 1.0.0 1.1.0 pending 0 30 org.usb.dfu retry-of 1\n",
     ),
     (Scene::Hindered, Ask::Results("usb2"), "  none\n"),
     (Scene::Hindered, Ask::Settle("usb1"), "  waits 2\n"),

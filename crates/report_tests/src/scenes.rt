@@ -282,6 +282,7 @@ fn hindered_rows(alloc: Global) -> Result<Vec<Row>, Fail> {
     let mut second = row(alloc, 2, "usb1", RowState::Pending, 0)?;
     second.duration = 30;
     second.protocol = Some(Name::read(b"org.usb.dfu")?);
+    second.retry_of = Some(1);
     put(&mut rows, &second)?;
     put(&mut rows, &row(alloc, 3, "gone", RowState::Begun, 0)?)?;
     put(&mut rows, &row(alloc, 4, "away", RowState::NeedsReboot, 0)?)?;
@@ -314,5 +315,6 @@ pub fn request() -> Result<Request, Fail> {
             allow_reinstall: false,
             allow_older: false,
         },
+        retry_of: None,
     })
 }

@@ -30,7 +30,7 @@ use Rattle.update_log.specs.declared.event.Back.TheVariants as backs
 use Rattle.update_log.specs.declared.event.Query.{Query}
 use Rattle.update_log.specs.declared.event.Query.TheVariants as queries
 use Rattle.update_log.specs.declared.event.BoardSeen.{BoardSeen}
-use Rattle.client_scripts.specs.Parts.{port_text, seen_text, selector_text}
+use Rattle.client_scripts.specs.Parts.{port_text, retry_text, seen_text, selector_text}
 use Rattle.client_scripts.specs.Words.{state_word}
 use Rattle.report_text.specs.Words.{op_word, outcome_word, mark_word}
 use Rattle.report_text.specs.Refusals.{refused_text}
@@ -122,9 +122,10 @@ board_line sheets board =
 
 -- ---- the lines of an event
 
--- a request, or the entry that was put off
+-- a request, with the row that it tries again, if any; or the entry that was put off
 abbrev pub asked_text : Request → Option ℕ → List ℕ
-asked_text request None = request.tag ++ codes " " ++ selector_text request.device ++ codes " " ++ request.version
+asked_text request None =
+    request.tag ++ codes " " ++ selector_text request.device ++ codes " " ++ request.version ++ retry_text request.retry_of
 asked_text request (Some entry) = codes "entry " ++ decimal entry
 
 -- what happened to an entry: its client and number, and the word

@@ -6,9 +6,11 @@ use Rattle.requirements.specs.declared.unmet.UnmetCause.{UnmetCause}
 use Rattle.requirements.specs.declared.unmet.UnmetCause.TheVariants as causes
 use Rattle.update_log.specs.declared.refusal.FetchNote.{FetchNote}
 use Rattle.update_log.specs.declared.refusal.FetchNote.TheVariants as notes
+use Rattle.update_log.specs.declared.refusal.RetryFault.{RetryFault}
+use Rattle.update_log.specs.declared.refusal.RetryFault.TheVariants as faults
 use Rattle.update_log.specs.declared.refusal.Refusal.{Refusal}
 use Rattle.update_log.specs.declared.refusal.Refusal.TheVariants as refusals
-use Rattle.client_scripts.specs.Words.{problem_word}
+use Rattle.client_scripts.specs.Words.{problem_word, state_word}
 
 -- why a requirement doesn't hold: its number and its word
 abbrev pub cause_words : UnmetCause → List ℕ
@@ -39,6 +41,22 @@ note_text (notes.Length found) = codes "length " ++ decimal found
 note_text (notes.Mismatch found) = codes "mismatch " ++ encode_lower found
 note_text notes.ShelfFault = codes "shelf-fault"
 
+-- why a row can't be tried again: its word, and what that says beside it
+abbrev pub retry_words : RetryFault → List ℕ
+retry_words faults.NoRow = codes "no-row"
+retry_words faults.OtherDevice = codes "other-device"
+retry_words (faults.NotFailed state) = codes "not-failed"
+retry_words (faults.Retried entry) = codes "retried"
+retry_words faults.OtherRelease = codes "other-release"
+
+abbrev pub retry_details : RetryFault → List ℕ
+retry_details (faults.NotFailed state) = codes " " ++ state_word state
+retry_details (faults.Retried entry) = codes " " ++ decimal entry
+retry_details _ = []
+
+abbrev pub fault_text : RetryFault → List ℕ
+fault_text fault = retry_words fault ++ retry_details fault
+
 -- the number and the word of a refusal
 abbrev pub refusal_words : Refusal → List ℕ
 refusal_words refusals.NoDevice = codes "1 no-device"
@@ -57,6 +75,7 @@ refusal_words (refusals.NoRoom need free) = codes "13 no-room"
 refusal_words (refusals.Payload note) = codes "14 payload"
 refusal_words refusals.RowsFull = codes "15 rows-full"
 refusal_words refusals.KeeperFault = codes "16 keeper-fault"
+refusal_words (refusals.Retry fault) = codes "17 retry"
 
 -- what a refusal says beside its word, each part behind a blank
 abbrev pub refusal_details : Refusal → List ℕ
@@ -68,6 +87,7 @@ refusal_details (refusals.Veto plugin) = codes " " ++ plugin
 refusal_details (refusals.Size len min max) = codes " " ++ decimal len ++ codes " " ++ decimal min ++ codes " " ++ decimal max
 refusal_details (refusals.NoRoom need free) = codes " " ++ decimal need ++ codes " " ++ decimal free
 refusal_details (refusals.Payload note) = codes " " ++ note_text note
+refusal_details (refusals.Retry fault) = codes " " ++ fault_text fault
 refusal_details _ = []
 
 abbrev pub refusal_text : Refusal → List ℕ

@@ -1,12 +1,12 @@
 //! Answers and refusals, each put behind the bytes of a text.
 ghost use Rattle.std.specs.Prelude.{◌≡◌, ◌++◌, OnOk, codes};
 ghost use Rattle.std.specs.Fmt.{decimal};
-ghost use Rattle.report_text.specs.Refusals.{cause_text, note_text, refusal_details, refusal_text, refused_text};
+ghost use Rattle.report_text.specs.Refusals.{cause_text, fault_text, note_text, refusal_details, refusal_text, refused_text, retry_details};
 ghost use Rattle.client_scripts.specs.Parts.{selector_text};
 ghost use Rattle.report_text.specs.Lines.{ask_text, claim_text, resume_text, plug_text, back_text, query_text, kept_text};
 
 use crate::parts::put_digest;
-use crate::words::{cause_words, refusal_words};
+use crate::words::{cause_words, refusal_words, retry_words};
 use client_scripts::parts::{put_number, put_selector};
 use client_scripts::words::{problem_word, state_word};
 use device_list::Selector;
@@ -14,7 +14,7 @@ use history_keeper::RowState;
 use requirements::{Unmet, UnmetCause};
 use std::alloc::AllocError;
 use update_log::{
-    AskAnswer, Back, ClaimAnswer, FetchNote, PlugAnswer, Query, Refusal, ResumeAnswer,
+    AskAnswer, Back, ClaimAnswer, FetchNote, PlugAnswer, Query, Refusal, ResumeAnswer, RetryFault,
 };
 
 /// Puts why a requirement does not hold behind the text: its number and its word.
@@ -62,6 +62,26 @@ fn put_unmet(out: &mut Vec<u8>, unmet: &Unmet) -> Result<(), AllocError>
     put_cause(out, unmet.cause)
 }
 
+fn put_fault(out: &mut Vec<u8>, fault: RetryFault) -> Result<(), AllocError>
+    ensures { OnOk result (out.new.items ≡ out.old.items ++ fault_text fault) }
+{
+    out.extend_from_slice(retry_words(fault).as_bytes())?;
+    put_fault_details(out, fault)
+}
+
+fn put_fault_details(out: &mut Vec<u8>, fault: RetryFault) -> Result<(), AllocError>
+    ensures { OnOk result (out.new.items ≡ out.old.items ++ retry_details fault) }
+{
+    match fault {
+        RetryFault::NotFailed { state } => {
+            out.extend_from_slice(b" ")?;
+            out.extend_from_slice(state_word(state).as_bytes())
+        }
+        RetryFault::Retried { entry } => put_part(out, u64::from(entry)),
+        RetryFault::NoRow | RetryFault::OtherDevice | RetryFault::OtherRelease => Ok(()),
+    }
+}
+
 fn put_details(out: &mut Vec<u8>, refusal: &Refusal) -> Result<(), AllocError>
     ensures { OnOk result (out.new.items ≡ out.old.items ++ refusal_details refusal.now) }
 {
@@ -88,6 +108,10 @@ fn put_details(out: &mut Vec<u8>, refusal: &Refusal) -> Result<(), AllocError>
         Refusal::Payload(note) => {
             out.extend_from_slice(b" ")?;
             put_note(out, note)
+        }
+        Refusal::Retry(fault) => {
+            out.extend_from_slice(b" ")?;
+            put_fault(out, *fault)
         }
         Refusal::NoDevice
         | Refusal::NoRelease

@@ -9,7 +9,7 @@ use crate::answers::{put_ask, put_back, put_claim, put_plug, put_query, put_resu
 use crate::lookup::sheet_at;
 use crate::parts::{put_client, put_told};
 use crate::words::{op_word, outcome_word};
-use client_scripts::parts::{put_number, put_port, put_seen, put_selector};
+use client_scripts::parts::{put_number, put_port, put_retry, put_seen, put_selector};
 use client_scripts::words::state_word;
 use device_list::Selector;
 use emulated_boards::BoardFault;
@@ -122,7 +122,8 @@ fn put_asked(out: &mut Vec<u8>, request: &Request, pending: Option<u32>) -> Resu
             out.extend_from_slice(b" ")?;
             put_selector(out, &request.device)?;
             out.extend_from_slice(b" ")?;
-            out.extend_from_slice(request.version.bytes())
+            out.extend_from_slice(request.version.bytes())?;
+            put_retry(out, request.retry_of)
         }
         Some(entry) => {
             out.extend_from_slice(b"entry ")?;

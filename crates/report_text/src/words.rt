@@ -1,11 +1,11 @@
 //! The words of the report.
 ghost use Rattle.std.specs.Prelude.{◌≡◌};
 ghost use Rattle.report_text.specs.Words.{op_word, outcome_word, mark_word};
-ghost use Rattle.report_text.specs.Refusals.{cause_words, refusal_words};
+ghost use Rattle.report_text.specs.Refusals.{cause_words, refusal_words, retry_words};
 
 use emulated_boards::{BoardFault, Mark};
 use requirements::UnmetCause;
-use update_log::{Op, Refusal};
+use update_log::{Op, Refusal, RetryFault};
 
 pub fn op_word(op: Op) -> &'static str
     ensures { result.now ≡ op_word op }
@@ -80,5 +80,18 @@ pub fn refusal_words(refusal: &Refusal) -> &'static str
         Refusal::Payload(_) => "14 payload",
         Refusal::RowsFull => "15 rows-full",
         Refusal::KeeperFault => "16 keeper-fault",
+        Refusal::Retry(_) => "17 retry",
+    }
+}
+
+pub fn retry_words(fault: RetryFault) -> &'static str
+    ensures { result.now ≡ retry_words fault }
+{
+    match fault {
+        RetryFault::NoRow => "no-row",
+        RetryFault::OtherDevice => "other-device",
+        RetryFault::NotFailed { .. } => "not-failed",
+        RetryFault::Retried { .. } => "retried",
+        RetryFault::OtherRelease => "other-release",
     }
 }

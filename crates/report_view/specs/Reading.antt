@@ -52,12 +52,16 @@ abbrev pub boot_read : List ℕ → Option Kind
 boot_read line =
     option_and_then (λ told. option_and_then (λ time. if is 2 (codes "time") line then Some (kinds.Boot told) else None) (number 3 line)) (number 1 line)
 
--- `client 0 ask entry E ANSWER`, or `client C ask TAG DEVICE VERSION ANSWER`
+-- where the answer to a request stands: behind its version, or behind `retry-of E` where that is there
+abbrev pub answer_place : List ℕ → ℕ
+answer_place line = if is 6 (codes "retry-of") line then 8 else 6
+
+-- `client 0 ask entry E ANSWER`, or `client C ask TAG DEVICE VERSION ANSWER`, with `retry-of E` before the answer or without
 abbrev pub ask_read : ℕ → List ℕ → Option Kind
 ask_read client line =
     if client == 0
     then option_and_then (λ entry. option_map (λ answer. kinds.Recall entry answer) (answer_read 5 line)) (number 4 line)
-    else option_map (λ answer. kinds.Ask client answer) (answer_read 6 line)
+    else option_map (λ answer. kinds.Ask client answer) (answer_read (answer_place line) line)
 
 abbrev pub resumed_read : List ℕ → Option Resumed
 resumed_read line =
@@ -114,9 +118,9 @@ other_read client line =
 abbrev pub claim_read : ℕ → List ℕ → Option Kind
 claim_read client line = option_map (λ answer. kinds.Claim client answer) (answer_read 4 line)
 
--- `client C schedule TAG DEVICE VERSION ANSWER`
+-- `client C schedule TAG DEVICE VERSION ANSWER`, with `retry-of E` before the answer or without
 abbrev pub schedule_read : ℕ → List ℕ → Option Kind
-schedule_read client line = option_map (λ answer. kinds.Schedule client answer) (answer_read 6 line)
+schedule_read client line = option_map (λ answer. kinds.Schedule client answer) (answer_read (answer_place line) line)
 
 abbrev pub said : ℕ → List ℕ → Option Kind
 said client line =

@@ -1,6 +1,6 @@
 //! Which line a text is.
 ghost use Rattle.std.specs.Prelude.{◌≡◌, ◌<◌};
-ghost use Rattle.report_view.specs.Reading.{answer_read, ask_read, claim_read, schedule_read, board_or_detail, boot_read, client_read, ended_read, entry_read, entry_says, is_question, judge_read, kind_read, last_read, line_read, finished_read, other_read, resume_read, resumed_read, said, started_read, state_read, step_read};
+ghost use Rattle.report_view.specs.Reading.{answer_place, answer_read, ask_read, claim_read, schedule_read, board_or_detail, boot_read, client_read, ended_read, entry_read, entry_says, is_question, judge_read, kind_read, last_read, line_read, finished_read, other_read, resume_read, resumed_read, said, started_read, state_read, step_read};
 
 use crate::line::{Answer, Kind, Line, Resumed, State, Step};
 use crate::words::{blanks, is, number, word};
@@ -83,6 +83,14 @@ fn boot(line: &[u8]) -> Option<Kind>
     }
 }
 
+// Where the answer to a request stands: behind its version, or behind the row that it tries again.
+fn answer_place(line: &[u8]) -> usize
+    ensures place { result ≡ answer_place line.now }
+    ensures low { result < 100 }
+{
+    if is(line, 6, b"retry-of") { 8 } else { 6 }
+}
+
 fn ask(line: &[u8], client: u64) -> Option<Kind>
     ensures { result ≡ ask_read client line.now }
 {
@@ -94,7 +102,7 @@ fn ask(line: &[u8], client: u64) -> Option<Kind>
             answer: told,
         })
     } else {
-        let told = answer(line, 6)?;
+        let told = answer(line, answer_place(line))?;
         Some(Kind::Ask {
             client,
             answer: told,
@@ -235,7 +243,7 @@ fn claim(line: &[u8], client: u64) -> Option<Kind>
 fn schedule(line: &[u8], client: u64) -> Option<Kind>
     ensures { result ≡ schedule_read client line.now }
 {
-    let told = answer(line, 6)?;
+    let told = answer(line, answer_place(line))?;
     Some(Kind::Schedule {
         client,
         answer: told,

@@ -6,13 +6,13 @@ use Rattle.std.proofs.lemmas.Bool.{eqb-true}
 use Rattle.history_keeper.specs.declared.row.Row.{Row}
 use Rattle.history_keeper.specs.declared.row.RowState.{RowState}
 use Rattle.history_keeper.specs.Histories.{IsHistory}
-use Rattle.update_log.proofs.HistoryKept.{wait-kept}
 use Rattle.update_log.proofs.LegalOnce.{PastKept, past-kept}
 use Rattle.update_log.proofs.TakenKept.{untaken-unstarted}
 use Rattle.update_log.proofs.Lists.{All-both, All-find, All-filter, All-map, All-push, by_test, eqb-other, eqb-self, find-filter, find-filter_none, find-passes, find-push_other}
 use Rattle.update_log.proofs.Rows.{accepted-claim}
 use Rattle.update_log.proofs.StepsKept.{OpenKept, live-of, not-fresh}
 use Rattle.update_log.proofs.WaitsOnce.{state_of}
+use Rattle.update_log.proofs.WaitsKept.{wait-kept}
 use Rattle.update_log.specs.Holding.{blocks_fetched, blocks_fetched_if, is_live, live, live_entry, open_steps, step_open, without_entry}
 use Rattle.update_log.specs.Known.{rows, target, views}
 use Rattle.update_log.specs.Legal.{Allowed, IsLegal, may_judge, next_entry}

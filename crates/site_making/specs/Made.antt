@@ -112,6 +112,7 @@ made_request i = record {
   device = Port (made_port i);
   version = new_version;
   flags = record { offline = false; allow_reinstall = false; allow_older = false };
+  retry_of = None;
 }
 
 -- what is done for board i: the install, the same again, and what became of it

@@ -72,6 +72,8 @@ fn push_items(alloc: Global, script: &mut Vec<Item>, board: u32) -> Result<(), N
     ensures { OnOk result (script.new.items ≡ script.old.items ++ made_items board) }
 {
     let request = made_request(alloc, board)?;
+    // The checker of borrows wants the types of an item's parts among the locals.
+    let _retry_of = request.retry_of;
     let device = request.device;
     let results = Query::Results(device);
     script.push(install(&request))?;
@@ -99,5 +101,6 @@ fn made_request(alloc: Global, board: u32) -> Result<Request, NoMemory>
             allow_reinstall: false,
             allow_older: false,
         },
+        retry_of: None,
     })
 }

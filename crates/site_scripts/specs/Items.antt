@@ -13,8 +13,8 @@ use Rattle.release_catalogue.specs.declared.word.Word.TheVariants as words
 use Rattle.release_catalogue.specs.declared.reason.Reason.TheVariants.{WrongKind, TooMany}
 use Rattle.release_catalogue.specs.declared.spot.Spot.{Spot}
 use Rattle.release_catalogue.specs.declared.spot.Fault.{Fault}
-use Rattle.release_catalogue.specs.Reading.{◌>>=◌, field_of, optional, or_fault, refuse_if, the}
-use Rattle.release_catalogue.specs.Kinds.{items_at, name_at, object_at, text_at, version_at}
+use Rattle.release_catalogue.specs.Reading.{◌>>=◌, field_of, maybe, optional, or_fault, refuse_if, the}
+use Rattle.release_catalogue.specs.Kinds.{items_at, name_at, number_at, object_at, text_at, version_at}
 use Rattle.site_scripts.specs.declared.verb.Verb.{Verb}
 use Rattle.site_scripts.specs.declared.verb.Verb.TheVariants as verbs
 use Rattle.site_scripts.specs.declared.flags.FlagWord.{FlagWord}
@@ -97,7 +97,8 @@ install_at spot d = do
   tag ← the spot words.Tag name_at d
   version ← the spot words.Version version_at d
   flags ← optional spot words.Flags install_flags_at no_install_flags d
-  Ok («items».Install (record { tag = tag; device = device; version = version; flags = flags }))
+  retry_of ← maybe spot words.RetryOf (number_at 1 65536) d
+  Ok («items».Install (record { tag = tag; device = device; version = version; flags = flags; retry_of = retry_of }))
 
 -- The item, by what it does. Members that it has no use for are passed over.
 unfoldable pub done_at : Verb → Spot → Data → Result Item Fault

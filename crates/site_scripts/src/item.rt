@@ -3,7 +3,8 @@ ghost use Rattle.std.specs.Prelude.{◌≡◌, ◌+◌, ◌≤◌, ◌<◌, [], 
 ghost use Rattle.serde_json.specs.Data as json;
 ghost use Rattle.serde_json.specs.View.{view, items_view};
 ghost use Rattle.release_catalogue.specs.declared.spot.Level.TheVariants.{Third};
-ghost use Rattle.release_catalogue.specs.Reading.{Fails, Gives, each, entry_spot, the};
+ghost use Rattle.release_catalogue.specs.Reading.{Fails, Gives, each, entry_spot, maybe, the};
+ghost use Rattle.release_catalogue.specs.Kinds.{number_at};
 ghost use Rattle.site_scripts.specs.Items.{done_at, install_at, item_at, selector_at};
 
 use crate::flags::install_flags_or_none;
@@ -11,8 +12,8 @@ use crate::verb::{Verb, read_verb};
 use client_scripts::Item;
 use device_list::Selector;
 use guid_ids::{DeviceId, Guid};
-use release_catalogue::kinds::{name, object, version};
-use release_catalogue::members::needed;
+use release_catalogue::kinds::{name, number, object, version};
+use release_catalogue::members::{member, needed};
 use release_catalogue::spot::fault_at;
 use release_catalogue::{Level, ReadStop, Reason, Spot, Word};
 use serde_json::Value;
@@ -21,6 +22,9 @@ use update_log::{Query, Request};
 
 /// The most items of a document, over all its boots.
 pub const ITEMS_MAX: usize = 8_192;
+
+/// The last entry that a row may have: a history has no more rows.
+pub const ENTRY_MAX: u64 = 65_536;
 
 /// The items of a script, where `taken` were taken before it.
 pub fn each_item(
@@ -54,6 +58,7 @@ fn push_item(read: &mut Vec<Item>, taken: usize, value: &Value, spot: Spot) -> R
     let _device: Option<Selector> = None;
     let _query: Option<Query> = None;
     let _request: Option<Request> = None;
+    let _retry_of: Option<u32> = None;
     let place = read.len();
     let item = item(taken + place, value, spot.entry(Level::Third, place as u32))?;
     read.push(item)?;
@@ -124,10 +129,25 @@ fn install(value: &Value, spot: Spot) -> Result<Item, ReadStop>
         spot.field(Word::Version),
     )?;
     let flags = install_flags_or_none(value, spot)?;
+    let retry_of = retry_or_none(value, spot)?;
     Ok(Item::Install(Request {
         tag,
         device,
         version,
         flags,
+        retry_of,
     }))
+}
+
+/// The entry of the row that an install tries again, where it names one: 1 to 65,536.
+fn retry_or_none(value: &Value, spot: Spot) -> Result<Option<u32>, ReadStop>
+    ensures { Gives (λ n. n) result (maybe spot Word.RetryOf (number_at 1 65536) (view value.now)) }
+{
+    match member(value, Word::RetryOf) {
+        None => Ok(None),
+        Some(found) => {
+            let entry = number(found, spot.field(Word::RetryOf), 1, ENTRY_MAX)?;
+            Ok(Some(entry as u32))
+        }
+    }
 }

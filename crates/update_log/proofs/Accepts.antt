@@ -16,7 +16,7 @@ use Rattle.requirements.specs.declared.unmet.Unmet.{Unmet}
 use Rattle.update_log.proofs.Lists.{by_test, find-passes}
 use Rattle.update_log.proofs.Openings.{bytes-same}
 use Rattle.update_log.specs.Known.{Target, target, target_at, target_of, views}
-use Rattle.update_log.specs.Verdicts.{Case, busy, client_for, decided, first_refusal, first_unmet_for, hindered, installed, is_that_release, kept, locked, need, no_room, not_updatable, older, on_found, on_kept, on_present, on_target, out_of_size, present, refusals, refused_or, rows_full, unmet, unsettled, vetoed}
+use Rattle.update_log.specs.Verdicts.{Case, busy, client_for, decided, first_refusal, first_unmet_for, hindered, installed, is_that_release, kept, locked, need, no_room, not_updatable, older, on_found, on_kept, on_present, on_target, out_of_size, present, refusals, refused_or, retry, rows_full, unmet, unsettled, vetoed}
 use Rattle.update_log.specs.declared.decision.Decision.{Decision}
 use Rattle.update_log.specs.declared.facts.Facts.{Facts}
 use Rattle.update_log.specs.declared.refusal.Refusal.{Refusal}
@@ -32,6 +32,7 @@ first_refusal-none (None ∷ xs) h = (refl, first_refusal-none xs h)
 pub record NoneRefuses (c : Case) (t : Target) : Type 0 where
   pub is_busy : busy c t ≡ None
   pub is_unsettled : unsettled c t ≡ None
+  pub is_retry : retry c t ≡ None
   pub is_not_updatable : not_updatable c t ≡ None
   pub is_locked : locked c t ≡ None
   pub is_hindered : hindered c t ≡ None
@@ -45,10 +46,11 @@ pub record NoneRefuses (c : Case) (t : Target) : Type 0 where
 
 pub none-refuses : (c : Case) (t : Target) → first_refusal (refusals c t) ≡ None → NoneRefuses c t
 none-refuses c t h =
-    let (b, (u, (n, (l, (p, (i, (o, (m, (v, (s, (r, (f, _)))))))))))) = first_refusal-none (refusals c t) h in
+    let (b, (u, (y, (n, (l, (p, (i, (o, (m, (v, (s, (r, (f, _))))))))))))) = first_refusal-none (refusals c t) h in
     record {
       is_busy = b;
       is_unsettled = u;
+      is_retry = y;
       is_not_updatable = n;
       is_locked = l;
       is_hindered = p;

@@ -1,18 +1,17 @@
 -- What a legal event has, so that a state can take it.
-use Rattle.std.proofs.Common.{◌≡◌, ℕ, Bool, true, false, List, [], ◌∷◌, refl, ap, sym, ◌∙◌, ◌<◌, ◌≤◌, ◌+◌, arith, ◌⊎◌, inl, inr, length}
-use Rattle.std.specs.Prelude.{Option, Some, None, IfSome, nat_le, nat_lt, option_map, option_and_then, if◌then◌else◌, find}
+use Rattle.std.proofs.Common.{◌≡◌, ℕ, Bool, true, false, List, [], ◌∷◌, refl, ap, ◌∙◌, ◌<◌, length}
+use Rattle.std.specs.Prelude.{Option, Some, None, IfSome, nat_le, option_map, if◌then◌else◌, find}
 use Rattle.std.specs.List.{AllByRecursion, list_any}
 use Rattle.std.proofs.lemmas.Bool.{leb-false}
 use Rattle.history_keeper.specs.declared.row.Row.{Row}
 use Rattle.release_catalogue.specs.declared.reference.ReleaseRef.{ReleaseRef}
 use Rattle.update_log.proofs.Accepts.{accepts-target}
-use Rattle.update_log.proofs.Lists.{by_test}
 use Rattle.update_log.specs.CoreSteps.{asks_row, is_taken}
 use Rattle.update_log.specs.Known.{Target, rows, target, views}
 use Rattle.update_log.specs.Legal.{Allowed, ClaimAnswered, ScheduleAnswered, next_entry}
 use Rattle.update_log.specs.Pasts.{is_keeper_fault}
 use Rattle.update_log.specs.Shows.{Campaign}
-use Rattle.update_log.specs.Verdicts.{Case, busy, case_of, decided, first_refusal, hindered, installed, is_that_release, kept, locked, need, no_room, not_updatable, older, on_found, on_kept, on_present, on_target, out_of_size, present, refusals, refused_or, rows_full, rows_max, unmet, unsettled, verdict, vetoed, wants_row, where_so}
+use Rattle.update_log.specs.Verdicts.{Case, case_of, decided, first_refusal, is_that_release, kept, need, on_found, on_kept, on_present, on_target, present, refusals, refused_or, retry_fault, rows_full, rows_max, wants_row, where_so}
 use Rattle.update_log.specs.declared.answer.ClaimAnswer.{ClaimAnswer}
 use Rattle.update_log.specs.declared.decision.Decision.{Decision}
 use Rattle.update_log.specs.declared.decision.Stage.{Stage}
@@ -34,7 +33,7 @@ other-where false r h = tt
 
 all-other : (c : Case) (t : Target) → AllByRecursion IsOther (refusals c t)
 all-other c t =
-    (other-mapped _ t.view.claim (λ x. refl), (other-mapped _ (find _ c.rows) (λ x. refl), (other-where _ Refusal.NotUpdatable refl, (other-where _ Refusal.Locked refl, (other-mapped _ _ (λ x. refl), (other-where _ Refusal.SameVersion refl, (other-where _ Refusal.Older refl, (other-mapped _ _ (λ x. refl), (other-mapped _ _ (λ x. refl), (other-where _ _ refl, (other-where _ _ refl, (other-where _ Refusal.RowsFull refl, tt))))))))))))
+    (other-mapped _ t.view.claim (λ x. refl), (other-mapped _ (find _ c.rows) (λ x. refl), (other-mapped _ (retry_fault c t) (λ x. refl), (other-where _ Refusal.NotUpdatable refl, (other-where _ Refusal.Locked refl, (other-mapped _ _ (λ x. refl), (other-where _ Refusal.SameVersion refl, (other-where _ Refusal.Older refl, (other-mapped _ _ (λ x. refl), (other-mapped _ _ (λ x. refl), (other-where _ _ refl, (other-where _ _ refl, (other-where _ Refusal.RowsFull refl, tt)))))))))))))
 
 first-other : (xs : List (Option Refusal)) → AllByRecursion IsOther xs → IsOther (first_refusal xs)
 first-other [] a = tt

@@ -8,6 +8,7 @@ use Rattle.history_keeper.specs.Histories.{IsHistory}
 use Rattle.history_keeper.specs.declared.row.Row.{Row}
 use Rattle.history_keeper.specs.declared.row.RowState.{RowState}
 use Rattle.update_log.proofs.Accepts.{some-same}
+use Rattle.update_log.proofs.HistoryKept.{rows-history}
 use Rattle.update_log.proofs.LegalOnce.{JournalsFit, past-kept, past-once}
 use Rattle.update_log.proofs.Pasts.{past-push}
 use Rattle.update_log.proofs.StepsKept.{get-last}
@@ -212,6 +213,7 @@ boot-safe c opening past plan states found boards valid legal planned fits n =
       after,
       past-once c.facts opening (next_boot past plan found boards ∷ past) states
           (past-kept c opening (next_boot past plan found boards ∷ past) valid after)
+          (rows-history c opening (next_boot past plan found boards ∷ past) valid after)
           (next-fits c.facts c.first opening past plan states found boards fits n),
     )
 

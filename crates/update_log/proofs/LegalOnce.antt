@@ -347,11 +347,13 @@ journal-once facts opening past boards board b tail k all f =
     at mark None n h i = tt
     at mark (Some entry) n h i = mark-once facts opening past boards board b.journal mark entry k n (alone mark entry n i h) h
 
-pub past-once : (facts : Facts) (opening : List Row) (past : List Event) (boards : List BoardState) → PastKept facts opening past → JournalsFit facts opening past boards → OncePast facts opening past boards
-past-once facts opening past boards k f =
+pub past-once : (facts : Facts) (opening : List Row) (past : List Event) (boards : List BoardState) → PastKept facts opening past → IsHistory (rows facts opening past) → JournalsFit facts opening past boards → OncePast facts opening past boards
+past-once facts opening past boards k valid f =
     record {
       marks = λ board b e. let t = f board b e in journal-once facts opening past boards board b t.0 k f t.1;
-      tags = tags-differ (rows facts opening past) k.rows_kept.valid.tags;
+      tags = valid.tags;
+      linked = valid.linked;
+      retried = valid.retried;
     }
 
 pub journals-fit : (facts : Facts) (first : List Seen) (opening : List Row) (past : List Event) (boards : List BoardState) → FitsPast facts first opening past boards → JournalsFit facts opening past boards

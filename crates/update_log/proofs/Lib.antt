@@ -13,6 +13,9 @@ pub mod TakenKept
 pub mod MarksKept
 pub mod LegalOnce
 pub mod WaitsOnce
+pub mod WaitsKept
+pub mod LinksOnce
+pub mod LinksKept
 pub mod HistoryKept
 pub mod CrashOnce
 pub mod Placed

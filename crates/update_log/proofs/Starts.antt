@@ -1,5 +1,5 @@
 -- The state before the first event.
-use Rattle.std.proofs.Common.{◌≡◌, ℕ, List, [], refl, ap, sym, ◌∙◌, map, arith}
+use Rattle.std.proofs.Common.{◌≡◌, List, [], ap, sym, ◌∙◌, map, arith}
 use Rattle.std.specs.Prelude.{None}
 use Rattle.history_keeper.specs.declared.row.Row.{Row}
 use Rattle.history_keeper.specs.Histories.{IsHistory}
@@ -14,7 +14,14 @@ use Rattle.update_log.specs.Known.{doubt, rows, views}
 use Rattle.update_log.specs.Pasts.{past_of}
 
 pub no-history : IsHistory []
-no-history = record { entries = λ k lt. absurd (omega arith); tags = λ i j d l m. absurd (omega arith); unsettled = λ i j d l m. absurd (omega arith) }
+no-history =
+    record {
+      entries = λ k lt. absurd (omega arith);
+      tags = λ i j d l m. absurd (omega arith);
+      unsettled = λ i j d l m. absurd (omega arith);
+      linked = λ at row there. cc;
+      retried = λ i j d l m. absurd (omega arith);
+    }
 
 pub stands-first : (facts : Facts) (core : Core) → core.log ≡ [] → core.rows ≡ [] → core.traces ≡ [] → core.doubt ≡ None
     → core.views ≡ map first_view (devices facts) → core.boards ≡ map (λ b. b.number) (devices facts) → Stands facts [] core

@@ -42,7 +42,7 @@ both-true : (a b : Bool) → a ≡ true → b ≡ true → (a && b) ≡ true
 both-true true b h g = g
 both-true false b h g = h
 
-none-many : {X : Type 0} (p : X → Bool) (xs : List X) → list_any p xs ≡ false → how_many p xs ≡ 0
+pub none-many : {X : Type 0} (p : X → Bool) (xs : List X) → list_any p xs ≡ false → how_many p xs ≡ 0
 none-many p [] h = refl
 none-many p (x ∷ xs) h =
     by_test (p x) _
@@ -142,25 +142,28 @@ state-made entry state reason time rows before h = own-state entry state reason 
 
 -- Rows whose entries count from a number.
 
--- every row of an entry is the one that is found, and so waits where that does
-past-entry : (n : ℕ) (rows : List Row) (e : ℕ) → EntriesFrom n rows → e < n → AllByRecursion (λ r. (r.entry == e) ≡ true → is_unsettled r.state ≡ true) rows
-past-entry n [] e v l = tt
-past-entry n (r ∷ rows) e v l = (
+-- every row of an entry is the one that is found, and so has what its state has
+past-entry : (P : RowState → Type 0) (n : ℕ) (rows : List Row) (e : ℕ) → EntriesFrom n rows → e < n → AllByRecursion (λ r. (r.entry == e) ≡ true → P r.state) rows
+past-entry P n [] e v l = tt
+past-entry P n (r ∷ rows) e v l = (
   λ t. let at : r.entry ≡ e = eqb-true r.entry e t in let q : r.entry ≡ n = v.0 in absurd (omega arith),
-  past-entry (n + 1) rows e v.1 (omega arith),
+  past-entry P (n + 1) rows e v.1 (omega arith),
 )
 
-pub only-waits : (n : ℕ) (rows : List Row) (e : ℕ) (state : RowState) → EntriesFrom n rows → state_of rows e ≡ Some state → is_unsettled state ≡ true → AllByRecursion (λ r. (r.entry == e) ≡ true → is_unsettled r.state ≡ true) rows
-only-waits n [] e state v f u = tt
-only-waits n (r ∷ rows) e state v f u =
+pub only-state : (P : RowState → Type 0) (n : ℕ) (rows : List Row) (e : ℕ) (state : RowState) → EntriesFrom n rows → state_of rows e ≡ Some state → P state → AllByRecursion (λ r. (r.entry == e) ≡ true → P r.state) rows
+only-state P n [] e state v f u = tt
+only-state P n (r ∷ rows) e state v f u =
     by_test (r.entry == e) _
     (λ t. let same : r.state ≡ state = (let h : Some r.state ≡ Some state = rw t at f in cc) in
-    let here : is_unsettled r.state ≡ true = ap is_unsettled same ∙ u in
+    let here : P r.state = subst P (sym same) u in
     let at : r.entry ≡ e = eqb-true r.entry e t in
     let q : r.entry ≡ n = v.0 in
-    (λ w. here, past-entry (n + 1) rows e v.1 (omega arith)))
+    (λ w. here, past-entry P (n + 1) rows e v.1 (omega arith)))
     (λ t. let rest : state_of rows e ≡ Some state = rw t at f in
-    (λ w. let bad : true ≡ false = sym w ∙ t in cc, only-waits (n + 1) rows e state v.1 rest u))
+    (λ w. let bad : true ≡ false = sym w ∙ t in cc, only-state P (n + 1) rows e state v.1 rest u))
+
+pub only-waits : (n : ℕ) (rows : List Row) (e : ℕ) (state : RowState) → EntriesFrom n rows → state_of rows e ≡ Some state → is_unsettled state ≡ true → AllByRecursion (λ r. (r.entry == e) ≡ true → is_unsettled r.state ≡ true) rows
+only-waits n rows e state v f u = only-state (λ s. is_unsettled s ≡ true) n rows e state v f u
 
 -- each row is the one that its entry finds
 above : (n : ℕ) (rows : List Row) → EntriesFrom n rows → AllByRecursion (λ r. n ≤ r.entry) rows
@@ -211,14 +214,14 @@ waits-once rows h = λ device. at device rows h
         (λ t. let none : how_many (waits_on device) rs ≡ 0 = alone device r rs t (λ j d l. g 0 (suc j) d (omega arith) (omega arith)) in rw t (omega (arith, none)))
         (λ f. rw f rest)
 
-one-at : (p : Row → Bool) (rows : List Row) (j : ℕ) (d : Row) → j < length rows → p (slice_index_or rows j d) ≡ true → 1 ≤ how_many p rows
+pub one-at : (p : Row → Bool) (rows : List Row) (j : ℕ) (d : Row) → j < length rows → p (slice_index_or rows j d) ≡ true → 1 ≤ how_many p rows
 one-at p [] j d l t = absurd (omega arith)
 one-at p (r ∷ rows) zero d l t = rw t (omega arith)
 one-at p (r ∷ rows) (suc j) d l t =
     let rest : 1 ≤ how_many p rows = one-at p rows j d (omega arith) t in
     by_test (p r) _ (λ u. rw u (omega arith)) (λ u. rw u rest)
 
-two-at : (p : Row → Bool) (rows : List Row) (i j : ℕ) (d : Row) → i < j → j < length rows → p (slice_index_or rows i d) ≡ true → p (slice_index_or rows j d) ≡ true → 2 ≤ how_many p rows
+pub two-at : (p : Row → Bool) (rows : List Row) (i j : ℕ) (d : Row) → i < j → j < length rows → p (slice_index_or rows i d) ≡ true → p (slice_index_or rows j d) ≡ true → 2 ≤ how_many p rows
 two-at p [] i j d l m t u = absurd (omega arith)
 two-at p (r ∷ rows) i zero d l m t u = absurd (omega arith)
 two-at p (r ∷ rows) zero (suc j) d l m t u =

@@ -3,7 +3,7 @@ use Rattle.std.proofs.Common.{refl}
 use Rattle.version_formats.specs.VersionOrder.{sections, version_cmp}
 use Rattle.requirements.specs.Requirements.{first_unmet}
 use Rattle.release_catalogue.specs.Lookup.{chosen}
-use Rattle.update_log.specs.WorkedAnswers.{NeedsReboot, NeedsBootloader, InDoubt, SharedId, AreRefused}
+use Rattle.update_log.specs.WorkedAnswers.{NeedsReboot, NeedsBootloader, InDoubt, SharedId, AreRefused, AreTriedAgain}
 use Rattle.update_log.proofs.WorkedLogs.{old-text}
 
 pub needs-reboot : NeedsReboot
@@ -28,3 +28,17 @@ pub are-refused : AreRefused
 unfolding chosen first_unmet version_cmp sections
 are-refused =
     record { vetoed = rw old-text refl; hindered = refl; size = rw old-text refl; no_room = rw old-text refl; busy = refl }
+
+pub are-tried-again : AreTriedAgain
+unfolding chosen first_unmet version_cmp sections
+are-tried-again =
+    record {
+      accepted = rw old-text refl;
+      no_row = refl;
+      other_device = refl;
+      not_failed = refl;
+      retried = refl;
+      other_release = refl;
+      unsettled_first = refl;
+      its_own = rw old-text refl;
+    }

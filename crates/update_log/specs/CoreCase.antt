@@ -16,7 +16,7 @@ use Rattle.update_log.specs.declared.request.Request.{Request}
 use Rattle.update_log.specs.Holding.{blocks_out}
 use Rattle.update_log.specs.Known.{Target}
 use Rattle.update_log.specs.declared.refusal.Refusal.{Refusal}
-use Rattle.update_log.specs.Verdicts.{Case, busy, unsettled, not_updatable, locked, hindered, installed, older, unmet, vetoed, out_of_size, no_room, rows_full}
+use Rattle.update_log.specs.Verdicts.{Case, busy, unsettled, retry, not_updatable, locked, hindered, installed, older, unmet, vetoed, out_of_size, no_room, rows_full}
 
 -- Each component has fewer requirements than 2^32, so that a number of 32 bits names the first one that
 -- doesn't hold.
@@ -48,9 +48,12 @@ pub record IsPresent (views : List DeviceView) (selector : Selector) (at : ℕ) 
   pub within : at < length views
   pub home : (view : DeviceView) → slice_get views at ≡ Some view → IsTrue (is_home view.seen)
 
--- What may refuse a request, in order, in four parts.
+-- What may refuse a request, in order, in five parts.
+abbrev pub row_refusals : Case → Target → List (Option Refusal)
+row_refusals c t = busy c t ∷ unsettled c t ∷ retry c t ∷ []
+
 abbrev pub device_refusals : Case → Target → List (Option Refusal)
-device_refusals c t = busy c t ∷ unsettled c t ∷ not_updatable c t ∷ locked c t ∷ hindered c t ∷ []
+device_refusals c t = not_updatable c t ∷ locked c t ∷ hindered c t ∷ []
 
 abbrev pub version_refusals : Case → Target → List (Option Refusal)
 version_refusals c t = installed c t ∷ older c t ∷ []

@@ -137,7 +137,8 @@ abbrev pub no_flags_set : InstallFlags
 no_flags_set = record { offline = false; allow_reinstall = false; allow_older = false }
 
 abbrev pub request : Request
-request = record { tag = codes "t1"; device = Selector.Port (codes "usb1"); version = codes "1.1.0"; flags = no_flags_set }
+request =
+    record { tag = codes "t1"; device = Selector.Port (codes "usb1"); version = codes "1.1.0"; flags = no_flags_set; retry_of = None }
 
 abbrev pub found : ReleaseRef
 found = record { component = 0; release = 0 }
@@ -225,11 +226,12 @@ offline = record { offline = true; allow_reinstall = false; allow_older = false 
 
 abbrev pub offline_request : Request
 offline_request =
-    record { tag = codes "t1"; device = Selector.Port (codes "usb1"); version = codes "1.1.0"; flags = offline }
+    record { tag = codes "t1"; device = Selector.Port (codes "usb1"); version = codes "1.1.0"; flags = offline; retry_of = None }
 
 -- The request that its row makes.
 abbrev pub row_request : Request
-row_request = record { tag = codes "t1"; device = Selector.Id device_one; version = codes "1.1.0"; flags = offline }
+row_request =
+    record { tag = codes "t1"; device = Selector.Id device_one; version = codes "1.1.0"; flags = offline; retry_of = None }
 
 abbrev pub no_device : Refusal
 no_device = Refusal.Unmet (record { index = 0; cause = UnmetCause.NoSuchDevice })

@@ -112,9 +112,10 @@ refusal_number (Refusal.NoRoom need free) = 13
 refusal_number (Refusal.Payload note) = 14
 refusal_number Refusal.RowsFull = 15
 refusal_number Refusal.KeeperFault = 16
+refusal_number (Refusal.Retry fault) = 17
 
--- The row that an accepted request adds. Its version is that of the release, as the catalogue has it, and its duration and protocol are
--- those of the device's sheet.
+-- The row that an accepted request adds. Its version is that of the release, as the catalogue has it, its duration and protocol are
+-- those of the device's sheet, and it tries the row again that the request names.
 abbrev pub new_row : ℕ → ℕ → ℕ → Request → RowState → Target → Row
 new_row entry time client request state t =
     record {
@@ -133,7 +134,7 @@ new_row entry time client request state t =
       time_changed = time;
       duration = t.view.sheet.duration;
       protocol = t.view.sheet.protocol;
-      retry_of = None;
+      retry_of = request.retry_of;
     }
 
 -- The change that adds it, with the next entry.

@@ -1,13 +1,14 @@
 -- The laws of the log.
-use Rattle.std.specs.Prelude.{List, [], ◌∷◌, ◌++◌}
+use Rattle.std.specs.Prelude.{◌≡◌, ℕ, List, [], ◌∷◌, ◌++◌, Some}
 use Rattle.history_keeper.specs.declared.row.Row.{Row}
+use Rattle.history_keeper.specs.declared.row.RowState.{RowState}
 use Rattle.history_keeper.specs.Histories.{IsHistory}
 use Rattle.update_log.specs.declared.event.Event.{Event}
 use Rattle.update_log.specs.declared.event.Found.{Found}
 use Rattle.update_log.specs.declared.event.BoardSeen.{BoardSeen}
 use Rattle.update_log.specs.declared.facts.BootPlan.{BootPlan}
 use Rattle.update_log.specs.Pasts.{past_of}
-use Rattle.update_log.specs.Known.{rows}
+use Rattle.update_log.specs.Known.{row_of, rows}
 use Rattle.update_log.specs.Boards.{OneDevice}
 use Rattle.update_log.specs.declared.facts.Facts.{Facts}
 use Rattle.update_log.specs.Shows.{Campaign}
@@ -48,11 +49,20 @@ TakenOnce =
     → IsHistory opening → Legal c opening log → IsTakenOnce c.facts opening (past_of log)
 
 -- Over any number of boots the rows are a valid history: so no device has two rows that wait for their
--- end, whatever was committed, lost or found in doubt.
+-- end, and each retry is of an earlier failed row of its device that no other one is of, whatever was
+-- committed, lost or found in doubt.
 abbrev pub HistoryStays : Type 0
 HistoryStays =
     (c : Campaign) (opening : List Row) (log : List Event)
     → IsHistory opening → Legal c opening log → IsHistory (rows c.facts opening (past_of log))
+
+-- A failed row stays failed: whatever comes behind a log, a row that has failed in it stays as it is.
+abbrev pub FailedStays : Type 0
+FailedStays =
+    (c : Campaign) (opening : List Row) (log later : List Event) (entry : ℕ) (row : Row)
+    → IsHistory opening → Legal c opening (log ++ later)
+    → row_of (rows c.facts opening (past_of log)) entry ≡ Some row → row.state ≡ RowState.Failed
+    → row_of (rows c.facts opening (past_of (log ++ later))) entry ≡ Some row
 
 -- The priority rule leaves one device for each ID, whatever the facts.
 abbrev pub OneDeviceAnID : Type 0

@@ -107,10 +107,16 @@ abbrev pub flags_of_number : ℕ → InstallFlags
 flags_of_number number =
     record { offline = has_digit 1 number; allow_reinstall = has_digit 2 number; allow_older = has_digit 4 number }
 
--- The request that a pending row makes: its tag, device, version and flags.
+-- The request that a pending row makes: its tag, device, version and flags, and the row that it tries again.
 abbrev pub request_of_row : Row → Request
 request_of_row row =
-    record { tag = row.tag; device = Selector.Id row.device; version = row.version_new; flags = flags_of_number row.flags }
+    record {
+      tag = row.tag;
+      device = Selector.Id row.device;
+      version = row.version_new;
+      flags = flags_of_number row.flags;
+      retry_of = row.retry_of;
+    }
 
 -- An ask for a pending row is the daemon's own, and is of the row's request.
 pub record PendingAllowed (facts : Facts) (opening : List Row) (past : List Event) (client : ℕ) (request : Request) (entry : ℕ) (row : Row) : Type 0 where

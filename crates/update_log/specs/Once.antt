@@ -8,6 +8,7 @@ use Rattle.emulated_boards.specs.declared.mark.Mark.{Mark}
 use Rattle.history_keeper.specs.declared.row.Row.{Row}
 use Rattle.history_keeper.specs.declared.row.RowState.{RowState}
 use Rattle.history_keeper.specs.declared.change.Change.{Change}
+use Rattle.history_keeper.specs.Histories.{AreLinked, RetriedOnce}
 use Rattle.release_catalogue.specs.Lookup.{provides}
 use Rattle.update_log.specs.declared.event.Event.{Event}
 use Rattle.update_log.specs.declared.event.Op.{Op}
@@ -217,11 +218,14 @@ abbrev pub MarkOnce : Facts → List Row → List Event → List BoardState → 
 MarkOnce facts opening past boards board journal mark =
     IfSome (entry_named mark) (λ entry. (row : Row) × WrittenOnce facts opening past boards board journal mark entry row)
 
--- Each mark of a write in each journal belongs to one accepted request and one taking of its entry,
--- and no two rows have one tag.
+-- Each mark of a write in each journal belongs to one accepted request and one taking of its entry, and
+-- no two rows have one tag. A row that tries another one again tries an earlier failed one of its device,
+-- and no two rows try the same one.
 pub record OncePast (facts : Facts) (opening : List Row) (past : List Event) (boards : List BoardState) : Type 0 where
   pub marks : (board : ℕ) (b : BoardState) → slice_get boards board ≡ Some b → AllByRecursion (MarkOnce facts opening past boards board b.journal) b.journal
   pub tags : AllPairs (λ a b. a.tag ≢ b.tag) (rows facts opening past)
+  pub linked : AreLinked (rows facts opening past)
+  pub retried : RetriedOnce (rows facts opening past)
 
 abbrev pub Once : Campaign → List Row → List Event → List BoardState → Type 0
 Once c opening log boards = OncePast c.facts opening (past_of log) boards

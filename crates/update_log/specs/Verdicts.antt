@@ -1,6 +1,7 @@
 -- The verdict on a request.
 use Rattle.std.specs.Prelude.{ℕ, Bool, true, false, ◌&&◌, ◌||◌, not, ◌==◌, nat_lt, nat_le, ◌-◌, List, [], ◌∷◌, Option, Some, None, if◌then◌else◌, find, length, slice_get, is_some, unwrap_or, option_map, option_and_then}
 use Rattle.std.specs.List.{list_any}
+use Rattle.std.specs.Option.{option_or}
 use Rattle.std.specs.Str.{bytes_eq}
 use Rattle.std.specs.Ordering.{is_lt}
 use Rattle.version_formats.specs.VersionOrder.{version_cmp, same_version}
@@ -14,9 +15,10 @@ use Rattle.requirements.specs.declared.unmet.Unmet.{Unmet}
 use Rattle.release_catalogue.specs.declared.reference.ReleaseRef.{ReleaseRef}
 use Rattle.device_list.specs.Lists.{place}
 use Rattle.history_keeper.specs.declared.row.Row.{Row}
-use Rattle.history_keeper.specs.Histories.{is_unsettled}
+use Rattle.history_keeper.specs.Histories.{is_failed, is_unsettled, tries}
 use Rattle.update_log.specs.declared.event.Event.{Event}
 use Rattle.update_log.specs.declared.refusal.Refusal.{Refusal}
+use Rattle.update_log.specs.declared.refusal.RetryFault.{RetryFault}
 use Rattle.update_log.specs.declared.request.Request.{Request}
 use Rattle.update_log.specs.declared.facts.Facts.{Facts}
 use Rattle.update_log.specs.declared.decision.Decision.{Decision}
@@ -116,6 +118,46 @@ is_in_the_way c t r =
 abbrev pub unsettled : Case → Target → Option Refusal
 unsettled c t = option_map (λ r. Refusal.Unsettled r.entry) (find (is_in_the_way c t) c.rows)
 
+-- 17: the request names a row that it can't try again. Why not, each cause by itself, in the order in which they are named:
+
+-- A cause, where a test passes.
+abbrev pub fault_where : Bool → RetryFault → Option RetryFault
+fault_where test fault = if test then Some fault else None
+
+-- the row is of another device than the request's,
+abbrev pub of_other_device : Target → Row → Option RetryFault
+of_other_device t r = fault_where (not (bytes_eq r.device t.view.sheet.device)) RetryFault.OtherDevice
+
+-- it hasn't failed,
+abbrev pub not_failed : Row → Option RetryFault
+not_failed r = fault_where (not (is_failed r.state)) (RetryFault.NotFailed r.state)
+
+-- another row tries it again already, which isn't the one that makes the request,
+abbrev pub is_retry : Case → ℕ → Row → Bool
+is_retry c entry r = tries entry r && not (is_own c r)
+
+abbrev pub retried : Case → ℕ → Option RetryFault
+retried c entry = option_map (λ r. RetryFault.Retried r.entry) (find (is_retry c entry) c.rows)
+
+-- or the release has another payload than that of the row.
+abbrev pub of_other_release : Target → Row → Option RetryFault
+of_other_release t r = fault_where (not (bytes_eq r.digest t.chosen.release.digest)) RetryFault.OtherRelease
+
+-- The first cause that there is, of the row that has the entry; and that there is no such row, before all others.
+abbrev pub row_fault : Case → Target → ℕ → Row → Option RetryFault
+row_fault c t entry r =
+    option_or (of_other_device t r) (option_or (not_failed r) (option_or (retried c entry) (of_other_release t r)))
+
+abbrev pub fault_of : Case → Target → ℕ → Option Row → Option RetryFault
+fault_of c t entry None = Some RetryFault.NoRow
+fault_of c t entry (Some r) = row_fault c t entry r
+
+abbrev pub retry_fault : Case → Target → Option RetryFault
+retry_fault c t = option_and_then (λ entry. fault_of c t entry (row_of c.rows entry)) c.request.retry_of
+
+abbrev pub retry : Case → Target → Option Refusal
+retry c t = option_map (λ fault. Refusal.Retry fault) (retry_fault c t)
+
 -- The device has the flag.
 abbrev pub has : Target → DeviceFlag → Bool
 has t flag = has_flag flag (flags_of t.view)
@@ -199,10 +241,11 @@ rows_max = 65536
 abbrev pub rows_full : Case → Target → Option Refusal
 rows_full c t = where_so (wants_row c.stage && nat_le rows_max (length c.rows)) Refusal.RowsFull
 
--- What may refuse a request whose device is present and has the release, in order.
+-- What may refuse a request whose device is present and has the release, in order: that of the numbers, but for 17, which
+-- stands right behind 4.
 abbrev pub refusals : Case → Target → List (Option Refusal)
 refusals c t =
-    busy c t ∷ unsettled c t ∷ not_updatable c t ∷ locked c t ∷ hindered c t ∷ installed c t ∷ older c t
+    busy c t ∷ unsettled c t ∷ retry c t ∷ not_updatable c t ∷ locked c t ∷ hindered c t ∷ installed c t ∷ older c t
     ∷ unmet c t ∷ vetoed c t ∷ out_of_size c t ∷ no_room c t ∷ rows_full c t ∷ []
 
 -- The first refusal that there is.

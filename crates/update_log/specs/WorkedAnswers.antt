@@ -1,5 +1,5 @@
 -- What is decided and found in small logs, one line a case.
-use Rattle.std.specs.Prelude.{◌≡◌, true, false, List, [], ◌∷◌}
+use Rattle.std.specs.Prelude.{◌≡◌, ℕ, true, false, List, [], ◌∷◌}
 use Rattle.std.specs.Prelude.{Some, None, codes, Err, replicate}
 use Rattle.fw_facts.specs.declared.flags.DeviceFlag.{DeviceFlag}
 use Rattle.fw_facts.specs.declared.seen.Seen.{Seen}
@@ -10,6 +10,7 @@ use Rattle.fw_facts.specs.declared.problem.Problem.{Problem}
 use Rattle.fw_facts.specs.Flags.{no_flags, set_flag}
 use Rattle.emulated_boards.specs.declared.mark.Mark.{Mark}
 use Rattle.emulated_boards.specs.declared.fault.BoardFault.{BoardFault}
+use Rattle.history_keeper.specs.declared.row.Row.{Row}
 use Rattle.history_keeper.specs.declared.row.RowState.{RowState}
 use Rattle.update_log.specs.declared.event.Event.{Event}
 use Rattle.update_log.specs.declared.event.Op.{Op}
@@ -18,6 +19,7 @@ use Rattle.update_log.specs.declared.event.Stored.{Stored}
 use Rattle.update_log.specs.declared.answer.ClaimAnswer.{ClaimAnswer}
 use Rattle.update_log.specs.declared.refusal.Refusal.{Refusal}
 use Rattle.update_log.specs.declared.refusal.FetchNote.{FetchNote}
+use Rattle.update_log.specs.declared.refusal.RetryFault.{RetryFault}
 use Rattle.update_log.specs.declared.request.Request.{Request}
 use Rattle.update_log.specs.declared.facts.Facts.{Facts}
 use Rattle.update_log.specs.declared.decision.Decision.{Decision}
@@ -26,7 +28,7 @@ use Rattle.update_log.specs.Pasts.{off}
 use Rattle.update_log.specs.Boards.{board_with, board_at}
 use Rattle.update_log.specs.Verdicts.{verdict}
 use Rattle.update_log.specs.Steps.{next_op, closing}
-use Rattle.update_log.specs.Examples.{facts, sheet, machine, device_one, device_two, guid_one, guid_two, digest, old, well, shows, both_marks, request, found, ask, claim, start, ended}
+use Rattle.update_log.specs.Examples.{facts, sheet, machine, device_one, device_two, guid_one, guid_two, digest, other_digest, old, well, shows, both_marks, request, found, ask, claim, start, ended}
 
 -- After a boot that shows 1.0.0, an ask for 1.1.0 and its claim, entry 1 is live.
 abbrev pub boot : Event
@@ -181,3 +183,52 @@ pub record AreRefused : Type 0 where
   pub size : verdict small_board [] (boot ∷ []) 1 request Stage.Ask ≡ Decision.Refused (Refusal.Size 14 0 13)
   pub no_room : verdict small_pool [] (boot ∷ []) 1 request Stage.Ask ≡ Decision.Refused (Refusal.NoRoom 1 0)
   pub busy : verdict plain_facts [] claimed 2 second_request Stage.Ask ≡ Decision.Refused (Refusal.Busy 1)
+
+-- ---- installs that are tried again
+
+-- The row of an install of 1.1.0 on the board, which failed.
+abbrev pub failed : Row
+failed =
+    record {
+      entry = 1;
+      tag = codes "t0";
+      client = 1;
+      device = device_one;
+      component = codes "com.example.hub";
+      version_old = codes "1.0.0";
+      version_new = codes "1.1.0";
+      digest = digest;
+      flags = 0;
+      state = RowState.Failed;
+      reason = 0;
+      time_added = 0;
+      time_changed = 0;
+      duration = 0;
+      protocol = None;
+      retry_of = None;
+    }
+
+-- A second row, settled too, that tries it again.
+abbrev pub tried : Row
+tried = record failed { entry = 2; tag = codes "t9"; retry_of = Some 1 }
+
+-- The request, naming the row of an entry.
+abbrev pub again : ℕ → Request
+again entry = record request { retry_of = Some entry }
+
+-- What is decided of it, over these rows.
+abbrev pub tried_over : List Row → ℕ → Stage → Decision
+tried_over rows entry stage = verdict plain_facts rows (boot ∷ []) 1 (again entry) stage
+
+abbrev pub cant : RetryFault → Decision
+cant fault = Decision.Refused (Refusal.Retry fault)
+
+pub record AreTriedAgain : Type 0 where
+  pub accepted : tried_over (failed ∷ []) 1 Stage.Ask ≡ Decision.Accept 0 found 1
+  pub no_row : tried_over (failed ∷ []) 2 Stage.Ask ≡ cant RetryFault.NoRow
+  pub other_device : tried_over (record failed { device = device_two } ∷ []) 1 Stage.Ask ≡ cant RetryFault.OtherDevice
+  pub not_failed : tried_over (record failed { state = RowState.Success } ∷ []) 1 Stage.Ask ≡ cant (RetryFault.NotFailed RowState.Success)
+  pub retried : tried_over (failed ∷ tried ∷ []) 1 Stage.Schedule ≡ cant (RetryFault.Retried 2)
+  pub other_release : tried_over (record failed { digest = other_digest } ∷ []) 1 (Stage.Claim found) ≡ cant RetryFault.OtherRelease
+  pub unsettled_first : tried_over (record failed { state = RowState.Begun } ∷ []) 1 Stage.Ask ≡ Decision.Refused (Refusal.Unsettled 1)
+  pub its_own : tried_over (failed ∷ record tried { state = RowState.Pending } ∷ []) 1 (Stage.AskPending 2) ≡ Decision.Accept 0 found 1

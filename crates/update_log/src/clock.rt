@@ -239,6 +239,7 @@ pub fn is_keeper_fault(refusal: Refusal) -> bool
         | Refusal::Size { .. }
         | Refusal::NoRoom { .. }
         | Refusal::Payload(_)
-        | Refusal::RowsFull => false,
+        | Refusal::RowsFull
+        | Refusal::Retry(_) => false,
     }
 }

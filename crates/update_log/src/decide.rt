@@ -5,19 +5,20 @@ ghost use Rattle.fw_facts.specs.Views.{is_home};
 ghost use Rattle.history_keeper.specs.Histories.{is_unsettled};
 ghost use Rattle.update_log.specs.Holding.{blocks_of, blocks_out, is_live};
 ghost use Rattle.update_log.specs.Known.{target, row_of, row_with_tag};
-ghost use Rattle.update_log.specs.Verdicts.{decided, pending_of, release_asked, present, is_release, first_refusal, first_unmet_for, refusals, features_for, client_for, wants_room, wants_row, on_target, on_found, on_present};
-ghost use Rattle.update_log.specs.CoreCase.{HasFew, IsPresent, case_with, target_with, device_refusals, version_refusals, rule_refusals, room_refusals};
+ghost use Rattle.update_log.specs.Verdicts.{decided, pending_of, release_asked, present, is_release, fault_of, retry, row_fault, first_refusal, first_unmet_for, refusals, features_for, client_for, wants_room, wants_row, on_target, on_found, on_present};
+ghost use Rattle.update_log.specs.CoreCase.{HasFew, IsPresent, case_with, target_with, row_refusals, device_refusals, version_refusals, rule_refusals, room_refusals};
 
 use crate::decision::{Decision, Stage};
 use crate::facts::Facts;
 use crate::judging::is_home;
 use crate::live::{Held, LiveEntry};
-use crate::refusal::Refusal;
+use crate::refusal::{Refusal, RetryFault};
 use crate::refusing::{
     busy, hindered, installed, locked, no_room, not_updatable, older, out_of_size, rows_full,
     vetoed,
 };
 use crate::request::Request;
+use crate::retrying::{not_failed, of_other_device, of_other_release, retried};
 use crate::row_lookup::in_the_way;
 use crate::target::{Target, target_at};
 use device_list::Devices;
@@ -206,17 +207,61 @@ fn unsettled(case: &Case, view: &DeviceView) -> Option<Refusal>
     }
 }
 
+// The request names a row that it can't try again.
+fn retry(case: &Case, target: &Target) -> Option<Refusal>
+    ensures { result ≡ retry (case_with case.now.facts.now case.now.devices.now case.now.rows.now.rows case.now.live.now case.now.holds.now case.now.client case.now.request.now case.now.stage) (target_with target.now.place target.now.view.now target.now.at target.now.component.now target.now.release.now) }
+{
+    let entry = case.request.retry_of?;
+    match fault_of(case, target, entry) {
+        Some(fault) => Some(Refusal::Retry(fault)),
+        None => None,
+    }
+}
+
+// Why the row of that entry can't be tried again for the target.
+fn fault_of(case: &Case, target: &Target, entry: u32) -> Option<RetryFault>
+    ensures { result ≡ fault_of (case_with case.now.facts.now case.now.devices.now case.now.rows.now.rows case.now.live.now case.now.holds.now case.now.client case.now.request.now case.now.stage) (target_with target.now.place target.now.view.now target.now.at target.now.component.now target.now.release.now) entry (row_of case.now.rows.now.rows entry) }
+{
+    match case.rows.row_of(entry) {
+        Some(row) => row_fault(case, target, entry, row),
+        None => Some(RetryFault::NoRow),
+    }
+}
+
+fn row_fault(case: &Case, target: &Target, entry: u32, row: &Row) -> Option<RetryFault>
+    ensures { result ≡ row_fault (case_with case.now.facts.now case.now.devices.now case.now.rows.now.rows case.now.live.now case.now.holds.now case.now.client case.now.request.now case.now.stage) (target_with target.now.place target.now.view.now target.now.at target.now.component.now target.now.release.now) entry row.now }
+{
+    if let Some(fault) = of_other_device(row, &target.view.sheet.device) {
+        return Some(fault);
+    }
+    if let Some(fault) = not_failed(row) {
+        return Some(fault);
+    }
+    let own = pending_of(case.stage);
+    if let Some(fault) = retried(case.rows.rows(), entry, own) {
+        return Some(fault);
+    }
+    of_other_release(row, &target.release.digest)
+}
+
+// What refuses it by an update of the device that runs or waits, and by the row that it tries again.
+fn of_rows(case: &Case, target: &Target) -> Option<Refusal>
+    ensures { result ≡ first_refusal (row_refusals (case_with case.now.facts.now case.now.devices.now case.now.rows.now.rows case.now.live.now case.now.holds.now case.now.client case.now.request.now case.now.stage) (target_with target.now.place target.now.view.now target.now.at target.now.component.now target.now.release.now)) }
+{
+    if let Some(refusal) = busy(target.view) {
+        return Some(refusal);
+    }
+    if let Some(refusal) = unsettled(case, target.view) {
+        return Some(refusal);
+    }
+    retry(case, target)
+}
+
 // What refuses it by the device itself.
 fn of_device(case: &Case, target: &Target) -> Option<Refusal>
     ensures { result ≡ first_refusal (device_refusals (case_with case.now.facts.now case.now.devices.now case.now.rows.now.rows case.now.live.now case.now.holds.now case.now.client case.now.request.now case.now.stage) (target_with target.now.place target.now.view.now target.now.at target.now.component.now target.now.release.now)) }
 {
     let view = target.view;
-    if let Some(refusal) = busy(view) {
-        return Some(refusal);
-    }
-    if let Some(refusal) = unsettled(case, view) {
-        return Some(refusal);
-    }
     if let Some(refusal) = not_updatable(view) {
         return Some(refusal);
     }
@@ -295,6 +340,9 @@ fn refusal(case: &Case, target: &Target) -> Option<Refusal>
     requires few { length target.now.component.now.requirements < 2 ^ 32 }
     ensures { result ≡ first_refusal (refusals (case_with case.now.facts.now case.now.devices.now case.now.rows.now.rows case.now.live.now case.now.holds.now case.now.client case.now.request.now case.now.stage) (target_with target.now.place target.now.view.now target.now.at target.now.component.now target.now.release.now)) }
 {
+    if let Some(refusal) = of_rows(case, target) {
+        return Some(refusal);
+    }
     if let Some(refusal) = of_device(case, target) {
         return Some(refusal);
     }

@@ -1,6 +1,6 @@
 //! Logs that are legal, and logs that aren't, shown by computation.
 ghost use Rattle.update_log.specs.Examples.{InstallIsLegal, TornWriteIsLegal, OfflineInstallIsLegal, UnhashedIsNot, GoneOnIsNot, TrustedIsNot};
-ghost use Rattle.update_log.specs.WorkedAnswers.{NeedsReboot, NeedsBootloader, InDoubt, SharedId, AreRefused};
+ghost use Rattle.update_log.specs.WorkedAnswers.{NeedsReboot, NeedsBootloader, InDoubt, SharedId, AreRefused, AreTriedAgain};
 
 /// The log of a whole install, and it is legal.
 pub fn install_is_legal()
@@ -33,11 +33,13 @@ pub fn torn_success_is_not()
 {}
 
 /// What is decided and found of small logs: with a device that needs a reboot or its boot loader,
-/// with a change in doubt, with boards that share an ID, and of what is refused.
+/// with a change in doubt, with boards that share an ID, of what is refused, and of installs that are
+/// tried again.
 pub fn worked_answers()
     ensures needs_reboot { NeedsReboot }
     ensures needs_bootloader { NeedsBootloader }
     ensures in_doubt { InDoubt }
     ensures shared_id { SharedId }
     ensures refused { AreRefused }
+    ensures tried_again { AreTriedAgain }
 {}

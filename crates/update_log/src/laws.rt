@@ -1,5 +1,5 @@
 //! Laws of the definitions alone.
-ghost use Rattle.update_log.specs.Laws.{AtMostOnce, AtMostOnceAfterCrashes, HistoryStays, OneDeviceAnID, TakenOnce};
+ghost use Rattle.update_log.specs.Laws.{AtMostOnce, AtMostOnceAfterCrashes, FailedStays, HistoryStays, OneDeviceAnID, TakenOnce};
 
 /// Each write that a board lived through belongs to one accepted request.
 pub fn legal_once()
@@ -20,6 +20,11 @@ pub fn taken_once()
 /// Over any number of boots the rows are a valid history.
 pub fn history_stays()
     ensures { HistoryStays }
+{}
+
+/// A row that has failed stays as it is, whatever comes behind.
+pub fn failed_stays()
+    ensures { FailedStays }
 {}
 
 /// Of the served boards with one device ID exactly one is a device.

@@ -1,6 +1,7 @@
 //! Why a request is refused.
 use fw_base::{Digest, Name};
 use fw_facts::Problem;
+use history_keeper::RowState;
 use requirements::Unmet;
 
 /// What the fetch of a payload found.
@@ -19,8 +20,25 @@ pub enum FetchNote {
     ShelfFault,
 }
 
-/// Why a request is refused. The first condition that isn't met is named, in this order, and its
-/// number counts from 1.
+/// Why the row that a request names can't be tried again. The first of these that holds is named, in
+/// this order.
+#[derive(Clone, Copy, Debug, PartialEq, Eq)]
+pub enum RetryFault {
+    /// There is no row of that entry.
+    NoRow,
+    /// The row is of another device.
+    OtherDevice,
+    /// The row hasn't failed, but has this state.
+    NotFailed { state: RowState },
+    /// The row of this entry tries it again already.
+    Retried { entry: u32 },
+    /// The release has another payload than that of the row.
+    OtherRelease,
+}
+
+/// Why a request is refused. Each refusal has its number, which counts from 1 in this order. The first
+/// condition that isn't met is named: they are tested in the order of their numbers, but for `Retry`,
+/// the last one here, which is tested right behind `Unsettled`.
 #[derive(Clone, Copy, Debug)]
 pub enum Refusal {
     /// No such device, or it isn't there.
@@ -55,4 +73,6 @@ pub enum Refusal {
     RowsFull,
     /// The history couldn't be written.
     KeeperFault,
+    /// The row that the request names can't be tried again.
+    Retry(RetryFault),
 }

@@ -15,11 +15,13 @@ pub struct InstallFlags {
 }
 
 /// A request to install a version on a device. A tag is taken once: a request that repeats it is
-/// answered with what became of the first.
+/// answered with what became of the first. A retry is a request of its own, with a tag of its own.
 #[derive(Clone, Copy, Debug)]
 pub struct Request {
     pub tag: Name,
     pub device: Selector,
     pub version: Version,
     pub flags: InstallFlags,
+    /// The entry of the failed row whose install this one tries again, where it names one.
+    pub retry_of: Option<u32>,
 }

@@ -44,7 +44,7 @@ pub fn new_row(
         time_changed: time,
         duration: target.view.sheet.duration,
         protocol: target.view.sheet.protocol,
-        retry_of: None,
+        retry_of: request.retry_of,
     })
 }
 
@@ -78,6 +78,7 @@ pub fn refusal_number(refusal: Refusal) -> u8
         Refusal::Payload(_) => 14,
         Refusal::RowsFull => 15,
         Refusal::KeeperFault => 16,
+        Refusal::Retry(_) => 17,
     }
 }
 

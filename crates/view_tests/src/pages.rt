@@ -15,13 +15,17 @@ const TORN: &str =
 
 const SPECIAL: &str = "fwupdemu report 1\nclient 1 ask <i> \"&' 1.0 hold 1\nend 1\n";
 
+const RETRIED: &str =
+    "fwupdemu report 1\nboot 1 time 1000\n  board usb1 1.0.0 runtime\nclient 1 ask t2 usb1 1.1.0 retry-of 1 hold 1\nclient 1 schedule t3 usb1 1.1.0 retry-of 9 refused 17 retry no-row\nend 3\n";
+
 /// A report, how many events of it are drawn and how many lines of it are none of a report, and how it is found.
 type Case = (&'static str, u64, u64, Finding);
 
-const REPORTS: [Case; 11] = [
+const REPORTS: [Case; 12] = [
     (REFUSED, 2, 0, Finding::Whole),
     (TORN, 10, 0, Finding::Whole),
     (SPECIAL, 1, 0, Finding::Whole),
+    (RETRIED, 3, 0, Finding::Whole),
     ("fwupdemu report 1\nend 0\n", 0, 0, Finding::Whole),
     ("", 0, 0, Finding::CutOff { events: 0 }),
     (
@@ -53,7 +57,7 @@ const REPORTS: [Case; 11] = [
 ];
 
 /// A report, and a part that its page has to have.
-const PARTS: [(&str, &str); 10] = [
+const PARTS: [(&str, &str); 12] = [
     (
         REFUSED,
         "<li id=drawn>events drawn <b>2</b></li>\n<li id=told class=fine>",
@@ -93,6 +97,14 @@ const PARTS: [(&str, &str); 10] = [
     (
         SPECIAL,
         "title=\"client 1 ask &lt;i&gt; &quot;&amp;&#39; 1.0 hold 1\"></i>",
+    ),
+    (
+        RETRIED,
+        "title=\"client 1 ask t2 usb1 1.1.0 retry-of 1 hold 1\"></i>",
+    ),
+    (
+        RETRIED,
+        "title=\"client 1 schedule t3 usb1 1.1.0 retry-of 9 refused 17 retry no-row\"></i>",
     ),
 ];
 

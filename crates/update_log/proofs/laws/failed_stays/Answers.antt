@@ -1,0 +1,5 @@
+use Rattle.update_log.proofs.LinksKept.{failed-stays}
+use Rattle.update_log.proofs.laws.failed_stays.Goals as goal
+
+pub returns : goal.returns
+returns g = λ c opening log later entry row valid legal is failed. failed-stays c opening log later entry row valid legal is failed
