@@ -43,25 +43,24 @@ front-one (y ∷ a) b (Some z) e =
     let rest : a ++ b ≡ [] = cc in
     inr (ap (λ (t : List _). y ∷ t) (append-none a b rest) ∙ ap (λ (x : _). x ∷ []) head)
 
-prefix-self : {Y : Type 0} (a b : List Y) → IsPrefix a (a ++ b)
-prefix-self [] b = tt
-prefix-self (y ∷ a) b = (refl, prefix-self a b)
-
 prefix-behind : {Y : Type 0} (o : Option Y) (a b : List Y) → IsPrefix a b → IsPrefix (cons_option o a) (cons_option o b)
 prefix-behind None a b p = p
 prefix-behind (Some y) a b p = (refl, p)
 
+some-nothing : {Y : Type 0} (b : List Y) → AreSomeOf [] b
+some-nothing [] = refl
+some-nothing (y ∷ b) = inl (some-nothing b)
+
 some-skip : {Y : Type 0} (o : Option Y) (a b : List Y) → AreSomeOf a b → AreSomeOf a (cons_option o b)
 some-skip None a b p = p
-some-skip (Some y) [] b p = tt
-some-skip (Some y) (x ∷ a) b p = inr p
+some-skip (Some y) a b p = inl p
 
 some-behind : {Y : Type 0} (o : Option Y) (a b : List Y) → AreSomeOf a b → AreSomeOf (cons_option o a) (cons_option o b)
 some-behind None a b p = p
-some-behind (Some y) a b p = inl (refl, p)
+some-behind (Some y) a b p = inr (a, refl, p)
 
 some-one : {Y : Type 0} (o : Option Y) (b : List Y) → AreSomeOf (cons_option o []) (cons_option o b)
-some-one o b = some-behind o [] b tt
+some-one o b = some-behind o [] b (some-nothing b)
 
 -- ---- a list of things
 
@@ -125,16 +124,16 @@ module _ {X Y : Type 0} (client : ℕ) (Play : X → List Moment → Type 0) (be
       ]
 
   all-some : (xs : List X) (moments : List Moment) → PlaysAll true client Play xs moments → AreSomeOf (begun begins moments) (filter_map wants xs)
-  all-some [] moments p = subst (λ (ys : List Y). AreSomeOf ys []) (sym (ap (λ (ms : List Moment). begun begins ms) p)) tt
+  all-some [] moments p = ap (λ (ms : List Moment). begun begins ms) p
   all-some (x ∷ xs) moments p = one-some x xs p.first p.rest moments p.are p.first_is (all-some xs p.rest p.rest_is)
 
   until-some : (xs : List X) (moments : List Moment) → PlaysUntil true client Play xs moments → AreSomeOf (begun begins moments) (filter_map wants xs)
-  until-some [] moments p = subst (λ (ys : List Y). AreSomeOf ys []) (sym (ap (λ (ms : List Moment). begun begins ms) p)) tt
+  until-some [] moments p = ap (λ (ms : List Moment). begun begins ms) p
   until-some (x ∷ xs) moments p =
       elim p [
         | inl left ↦
             elim (begun-left x moments left) [
-              | inl e ↦ subst (λ (ys : List Y). AreSomeOf ys (cons_option (wants x) (filter_map wants xs))) (sym e) tt
+              | inl e ↦ subst (λ (ys : List Y). AreSomeOf ys (cons_option (wants x) (filter_map wants xs))) (sym e) (some-nothing (cons_option (wants x) (filter_map wants xs)))
               | inr e ↦ subst (λ (ys : List Y). AreSomeOf ys (cons_option (wants x) (filter_map wants xs))) (sym e) (some-one (wants x) (filter_map wants xs))
             ]
         | inr t ↦ one-some x xs t.first t.rest moments t.are t.first_is (until-some xs t.rest t.rest_is)

@@ -73,11 +73,10 @@ row_begun_by _ = None
 abbrev pub rows_begun : List Moment → List ℕ
 rows_begun moments = filter_map (λ m. row_begun_by m.event) moments
 
--- These are some of the others, in their order.
+-- These are some of all of those, in their order: the first of those is left out, or it is the first of these too.
 abbrev pub AreSomeOf : {X : Type 0} → List X → List X → Type 0
-AreSomeOf [] all = Unit {0}
-AreSomeOf (x ∷ xs) [] = ⊥
-AreSomeOf (x ∷ xs) (y ∷ all) = ((x ≡ y) × AreSomeOf xs all) ⊎ AreSomeOf (x ∷ xs) all
+AreSomeOf xs [] = xs ≡ []
+AreSomeOf {X = X} xs (y ∷ all) = AreSomeOf xs all ⊎ ((rest : List X) × (xs ≡ y ∷ rest) × AreSomeOf rest all)
 
 -- All that was wanted was begun, in order. In a boot that went off it may be a front of it alone, and where
 -- memory was wanting some may be missing.
