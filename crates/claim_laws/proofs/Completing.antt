@@ -2,14 +2,13 @@
 use Rattle.std.proofs.Common.{◌≡◌, ◌⊎◌, ℕ, ◌<◌, Bool, true, false, List, [], ◌∷◌, ◌++◌, ◌+◌, length, append_assoc, refl, ap, sym, ◌∙◌, subst, inl, inr, arith}
 use Rattle.std.proofs.lemmas.Bool.{eqb-true}
 use Rattle.std.specs.List.{list_any}
-use Rattle.std.specs.Prelude.{Option, Some, None, ◌==◌}
+use Rattle.std.specs.Prelude.{Option, Some, None, option_map}
 use Rattle.history_keeper.specs.declared.change.Change.{Change}
 use Rattle.history_keeper.specs.declared.row.Row.{Row}
 use Rattle.history_keeper.specs.declared.row.RowState.{RowState}
-use Rattle.history_keeper.specs.Changes.{changed}
 use Rattle.release_catalogue.specs.declared.reference.ReleaseRef.{ReleaseRef}
 use Rattle.update_log.proofs.Accepts.{some-same}
-use Rattle.update_log.proofs.Lists.{by_test, eqb-self}
+use Rattle.update_log.proofs.Lists.{eqb-self}
 use Rattle.update_log.specs.declared.answer.AskAnswer.{AskAnswer}
 use Rattle.update_log.specs.declared.answer.ClaimAnswer.{ClaimAnswer}
 use Rattle.update_log.specs.declared.answer.ResumeAnswer.{ResumeAnswer}
@@ -24,8 +23,8 @@ use Rattle.update_log.specs.declared.refusal.FetchNote.{FetchNote}
 use Rattle.update_log.specs.declared.refusal.Refusal.{Refusal}
 use Rattle.update_log.specs.declared.request.Request.{Request}
 use Rattle.update_log.specs.Holding.{hold, holds, live}
-use Rattle.update_log.specs.Known.{Target, known, new_row, rows, target, views}
-use Rattle.update_log.specs.Legal.{Allowed, AskAllowed, ClaimAllowed, IsLegal, ResumeAllowed, ScheduleAllowed, ScheduleAnswered, ask_answer, ask_stage, next_entry}
+use Rattle.update_log.specs.Known.{Fate, Target, addition, known, new_row, rows, rows_by}
+use Rattle.update_log.specs.Legal.{Allowed, AskAllowed, IsLegal, ScheduleAllowed, ScheduleAnswered, ask_answer, next_entry}
 use Rattle.update_log.specs.Once.{takes}
 use Rattle.update_log.specs.Pasts.{is_boot, is_of, last_of, off, time_of}
 use Rattle.update_log.specs.Shows.{Campaign}
@@ -37,9 +36,9 @@ use Rattle.client_plays.specs.Moments.{mine}
 use Rattle.client_plays.specs.Shelves.{IsFetched}
 use Rattle.client_plays.specs.Tools.{Files}
 use Rattle.claim_laws.specs.Complete.{Resumes, Takes}
-use Rattle.claim_laws.specs.Installs.{Begins, InBoot, InstallComes, Installs, IsClaimed, IsGivenUp, IsPutOff, IsResumed, IsThere, NextOf, PutsOff, ResumptionComes}
+use Rattle.claim_laws.specs.Installs.{Begins, InBoot, InstallComes, Installs, IsClaimed, IsGivenUp, IsPutOff, IsResumed, IsThere, PutsOff, ResumptionComes}
 use Rattle.claim_laws.proofs.Asked.{asked-hold, asked_hold, install-came}
-use Rattle.claim_laws.proofs.Standing.{Released, asks_for, last-asked, legal-at, legal-front, lets_go, off-behind, released, told-at}
+use Rattle.claim_laws.proofs.Standing.{Released, asks_for, last-asked, legal-at, lets_go, off-behind, released, told-at}
 use Rattle.claim_laws.proofs.Takings.{CameWhole, came-noted, came-whole, resumption-came}
 use Rattle.claim_laws.proofs.Told.{AllTold, AskedFor, FetchedFor, Told, WasStopped}
 
@@ -113,7 +112,7 @@ module _ (c : Campaign) (opening : List Row) (past : List Event) (files : Files)
         (subst (λ (p : List Event). AllTold c.facts files (WasStopped (off past) wanting) None (mine client p)) (ended event e) told)
 
     held_so : hold met client ≡ Some given
-    held_so = out.holds
+    held_so = out.still
 
     -- The client's event before it is the ask.
     last_so : (other : Event) → asks_for client other ≡ true → last_of client met ≡ Some other → (other ≡ ask) × (list_any (is_of client) out.between ≡ false)
@@ -136,7 +135,7 @@ module _ (c : Campaign) (opening : List Row) (past : List Event) (files : Files)
           newer = out.newer;
           between = out.between;
           are = out.are ∙ ap (λ (x : Event). out.newer ++ x ∷ out.between) e;
-          held = out.holds ∙ sym held-here;
+          held = out.still ∙ sym held-here;
           cause = told_so (Event.GiveBack client what) e refl (eqb-self client);
         }
 
@@ -335,7 +334,10 @@ put-off c opening past legal client request answer stands accept = by (answered-
     stored e =
         let t = off-facts c.facts opening stands.before client request accept in
         let row : Row = new_row (length (rows c.facts opening stands.before) + 1) (time_of stands.before) client request RowState.Pending t.0 in
-        let added : rows c.facts opening (Event.Schedule client request (ClaimAnswer.Entry (next_entry c.facts opening stands.before)) ∷ stands.before) ≡ rows c.facts opening stands.before ++ row ∷ [] = rw t.1.found refl in
+        let change : addition c.facts (time_of stands.before) (live stands.before) (known c.facts opening stands.before) client request RowState.Pending ≡ Some (Change.Add row) =
+        ap (λ (o : Option Target). option_map (λ (u : Target). Change.Add (new_row (length (rows c.facts opening stands.before) + 1) (time_of stands.before) client request RowState.Pending u)) o) t.1.found in
+        let added : rows c.facts opening (Event.Schedule client request (ClaimAnswer.Entry (next_entry c.facts opening stands.before)) ∷ stands.before) ≡ rows c.facts opening stands.before ++ row ∷ [] =
+        ap (λ (o : Option Change). rows_by Fate.Made o (rows c.facts opening stands.before)) change in
         record {
           row = row;
           rows_are = ap (λ (x : ClaimAnswer). rows c.facts opening (Event.Schedule client request x ∷ stands.before)) e ∙ added;

@@ -1,13 +1,11 @@
 -- Where an event of a boot stands: what came before it, and how long a hold stands behind its ask.
-use Rattle.std.proofs.Common.{◌≡◌, ◌≢◌, ◌⊎◌, ℕ, ◌<◌, Bool, true, false, ◌||◌, List, [], ◌∷◌, ◌++◌, append_assoc, refl, ap, sym, ◌∙◌, subst, inl, inr, arith}
+use Rattle.std.proofs.Common.{◌≡◌, ◌⊎◌, ℕ, Bool, true, false, ◌||◌, List, [], ◌∷◌, ◌++◌, refl, ap, sym, ◌∙◌, subst, inl, inr}
 use Rattle.std.proofs.lemmas.Bool.{eqb-true}
-use Rattle.std.proofs.lemmas.List.Folds.{list_any-append}
 use Rattle.std.specs.List.{list_any}
 use Rattle.std.specs.Prelude.{Option, Some, None, ◌==◌}
 use Rattle.history_keeper.specs.declared.row.Row.{Row}
 use Rattle.update_log.proofs.Accepts.{some-same}
-use Rattle.update_log.proofs.Lists.{by_test, eqb-self}
-use Rattle.update_log.specs.declared.answer.AskAnswer.{AskAnswer}
+use Rattle.update_log.proofs.Lists.{by_test}
 use Rattle.update_log.specs.declared.event.Event.{Event}
 use Rattle.update_log.specs.declared.facts.Facts.{Facts}
 use Rattle.update_log.specs.declared.live.Held.{Held}
@@ -136,7 +134,7 @@ hold-stays Event.Cut past client b l a = refl
 
 -- A hold still stands.
 record StillHeld (client : ℕ) (asked later : List Event) (held : Held) : Type 0 where
-  holds : hold (later ++ asked) client ≡ Some held
+  still : hold (later ++ asked) client ≡ Some held
   asks : list_any (asks_for client) later ≡ false
 
 -- Or one of these events was the first that ended it.
@@ -148,20 +146,20 @@ pub record Released (client : ℕ) (asked later : List Event) (held : Held) : Ty
   pub newer_on : list_any is_boot newer ≡ false
   pub between_on : list_any is_boot between ≡ false
   pub lets : lets_go client event ≡ true
-  pub holds : hold (between ++ asked) client ≡ Some held
+  pub still : hold (between ++ asked) client ≡ Some held
   pub asks : list_any (asks_for client) between ≡ false
 
 still-or-released : (c : Campaign) (opening : List Row) (client : ℕ) (asked later : List Event) (held : Held) → IsLegal c opening (later ++ asked) → list_any is_boot later ≡ false → hold asked client ≡ Some held → StillHeld client asked later held ⊎ Released client asked later held
-still-or-released c opening client asked [] held l n h = inl (record { holds = h; asks = refl })
+still-or-released c opening client asked [] held l n h = inl (record { still = h; asks = refl })
 still-or-released c opening client asked (e ∷ later) held l n h =
     let k = or-parts (is_boot e) (list_any is_boot later) n in
     elim (still-or-released c opening client asked later held l.0 k.1 h) [
       | inl s ↦
           by_test (lets_go client e) _
-          (λ t. inr (record { newer = []; between = later; event = e; are = refl; newer_on = refl; between_on = k.1; lets = t; holds = s.holds; asks = s.asks }))
+          (λ t. inr (record { newer = []; between = later; event = e; are = refl; newer_on = refl; between_on = k.1; lets = t; still = s.still; asks = s.asks }))
           (λ f.
-          let a : asks_for client e ≡ false = asks-none c opening (later ++ asked) e client held l.2 s.holds in
-          inl (record { holds = hold-stays e (later ++ asked) client k.0 f a ∙ s.holds; asks = rw a s.asks }))
+          let a : asks_for client e ≡ false = asks-none c opening (later ++ asked) e client held l.2 s.still in
+          inl (record { still = hold-stays e (later ++ asked) client k.0 f a ∙ s.still; asks = rw a s.asks }))
       | inr r ↦
           inr (record {
             newer = e ∷ r.newer;
@@ -171,7 +169,7 @@ still-or-released c opening client asked (e ∷ later) held l n h =
             newer_on = rw (k.0) r.newer_on;
             between_on = r.between_on;
             lets = r.lets;
-            holds = r.holds;
+            still = r.still;
             asks = r.asks;
           })
     ]
@@ -182,7 +180,7 @@ released c opening client asked later held l n h none =
     elim (still-or-released c opening client asked later held l n h) [
       | inl s ↦
           (let gone : hold (later ++ asked) client ≡ None = ap (λ (hs : List Held). hold_of hs client) none in
-          let bad : Some held ≡ None = sym s.holds ∙ gone in cc)
+          let bad : Some held ≡ None = sym s.still ∙ gone in cc)
       | inr r ↦ r
     ]
 

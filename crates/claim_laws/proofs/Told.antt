@@ -1,7 +1,6 @@
 -- What stands before a claim, a resumption and a giving back, among a client's own events.
-use Rattle.std.proofs.Common.{◌≡◌, ◌⊎◌, ℕ, Bool, true, false, List, [], ◌∷◌, ◌++◌, map, refl, ap, sym, ◌∙◌, subst, inl, inr}
-use Rattle.std.specs.Prelude.{Option, Some, None, MatchBool, filter}
-use Rattle.std.specs.List.{AllByRecursion}
+use Rattle.std.proofs.Common.{◌≡◌, ◌⊎◌, ℕ, Bool, true, false, List, [], ◌∷◌, ◌++◌, refl, sym, subst, inl, inr}
+use Rattle.std.specs.Prelude.{Option, Some, None, MatchBool}
 use Rattle.block_pool.specs.Views.{SealedBytes}
 use Rattle.emulated_boards.specs.Boards.{BoardState}
 use Rattle.plugin_trait.specs.Steps.{PluginSteps}

@@ -12,5 +12,5 @@ pub record WasLeft (wanting : Bool) (client : ℕ) (Play : List Moment → Type 
 -- It was played whole, or left so.
 pub one-way : {X : Type 0} (wanting : Bool) (client : ℕ) (Play : X → List Moment → Type 0) (x : X) (moments : List Moment) → PlaysOne wanting client Play x moments → Play x moments ⊎ WasLeft wanting client (Play x) moments
 one-way true client Play x moments p =
-    elim p [ | inl whole ↦ inl whole | inr left ↦ inr (record { left = left.left; cause = refl }) ]
+    elim p [ inl whole ↦ inl whole | inr left ↦ inr (record { left = left.left; cause = refl }) ]
 one-way false client Play x moments p = inl p
