@@ -1,5 +1,5 @@
 -- What a client holds whose last event is an ask that was answered with a hold.
-use Rattle.std.proofs.Common.{◌≡◌, ℕ, Bool, true, false, not, List, [], ◌∷◌, ◌++◌, refl, ap, sym, ◌∙◌, subst}
+use Rattle.std.proofs.Common.{◌≡◌, ◌⊎◌, ℕ, Bool, true, false, not, List, [], ◌∷◌, ◌++◌, refl, ap, sym, ◌∙◌, subst}
 use Rattle.std.specs.Prelude.{Option, Some, None, ◌==◌, find}
 use Rattle.release_catalogue.specs.declared.reference.ReleaseRef.{ReleaseRef}
 use Rattle.history_keeper.specs.declared.row.Row.{Row}
@@ -7,6 +7,7 @@ use Rattle.update_log.proofs.Accepts.{some-same}
 use Rattle.update_log.proofs.Lists.{by_test, eqb-other, eqb-self, find-filter, find-filter_none, find-push_other}
 use Rattle.update_log.specs.declared.answer.AskAnswer.{AskAnswer}
 use Rattle.update_log.specs.declared.answer.ClaimAnswer.{ClaimAnswer}
+use Rattle.update_log.specs.declared.decision.Stage.{Stage}
 use Rattle.update_log.specs.declared.event.Event.{Event}
 use Rattle.update_log.specs.declared.live.Held.{Held}
 use Rattle.update_log.specs.declared.refusal.FetchNote.{FetchNote}
@@ -15,10 +16,12 @@ use Rattle.update_log.specs.Holding.{hold, holds, without_client}
 use Rattle.update_log.specs.Legal.{Allowed, ClaimAllowed, next_entry}
 use Rattle.update_log.specs.Pasts.{is_boot, is_of, last_of, last_of_after}
 use Rattle.update_log.specs.Shows.{Campaign}
+use Rattle.update_log.specs.Verdicts.{verdict}
+use Rattle.daemon_core.specs.PutOff.{IsAccept}
 use Rattle.client_plays.specs.Shelves.{IsFetched}
 use Rattle.client_plays.specs.Tools.{Files}
 use Rattle.claim_laws.specs.Complete.{CanInstall, Takes}
-use Rattle.claim_laws.proofs.Takings.{claim-complete}
+use Rattle.claim_laws.proofs.Takings.{CameWhole, came-whole, claim-came}
 
 -- The hold that an ask gave.
 abbrev pub asked_hold : ℕ → Request → Option ℕ → ℕ → ReleaseRef → Held
@@ -39,7 +42,7 @@ others other client all f =
     (λ x t. ap not (eqb-other x.client other (λ s. let bad : (other == client) ≡ true = ap (λ (n : ℕ). n == client) (sym s) ∙ t in let no : true ≡ false = sym bad ∙ f in cc)))
 
 -- What another does leaves a client's hold.
-hold-kept : (event : Event) (past : List Event) (client : ℕ) → is_boot event ≡ false → is_of client event ≡ false → hold (event ∷ past) client ≡ hold past client
+pub hold-kept : (event : Event) (past : List Event) (client : ℕ) → is_boot event ≡ false → is_of client event ≡ false → hold (event ∷ past) client ≡ hold past client
 hold-kept (Event.Boot number time limit found boards) past client b f = cc
 hold-kept (Event.Query other query) past client b f = refl
 hold-kept (Event.Ask other request pending (AskAnswer.Hold blocks release)) past client b f =
@@ -83,18 +86,21 @@ asked-hold (event ∷ past) client request pending blocks release h =
         find-last (λ (x : Held). x.client == client) (without_client client (holds past)) (asked_hold client request pending blocks release)
         (find-filter_none (λ (x : Held). x.client == client) (holds past)) (eqb-self client)
 
--- The claim of an install takes an entry.
+-- The claim of an install takes an entry, where its payload came whole or the shelf failed.
+pub install-came : (c : Campaign) (opening : List Row) (past : List Event) (client : ℕ) (request : Request) (blocks : ℕ) (release : ReleaseRef) (note : FetchNote) (answer : ClaimAnswer)
+    → Allowed c opening past (Event.Claim client request note answer) → last_of client past ≡ Some (Event.Ask client request None (AskAnswer.Hold blocks release))
+    → IsAccept (verdict c.facts opening past client request (Stage.Claim release)) → CameWhole c.facts release note ⊎ (note ≡ FetchNote.ShelfFault) → Takes (next_entry c.facts opening past) note answer
+install-came c opening past client request blocks release note answer allowed asked accepted came =
+    claim-came c.facts opening past client request note answer (asked_hold client request None blocks release) claim accepted came
+  where
+    same : allowed.0 ≡ asked_hold client request None blocks release
+    same = some-same allowed.0 (asked_hold client request None blocks release) (sym allowed.1.held_is ∙ asked-hold past client request None blocks release asked)
+
+    claim : ClaimAllowed c.facts opening past client request note answer (asked_hold client request None blocks release)
+    claim = subst (ClaimAllowed c.facts opening past client request note answer) same allowed.1
+
 pub install-complete : (c : Campaign) (opening : List Row) (past : List Event) (client : ℕ) (request : Request) (release : ReleaseRef) (note : FetchNote) (answer : ClaimAnswer) (files : Files)
     → Allowed c opening past (Event.Claim client request note answer) → IsFetched c.facts files release note
     → CanInstall c.facts opening past files client request release → Takes (next_entry c.facts opening past) note answer
 install-complete c opening past client request release note answer files allowed fetched can =
-    claim-complete c.facts opening past client request note answer files given claim fetched (record { accepted = can.accepted; payload = can.payload })
-  where
-    given : Held
-    given = asked_hold client request None can.blocks release
-
-    same : allowed.0 ≡ given
-    same = some-same allowed.0 given (sym allowed.1.held_is ∙ asked-hold past client request None can.blocks release can.asked)
-
-    claim : ClaimAllowed c.facts opening past client request note answer given
-    claim = subst (ClaimAllowed c.facts opening past client request note answer) same allowed.1
+    install-came c opening past client request can.blocks release note answer allowed can.asked can.accepted (came-whole c.facts files release note fetched can.payload)

@@ -1,3 +1,9 @@
 pub mod Takings
 pub mod Asked
 pub mod FirstNamed
+pub mod Ways
+pub mod Begun
+pub mod Told
+pub mod Standing
+pub mod Completing
+pub mod Boots

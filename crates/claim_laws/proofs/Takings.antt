@@ -1,9 +1,10 @@
 -- What is fetched of a payload that lies on the shelf, and what is answered then.
 use Rattle.std.proofs.Common.{◌≡◌, ℕ, true, List, length, refl, ap, sym, ◌∙◌, subst, ◌⊎◌, inl, inr, arith}
 use Rattle.std.proofs.lemmas.Bool.{eq-eqb}
-use Rattle.std.specs.Prelude.{Option, Some, None, IfSome, ◌==◌}
+use Rattle.std.specs.Prelude.{Option, Some, None, IfSome, ◌==◌, unwrap_or}
 use Rattle.std.specs.Str.{bytes_eq}
 use Rattle.sha2.specs.Sha256.{sha256}
+use Rattle.emulated_boards.specs.Images.{raw_version}
 use Rattle.fw_facts.specs.declared.release.Release.{Release}
 use Rattle.outer_traits.specs.Shelves.{file_of}
 use Rattle.release_catalogue.specs.declared.reference.ReleaseRef.{ReleaseRef}
@@ -21,6 +22,7 @@ use Rattle.update_log.specs.declared.live.Held.{Held}
 use Rattle.update_log.specs.declared.refusal.FetchNote.{FetchNote}
 use Rattle.update_log.specs.declared.refusal.Refusal.{Refusal}
 use Rattle.update_log.specs.declared.request.Request.{Request}
+use Rattle.update_log.specs.Holding.{hold}
 use Rattle.update_log.specs.Known.{Target, target, views}
 use Rattle.update_log.specs.Legal.{ClaimAllowed, ClaimAnswered, ResumeAllowed, ResumeAnswered, is_fetched, next_entry}
 use Rattle.update_log.specs.Verdicts.{verdict}
@@ -31,7 +33,7 @@ use Rattle.daemon_core.specs.Fetches.{IsPayloadOf, whole_note}
 use Rattle.daemon_core.specs.PutOff.{IsAccept}
 use Rattle.block_pool.specs.Views.{SealedBytes}
 use Rattle.install_engine.specs.Findings.{found_of, whole}
-use Rattle.client_plays.specs.Shelves.{IsFetched, note_found}
+use Rattle.client_plays.specs.Shelves.{IsFetched, IsTrueNote, IsWholePayload, note_found}
 use Rattle.client_plays.specs.Tools.{Files}
 use Rattle.claim_laws.specs.Complete.{CanResume, CanTake, HasPayload, Resumes, Takes}
 
@@ -97,34 +99,59 @@ resumption-begins note t (Decision.Accept device release blocks) answer a f h = 
 resumption-begins note t (Decision.Kept entry state) answer a f h = cc
 resumption-begins note t (Decision.Refused refusal) answer a f h = cc
 
--- A claim takes an entry.
-pub claim-complete : (facts : Facts) (opening : List Row) (past : List Event) (client : ℕ) (request : Request) (note : FetchNote) (answer : ClaimAnswer) (files : Files) (held : Held)
-    → ClaimAllowed facts opening past client request note answer held → IsFetched facts files held.release note
-    → CanTake facts opening past files client request held → Takes (next_entry facts opening past) note answer
-claim-complete facts opening past client request note answer files held allowed fetched can = at (came-whole facts files held.release note fetched can.payload)
+-- So is the note of one that came whole, whatever the shelf tells.
+note-same : (digest other : List ℕ) (size length raw number : ℕ) → digest ≡ other → size ≡ length → raw ≡ number → FetchNote.Whole digest size raw ≡ FetchNote.Whole other length number
+note-same digest other size length raw number d s r =
+    ap (λ (x : List ℕ). FetchNote.Whole x size raw) d ∙ ap (λ (n : ℕ). FetchNote.Whole other n raw) s ∙ ap (λ (n : ℕ). FetchNote.Whole other length n) r
+
+pub came-noted : (facts : Facts) (files : Files) (at : ReleaseRef) (note : FetchNote) (digest : List ℕ) (size raw : ℕ) → IsFetched facts files at note → note ≡ FetchNote.Whole digest size raw → CameWhole facts at note
+came-noted facts files at note digest size raw f e =
+    let w : IsWholePayload f.release digest size raw = subst (λ (n : FetchNote). IsTrueNote f.release n) e f.note_true in
+    let sealed : SealedBytes =
+    record {
+      bytes = w.bytes;
+      count = length w.bytes;
+      digest = f.release.digest;
+      within = omega arith;
+      hashed = sym w.digest_is ∙ w.hashed;
+    } in
+    record {
+      payload = sealed;
+      of_release = record { release = f.release; there = f.there; digest_is = refl; size_is = sym w.long ∙ w.size_is };
+      note_is = e ∙ note-same digest f.release.digest size (length w.bytes) raw (unwrap_or (raw_version w.bytes) 0) w.digest_is w.long w.raw_is;
+    }
+
+-- A claim takes an entry, where its payload came whole or the shelf failed.
+pub claim-came : (facts : Facts) (opening : List Row) (past : List Event) (client : ℕ) (request : Request) (note : FetchNote) (answer : ClaimAnswer) (held : Held)
+    → ClaimAllowed facts opening past client request note answer held → IsAccept (verdict facts opening past client request (Stage.Claim held.release))
+    → CameWhole facts held.release note ⊎ (note ≡ FetchNote.ShelfFault) → Takes (next_entry facts opening past) note answer
+claim-came facts opening past client request note answer held allowed accepted (inr e) = inr (inr e)
+claim-came facts opening past client request note answer held allowed accepted (inl w) =
+    let t = claimable facts opening past client request held.release accepted in
+    let whole : is_fetched note (target facts (views facts opening past) request) ≡ true = ap (λ (n : FetchNote). is_fetched n (target facts (views facts opening past) request)) w.note_is ∙ whole-fetched facts opening past client request held.release t.0 w.payload t.1 w.of_release in
+    by (claim-takes note (target facts (views facts opening past) request) (next_entry facts opening past) (verdict facts opening past client request (Stage.Claim held.release)) answer accepted whole allowed.answer_is)
   where
     by : (answer ≡ ClaimAnswer.Entry (next_entry facts opening past)) ⊎ (answer ≡ ClaimAnswer.Refused Refusal.KeeperFault) → Takes (next_entry facts opening past) note answer
     by (inl e) = inl e
     by (inr e) = inr (inl e)
 
-    at : CameWhole facts held.release note ⊎ (note ≡ FetchNote.ShelfFault) → Takes (next_entry facts opening past) note answer
-    at (inr e) = inr (inr e)
-    at (inl w) =
-        let t = claimable facts opening past client request held.release can.accepted in
-        let whole : is_fetched note (target facts (views facts opening past) request) ≡ true = ap (λ (n : FetchNote). is_fetched n (target facts (views facts opening past) request)) w.note_is ∙ whole-fetched facts opening past client request held.release t.0 w.payload t.1 w.of_release in
-        by (claim-takes note (target facts (views facts opening past) request) (next_entry facts opening past) (verdict facts opening past client request (Stage.Claim held.release)) answer can.accepted whole allowed.answer_is)
+pub claim-complete : (facts : Facts) (opening : List Row) (past : List Event) (client : ℕ) (request : Request) (note : FetchNote) (answer : ClaimAnswer) (files : Files) (held : Held)
+    → ClaimAllowed facts opening past client request note answer held → IsFetched facts files held.release note
+    → CanTake facts opening past files client request held → Takes (next_entry facts opening past) note answer
+claim-complete facts opening past client request note answer files held allowed fetched can =
+    claim-came facts opening past client request note answer held allowed can.accepted (came-whole facts files held.release note fetched can.payload)
 
 -- A resumption begins.
-pub resumption-complete : (facts : Facts) (opening : List Row) (past : List Event) (client entry : ℕ) (note : FetchNote) (answer : ResumeAnswer) (stored : Stored) (row : Row) (files : Files) (held : Held)
-    → ResumeAllowed facts opening past client entry (Some note) answer stored row → IsFetched facts files held.release note
-    → CanResume facts opening past files entry held → Resumes note answer
-resumption-complete facts opening past client entry note answer stored row files held allowed fetched can = at (came-whole facts files held.release note fetched can.payload)
+pub resumption-came : (facts : Facts) (opening : List Row) (past : List Event) (client entry : ℕ) (note : FetchNote) (answer : ResumeAnswer) (stored : Stored) (row : Row) (held : Held)
+    → ResumeAllowed facts opening past client entry (Some note) answer stored row → hold past 0 ≡ Some held → IsAccept (verdict facts opening past 0 held.request (Stage.Resume entry held.release))
+    → CameWhole facts held.release note ⊎ (note ≡ FetchNote.ShelfFault) → Resumes note answer
+resumption-came facts opening past client entry note answer stored row held allowed holds accepted came = at came
   where
     goal : Option Target
     goal = target facts (views facts opening past) held.request
 
     same : allowed.fetched_is.0 ≡ held
-    same = some-same allowed.fetched_is.0 held (sym allowed.fetched_is.1 ∙ can.holds)
+    same = some-same allowed.fetched_is.0 held (sym allowed.fetched_is.1 ∙ holds)
 
     answered : ResumeAnswered note goal (verdict facts opening past 0 held.request (Stage.Resume entry held.release)) answer
     answered = subst (λ (h : Held). ResumeAnswered note (target facts (views facts opening past) h.request) (verdict facts opening past 0 h.request (Stage.Resume entry h.release)) answer) same allowed.fetched_is.3
@@ -136,6 +163,12 @@ resumption-complete facts opening past client entry note answer stored row files
     at : CameWhole facts held.release note ⊎ (note ≡ FetchNote.ShelfFault) → Resumes note answer
     at (inr e) = inr (inr e)
     at (inl w) =
-        let t = resumable facts opening past entry held.request held.release can.accepted in
+        let t = resumable facts opening past entry held.request held.release accepted in
         let whole : is_fetched note goal ≡ true = ap (λ (n : FetchNote). is_fetched n goal) w.note_is ∙ whole-resumed facts opening past held.request held.release t.0 w.payload t.1 w.of_release in
-        by (resumption-begins note goal (verdict facts opening past 0 held.request (Stage.Resume entry held.release)) answer can.accepted whole answered)
+        by (resumption-begins note goal (verdict facts opening past 0 held.request (Stage.Resume entry held.release)) answer accepted whole answered)
+
+pub resumption-complete : (facts : Facts) (opening : List Row) (past : List Event) (client entry : ℕ) (note : FetchNote) (answer : ResumeAnswer) (stored : Stored) (row : Row) (files : Files) (held : Held)
+    → ResumeAllowed facts opening past client entry (Some note) answer stored row → IsFetched facts files held.release note
+    → CanResume facts opening past files entry held → Resumes note answer
+resumption-complete facts opening past client entry note answer stored row files held allowed fetched can =
+    resumption-came facts opening past client entry note answer stored row held allowed can.holds can.accepted (came-whole facts files held.release note fetched can.payload)

@@ -1,6 +1,9 @@
 //! Laws of the definitions alone.
 ghost use Rattle.claim_laws.specs.Complete.{ClaimsComplete, InstallsComplete, ResumptionsComplete};
 ghost use Rattle.claim_laws.specs.FirstRefusal.{FirstIsNamed};
+ghost use Rattle.claim_laws.specs.Installs.{BootsComplete, CampaignsComplete};
+
+use plugin_trait::Plugin;
 
 /// A claim that is accepted, whose payload lies on the client's shelf, takes an entry, unless the keeper or
 /// the shelf fails.
@@ -24,4 +27,15 @@ pub fn resumptions_complete()
 /// numbers, but for 17, which is tested right behind 4.
 pub fn first_is_named()
     ensures { FirstIsNamed }
+{}
+
+/// A boot that was played over a legal log does what it is to do: each install of a script, and each row that
+/// waits for the boot, is begun, and what is accepted comes to its end. The plugins may be of any kind.
+pub fn boots_complete<Q: Plugin>()
+    ensures { BootsComplete Q.steps }
+{}
+
+/// So does each boot of a campaign whose scripts were played.
+pub fn campaigns_complete<Q: Plugin>()
+    ensures { CampaignsComplete Q.steps }
 {}

@@ -7,4 +7,7 @@
 
 pub mod laws;
 
-pub use laws::{claims_complete, first_is_named, installs_complete, resumptions_complete};
+pub use laws::{
+    boots_complete, campaigns_complete, claims_complete, first_is_named, installs_complete,
+    resumptions_complete,
+};

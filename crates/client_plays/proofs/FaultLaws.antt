@@ -145,7 +145,7 @@ quiet-leaves client Play q moments l =
 pub quiet-ends : (played : Played) (client : ℕ) (Play : List Moment → Type 0) (new : List Event) → TellsNone Play → TellsNone (EndsSo played client Play new)
 quiet-ends Played.Done client Play new q moments e = q moments e
 quiet-ends Played.Off client Play new q moments e = quiet-leaves client Play q moments e.0
-quiet-ends Played.NoMemory client Play new q moments e = quiet-leaves client Play q moments e
+quiet-ends Played.NoMemory client Play new q moments e = quiet-leaves client Play q moments e.left
 
 -- ---- items
 
@@ -176,7 +176,7 @@ quiet-judge facts opening means entry moments p = quiet-alone _ (λ m s. ap tell
 
 module _ {X : Type 0} (wanting : Bool) (client : ℕ) (Play : X → List Moment → Type 0) where
   quiet-some : (w : Bool) (x : X) → TellsNone (Play x) → TellsNone (PlaysOne w client Play x)
-  quiet-some true x q moments p = quiet-leaves client (Play x) q moments p
+  quiet-some true x q moments p = elim p [ inl whole ↦ q moments whole | inr left ↦ quiet-leaves client (Play x) q moments left.left ]
   quiet-some false x q moments p = q moments p
 
   quiet-then : (first rest moments : List Moment) → moments ≡ first ++ rest → faults_in first ≡ 0 → faults_in rest ≡ 0 → faults_in moments ≡ 0

@@ -1,7 +1,7 @@
 -- A legal log whose boot ends with nothing out ends idle.
 use Rattle.std.proofs.Common.{◌≡◌, ◌⊎◌, ℕ, Bool, true, false, ◌||◌, List, [], ◌∷◌, ◌++◌, refl, ap, sym, ◌∙◌, subst, inl, inr}
 use Rattle.std.proofs.lemmas.Bool.{eqb-true, eq-eqb}
-use Rattle.std.specs.Prelude.{Option, Some, None, ◌==◌, find, not}
+use Rattle.std.specs.Prelude.{Some, None, ◌==◌, find, not}
 use Rattle.std.specs.List.{list_any, AllByRecursion}
 use Rattle.history_keeper.specs.declared.row.Row.{Row}
 use Rattle.update_log.proofs.Lists.{All-both, All-filter, All-map, All-push, by_test, eqb-other}

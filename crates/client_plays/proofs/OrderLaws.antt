@@ -1,5 +1,5 @@
 -- The daemon's own events come first, where no client did anything before they ended.
-use Rattle.std.proofs.Common.{◌≡◌, ℕ, ◌<◌, true, false, List, [], ◌∷◌, ◌++◌, refl, sym, ◌∙◌, subst}
+use Rattle.std.proofs.Common.{◌≡◌, ℕ, false, List, [], ◌∷◌, ◌++◌, sym, ◌∙◌, subst}
 use Rattle.std.specs.List.{AllByRecursion}
 use Rattle.update_log.proofs.Lists.{All-map, All-push, by_test}
 use Rattle.update_log.specs.declared.event.Event.{Event}

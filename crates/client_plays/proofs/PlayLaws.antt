@@ -1,5 +1,5 @@
 -- Plays that were left, and that every play can be begun.
-use Rattle.std.proofs.Common.{ℕ, Bool, true, false, List, [], ◌∷◌, append-nil, refl, sym, inr, subst}
+use Rattle.std.proofs.Common.{ℕ, Bool, true, false, List, [], ◌∷◌, refl, inr}
 use Rattle.std.specs.Prelude.{Some, None, MatchBool}
 use Rattle.history_keeper.specs.declared.row.Row.{Row}
 use Rattle.history_keeper.specs.declared.row.RowState.{RowState}
@@ -18,18 +18,6 @@ use Rattle.client_scripts.specs.declared.item.Item.{Item}
 use Rattle.client_plays.specs.Moments.{Moment, at}
 use Rattle.client_plays.specs.Plays.{Alone, Leaves, Plays, SchedulePlays, InstallPlays, Task, TaskPlays, ToJudge, ToResume}
 use Rattle.client_plays.specs.Tools.{Means}
-
--- A play that ended is one that was left at its end.
-pub leaves-whole : (client : ℕ) (Play : List Moment → Type 0) (moments : List Moment) → Play moments → Leaves client Play moments
-leaves-whole client Play moments p =
-    record {
-      front = moments;
-      rest = [];
-      back = [];
-      play = subst Play (sym (append-nil moments)) p;
-      gave = tt;
-      are = sym (append-nil moments);
-    }
 
 -- A play that can be played was left before it began.
 pub leaves-nothing : (client : ℕ) (Play : List Moment → Type 0) (moments : List Moment) → Play moments → Leaves client Play []

@@ -12,7 +12,6 @@ use Rattle.client_plays.specs.Moments.{Moment}
 use Rattle.client_plays.specs.Scripts.{PlayedSo, PlaysAll, PlaysUntil}
 use Rattle.client_plays.specs.Endings.{AtRest, HouseOnceMore, HousePlayed, HouseWent, IsIdle, SoFar}
 use Rattle.client_plays.proofs.MomentLaws.{did-both, did-nothing, grew-boots}
-use Rattle.client_plays.proofs.PlayLaws.{leaves-whole}
 use Rattle.client_plays.proofs.ScriptLaws.{all-more, all-push, so-all, until-left}
 
 pub same-both : (old mid new : Annalled) → SameFacts old mid → SameFacts mid new → SameFacts old new
@@ -55,7 +54,7 @@ rest-here faults h i =
 -- One thing more, by how its play ended.
 pub more-done : {K : Type 0} (faults : K → ℕ) (wanting : Bool) (client : ℕ) (Play : List Moment → Type 0) (old new : Housed K) → HousePlayed faults Played.Done client Play old new → HouseOnceMore faults (Some wanting) wanting client Play old new
 more-done faults true client Play old new p =
-    record { moments = p.ended.moments; did = p.ended.did; more = (inl refl, leaves-whole client Play p.ended.moments p.ended.ends); rest = p.rest }
+    record { moments = p.ended.moments; did = p.ended.did; more = (inl refl, inl p.ended.ends); rest = p.rest }
 more-done faults false client Play old new p =
     record { moments = p.ended.moments; did = p.ended.did; more = (inr refl, p.ended.ends); rest = p.rest }
 

@@ -3,12 +3,11 @@ use Rattle.std.proofs.Common.{◌≡◌, ℕ, Bool, true, false, List, [], ◌�
 use Rattle.client_plays.specs.Moments.{Moment}
 use Rattle.client_plays.specs.Plays.{Leaves}
 use Rattle.client_plays.specs.Scripts.{PlayedSo, PlaysAll, PlaysOne, PlaysUntil}
-use Rattle.client_plays.proofs.PlayLaws.{leaves-whole}
 
--- What was left is less than what was played.
-pub one-left : {X : Type 0} (wanting : Bool) (client : ℕ) (Play : X → List Moment → Type 0) (x : X) (moments : List Moment) → PlaysOne wanting client Play x moments → Leaves client (Play x) moments
-one-left true client Play x moments p = p
-one-left false client Play x moments p = leaves-whole client (Play x) moments p
+-- What was played whole is so where memory is told to be wanting.
+pub one-more : {X : Type 0} (wanting : Bool) (client : ℕ) (Play : X → List Moment → Type 0) (x : X) (moments : List Moment) → PlaysOne wanting client Play x moments → PlaysOne true client Play x moments
+one-more true client Play x moments p = p
+one-more false client Play x moments p = inl p
 
 -- One more is played.
 pub all-push : {X : Type 0} (wanting : Bool) (client : ℕ) (Play : X → List Moment → Type 0) (xs : List X) (x : X) (moments more : List Moment) → PlaysAll wanting client Play xs moments → PlaysOne wanting client Play x more → PlaysAll wanting client Play (xs ++ x ∷ []) (moments ++ more)
@@ -68,7 +67,7 @@ all-more client Play (x ∷ xs) moments wanting p =
       first = p.first;
       rest = p.rest;
       are = p.are;
-      first_is = one-left wanting client Play x p.first p.first_is;
+      first_is = one-more wanting client Play x p.first p.first_is;
       rest_is = all-more client Play xs p.rest wanting p.rest_is;
     }
 
@@ -82,7 +81,7 @@ until-more client Play (x ∷ xs) moments wanting p =
             first = t.first;
             rest = t.rest;
             are = t.are;
-            first_is = one-left wanting client Play x t.first t.first_is;
+            first_is = one-more wanting client Play x t.first t.first_is;
             rest_is = until-more client Play xs t.rest wanting t.rest_is;
           })
     ]

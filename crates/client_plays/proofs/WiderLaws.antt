@@ -1,5 +1,5 @@
 -- Plays that are also plays of a wider kind, and those without a plugin.
-use Rattle.std.proofs.Common.{◌≡◌, ℕ, Bool, true, false, List, [], ◌∷◌, inl, inr}
+use Rattle.std.proofs.Common.{ℕ, Bool, true, false, List, [], ◌∷◌, inl, inr}
 use Rattle.std.specs.Prelude.{MatchBool, Result, ⊤}
 use Rattle.block_pool.specs.Views.{SealedBytes}
 use Rattle.emulated_boards.specs.Boards.{BoardState}
@@ -19,6 +19,7 @@ use Rattle.device_claims.specs.Claims.{StepGives}
 use Rattle.client_scripts.specs.declared.item.Item.{Item}
 use Rattle.client_plays.specs.declared.played.Played.{Played}
 use Rattle.client_plays.specs.Endings.{EndsSo, HouseWent, SoFar}
+use Rattle.client_plays.specs.Left.{LeavesUntaken}
 use Rattle.client_plays.specs.Moments.{Moment, behind}
 use Rattle.client_plays.specs.Plays.{AfterAsk, AfterClaim, AfterResume, Alone, ClaimPlays, InstallPlays, Leaves, Plays, ResumePlays, SchedulePlays, StepsPlay, Task, TaskPlays, ToJudge, ToResume, UpdatePlays}
 use Rattle.client_plays.specs.Scripts.{PlayedSo, PlaysAll, PlaysOne, PlaysUntil}
@@ -39,16 +40,20 @@ leaves-wider client Wide Play w moments l =
       are = l.are;
     }
 
+untaken-wider : (client : ℕ) (Wide Play : List Moment → Type 0) → IsWider Wide Play → IsWider (LeavesUntaken client Wide) (LeavesUntaken client Play)
+untaken-wider client Wide Play w moments l = record { left = leaves-wider client Wide Play w moments l.left; untaken = l.untaken }
+
 pub ends-wider : (played : Played) (client : ℕ) (Wide Play : List Moment → Type 0) (new : List Event) → IsWider Wide Play → IsWider (EndsSo played client Wide new) (EndsSo played client Play new)
 ends-wider Played.Done client Wide Play new w moments e = w moments e
 ends-wider Played.Off client Wide Play new w moments e = (leaves-wider client Wide Play w moments e.0, e.1)
-ends-wider Played.NoMemory client Wide Play new w moments e = leaves-wider client Wide Play w moments e
+ends-wider Played.NoMemory client Wide Play new w moments e = untaken-wider client Wide Play w moments e
 
 -- ---- lists of things
 
 module _ {X : Type 0} (wanting : Bool) (client : ℕ) (Wide Play : X → List Moment → Type 0) (w : (x : X) → IsWider (Wide x) (Play x)) where
   one-wider : (b : Bool) (x : X) → IsWider (PlaysOne b client Wide x) (PlaysOne b client Play x)
-  one-wider true x moments p = leaves-wider client (Wide x) (Play x) (w x) moments p
+  one-wider true x moments p =
+      elim p [ inl whole ↦ inl (w x moments whole) | inr left ↦ inr (untaken-wider client (Wide x) (Play x) (w x) moments left) ]
   one-wider false x moments p = w x moments p
 
   pub all-wider : (xs : List X) → IsWider (PlaysAll wanting client Wide xs) (PlaysAll wanting client Play xs)

@@ -1,5 +1,5 @@
 -- How a play ended, and what it did to a house.
-use Rattle.std.specs.Prelude.{◌≡◌, ◌⊎◌, ◌≤◌, ◌-◌, ◌^◌, ℕ, Bool, true, MatchBool, List, [], ◌∷◌, Option, Some, None, Result, Ok, Err}
+use Rattle.std.specs.Prelude.{◌≡◌, ◌⊎◌, ◌≤◌, ◌-◌, ◌^◌, ℕ, Bool, true, List, [], ◌∷◌, Option, Some, None, Result, Ok, Err}
 use Rattle.update_log.specs.declared.event.Event.{Event}
 use Rattle.update_log.specs.declared.event.Query.{Query}
 use Rattle.update_log.specs.Holding.{holds, live}
@@ -12,6 +12,7 @@ use Rattle.daemon_core.specs.Turns.{FaultsCounted}
 use Rattle.daemon_core.specs.Planned.{KeepsPlans}
 use Rattle.client_scripts.specs.declared.item.Item.{Item}
 use Rattle.client_plays.specs.declared.played.Played.{Played}
+use Rattle.client_plays.specs.Left.{LeavesUntaken, PlayedOrLeft}
 use Rattle.client_plays.specs.Moments.{Did, Grew, Moment}
 use Rattle.client_plays.specs.Plays.{Leaves}
 use Rattle.client_plays.specs.Scripts.{BootPlayed, PlayedSo, PlaysAll}
@@ -44,11 +45,12 @@ played_of (Ok answer) = Played.Done
 played_of (Err Stop.Off) = Played.Off
 played_of (Err Stop.NoMemory) = Played.NoMemory
 
--- These events are the whole play; or it was left, in a boot that is off or for want of memory.
+-- These events are the whole play; or it was left, in a boot that is off, or for want of memory before it
+-- took an entry.
 abbrev pub EndsSo : Played → ℕ → (List Moment → Type 0) → List Event → List Moment → Type 0
 EndsSo Played.Done client Play new moments = Play moments
 EndsSo Played.Off client Play new moments = Leaves client Play moments × (off new ≡ true)
-EndsSo Played.NoMemory client Play new moments = Leaves client Play moments
+EndsSo Played.NoMemory client Play new moments = LeavesUntaken client Play moments
 
 -- What a client did who played something, between two pasts of one boot.
 pub record Ended (played : Played) (client : ℕ) (Play : List Moment → Type 0) (old new : List Event) : Type 0 where
@@ -91,7 +93,7 @@ pub record HouseWent {K X : Type 0} (faults : K → ℕ) (wanting : Bool) (clien
 -- that is told; or it was left in a boot that is off.
 abbrev pub OnceMore : Option Bool → Bool → ℕ → (List Moment → Type 0) → List Event → List Moment → Type 0
 OnceMore (Some now) wanting client Play new moments =
-    ((now ≡ true) ⊎ (now ≡ wanting)) × MatchBool now (Leaves client Play moments) (Play moments)
+    ((now ≡ true) ⊎ (now ≡ wanting)) × PlayedOrLeft now client Play moments
 OnceMore None wanting client Play new moments = Leaves client Play moments × (off new ≡ true)
 
 pub record HouseOnceMore {K : Type 0} (faults : K → ℕ) (told : Option Bool) (wanting : Bool) (client : ℕ) (Play : List Moment → Type 0) (old new : Housed K) : Type 0 where

@@ -5,6 +5,7 @@ pub mod Faults
 pub mod Has
 pub mod Shelves
 pub mod Plays
+pub mod Left
 pub mod Scripts
 pub mod Endings
 pub use Rattle.outer_traits.specs.Shelves as OuterTraitsShelves

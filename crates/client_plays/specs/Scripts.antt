@@ -12,6 +12,7 @@ use Rattle.update_log.specs.Steps.{view_of_row}
 use Rattle.offline_updates.specs.Waiting.{entries_where, is_pending}
 use Rattle.client_scripts.specs.declared.item.Item.{Item}
 use Rattle.client_plays.specs.Idle.{EndsIdle}
+use Rattle.client_plays.specs.Left.{PlayedOrLeft}
 use Rattle.client_plays.specs.Moments.{DaemonFirst, Moment, began, mine}
 use Rattle.client_plays.specs.Plays.{Leaves, Plays, Task, TaskPlays, ToJudge, ToResume}
 use Rattle.client_plays.specs.Tools.{Means}
@@ -26,9 +27,9 @@ pub record Then (First Rest : List Moment → Type 0) (moments : List Moment) : 
   pub first_is : First first
   pub rest_is : Rest rest
 
--- One thing is played. Where memory was wanting it may be left.
+-- One thing is played. Where memory was wanting it may be left, before it takes an entry.
 abbrev pub PlaysOne : {X : Type 0} → Bool → ℕ → (X → List Moment → Type 0) → X → List Moment → Type 0
-PlaysOne wanting client Play x moments = MatchBool wanting (Leaves client (Play x) moments) (Play x moments)
+PlaysOne wanting client Play x moments = PlayedOrLeft wanting client (Play x) moments
 
 -- All are played, in order.
 abbrev pub PlaysAll : {X : Type 0} → Bool → ℕ → (X → List Moment → Type 0) → List X → List Moment → Type 0

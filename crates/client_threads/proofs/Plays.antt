@@ -1,5 +1,5 @@
 -- Scripts that were played, or left.
-use Rattle.std.proofs.Common.{◌≡◌, ℕ, ◌<◌, ◌≤◌, Bool, true, false, zero, suc, List, [], ◌∷◌, All, length, refl, sym, subst, arith}
+use Rattle.std.proofs.Common.{◌≡◌, ℕ, ◌<◌, ◌≤◌, Bool, true, false, zero, suc, List, [], ◌∷◌, All, length, refl, sym, subst, inr, arith}
 use Rattle.std.proofs.lemmas.Bool.{eqb-true}
 use Rattle.std.proofs.lemmas.List.Elements.{All-head, All-nil, All-tail}
 use Rattle.std.specs.Prelude.{◌==◌, slice_get, None}
@@ -52,7 +52,7 @@ items-beyond of_boot (suc n) l = rw (get-none of_boot n (omega arith)) refl
 all-left : {X : Type 0} (client : ℕ) (Play : X → List Moment → Type 0) (xs : List X) → ((x : X) → Leaves client (Play x) []) → PlaysAll true client Play xs []
 all-left client Play [] h = refl
 all-left client Play (x ∷ xs) h =
-    record { first = []; rest = []; are = refl; first_is = h x; rest_is = all-left client Play xs h }
+    record { first = []; rest = []; are = refl; first_is = inr (record { left = h x; untaken = refl }); rest_is = all-left client Play xs h }
 
 module _ (facts : Facts) (opening : List Row) (means : Means) (client : ℕ) (items : List Item) (moments : List Moment) where
   pub left-wanting : (is_off : Bool) → moments ≡ [] → PlayedSo is_off true client (Plays facts opening means client) items moments

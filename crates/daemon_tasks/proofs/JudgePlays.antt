@@ -34,7 +34,7 @@ use Rattle.client_plays.specs.Moments.{Moment, at}
 use Rattle.client_plays.specs.Plays.{Task, TaskPlays, ToJudge}
 use Rattle.client_plays.specs.Scripts.{PlaysAll, is_judgeable}
 use Rattle.client_plays.specs.Tools.{Means}
-use Rattle.client_plays.proofs.PlayLaws.{leaves-whole, task-unplayed}
+use Rattle.client_plays.proofs.PlayLaws.{task-unplayed}
 use Rattle.client_plays.proofs.RestLaws.{before-same}
 use Rattle.daemon_tasks.specs.Judged.{HouseTried, JudgeStays, Tried, can_judge, to_judge, to_judge_in, told_by}
 use Rattle.daemon_tasks.specs.Stays.{rows_at}
@@ -143,13 +143,13 @@ one-not : (facts : Facts) (opening : List Row) (past : List Event) (entry : ℕ)
 one-not facts opening past entry h = rw h refl
 
 one-plays : {X : Type 0} (wanting : Bool) (client : ℕ) (Play : X → List Moment → Type 0) (x : X) (moments : List Moment) → Play x moments → PlaysAll wanting client Play (x ∷ []) (moments ++ [])
-one-plays true client Play x moments p = record { first = moments; rest = []; are = refl; first_is = leaves-whole client (Play x) moments p; rest_is = refl }
+one-plays true client Play x moments p = record { first = moments; rest = []; are = refl; first_is = inl p; rest_is = refl }
 one-plays false client Play x moments p = record { first = moments; rest = []; are = refl; first_is = p; rest_is = refl }
 
 -- Whatever there was to do was left.
 pub all-nothing : (facts : Facts) (opening : List Row) (means : Means) (tasks : List Task) → PlaysAll true 0 (TaskPlays facts opening means) tasks []
 all-nothing facts opening means [] = refl
-all-nothing facts opening means (t ∷ tasks) = record { first = []; rest = []; are = refl; first_is = task-unplayed facts opening means 0 t; rest_is = all-nothing facts opening means tasks }
+all-nothing facts opening means (t ∷ tasks) = record { first = []; rest = []; are = refl; first_is = inr (record { left = task-unplayed facts opening means 0 t; untaken = refl }); rest_is = all-nothing facts opening means tasks }
 
 module _ {K : Type 0} (faults : K → ℕ) (facts : Facts) (opening : List Row) (means : Means) (entry : ℕ) (row : Row) (wanting : Bool) (old new : Housed K)
     (k : IsAnnals old.annals) (i : IsIdle (past old)) (r : row_of (rows_at old.annals) entry ≡ Some row)

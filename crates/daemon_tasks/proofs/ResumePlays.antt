@@ -160,7 +160,7 @@ module _ {K : Type 0} (entry : ℕ) (held : Option (Ticket × Fetched)) (taken :
   resume-played faults means asked played last f counted counts p =
       let between : Housed K = record new { places = last.places } in
       let update = UpdatePlays old.annals.facts (rows_before old.annals) means.plugins 0 entry (event ∷ past old) in
-      played-behind faults played 0 event (ResumePlays old.annals.facts (rows_before old.annals) means entry asked) update old between last (record { no_boot = refl; own = refl })
+      played-behind faults played 0 event (ResumePlays old.annals.facts (rows_before old.annals) means entry asked) update old between last (record { no_boot = refl; own = refl }) (λ e. absurd (p.room e))
       (λ ms u. (note_in held, ResumeAnswer.Begun, Stored.Yes, refl, f, u)) t.1 counted counts (λ plans h. p.home plans (taken-out plans h))
       (update-so faults means.plugins played between last (played-home faults means.plugins played 0 taken.entry taken.board new last p))
 
@@ -307,7 +307,7 @@ pub pending-behind : {K : Type 0} (faults : K → ℕ) (means : Means) (entry : 
     → HousePlayed faults played 0 (TaskPlays old.annals.facts (rows_before old.annals) means (ToResume entry)) old new
 pending-behind faults means entry request answer played old mid new k s a p =
     let event = Event.Ask 0 request (Some entry) answer in
-    played-behind faults played 0 event (TaskPlays old.annals.facts (rows_before old.annals) means (ToResume entry)) (ResumePlays old.annals.facts (rows_before old.annals) means entry answer) old mid new (record { no_boot = refl; own = refl })
+    played-behind faults played 0 event (TaskPlays old.annals.facts (rows_before old.annals) means (ToResume entry)) (ResumePlays old.annals.facts (rows_before old.annals) means entry answer) old mid new (record { no_boot = refl; own = refl }) (λ e. refl)
     (λ ms u. (request, answer, refl, u))
     a (counted-same faults old mid (faults-appended 0 event old.annals mid.annals refl a) k) (counts-same faults old mid k) (keeps-same old.places mid.places s)
     (subst (λ (o : List Row). HousePlayed faults played 0 (ResumePlays old.annals.facts o means entry answer) mid new) (before-same old.annals mid.annals a.same)

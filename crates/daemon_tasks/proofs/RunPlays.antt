@@ -1,5 +1,5 @@
 -- The run of an entry, as its events in a row.
-use Rattle.std.proofs.Common.{◌≡◌, ℕ, ◌≤◌, Bool, true, false, List, [], ◌∷◌, ◌++◌, append_assoc, refl, ap, sym, ◌∙◌, subst}
+use Rattle.std.proofs.Common.{◌≡◌, ◌≢◌, ℕ, ◌≤◌, Bool, true, false, List, [], ◌∷◌, ◌++◌, append_assoc, refl, ap, sym, ◌∙◌, subst}
 use Rattle.std.specs.Prelude.{Option, Some, None, ◌==◌}
 use Rattle.block_pool.specs.Views.{SealedBytes}
 use Rattle.fw_facts.specs.declared.seen.Seen.{Seen}
@@ -218,6 +218,11 @@ module _ (by : PluginSteps) (client entry : ℕ) (was : Parts) where
   ran-same (Outcome.Finished finished) old new k = k.gained.same
   ran-same Outcome.Off old new k = k.gained.same
 
+-- A run has room: it ends for no want of memory.
+with-room : (outcome : Outcome) → ended_by outcome ≢ Played.NoMemory
+with-room (Outcome.Finished finished) = λ e. cc
+with-room Outcome.Off = λ e. cc
+
 -- An entry that was taken runs: what its run did, where the plugin of its board made the steps.
 pub run-played : {K : Type 0} (faults : K → ℕ) (plugins : ℕ → PluginSteps) (client : ℕ) (taken : Taken) (outcome : Outcome) (told : Played) (old new : Housed K) → RunsIn old.annals client (parts_taken taken) None
     → IsOwnPlugin old.annals.facts (rows_before old.annals) (past old) taken.entry taken.plugin → told ≡ ended_by outcome → RunsAlone taken.entry (past old) → Ran (plugins taken.plugin) client taken.entry (parts_taken taken) outcome old.annals new.annals
@@ -239,4 +244,5 @@ run-played faults plugins client taken outcome told old new runs own e r ran cou
       counted = counted;
       counts = counts;
       home = home;
+      room = with-room outcome;
     })

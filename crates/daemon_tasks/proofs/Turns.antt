@@ -1,6 +1,7 @@
 -- An event at the head of a play, the event that ends one, and a play that was stopped.
 use Rattle.std.proofs.Common.{◌≡◌, ℕ, ◌<◌, ◌≤◌, Bool, true, false, List, [], ◌∷◌, ◌++◌, refl, ap, sym, ◌∙◌, subst, inl, inr, arith}
 use Rattle.std.specs.Prelude.{Some, Err}
+use Rattle.std.specs.List.{list_any}
 use Rattle.update_log.specs.declared.event.Back.{Back}
 use Rattle.update_log.specs.declared.event.Event.{Event}
 use Rattle.update_log.specs.Holding.{holds, live}
@@ -15,6 +16,7 @@ use Rattle.daemon_core.specs.Planned.{KeepsPlans}
 use Rattle.daemon_core.proofs.Planned.{keeps-both, keeps-same}
 use Rattle.client_plays.specs.declared.played.Played.{Played}
 use Rattle.client_plays.specs.Moments.{Did, Moment, at}
+use Rattle.client_plays.specs.Left.{is_taking}
 use Rattle.client_plays.specs.Plays.{Leaves}
 use Rattle.client_plays.specs.Endings.{EndsSo, HousePlayed, IsIdle}
 use Rattle.client_plays.proofs.MomentLaws.{did-both, did-nobody, did-nothing, did-one}
@@ -57,21 +59,22 @@ leaves-behind client Play Rest m moments f l =
       are = ap (λ (ms : List Moment). m ∷ ms) l.are;
     }
 
-ends-behind : (played : Played) (client : ℕ) (Play Rest : List Moment → Type 0) (m : Moment) (new : List Event) (moments : List Moment) → ((ms : List Moment) → Rest ms → Play (m ∷ ms)) → EndsSo played client Rest new moments → EndsSo played client Play new (m ∷ moments)
-ends-behind Played.Done client Play Rest m new moments f e = f moments e
-ends-behind Played.Off client Play Rest m new moments f e = (leaves-behind client Play Rest m moments f e.0, e.1)
-ends-behind Played.NoMemory client Play Rest m new moments f e = leaves-behind client Play Rest m moments f e
+ends-behind : (played : Played) (client : ℕ) (Play Rest : List Moment → Type 0) (m : Moment) (new : List Event) (moments : List Moment) → (played ≡ Played.NoMemory → is_taking m.event ≡ false) → ((ms : List Moment) → Rest ms → Play (m ∷ ms)) → EndsSo played client Rest new moments → EndsSo played client Play new (m ∷ moments)
+ends-behind Played.Done client Play Rest m new moments u f e = f moments e
+ends-behind Played.Off client Play Rest m new moments u f e = (leaves-behind client Play Rest m moments f e.0, e.1)
+ends-behind Played.NoMemory client Play Rest m new moments u f e =
+    record { left = leaves-behind client Play Rest m moments f e.left; untaken = rw (u refl) e.untaken }
 
 -- An event, and behind it the rest of the play.
-pub played-behind : {K : Type 0} (faults : K → ℕ) (played : Played) (client : ℕ) (event : Event) (Play Rest : List Moment → Type 0) (old mid new : Housed K) → IsOwn client event
+pub played-behind : {K : Type 0} (faults : K → ℕ) (played : Played) (client : ℕ) (event : Event) (Play Rest : List Moment → Type 0) (old mid new : Housed K) → IsOwn client event → (played ≡ Played.NoMemory → is_taking event ≡ false)
     → ((ms : List Moment) → Rest ms → Play (at (past old) event ∷ ms)) → Appended client event old.annals mid.annals → FaultsCounted faults old mid → faults old.keeper ≤ faults mid.keeper
     → KeepsPlans old.places mid.places → HousePlayed faults played client Rest mid new → HousePlayed faults played client Play old new
-played-behind faults played client event Play Rest old mid new o f a counted counts keeps p =
+played-behind faults played client event Play Rest old mid new o u f a counted counts keeps p =
     record {
       ended = record {
         moments = at (past old) event ∷ p.ended.moments;
         did = did-both client (at (past old) event ∷ []) p.ended.moments (past old) (past mid) (past new) (did-appended client event old.annals mid.annals o a) p.ended.did;
-        ends = ends-behind played client Play Rest (at (past old) event) (past new) p.ended.moments f p.ended.ends;
+        ends = ends-behind played client Play Rest (at (past old) event) (past new) p.ended.moments u f p.ended.ends;
       };
       rest = record {
         idle = p.rest.idle;
@@ -161,9 +164,9 @@ halted-faults stop old new h = ap keeper_faults h.past_is ∙ cut-faults h.cut (
 pub halted-did : (client : ℕ) (stop : Stop) (old new : Annalled) → Halted stop old new → Did client [] (past_in old) (past_in new)
 halted-did client stop old new h = subst (λ (p : List Event). Did client [] (past_in old) p) (sym h.past_is) (cut-did client h.cut (past_in old))
 
-ends-left : (stop : Stop) (client : ℕ) (Play : List Moment → Type 0) (new : List Event) (moments : List Moment) → (stop ≡ Stop.Off → off new ≡ true) → Leaves client Play moments → EndsSo (stopped_by stop) client Play new moments
-ends-left Stop.Off client Play new moments o l = (l, o refl)
-ends-left Stop.NoMemory client Play new moments o l = l
+ends-left : (stop : Stop) (client : ℕ) (Play : List Moment → Type 0) (new : List Event) (moments : List Moment) → (stop ≡ Stop.Off → off new ≡ true) → list_any (λ (m : Moment). is_taking m.event) moments ≡ false → Leaves client Play moments → EndsSo (stopped_by stop) client Play new moments
+ends-left Stop.Off client Play new moments o u l = (l, o refl)
+ends-left Stop.NoMemory client Play new moments o u l = record { left = l; untaken = u }
 
 -- The play was left before it began.
 pub played-stopped : {K : Type 0} (faults : K → ℕ) (stop : Stop) (client : ℕ) (Play : List Moment → Type 0) (old new : Housed K) → Leaves client Play [] → IsIdle (past old) → Halted stop old.annals new.annals → FaultsCounted faults old new → faults old.keeper ≤ faults new.keeper
@@ -173,7 +176,7 @@ played-stopped faults stop client Play old new l i h counted counts keeps =
       ended = record {
         moments = [];
         did = halted-did client stop old.annals new.annals h;
-        ends = ends-left stop client Play (past new) [] h.is_off l;
+        ends = ends-left stop client Play (past new) [] h.is_off refl l;
       };
       rest = record {
         idle = record { no_hold = halted-holds stop old.annals new.annals h ∙ i.no_hold; no_live = halted-live stop old.annals new.annals h ∙ i.no_live };
@@ -203,7 +206,7 @@ played-back faults stop client what Play some old mid new p h a i counted counts
       ended = record {
         moments = at (past mid) event ∷ [];
         did = did-both client [] (at (past mid) event ∷ []) (past old) (past mid) (past new) (halted-did client stop old.annals mid.annals h) (did-appended client event mid.annals new.annals own a);
-        ends = ends-left stop client Play (past new) (at (past mid) event ∷ []) (λ s. ap off e ∙ h.is_off s)
+        ends = ends-left stop client Play (past new) (at (past mid) event ∷ []) (λ s. ap off e ∙ h.is_off s) refl
             (record { front = []; rest = some; back = at (past mid) event ∷ []; play = p; gave = (what, refl); are = refl });
       };
       rest = record {

@@ -1,5 +1,5 @@
 -- How a play ended, and what the run of an entry did.
-use Rattle.std.specs.Prelude.{◌≤◌, ℕ}
+use Rattle.std.specs.Prelude.{◌≢◌, ◌≤◌, ℕ}
 use Rattle.emulated_boards.specs.Boards.{BoardState}
 use Rattle.plugin_trait.specs.Steps.{PluginSteps}
 use Rattle.daemon_core.specs.declared.stop.Stop.{Stop}
@@ -25,7 +25,7 @@ stopped_by Stop.NoMemory = Played.NoMemory
 -- What the run of an entry did to a house, which this board of the entry was taken from: its update ended so, by
 -- the plugin of its board among these, each at its place; nobody has anything out, what no event but a boot
 -- changes is as before, and each fault of the keeper that the log tells was counted; and the board came home,
--- with the faults planned that its number has.
+-- with the faults planned that its number has. There was room for all of it: no memory was wanting.
 pub record TakenPlayed {K : Type 0} (faults : K → ℕ) (plugins : ℕ → PluginSteps) (played : Played) (client entry : ℕ) (board : BoardState) (old new : Housed K) : Type 0 where
   pub ended : Ended played client (UpdatePlays old.annals.facts (rows_before old.annals) plugins client entry (past old)) (past old) (past new)
   pub idle : IsIdle (past new)
@@ -33,3 +33,4 @@ pub record TakenPlayed {K : Type 0} (faults : K → ℕ) (plugins : ℕ → Plug
   pub counted : FaultsCounted faults old new
   pub counts : faults old.keeper ≤ faults new.keeper
   pub home : BroughtHome entry board old new
+  pub room : played ≢ Played.NoMemory

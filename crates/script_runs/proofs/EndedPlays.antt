@@ -1,6 +1,7 @@
 -- What comes behind an event of a play, what ends one, and plays that were left.
-use Rattle.std.proofs.Common.{◌≡◌, ℕ, true, List, [], ◌∷◌, ◌++◌, append-nil, refl, ap, sym, ◌∙◌, subst, inl, inr}
+use Rattle.std.proofs.Common.{◌≡◌, ℕ, true, false, List, [], ◌∷◌, ◌++◌, append-nil, refl, ap, sym, ◌∙◌, subst, inl, inr}
 use Rattle.std.specs.Prelude.{Option, Some, Err}
+use Rattle.std.specs.List.{list_any}
 use Rattle.update_log.specs.declared.event.Back.{Back}
 use Rattle.update_log.specs.declared.event.Event.{Event}
 use Rattle.update_log.specs.declared.live.Held.{Held}
@@ -9,6 +10,7 @@ use Rattle.update_log.specs.Pasts.{off}
 use Rattle.daemon_core.specs.declared.stop.Stop.{Stop}
 use Rattle.client_plays.specs.declared.played.Played.{Played}
 use Rattle.client_plays.specs.Endings.{EndsSo, played_of}
+use Rattle.client_plays.specs.Left.{is_taking}
 use Rattle.client_plays.specs.Moments.{Moment}
 use Rattle.client_plays.specs.Plays.{Leaves}
 use Rattle.client_plays.proofs.WiderLaws.{IsWider, ends-wider}
@@ -37,19 +39,20 @@ leaves-behind client Play Rest m moments f l =
       are = ap (λ (ms : List Moment). m ∷ ms) l.are;
     }
 
-ends-behind : (played : Played) (client : ℕ) (Play Rest : List Moment → Type 0) (m : Moment) (new : List Event) (moments : List Moment) → ((ms : List Moment) → Rest ms → Play (m ∷ ms)) → EndsSo played client Rest new moments → EndsSo played client Play new (m ∷ moments)
-ends-behind Played.Done client Play Rest m new moments f e = f moments e
-ends-behind Played.Off client Play Rest m new moments f e = (leaves-behind client Play Rest m moments f e.0, e.1)
-ends-behind Played.NoMemory client Play Rest m new moments f e = leaves-behind client Play Rest m moments f e
+ends-behind : (played : Played) (client : ℕ) (Play Rest : List Moment → Type 0) (m : Moment) (new : List Event) (moments : List Moment) → (played ≡ Played.NoMemory → is_taking m.event ≡ false) → ((ms : List Moment) → Rest ms → Play (m ∷ ms)) → EndsSo played client Rest new moments → EndsSo played client Play new (m ∷ moments)
+ends-behind Played.Done client Play Rest m new moments u f e = f moments e
+ends-behind Played.Off client Play Rest m new moments u f e = (leaves-behind client Play Rest m moments f e.0, e.1)
+ends-behind Played.NoMemory client Play Rest m new moments u f e =
+    record { left = leaves-behind client Play Rest m moments f e.left; untaken = rw (u refl) e.untaken }
 
 -- An event, and behind it the rest of the play.
-pub ended-behind : (played : Played) (Play Rest : List Moment → Type 0) (m : Moment) (old mid new : PassView Entry) → own mid ≡ own old ++ m ∷ [] → mid.number ≡ old.number → ((ms : List Moment) → Rest ms → Play (m ∷ ms))
+pub ended-behind : (played : Played) (Play Rest : List Moment → Type 0) (m : Moment) (old mid new : PassView Entry) → own mid ≡ own old ++ m ∷ [] → mid.number ≡ old.number → (played ≡ Played.NoMemory → is_taking m.event ≡ false) → ((ms : List Moment) → Rest ms → Play (m ∷ ms))
     → Ended played Rest mid new → Ended played Play old new
-ended-behind played Play Rest m old mid new o s f e =
+ended-behind played Play Rest m old mid new o s u f e =
     record {
       moments = m ∷ e.moments;
       did = did-both (m ∷ []) e.moments old mid new o s e.did;
-      ends = ends-behind played old.number Play Rest m (past_seen new.seen) e.moments f
+      ends = ends-behind played old.number Play Rest m (past_seen new.seen) e.moments u f
           (subst (λ (n : ℕ). EndsSo played n Rest (past_seen new.seen) e.moments) s e.ends);
     }
 
@@ -76,23 +79,26 @@ ended-last Play m old new p d = record { moments = m ∷ []; did = d; ends = p }
 abbrev pub stopped_as : Stop → Played
 stopped_as stop = played_of {A = Unit {0}} (Err stop)
 
-ends-left : (stop : Stop) (client : ℕ) (Play : List Moment → Type 0) (new : List Event) (moments : List Moment) → (stop ≡ Stop.Off → off new ≡ true) → Leaves client Play moments → EndsSo (stopped_as stop) client Play new moments
-ends-left Stop.Off client Play new moments o l = (l, o refl)
-ends-left Stop.NoMemory client Play new moments o l = l
+ends-left : (stop : Stop) (client : ℕ) (Play : List Moment → Type 0) (new : List Event) (moments : List Moment) → (stop ≡ Stop.Off → off new ≡ true) → list_any (λ (m : Moment). is_taking m.event) moments ≡ false → Leaves client Play moments → EndsSo (stopped_as stop) client Play new moments
+ends-left Stop.Off client Play new moments o u l = (l, o refl)
+ends-left Stop.NoMemory client Play new moments o u l = record { left = l; untaken = u }
 
 -- A play that was left before it began.
 pub ended-stopped : (stop : Stop) (Play : List Moment → Type 0) (old new : PassView Entry) → Leaves old.number Play [] → (stop ≡ Stop.Off → off (past_seen new.seen) ≡ true) → Did [] old new → Ended (stopped_as stop) Play old new
 ended-stopped stop Play old new l o d =
-    record { moments = []; did = d; ends = ends-left stop old.number Play (past_seen new.seen) [] o l }
+    record { moments = []; did = d; ends = ends-left stop old.number Play (past_seen new.seen) [] o refl l }
 
 -- One that was left so, and what was out was given back.
+untaken-back : (m : Moment) (client : ℕ) (what : Back) → m.event ≡ Event.GiveBack client what → list_any (λ (x : Moment). is_taking x.event) (m ∷ []) ≡ false
+untaken-back m client what e = let t : is_taking m.event ≡ false = ap is_taking e in rw t refl
+
 pub ended-back : (stop : Stop) (what : Back) (Play : List Moment → Type 0) (some : List Moment) (m : Moment) (old new : PassView Entry) → Play some → m.event ≡ Event.GiveBack old.number what → (stop ≡ Stop.Off → off (past_seen new.seen) ≡ true) → Did (m ∷ []) old new
     → Ended (stopped_as stop) Play old new
 ended-back stop what Play some m old new p e o d =
     record {
       moments = m ∷ [];
       did = d;
-      ends = ends-left stop old.number Play (past_seen new.seen) (m ∷ []) o
+      ends = ends-left stop old.number Play (past_seen new.seen) (m ∷ []) o (untaken-back m old.number what e)
           (record { front = []; rest = some; back = m ∷ []; play = p; gave = (what, e); are = refl });
     }
 

@@ -12,7 +12,6 @@ use Rattle.client_plays.specs.Plays.{Plays}
 use Rattle.client_plays.specs.Scripts.{PlayedSo, PlaysAll, PlaysUntil}
 use Rattle.client_plays.specs.Tools.{Files, means_of}
 use Rattle.plugin_trait.specs.Steps.{PluginSteps}
-use Rattle.client_plays.proofs.PlayLaws.{leaves-whole}
 use Rattle.client_plays.proofs.ScriptLaws.{all-more, all-push, so-all, until-left}
 use Rattle.turn_lock.specs.Shown.{PassView}
 use Rattle.shared_daemon.specs.declared.entry.Entry.{Entry}
@@ -23,11 +22,11 @@ use Rattle.script_runs.proofs.DidLaws.{did-both, did-nothing}
 
 -- One thing more, by how its play ended.
 pub more-done : (wanting : Bool) (Play : List Moment → Type 0) (old new : PassView Entry) → Ended Played.Done Play old new → EndedMore (Some wanting) wanting Play old new
-more-done true Play old new p = record { moments = p.moments; did = p.did; more = (inl refl, leaves-whole old.number Play p.moments p.ends) }
+more-done true Play old new p = record { moments = p.moments; did = p.did; more = (inl refl, inl p.ends) }
 more-done false Play old new p = record { moments = p.moments; did = p.did; more = (inr refl, p.ends) }
 
 pub more-wanting : (wanting : Bool) (Play : List Moment → Type 0) (old new : PassView Entry) → Ended Played.NoMemory Play old new → EndedMore (Some true) wanting Play old new
-more-wanting wanting Play old new p = record { moments = p.moments; did = p.did; more = (inl refl, p.ends) }
+more-wanting wanting Play old new p = record { moments = p.moments; did = p.did; more = (inl refl, inr p.ends) }
 
 pub more-off : (wanting : Bool) (Play : List Moment → Type 0) (old new : PassView Entry) → Ended Played.Off Play old new → EndedMore None wanting Play old new
 more-off wanting Play old new p = record { moments = p.moments; did = p.did; more = p.ends }

@@ -1,5 +1,5 @@
 -- An install: its ask, its claim, and what follows.
-use Rattle.std.proofs.Common.{◌≡◌, ℕ, Bool, true, false, List, [], ◌∷◌, refl, ap, sym, ◌∙◌, subst}
+use Rattle.std.proofs.Common.{◌≡◌, ◌≢◌, ℕ, Bool, true, false, List, [], ◌∷◌, refl, ap, sym, ◌∙◌, subst}
 use Rattle.std.specs.Prelude.{Option, Some, None, MatchBool, Err}
 use Rattle.history_keeper.specs.declared.row.Row.{Row}
 use Rattle.release_catalogue.specs.declared.reference.ReleaseRef.{ReleaseRef}
@@ -92,11 +92,11 @@ module _ {did : List Entry → List Entry → Type 0} (name : Name) (lock : Lock
 
   -- It took an entry, whose update follows.
   pub claim-behind : (release : ReleaseRef) (note : FetchNote) (entry : ℕ) (played : Played) (new : PassView Entry) → IsFetched name.facts means.files release note → AddsOn old.number (Event.Claim old.number request note (ClaimAnswer.Entry entry)) t.met mid.seen
-      → Ended played (UpdatePlays name.facts name.opening means.plugins mid.number entry (past_seen mid.seen)) mid new → Ended played (ClaimPlays name.facts name.opening means old.number request release) old new
-  claim-behind release note entry played new f a e =
+      → played ≢ Played.NoMemory → Ended played (UpdatePlays name.facts name.opening means.plugins mid.number entry (past_seen mid.seen)) mid new → Ended played (ClaimPlays name.facts name.opening means old.number request release) old new
+  claim-behind release note entry played new f a room e =
       let event : Event = Event.Claim old.number request note (ClaimAnswer.Entry entry) in
       ended-behind played (ClaimPlays name.facts name.opening means old.number request release) (UpdatePlays name.facts name.opening means.plugins old.number entry (event ∷ past_seen t.met)) (at (past_seen t.met) event) old mid new
-      (own-event {did = did} name lock old mid p same t event refl refl a.1) same (λ ms u. (note, ClaimAnswer.Entry entry, refl, f, u))
+      (own-event {did = did} name lock old mid p same t event refl refl a.1) same (λ w. absurd (room w)) (λ ms u. (note, ClaimAnswer.Entry entry, refl, f, u))
       (subst (λ (w : List Event). Ended played (UpdatePlays name.facts name.opening means.plugins old.number entry w) mid new) (past-added old.number event t.met mid.seen a.1)
       (subst (λ (n : ℕ). Ended played (UpdatePlays name.facts name.opening means.plugins n entry (past_seen mid.seen)) mid new) same e))
 

@@ -69,7 +69,7 @@ module _ {did : List Entry → List Entry → Type 0} (name : Name) (lock : Lock
 
   -- Memory was wanting.
   pub ended-wanting : (Play : List Moment → Type 0) → Leaves old.number Play [] → AddsNone t.met new.seen → Ended Played.NoMemory Play old new
-  ended-wanting Play l a = record { moments = []; did = did-none {did = did} name lock old new p same t free a; ends = l }
+  ended-wanting Play l a = record { moments = []; did = did-none {did = did} name lock old new p same t free a; ends = record { left = l; untaken = refl } }
 
 -- What was told of it.
 pub ended-told : (told played : Played) (Play : List Moment → Type 0) (old new : PassView Entry) → told ≡ played → Ended played Play old new → Ended told Play old new

@@ -1,5 +1,5 @@
 //! An install: the ask, the fetch, the claim, and the run of the claim.
-ghost use Rattle.std.specs.Prelude.{◌≡◌, ◌≤◌, ◌<◌, ◌+◌, [], None, Some, Err, length, true, false};
+ghost use Rattle.std.specs.Prelude.{◌≡◌, ◌≢◌, ◌≤◌, ◌<◌, ◌+◌, [], None, Some, Err, length, true, false};
 ghost use Rattle.plugin_trait.specs.Steps.{steps_at};
 ghost use Rattle.update_log.specs.Holding.{hold};
 ghost use Rattle.update_log.specs.Pasts.{off};
@@ -8,6 +8,7 @@ ghost use Rattle.daemon_core.specs.Fetches.{IsFetchOf, block_count, note_of};
 ghost use Rattle.daemon_core.specs.Holds.{IsHoldFor, held_by};
 ghost use Rattle.install_engine.specs.RunsIn.{parts_taken};
 ghost use Rattle.client_scripts.specs.declared.item.Item.{Item};
+ghost use Rattle.client_plays.specs.declared.played.Played.{Played};
 ghost use Rattle.client_plays.specs.Endings.{played_of};
 ghost use Rattle.client_plays.specs.Faults.{FaultsTold, faults_in, faults_noted};
 ghost use Rattle.client_plays.specs.Plays.{ClaimPlays, IsOwnPlugin, Plays, UpdatePlays};
@@ -80,6 +81,7 @@ fn run_taken<R: Wait, K: Keeper, N: Naming, G: Gate>(
     requires own { IsOwnPlugin N.name.facts N.name.opening (past_seen pass.old.seen) taken.entry taken.plugin }
     ensures pass { IsPass daemon.now.id N.name pass.new }
     ensures ended { Ended result (UpdatePlays N.name.facts N.name.opening (steps_at (λ p. steps p) plugins.now) pass.old.number taken.entry (past_seen pass.old.seen)) pass.old pass.new }
+    ensures room { result ≢ Played.NoMemory }
 {
     match run_claim(rt, daemon, pass, taken, plugins, gate) {
         Outcome::Finished(_) => Played::Done,

@@ -60,7 +60,7 @@ returns-in-Ok-Taken-clause-ended g c =
     let t = a.ensures.turn in
     λ files f. claim-behind g.N.Naming.name c.args.daemon.now.id (means_of files (steps_at (λ b. (goal.Plugin-dyn g (b.vtable, b.value)).steps b.value) c.args.plugins.now)) c.args.ticket.request c.args.pass.now c.claim.new.pass c.requires.pass c.claim.ensures.same t c.args.ticket.release (note_of c.args.fetched) a.taken.entry c.run_taken.result c.run_taken.new.pass f
     (subst (λ (x : Claimed). AddsOn n (claim_event n c.args.ticket.request c.args.fetched x) t.met c.claim.new.pass.seen) a.field-0-is t.does)
-    c.run_taken.ensures.ended
+    c.run_taken.ensures.room c.run_taken.ensures.ended
 
 pub returns-in-Ok-Kept-clause-ended : goal.returns-in-Ok-Kept-clause-ended
 returns-in-Ok-Kept-clause-ended g c =
