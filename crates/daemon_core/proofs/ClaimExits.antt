@@ -27,13 +27,14 @@ use Rattle.daemon_core.specs.Claims.{IsToStore, MayAnswer, MayClaim, claim_event
 use Rattle.daemon_core.specs.Fetches.{IsPayloadOf, is_payload, note_of, whole_note}
 use Rattle.daemon_core.specs.House.{IsHouse}
 use Rattle.daemon_core.specs.Housed.{Annalled, Housed, Place, past, past_in, rows_before}
-use Rattle.daemon_core.specs.Keeping.{HasRows, keeper_faults, met_fault}
+use Rattle.daemon_core.specs.Keeping.{HasRows, keeper_faults}
 use Rattle.daemon_core.specs.Turns.{FaultsCounted, Turned}
 use Rattle.daemon_core.proofs.Answered.{same-unchanged}
 use Rattle.daemon_core.specs.PutOff.{IsAccept}
 use Rattle.daemon_core.specs.Returns.{place_at}
 use Rattle.std.proofs.lemmas.Option.{slice_get_within}
 use Rattle.update_log.specs.declared.facts.Facts.{Facts}
+use Rattle.update_log.specs.Pasts.{meets_fault}
 use Rattle.daemon_core.proofs.AnnalsKept.{appended-past}
 use Rattle.daemon_core.proofs.ClaimAlone.{on-board}
 use Rattle.daemon_core.proofs.ClaimHouse.{IsReady}
@@ -170,14 +171,14 @@ turn-stopped b client blocks ticket event m = (m.runs.on, same-unchanged b b ref
 
 pub faults-took : {K : Type 0} (faults : K → ℕ) (client : ℕ) (ticket : Ticket) (payload : SealedBytes) (row : Row) (event : Event) (old new : Housed K) → takes_event client ticket payload row ≡ event → Appended client event old.annals new.annals → faults old.keeper ≤ faults new.keeper → FaultsCounted faults old new
 faults-took faults client ticket payload row event old new e p h =
-    counted-same faults old new (quiet-faults client event old.annals new.annals p (ap met_fault (sym e))) h
+    counted-same faults old new (quiet-faults client event old.annals new.annals p (ap meets_fault (sym e))) h
 
 pub faults-failed : {K : Type 0} (faults : K → ℕ) (client : ℕ) (ticket : Ticket) (payload : SealedBytes) (event : Event) (old new : Housed K) → claims client ticket (whole_note payload) (ClaimAnswer.Refused Refusal.KeeperFault) ≡ event → Appended client event old.annals new.annals → Rose (faults old.keeper) (faults new.keeper) → FaultsCounted faults old new
 faults-failed faults client ticket payload event old new e p h =
     let q : keeper_faults (past new) ≡ keeper_faults (claims client ticket (whole_note payload) (ClaimAnswer.Refused Refusal.KeeperFault) ∷ past old) = ap keeper_faults (appended-past client event old.annals new.annals p ∙ ap (λ (x : Event). x ∷ past old) (sym e)) in
     counted-more faults old new q h
 
-unmet : (client : ℕ) (ticket : Ticket) (note : FetchNote) (answer : ClaimAnswer) → is_taken answer ≡ false → met_fault (claims client ticket note answer) ≡ false
+unmet : (client : ℕ) (ticket : Ticket) (note : FetchNote) (answer : ClaimAnswer) → is_taken answer ≡ false → meets_fault (claims client ticket note answer) ≡ false
 unmet client ticket note (ClaimAnswer.Entry entry) h = cc
 unmet client ticket note (ClaimAnswer.Kept entry state) h = refl
 unmet client ticket note (ClaimAnswer.Refused refusal) h = h

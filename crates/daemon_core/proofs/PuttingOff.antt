@@ -21,7 +21,7 @@ use Rattle.update_log.specs.CoreSteps.{addition_on}
 use Rattle.update_log.specs.Holding.{live}
 use Rattle.update_log.specs.Known.{Fate, Target, addition, doubt, known, new_row, row_with_tag, rows, rows_by, target, views}
 use Rattle.update_log.specs.Legal.{IsFree, ScheduleAllowed, ScheduleAnswered, next_entry}
-use Rattle.update_log.specs.Pasts.{boots, is_keeper_fault, off, time_of}
+use Rattle.update_log.specs.Pasts.{boots, is_keeper_fault, meets_fault, off, time_of}
 use Rattle.update_log.specs.Verdicts.{Case, case_of, decided, verdict, where_so}
 use Rattle.update_log.specs.declared.answer.ClaimAnswer.{ClaimAnswer}
 use Rattle.update_log.specs.declared.decision.Decision.{Decision}
@@ -36,7 +36,7 @@ use Rattle.daemon_core.proofs.AnnalsKept.{appended-past, legal-next}
 use Rattle.daemon_core.proofs.OwedLaws.{owed-cut}
 use Rattle.daemon_core.specs.House.{IsHouse}
 use Rattle.daemon_core.specs.Housed.{Annalled, Housed, past, past_in, rows_before}
-use Rattle.daemon_core.specs.Keeping.{HasRows, KeepsSo, keeper_faults, met_fault}
+use Rattle.daemon_core.specs.Keeping.{HasRows, KeepsSo, keeper_faults}
 use Rattle.daemon_core.specs.PutOff.{IsAccept}
 use Rattle.daemon_core.specs.Turns.{FaultsCounted}
 use Rattle.daemon_core.proofs.BoardsQuiet.{kept-so, quiet-board}
@@ -228,5 +228,5 @@ pub owed-faulted : (past : List Event) (client : ℕ) (request : Request) → ow
 owed-faulted past client request = owed-cut past
 
 -- An event that met no fault.
-pub quiet-faults : (client : ℕ) (event : Event) (a b : Annalled) → Appended client event a b → met_fault event ≡ false → keeper_faults (past_in b) ≡ keeper_faults (past_in a)
+pub quiet-faults : (client : ℕ) (event : Event) (a b : Annalled) → Appended client event a b → meets_fault event ≡ false → keeper_faults (past_in b) ≡ keeper_faults (past_in a)
 quiet-faults client event a b p m = ap keeper_faults (appended-past client event a b p) ∙ rw m refl

@@ -14,7 +14,7 @@ use Rattle.update_log.proofs.RowsKept.{is_kept}
 use Rattle.update_log.specs.Holding.{live_entry}
 use Rattle.update_log.specs.Known.{Target, board_of, target}
 use Rattle.update_log.specs.Legal.{ResumeStored}
-use Rattle.update_log.specs.Pasts.{boots, is_keeper_fault}
+use Rattle.update_log.specs.Pasts.{boots, is_keeper_fault, meets_fault}
 use Rattle.update_log.specs.Steps.{trace}
 use Rattle.update_log.specs.Verdicts.{Case, case_of, first_refusal, is_that_release, need, on_found, on_present, present, refusals, refused_or}
 use Rattle.update_log.specs.declared.answer.ResumeAnswer.{ResumeAnswer}
@@ -38,7 +38,7 @@ use Rattle.daemon_core.specs.Commits.{StoredAs}
 use Rattle.daemon_core.specs.Fetches.{block_count, is_payload, note_of, whole_note}
 use Rattle.daemon_core.specs.House.{IsHouse}
 use Rattle.daemon_core.specs.Housed.{Annalled, Housed, Place, past, past_in, rows_before}
-use Rattle.daemon_core.specs.Keeping.{keeper_faults, met_fault}
+use Rattle.daemon_core.specs.Keeping.{keeper_faults}
 use Rattle.daemon_core.specs.PutOff.{IsAccept}
 use Rattle.daemon_core.specs.Resumes.{ComesIn, IsOpenHold, IsPutOff, IsToResume, MayFail, MayResume, ResumeGave, ResumeTurned, StoppedBy, WasRefused, begun_event, blocks_in, doubt_event, failed_event, note_in, resume_verdict}
 use Rattle.daemon_core.specs.Returns.{place_at}
@@ -163,12 +163,12 @@ pub turn-left : (a b : Annalled) (entry : ℕ) (said : Option FetchNote) (held :
 turn-left a b entry said held e m = (m.runs.on, same-unchanged b a e)
 
 pub faults-resumed : {K : Type 0} (faults : K → ℕ) (entry : ℕ) (said : Option FetchNote) (answer : ResumeAnswer) (stored : Stored) (event : Event) (old new : Housed K) → event ≡ resumes entry said answer stored → Appended 0 event old.annals new.annals → faults old.keeper ≤ faults new.keeper → (stored ≡ Stored.Fault → Rose (faults old.keeper) (faults new.keeper)) → FaultsCounted faults old new
-faults-resumed faults entry said answer Stored.Yes event old new e p c r = counted-same faults old new (quiet-faults 0 event old.annals new.annals p (ap met_fault e)) c
+faults-resumed faults entry said answer Stored.Yes event old new e p c r = counted-same faults old new (quiet-faults 0 event old.annals new.annals p (ap meets_fault e)) c
 faults-resumed faults entry said answer Stored.Fault event old new e p c r =
     let q : keeper_faults (past new) ≡ keeper_faults (resumes entry said answer Stored.Fault ∷ past old) = ap keeper_faults (appended-past 0 event old.annals new.annals p ∙ ap (λ (x : Event). x ∷ past old) e) in
     counted-more faults old new q (r refl)
-faults-resumed faults entry said answer Stored.NoMemory event old new e p c r = counted-same faults old new (quiet-faults 0 event old.annals new.annals p (ap met_fault e)) c
-faults-resumed faults entry said answer Stored.Unchanged event old new e p c r = counted-same faults old new (quiet-faults 0 event old.annals new.annals p (ap met_fault e)) c
+faults-resumed faults entry said answer Stored.NoMemory event old new e p c r = counted-same faults old new (quiet-faults 0 event old.annals new.annals p (ap meets_fault e)) c
+faults-resumed faults entry said answer Stored.Unchanged event old new e p c r = counted-same faults old new (quiet-faults 0 event old.annals new.annals p (ap meets_fault e)) c
 
 -- ---- which refusals there are
 

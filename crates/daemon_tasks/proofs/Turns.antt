@@ -4,12 +4,12 @@ use Rattle.std.specs.Prelude.{Some, Err}
 use Rattle.update_log.specs.declared.event.Back.{Back}
 use Rattle.update_log.specs.declared.event.Event.{Event}
 use Rattle.update_log.specs.Holding.{holds, live}
-use Rattle.update_log.specs.Pasts.{boots, client_of, is_boot, off}
+use Rattle.update_log.specs.Pasts.{boots, client_of, is_boot, meets_fault, off}
 use Rattle.daemon_core.proofs.AnnalsKept.{appended-past}
 use Rattle.daemon_core.specs.declared.stop.Stop.{Stop}
 use Rattle.daemon_core.specs.Annals.{Appended, SameFacts, Unchanged}
 use Rattle.daemon_core.specs.Housed.{Annalled, Housed, past, past_in}
-use Rattle.daemon_core.specs.Keeping.{keeper_faults, met_fault}
+use Rattle.daemon_core.specs.Keeping.{keeper_faults}
 use Rattle.daemon_core.specs.Turns.{FaultsCounted, Turned, WentOff}
 use Rattle.daemon_core.specs.Planned.{KeepsPlans}
 use Rattle.daemon_core.proofs.Planned.{keeps-both, keeps-same}
@@ -36,7 +36,7 @@ did-appended client event old new o a =
     (did-one client (past_in old) event o.no_boot o.own)
 
 -- An event that met no fault of the keeper.
-pub faults-appended : (client : ℕ) (event : Event) (old new : Annalled) → met_fault event ≡ false → Appended client event old new → keeper_faults (past_in new) ≡ keeper_faults (past_in old)
+pub faults-appended : (client : ℕ) (event : Event) (old new : Annalled) → meets_fault event ≡ false → Appended client event old new → keeper_faults (past_in new) ≡ keeper_faults (past_in old)
 faults-appended client event old new q a = ap keeper_faults (appended-past client event old new a) ∙ rw q refl
 
 pub boots-appended : (client : ℕ) (event : Event) (old new : Annalled) → is_boot event ≡ false → Appended client event old new → 0 < boots (past_in old) → 0 < boots (past_in new)

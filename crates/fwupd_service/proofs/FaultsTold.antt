@@ -10,9 +10,9 @@ use Rattle.update_log.specs.declared.event.Event.{Event}
 use Rattle.update_log.specs.declared.event.Stored.{Stored}
 use Rattle.update_log.specs.declared.refusal.Refusal.{Refusal}
 use Rattle.update_log.specs.Legal.{Allowed, IsLegal, Legal, ResumeStored}
-use Rattle.update_log.specs.Pasts.{is_fault, is_keeper_fault, past_of}
+use Rattle.update_log.specs.Pasts.{is_fault, is_keeper_fault, meets_fault, past_of}
 use Rattle.update_log.specs.Shows.{Campaign}
-use Rattle.daemon_core.specs.Keeping.{keeper_faults, met_fault}
+use Rattle.daemon_core.specs.Keeping.{keeper_faults}
 use Rattle.fwupd_service.specs.Telling.{any_fault, tells_fault}
 
 neither : (a b : Bool) → a ≡ false → b ≡ false → (a || b) ≡ false
@@ -25,7 +25,7 @@ refused-stored Refusal.KeeperFault stored s n = let bad : true ≡ false = ap is
 refused-stored _ stored s n = refl
 
 -- So an event of a legal log that met no fault tells none.
-quiet-tells : (c : Campaign) (opening : List Row) (past : List Event) (event : Event) → Allowed c opening past event → met_fault event ≡ false → tells_fault event ≡ false
+quiet-tells : (c : Campaign) (opening : List Row) (past : List Event) (event : Event) → Allowed c opening past event → meets_fault event ≡ false → tells_fault event ≡ false
 quiet-tells c opening past (Event.Boot number time limit found boards) a n = n
 quiet-tells c opening past (Event.Claim client request fetched (ClaimAnswer.Refused refusal)) a n = n
 quiet-tells c opening past (Event.Claim client request fetched (ClaimAnswer.Entry entry)) a n = refl
@@ -48,7 +48,7 @@ none-told : (c : Campaign) (opening : List Row) (past : List Event) → IsLegal 
 none-told c opening [] l z = refl
 none-told c opening (event ∷ past) l z =
     let counted = λ (b : Bool). if b then keeper_faults past + 1 else keeper_faults past in
-    by_test (met_fault event) (list_any tells_fault (event ∷ past) ≡ false)
+    by_test (meets_fault event) (list_any tells_fault (event ∷ past) ≡ false)
     (λ t. let bad : keeper_faults past + 1 ≡ 0 = ap counted (sym t) ∙ z in absurd (omega (arith, bad)))
     (λ f.
     let rest : keeper_faults past ≡ 0 = ap counted (sym f) ∙ z in

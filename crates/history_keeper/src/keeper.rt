@@ -1,5 +1,5 @@
 //! Who keeps the rows.
-ghost use Rattle.std.specs.Prelude.{◌≡◌, ◌≢◌, ◌≤◌, ◌⊎◌, ℕ, List, Option, IfOk, OnOk};
+ghost use Rattle.std.specs.Prelude.{◌≡◌, ◌≢◌, ◌≤◌, ◌⊎◌, ℕ, List, Option, IfOk, OnErr, OnOk};
 ghost use Rattle.outer_traits.specs.Faults.{Rose};
 ghost use Rattle.history_keeper.specs.declared.row.Row.{Row};
 ghost use Rattle.history_keeper.specs.declared.change.Change.{Change};
@@ -61,6 +61,7 @@ pub trait Keeper {
     fn reopen(&mut self) -> Result<(), KeeperRefusal>
         ensures reopened { Reopened result (tells self.old) (doubt self.old) (tells self.new) (doubt self.new) }
         ensures settles { OnOk result (settled self.old self.new) }
+        ensures settled { OnErr result (StillSettled settled self.old self.new) }
         ensures cause { result ≡ Err KeeperRefusal.Fault → Rose (faults self.old) (faults self.new) }
         ensures quiet { (result ≡ Err KeeperRefusal.Fault) ⊎ (faults self.new ≡ faults self.old) }
         ensures counts { faults self.old ≤ faults self.new };

@@ -154,6 +154,7 @@ impl Keeper for MemoryKeeper {
 
         ensures reopened { Reopened result (has_rows self.old) (doubtful self.old) (has_rows self.new) (doubtful self.new) }
         ensures settles { OnOk result (is_settled self.old self.new) }
+        ensures still { OnErr result (StillSettled is_settled self.old self.new) }
         ensures quiet { (result ≡ Err KeeperRefusal.Fault) ⊎ (self.new.faults ≡ self.old.faults) }
         ensures counts { self.old.faults ≤ self.new.faults }
     {

@@ -140,6 +140,7 @@ impl<S: Start> Keeper for FileKeeper<S> {
         ensures clean { HasCleanDisk (database over_files self.new.keeper) → HasCleanDisk (database over_files self.old.keeper) }
         ensures reopened { Reopened result (TellsRows over_files ((rows : List Row) × FilesHold (image_at S.Start) rows) self.old.keeper) (doubtful self.old.keeper) (TellsRows over_files ((rows : List Row) × FilesHold (image_at S.Start) rows) self.new.keeper) (doubtful self.new.keeper) }
         ensures settled { OnOk result (IsSettled over_files self.old.keeper self.new.keeper) }
+        ensures still { OnErr result (StillSettled (IsSettled over_files) self.old.keeper self.new.keeper) }
         ensures cause { result ≡ Err KeeperRefusal.Fault → Rose self.old.keeper.faults self.new.keeper.faults }
         ensures quiet { (result ≡ Err KeeperRefusal.Fault) ⊎ (self.new.keeper.faults ≡ self.old.keeper.faults) }
         ensures counts { self.old.keeper.faults ≤ self.new.keeper.faults }

@@ -411,6 +411,7 @@ impl<D: Lasting> Keeper for SqlKeeper<D> {
 
         ensures reopened { Reopened result (TellsRows D.Store D.Lasting.supposed self.old) (doubtful self.old) (TellsRows D.Store D.Lasting.supposed self.new) (doubtful self.new) }
         ensures settled { OnOk result (IsSettled D.Store self.old self.new) }
+        ensures still { OnErr result (StillSettled (IsSettled D.Store) self.old self.new) }
         ensures cause { result ≡ Err KeeperRefusal.Fault → Rose self.old.faults self.new.faults }
         ensures quiet { (result ≡ Err KeeperRefusal.Fault) ⊎ (self.new.faults ≡ self.old.faults) }
         ensures counts { self.old.faults ≤ self.new.faults }

@@ -6,9 +6,9 @@ use Rattle.update_log.proofs.Pasts.{past-push}
 use Rattle.update_log.specs.declared.event.Back.{Back}
 use Rattle.update_log.specs.declared.event.Event.{Event}
 use Rattle.update_log.specs.declared.event.Op.{Op}
-use Rattle.update_log.specs.Pasts.{past_of}
+use Rattle.update_log.specs.Pasts.{meets_fault, past_of}
 use Rattle.daemon_core.specs.Housed.{Annalled, Housed, past, past_in}
-use Rattle.daemon_core.specs.Keeping.{keeper_faults, met_fault}
+use Rattle.daemon_core.specs.Keeping.{keeper_faults}
 use Rattle.daemon_core.specs.Turns.{FaultsCounted}
 use Rattle.device_claims.specs.declared.claim.Parts.{Parts}
 use Rattle.plugin_trait.specs.Steps.{PluginSteps}
@@ -37,7 +37,7 @@ past-gained events old new g = ap past_of g.log ∙ past-of_grown old.core.log e
 -- None of these events met a fault of the keeper.
 abbrev pub MetNone : List Event → Type 0
 MetNone [] = Unit {0}
-MetNone (event ∷ events) = (met_fault event ≡ false) × MetNone events
+MetNone (event ∷ events) = (meets_fault event ≡ false) × MetNone events
 
 met-none : (past events : List Event) → MetNone events → keeper_faults (grown past events) ≡ keeper_faults past
 met-none past [] m = refl

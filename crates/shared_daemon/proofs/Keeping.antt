@@ -2,13 +2,13 @@
 use Rattle.std.proofs.Common.{◌≡◌, ◌⊎◌, ℕ, ◌≤◌, ◌+◌, ◌-◌, ◌^◌, true, false, List, ◌∷◌, refl, ap, ◌∙◌, inl, inr, ⊎_elim, arith}
 use Rattle.std.specs.Prelude.{Result, Ok, Err}
 use Rattle.update_log.specs.declared.event.Event.{Event}
-use Rattle.update_log.specs.Pasts.{boots, is_boot, off, past_of}
+use Rattle.update_log.specs.Pasts.{boots, is_boot, meets_fault, off, past_of}
 use Rattle.daemon_core.specs.declared.off.Off.{Off}
 use Rattle.daemon_core.specs.declared.stop.Stop.{Stop}
 use Rattle.daemon_core.specs.Annals.{Appended, SameFacts, Unchanged}
 use Rattle.daemon_core.specs.Goes.{Went}
 use Rattle.daemon_core.specs.Housed.{Annalled, Housed, past, past_in}
-use Rattle.daemon_core.specs.Keeping.{keeper_faults, met_fault}
+use Rattle.daemon_core.specs.Keeping.{keeper_faults}
 use Rattle.daemon_core.specs.Turns.{FaultsCounted, Turned, WentOff}
 use Rattle.daemon_core.proofs.AnnalsKept.{appended-past, boots-same}
 use Rattle.daemon_core.specs.Planned.{HavePlans}
@@ -21,10 +21,10 @@ abbrev pub Grew : ℕ → Annalled → Annalled → Type 0
 Grew client old new = Unchanged old new ⊎ ((event : Event) × (is_boot event ≡ false) × Appended client event old new)
 
 abbrev pub GrewCalm : ℕ → Annalled → Annalled → Type 0
-GrewCalm client old new = Unchanged old new ⊎ ((event : Event) × (is_boot event ≡ false) × (met_fault event ≡ false) × Appended client event old new)
+GrewCalm client old new = Unchanged old new ⊎ ((event : Event) × (is_boot event ≡ false) × (meets_fault event ≡ false) × Appended client event old new)
 
 pub calm-grew : (client : ℕ) (old new : Annalled) → GrewCalm client old new → Grew client old new
-calm-grew client old new g = ⊎_elim (λ (u : Unchanged old new). inl u) (λ (a : (event : Event) × (is_boot event ≡ false) × (met_fault event ≡ false) × Appended client event old new). inr (a.0, a.1, a.3)) g
+calm-grew client old new g = ⊎_elim (λ (u : Unchanged old new). inl u) (λ (a : (event : Event) × (is_boot event ≡ false) × (meets_fault event ≡ false) × Appended client event old new). inr (a.0, a.1, a.3)) g
 
 -- So what no event but a boot changes stays.
 pub grew-facts : (client : ℕ) (old new : Annalled) → Grew client old new → SameFacts old new
@@ -35,13 +35,13 @@ grew-boots client old new g =
     ⊎_elim (λ (u : Unchanged old new). ap (λ (l : List Event). boots (past_of l)) u.log)
     (λ (a : (event : Event) × (is_boot event ≡ false) × Appended client event old new). ap boots (appended-past client a.0 old new a.2) ∙ boots-same (past_in old) a.0 a.1) g
 
-calm-same : (past : List Event) (event : Event) → met_fault event ≡ false → keeper_faults (event ∷ past) ≡ keeper_faults past
+calm-same : (past : List Event) (event : Event) → meets_fault event ≡ false → keeper_faults (event ∷ past) ≡ keeper_faults past
 calm-same past event e = rw e refl
 
 pub calm-faults : (client : ℕ) (old new : Annalled) → GrewCalm client old new → keeper_faults (past_in new) ≡ keeper_faults (past_in old)
 calm-faults client old new g =
     ⊎_elim (λ (u : Unchanged old new). ap (λ (l : List Event). keeper_faults (past_of l)) u.log)
-    (λ (a : (event : Event) × (is_boot event ≡ false) × (met_fault event ≡ false) × Appended client event old new). ap keeper_faults (appended-past client a.0 old new a.3) ∙ calm-same (past_in old) a.0 a.2) g
+    (λ (a : (event : Event) × (is_boot event ≡ false) × (meets_fault event ≡ false) × Appended client event old new). ap keeper_faults (appended-past client a.0 old new a.3) ∙ calm-same (past_in old) a.0 a.2) g
 
 -- Faults stay counted.
 counted-still : (end was now counted told first : ℕ) → (was + first ≤ counted) ⊎ (end ≤ counted) → (now + counted ≤ was + told) ⊎ (end ≤ told) → counted ≤ told → (now + first ≤ told) ⊎ (end ≤ told)
@@ -84,7 +84,7 @@ off-calm client old new w =
     ⊎_elim (λ (u : (off (past_in old) ≡ true) × Unchanged old new). inl u.1)
     (λ (a : (off (past_in old) ≡ false) × Appended client Event.Cut old new). inr (Event.Cut, refl, refl, a.1)) w
 
-pub turned-calm : {A : Type 0} (client : ℕ) (event : A → Event) (result : Result A Stop) (old new : Annalled) → ((a : A) → is_boot (event a) ≡ false) → ((a : A) → met_fault (event a) ≡ false) → Turned client event result old new → GrewCalm client old new
+pub turned-calm : {A : Type 0} (client : ℕ) (event : A → Event) (result : Result A Stop) (old new : Annalled) → ((a : A) → is_boot (event a) ≡ false) → ((a : A) → meets_fault (event a) ≡ false) → Turned client event result old new → GrewCalm client old new
 turned-calm client event (Ok a) old new b f t = inr (event a, b a, f a, t.1)
 turned-calm client event (Err Stop.Off) old new b f t = off-calm client old new t
 turned-calm client event (Err Stop.NoMemory) old new b f t = inl t.1
@@ -94,6 +94,6 @@ turned-grew client event (Ok a) old new b t = inr (event a, b a, t.1)
 turned-grew client event (Err Stop.Off) old new b t = calm-grew client old new (off-calm client old new t)
 turned-grew client event (Err Stop.NoMemory) old new b t = inl t.1
 
-pub went-calm : {A : Type 0} (client : ℕ) (event : A → Event) (result : Result A Off) (old new : Annalled) → ((a : A) → is_boot (event a) ≡ false) → ((a : A) → met_fault (event a) ≡ false) → Went client event result old new → GrewCalm client old new
+pub went-calm : {A : Type 0} (client : ℕ) (event : A → Event) (result : Result A Off) (old new : Annalled) → ((a : A) → is_boot (event a) ≡ false) → ((a : A) → meets_fault (event a) ≡ false) → Went client event result old new → GrewCalm client old new
 went-calm client event (Ok a) old new b f t = inr (event a, b a, f a, t.1)
 went-calm client event (Err stop) old new b f t = off-calm client old new t
