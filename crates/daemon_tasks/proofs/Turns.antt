@@ -10,7 +10,7 @@ use Rattle.daemon_core.specs.declared.stop.Stop.{Stop}
 use Rattle.daemon_core.specs.Annals.{Appended, SameFacts, Unchanged}
 use Rattle.daemon_core.specs.Housed.{Annalled, Housed, past, past_in}
 use Rattle.daemon_core.specs.Keeping.{keeper_faults}
-use Rattle.daemon_core.specs.Turns.{FaultsCounted, Turned, WentOff}
+use Rattle.daemon_core.specs.Turns.{KeeperFared, Signs, Turned, WentOff}
 use Rattle.daemon_core.specs.Planned.{KeepsPlans}
 use Rattle.daemon_core.proofs.Planned.{keeps-both, keeps-same}
 use Rattle.client_plays.specs.declared.played.Played.{Played}
@@ -63,10 +63,10 @@ ends-behind Played.Off client Play Rest m new moments f e = (leaves-behind clien
 ends-behind Played.NoMemory client Play Rest m new moments f e = leaves-behind client Play Rest m moments f e
 
 -- An event, and behind it the rest of the play.
-pub played-behind : {K : Type 0} (faults : K → ℕ) (played : Played) (client : ℕ) (event : Event) (Play Rest : List Moment → Type 0) (old mid new : Housed K) → IsOwn client event
-    → ((ms : List Moment) → Rest ms → Play (at (past old) event ∷ ms)) → Appended client event old.annals mid.annals → FaultsCounted faults old mid → faults old.keeper ≤ faults mid.keeper
-    → KeepsPlans old.places mid.places → HousePlayed faults played client Rest mid new → HousePlayed faults played client Play old new
-played-behind faults played client event Play Rest old mid new o f a counted counts keeps p =
+pub played-behind : {K : Type 0} (signs : Signs K) (played : Played) (client : ℕ) (event : Event) (Play Rest : List Moment → Type 0) (old mid new : Housed K) → IsOwn client event
+    → ((ms : List Moment) → Rest ms → Play (at (past old) event ∷ ms)) → Appended client event old.annals mid.annals → KeeperFared signs old mid → signs.faults old.keeper ≤ signs.faults mid.keeper
+    → KeepsPlans old.places mid.places → HousePlayed signs played client Rest mid new → HousePlayed signs played client Play old new
+played-behind signs played client event Play Rest old mid new o f a counted counts keeps p =
     record {
       ended = record {
         moments = at (past old) event ∷ p.ended.moments;
@@ -76,17 +76,17 @@ played-behind faults played client event Play Rest old mid new o f a counted cou
       rest = record {
         idle = p.rest.idle;
         same = same-both old.annals mid.annals new.annals a.same p.rest.same;
-        counted = counted-both faults old mid new counted p.rest.counted p.rest.counts;
-        counts = le-both (faults old.keeper) (faults mid.keeper) (faults new.keeper) counts p.rest.counts;
+        counted = counted-both signs old mid new counted p.rest.counted p.rest.counts;
+        counts = le-both (signs.faults old.keeper) (signs.faults mid.keeper) (signs.faults new.keeper) counts p.rest.counts;
         plans = keeps-both old.places mid.places new.places keeps p.rest.plans;
       };
     }
 
 -- An event that ends the play.
-pub played-last : {K : Type 0} (faults : K → ℕ) (client : ℕ) (event : Event) (Play : List Moment → Type 0) (old new : Housed K) → IsOwn client event
-    → Play (at (past old) event ∷ []) → IsIdle (event ∷ past old) → Appended client event old.annals new.annals → FaultsCounted faults old new → faults old.keeper ≤ faults new.keeper
-    → KeepsPlans old.places new.places → HousePlayed faults Played.Done client Play old new
-played-last faults client event Play old new o p i a counted counts keeps =
+pub played-last : {K : Type 0} (signs : Signs K) (client : ℕ) (event : Event) (Play : List Moment → Type 0) (old new : Housed K) → IsOwn client event
+    → Play (at (past old) event ∷ []) → IsIdle (event ∷ past old) → Appended client event old.annals new.annals → KeeperFared signs old new → signs.faults old.keeper ≤ signs.faults new.keeper
+    → KeepsPlans old.places new.places → HousePlayed signs Played.Done client Play old new
+played-last signs client event Play old new o p i a counted counts keeps =
     record {
       ended = record { moments = at (past old) event ∷ []; did = did-appended client event old.annals new.annals o a; ends = p };
       rest = record { idle = subst IsIdle (sym (appended-past client event old.annals new.annals a)) i; same = a.same; counted = counted; counts = counts; plans = keeps };
@@ -166,9 +166,9 @@ ends-left Stop.Off client Play new moments o l = (l, o refl)
 ends-left Stop.NoMemory client Play new moments o l = l
 
 -- The play was left before it began.
-pub played-stopped : {K : Type 0} (faults : K → ℕ) (stop : Stop) (client : ℕ) (Play : List Moment → Type 0) (old new : Housed K) → Leaves client Play [] → IsIdle (past old) → Halted stop old.annals new.annals → FaultsCounted faults old new → faults old.keeper ≤ faults new.keeper
-    → KeepsPlans old.places new.places → HousePlayed faults (stopped_by stop) client Play old new
-played-stopped faults stop client Play old new l i h counted counts keeps =
+pub played-stopped : {K : Type 0} (signs : Signs K) (stop : Stop) (client : ℕ) (Play : List Moment → Type 0) (old new : Housed K) → Leaves client Play [] → IsIdle (past old) → Halted stop old.annals new.annals → KeeperFared signs old new → signs.faults old.keeper ≤ signs.faults new.keeper
+    → KeepsPlans old.places new.places → HousePlayed signs (stopped_by stop) client Play old new
+played-stopped signs stop client Play old new l i h counted counts keeps =
     record {
       ended = record {
         moments = [];
@@ -185,17 +185,17 @@ played-stopped faults stop client Play old new l i h counted counts keeps =
     }
 
 -- The same of a call that left the keeper alone.
-pub stopped-alone : {K : Type 0} (faults : K → ℕ) (stop : Stop) (client : ℕ) (Play : List Moment → Type 0) (old new : Housed K) → Leaves client Play [] → IsIdle (past old) → Halted stop old.annals new.annals → new.keeper ≡ old.keeper → new.places ≡ old.places
-    → HousePlayed faults (stopped_by stop) client Play old new
-stopped-alone faults stop client Play old new l i h k s =
-    played-stopped faults stop client Play old new l i h
-    (counted-same faults old new (halted-faults stop old.annals new.annals h) k) (counts-same faults old new k) (keeps-same old.places new.places s)
+pub stopped-alone : {K : Type 0} (signs : Signs K) (stop : Stop) (client : ℕ) (Play : List Moment → Type 0) (old new : Housed K) → Leaves client Play [] → IsIdle (past old) → Halted stop old.annals new.annals → new.keeper ≡ old.keeper → new.places ≡ old.places
+    → HousePlayed signs (stopped_by stop) client Play old new
+stopped-alone signs stop client Play old new l i h k s =
+    played-stopped signs stop client Play old new l i h
+    (counted-same signs old new (halted-faults stop old.annals new.annals h) k) (counts-same signs old new k) (keeps-same old.places new.places s)
 
 -- The play was left, and what was out was given back.
-pub played-back : {K : Type 0} (faults : K → ℕ) (stop : Stop) (client : ℕ) (what : Back) (Play : List Moment → Type 0) (some : List Moment) (old mid new : Housed K) → Play some → Halted stop old.annals mid.annals
-    → Appended client (Event.GiveBack client what) mid.annals new.annals → IsIdle (Event.GiveBack client what ∷ past mid) → FaultsCounted faults old mid → faults old.keeper ≤ faults mid.keeper → new.keeper ≡ mid.keeper
-    → KeepsPlans old.places new.places → HousePlayed faults (stopped_by stop) client Play old new
-played-back faults stop client what Play some old mid new p h a i counted counts k keeps =
+pub played-back : {K : Type 0} (signs : Signs K) (stop : Stop) (client : ℕ) (what : Back) (Play : List Moment → Type 0) (some : List Moment) (old mid new : Housed K) → Play some → Halted stop old.annals mid.annals
+    → Appended client (Event.GiveBack client what) mid.annals new.annals → IsIdle (Event.GiveBack client what ∷ past mid) → KeeperFared signs old mid → signs.faults old.keeper ≤ signs.faults mid.keeper → new.keeper ≡ mid.keeper
+    → KeepsPlans old.places new.places → HousePlayed signs (stopped_by stop) client Play old new
+played-back signs stop client what Play some old mid new p h a i counted counts k keeps =
     let event = Event.GiveBack client what in
     let e : past new ≡ event ∷ past mid = appended-past client event mid.annals new.annals a in
     let own : IsOwn client event = record { no_boot = refl; own = refl } in
@@ -209,8 +209,8 @@ played-back faults stop client what Play some old mid new p h a i counted counts
       rest = record {
         idle = subst IsIdle (sym e) i;
         same = same-both old.annals mid.annals new.annals h.same a.same;
-        counted = counted-both faults old mid new counted (counted-same faults mid new (faults-appended client event mid.annals new.annals refl a) k) (counts-same faults mid new k);
-        counts = le-both (faults old.keeper) (faults mid.keeper) (faults new.keeper) counts (counts-same faults mid new k);
+        counted = counted-both signs old mid new counted (counted-same signs mid new (faults-appended client event mid.annals new.annals refl a) k) (counts-same signs mid new k);
+        counts = le-both (signs.faults old.keeper) (signs.faults mid.keeper) (signs.faults new.keeper) counts (counts-same signs mid new k);
         plans = keeps;
       };
     }

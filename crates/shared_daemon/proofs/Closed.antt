@@ -15,6 +15,7 @@ use Rattle.daemon_core.specs.Annals.{IsAnnals}
 use Rattle.daemon_core.specs.House.{IsHouse}
 use Rattle.daemon_core.specs.Housed.{Housed, past}
 use Rattle.daemon_core.specs.Parts.{AllHome}
+use Rattle.daemon_core.specs.Turns.{Signs}
 use Rattle.daemon_core.proofs.PartsKept.{house-home}
 use Rattle.turn_lock.specs.Lists.{BeginsWith, beyond, made_by}
 use Rattle.turn_lock.specs.Shown.{HasItsEntries, IsFresh, IsReady, LockId, PassView, new_pass}
@@ -29,10 +30,10 @@ use Rattle.shared_daemon.proofs.Others.{free-stays}
 use Rattle.shared_daemon.proofs.Seeing.{log-named, others-since, stays}
 
 -- A house whose log is that of its name as the daemon begins.
-pub start-named : {K : Type 0} (faults : K → ℕ) (name : Name) (h : Housed K) → KeepsName faults name h → IsAnnals h.annals → chronicle h ≡ name.start → IsLogOf name name.start
-start-named faults name h n k e =
+pub start-named : {K : Type 0} (signs : Signs K) (name : Name) (h : Housed K) → KeepsName signs name h → IsAnnals h.annals → chronicle h ≡ name.start → IsLogOf name name.start
+start-named signs name h n k e =
     subst (λ (l : List Entry). IsLogOf name l) e
-    (log-named faults name h n k ([], e ∙ sym (append-nil name.start)))
+    (log-named signs name h n k ([], e ∙ sym (append-nil name.start)))
 
 beyond-own : (list : List Entry) → beyond list list ≡ []
 beyond-own list = ap (λ (l : List Entry). beyond list l) (sym (append-nil list)) ∙ beyond_append list []

@@ -9,7 +9,7 @@ use Rattle.daemon_core.specs.Annals.{Appended, SameFacts, Unchanged}
 use Rattle.daemon_core.specs.Goes.{Went}
 use Rattle.daemon_core.specs.Housed.{Annalled, Housed, past, past_in}
 use Rattle.daemon_core.specs.Keeping.{keeper_faults}
-use Rattle.daemon_core.specs.Turns.{FaultsCounted, Turned, WentOff}
+use Rattle.daemon_core.specs.Turns.{KeeperFared, Signs, Turned, WentOff}
 use Rattle.daemon_core.proofs.AnnalsKept.{appended-past, boots-same}
 use Rattle.daemon_core.specs.Planned.{HavePlans}
 use Rattle.shared_daemon.specs.Names.{KeepsName, Name}
@@ -50,8 +50,8 @@ counted-still end was now counted told first h c more =
     (λ (w : was + first ≤ counted). ⊎_elim (λ (m : now + counted ≤ was + told). inl (omega arith)) (λ (m : end ≤ told). inr m) c)
     (λ (w : end ≤ counted). inr (omega arith)) h
 
-module _ {K : Type 0} (faults : K → ℕ) (name : Name) (client : ℕ) (old new : Housed K) where
-  pub keeps-counted : KeepsName faults name old → Grew client old.annals new.annals → FaultsCounted faults old new → faults old.keeper ≤ faults new.keeper → HavePlans name.plans new.places → KeepsName faults name new
+module _ {K : Type 0} (signs : Signs K) (name : Name) (client : ℕ) (old new : Housed K) where
+  pub keeps-counted : KeepsName signs name old → Grew client old.annals new.annals → KeeperFared signs old new → signs.faults old.keeper ≤ signs.faults new.keeper → HavePlans name.plans new.places → KeepsName signs name new
   keeps-counted n g f c p =
       let s = grew-facts client old.annals new.annals g in
       record {
@@ -63,19 +63,19 @@ module _ {K : Type 0} (faults : K → ℕ) (name : Name) (client : ℕ) (old new
         booted = n.booted;
         boots_are = grew-boots client old.annals new.annals g ∙ n.boots_are;
         planned = p;
-        counted = counted-still (2 ^ 64 - 1) (keeper_faults (past old)) (keeper_faults (past new)) (faults old.keeper) (faults new.keeper) name.first_faults n.counted f c;
+        counted = counted-still (2 ^ 64 - 1) (keeper_faults (past old)) (keeper_faults (past new)) (signs.faults old.keeper) (signs.faults new.keeper) name.first_faults n.counted f c;
         counts = (let k = n.counts in omega (arith, k, c));
         told = n.told;
       }
 
-  pub keeps-calm : KeepsName faults name old → GrewCalm client old.annals new.annals → new.keeper ≡ old.keeper → HavePlans name.plans new.places → KeepsName faults name new
+  pub keeps-calm : KeepsName signs name old → GrewCalm client old.annals new.annals → new.keeper ≡ old.keeper → HavePlans name.plans new.places → KeepsName signs name new
   keeps-calm n g k p =
       let e : keeper_faults (past new) ≡ keeper_faults (past old) = calm-faults client old.annals new.annals g in
-      let f : faults new.keeper ≡ faults old.keeper = ap faults k in
+      let f : signs.faults new.keeper ≡ signs.faults old.keeper = ap signs.faults k in
       keeps-counted n (calm-grew client old.annals new.annals g) (inl (omega arith)) (omega arith) p
 
   -- The places are as before.
-  pub same-plans : KeepsName faults name old → new.places ≡ old.places → HavePlans name.plans new.places
+  pub same-plans : KeepsName signs name old → new.places ≡ old.places → HavePlans name.plans new.places
   same-plans n e = plans-same name.plans old.places new.places e n.planned
 
 -- How each kind of call lets the log grow.

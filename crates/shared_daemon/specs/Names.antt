@@ -11,6 +11,7 @@ use Rattle.daemon_core.specs.Annals.{IsLegalSo}
 use Rattle.daemon_core.specs.Housed.{Housed, past}
 use Rattle.daemon_core.specs.Keeping.{keeper_faults}
 use Rattle.daemon_core.specs.Planned.{HavePlans}
+use Rattle.daemon_core.specs.Turns.{Signs}
 use Rattle.turn_lock.specs.Lists.{BeginsWith, beyond, made_by}
 use Rattle.turn_lock.specs.Shown.{LockId, LockView, PassView, IsReady}
 use Rattle.shared_daemon.specs.declared.entry.Entry.{Entry}
@@ -70,7 +71,7 @@ pub record IsLogOf (name : Name) (log : List Entry) : Type 0 where
 -- since. Each board at home has the faults planned that its number has. Each fault of the keeper that the log
 -- tells was counted by the keeper, or its count stands at its end; that count has not fallen since the daemon
 -- began; and the rows that it told at first are those before the log.
-pub record KeepsName {K : Type 0} (faults : K → ℕ) (name : Name) (h : Housed K) : Type 0 where
+pub record KeepsName {K : Type 0} (signs : Signs K) (name : Name) (h : Housed K) : Type 0 where
   pub facts_are : h.annals.facts ≡ name.facts
   pub first_are : h.annals.first ≡ name.first
   pub opening_is : h.annals.opening ≡ name.opening
@@ -79,8 +80,8 @@ pub record KeepsName {K : Type 0} (faults : K → ℕ) (name : Name) (h : Housed
   pub booted : 0 < name.boots
   pub boots_are : boots (past h) ≡ name.boots
   pub planned : HavePlans name.plans h.places
-  pub counted : (keeper_faults (past h) + name.first_faults ≤ faults h.keeper) ⊎ (2 ^ 64 - 1 ≤ faults h.keeper)
-  pub counts : name.start_faults ≤ faults h.keeper
+  pub counted : (keeper_faults (past h) + name.first_faults ≤ signs.faults h.keeper) ⊎ (2 ^ 64 - 1 ≤ signs.faults h.keeper)
+  pub counts : name.start_faults ≤ signs.faults h.keeper
   pub told : IfSome name.told (λ rows. rows ≡ name.opening)
 
 -- A pass of this lock that has no turn: what it saw is a log of the name, and its own entries are those

@@ -110,7 +110,7 @@ invariant_of-self g c =
     (c.give.ensures.conserved ∙ ap (λ (n : ℕ). c.self.inside.pool.free + n) c.into_blocks.ensures.count) in
     let e : c.put.new.places.items ≡ places_with c.self.inside.places.items c.requires.comes.0 c.args.board =
     c.put.ensures ∙ ap (λ (n : ℕ). places_with c.self.inside.places.items n c.args.board) p.home.number_is in
-    subst (λ (ps : List Place). IsHouse g.K.Keeper.rows g.K.Keeper.doubt (record { annals = c.note.new.self; places = ps; pool = c.give.new.self; keeper = c.store-stored.new.keeper })) (sym e) house
+    subst (λ (ps : List Place). IsHouse g.K.Keeper.tells g.K.Keeper.doubt (record { annals = c.note.new.self; places = ps; pool = c.give.new.self; keeper = c.store-stored.new.keeper })) (sym e) house
 
 pub returns-clause-places : goal.returns-clause-places
 returns-clause-places g c =
@@ -120,8 +120,8 @@ returns-clause-places g c =
     ∙ ap (λ (m : ℕ). places_with c.self.inside.places.items m c.args.board) n
     ∙ ap (λ (h : Housed g.row.K.Denot). places_with h.places (number_of h.annals.facts (rows_before h.annals) (past h) c.args.entry) c.args.board) c.self.view_is
 
-pub returns-clause-faults : goal.returns-clause-faults
-returns-clause-faults g c =
+pub returns-clause-fared : goal.returns-clause-fared
+returns-clause-fared g c =
     let q = appended-past c.args.client (Event.Finish c.args.client c.args.entry c.closing_stored-state.result c.store-stored.result) c.self.inside.annals c.note.new.self c.note.ensures.appended in
     let counted = finish-counted c.args.client c.args.entry c.closing_stored-state.result c.store-stored.result (past_in c.self.inside.annals) (g.K.Keeper.faults c.self.inside.keeper) (g.K.Keeper.faults c.store-stored.new.keeper) c.store-stored.ensures.cause c.store-stored.ensures.counts in
     subst (λ (h : Housed g.row.K.Denot). (keeper_faults (past_in c.note.new.self) + g.K.Keeper.faults h.keeper ≤ keeper_faults (past h) + g.K.Keeper.faults c.store-stored.new.keeper) ⊎ (2 ^ 64 - 1 ≤ g.K.Keeper.faults c.store-stored.new.keeper)) c.self.view_is

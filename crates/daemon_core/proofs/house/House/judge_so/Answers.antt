@@ -17,7 +17,7 @@ commit-stored-requires-clause-no_doubt g c =
 
 pub commit-stored-requires-clause-suits : goal.commit-stored-requires-clause-suits
 commit-stored-requires-clause-suits g c =
-    suits-over (g.K.Keeper.rows c.self.inside.keeper) c.self.inside.annals c.args.self.now.annals c.args.entry c.args.version c.args.state c.advance-change.result
+    suits-over (g.K.Keeper.tells c.self.inside.keeper) c.self.inside.annals c.args.self.now.annals c.args.entry c.args.version c.args.state c.advance-change.result
     (ap (λ (h : Housed g.row.K.Denot). h.annals) c.self.view_is)
     (clear-over _ _ (record { annals = c.self.inside.annals; places = c.self.inside.places.items; pool = c.self.inside.pool; keeper = c.self.inside.keeper })
     c.args.self.now.annals (ap (λ (h : Housed g.row.K.Denot). h.annals) c.self.view_is) c.self.invariant c.known.ensures c.requires.loaded c.requires.runs).rows_are

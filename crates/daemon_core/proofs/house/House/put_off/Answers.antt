@@ -15,13 +15,13 @@ use Rattle.daemon_core.proofs.house.House.put_off.Goals as goal
 pub commit-requires-clause-no_doubt : goal.commit-requires-clause-no_doubt
 commit-requires-clause-no_doubt g c =
     let e : c.self.inside.annals ≡ c.args.self.now.annals = ap (λ (h : Housed g.row.K.Denot). h.annals) c.self.view_is in
-    let h = house-plain g.K.Keeper.rows g.K.Keeper.doubt (record { annals = c.self.inside.annals; places = c.self.inside.places.items; pool = c.self.inside.pool; keeper = c.self.inside.keeper }) c.args.self.now.annals e c.self.invariant c.known.ensures c.requires.loaded c.requires.runs.on in
+    let h = house-plain g.K.Keeper.tells g.K.Keeper.doubt (record { annals = c.self.inside.annals; places = c.self.inside.places.items; pool = c.self.inside.pool; keeper = c.self.inside.keeper }) c.args.self.now.annals e c.self.invariant c.known.ensures c.requires.loaded c.requires.runs.on in
     h.doubt_is
 
 pub commit-requires-clause-suits : goal.commit-requires-clause-suits
 commit-requires-clause-suits g c =
     let e : c.self.inside.annals ≡ c.args.self.now.annals = ap (λ (h : Housed g.row.K.Denot). h.annals) c.self.view_is in
-    let h = house-plain g.K.Keeper.rows g.K.Keeper.doubt (record { annals = c.self.inside.annals; places = c.self.inside.places.items; pool = c.self.inside.pool; keeper = c.self.inside.keeper }) c.args.self.now.annals e c.self.invariant c.known.ensures c.requires.loaded c.requires.runs.on in
+    let h = house-plain g.K.Keeper.tells g.K.Keeper.doubt (record { annals = c.self.inside.annals; places = c.self.inside.places.items; pool = c.self.inside.pool; keeper = c.self.inside.keeper }) c.args.self.now.annals e c.self.invariant c.known.ensures c.requires.loaded c.requires.runs.on in
     suits-told _ c.self.inside.annals.core.rows (Change.Add c.row_put_off-row.result) h.rows_are c.row_put_off-row.ensures.suits
 
 pub note-requires-clause-room : goal.note-requires-clause-room
@@ -43,31 +43,31 @@ note-requires-in-Err-Fault-clause-room g c =
 pub invariant_of-self : goal.invariant_of-self
 invariant_of-self g c =
     let e : c.self.inside.annals ≡ c.args.self.now.annals = ap (λ (h : Housed g.row.K.Denot). h.annals) c.self.view_is in
-    let h = house-plain g.K.Keeper.rows g.K.Keeper.doubt (record { annals = c.self.inside.annals; places = c.self.inside.places.items; pool = c.self.inside.pool; keeper = c.self.inside.keeper }) c.args.self.now.annals e c.self.invariant c.known.ensures c.requires.loaded c.requires.runs.on in
+    let h = house-plain g.K.Keeper.tells g.K.Keeper.doubt (record { annals = c.self.inside.annals; places = c.self.inside.places.items; pool = c.self.inside.pool; keeper = c.self.inside.keeper }) c.args.self.now.annals e c.self.invariant c.known.ensures c.requires.loaded c.requires.runs.on in
     let on : off (past_in c.self.inside.annals) ≡ false = ap (λ (x : Annalled). off (past_in x)) e ∙ c.requires.runs.on in
     let l = off-legal c.self.inside.annals c.args.self.now.annals c.args.client c.args.request.now (ClaimAnswer.Entry c.row_put_off-row.result.entry) e c.known.ensures c.requires.runs c.requires.booted c.requires.free c.requires.accepted
     (inl (ap ClaimAnswer.Entry c.row_put_off-row.ensures.entry)) in
-    house-off g.K.Keeper.rows g.K.Keeper.doubt c.args.client c.args.request.now (ClaimAnswer.Entry c.row_put_off-row.result.entry) (record { annals = c.self.inside.annals; places = c.self.inside.places.items; pool = c.self.inside.pool; keeper = c.self.inside.keeper })
+    house-off g.K.Keeper.tells g.K.Keeper.doubt c.args.client c.args.request.now (ClaimAnswer.Entry c.row_put_off-row.result.entry) (record { annals = c.self.inside.annals; places = c.self.inside.places.items; pool = c.self.inside.pool; keeper = c.self.inside.keeper })
     c.note.new.self c.commit.new.self c.self.invariant c.known.ensures c.note.ensures.known
     (subst (λ (x : Event). Appended c.args.client x c.self.inside.annals c.note.new.self) c.put_off.ensures c.note.ensures.appended)
     l (ap (λ (x : Annalled). x.loaded) e ∙ c.requires.loaded)
-    (kept-made g.K.Keeper.rows g.K.Keeper.doubt c.self.inside.annals c.args.client c.args.request.now c.row_put_off-row.result.entry c.row_put_off-row.result c.commit.new.self c.known.ensures on c.row_put_off-row.ensures.added
-    (keeps-made g.K.Keeper.rows g.K.Keeper.doubt c.self.inside.keeper c.commit.new.self c.self.inside.annals.core.rows (Change.Add c.row_put_off-row.result) h c.in-Ok.ensures.committed))
+    (kept-made g.K.Keeper.tells g.K.Keeper.doubt c.self.inside.annals c.args.client c.args.request.now c.row_put_off-row.result.entry c.row_put_off-row.result c.commit.new.self c.known.ensures on c.row_put_off-row.ensures.added
+    (keeps-made g.K.Keeper.tells g.K.Keeper.doubt c.self.inside.keeper c.commit.new.self c.self.inside.annals.core.rows (Change.Add c.row_put_off-row.result) h c.in-Ok.ensures.committed))
 
 pub invariant_of-self-in-Err-Fault : goal.invariant_of-self-in-Err-Fault
 invariant_of-self-in-Err-Fault g c =
     let e : c.self.inside.annals ≡ c.args.self.now.annals = ap (λ (h : Housed g.row.K.Denot). h.annals) c.self.view_is in
-    let h = house-plain g.K.Keeper.rows g.K.Keeper.doubt (record { annals = c.self.inside.annals; places = c.self.inside.places.items; pool = c.self.inside.pool; keeper = c.self.inside.keeper }) c.args.self.now.annals e c.self.invariant c.known.ensures c.requires.loaded c.requires.runs.on in
+    let h = house-plain g.K.Keeper.tells g.K.Keeper.doubt (record { annals = c.self.inside.annals; places = c.self.inside.places.items; pool = c.self.inside.pool; keeper = c.self.inside.keeper }) c.args.self.now.annals e c.self.invariant c.known.ensures c.requires.loaded c.requires.runs.on in
     let l = off-legal c.self.inside.annals c.args.self.now.annals c.args.client c.args.request.now (ClaimAnswer.Refused Refusal.KeeperFault) e c.known.ensures c.requires.runs c.requires.booted c.requires.free c.requires.accepted (inr refl) in
-    house-off g.K.Keeper.rows g.K.Keeper.doubt c.args.client c.args.request.now (ClaimAnswer.Refused Refusal.KeeperFault) (record { annals = c.self.inside.annals; places = c.self.inside.places.items; pool = c.self.inside.pool; keeper = c.self.inside.keeper })
+    house-off g.K.Keeper.tells g.K.Keeper.doubt c.args.client c.args.request.now (ClaimAnswer.Refused Refusal.KeeperFault) (record { annals = c.self.inside.annals; places = c.self.inside.places.items; pool = c.self.inside.pool; keeper = c.self.inside.keeper })
     c.note-in-Err-Fault.new.self c.commit.new.self c.self.invariant c.known.ensures c.note-in-Err-Fault.ensures.known
     (subst (λ (x : Event). Appended c.args.client x c.self.inside.annals c.note-in-Err-Fault.new.self) c.put_off-in-Err-Fault.ensures c.note-in-Err-Fault.ensures.appended)
     l (ap (λ (x : Annalled). x.loaded) e ∙ c.requires.loaded)
-    (kept-doubted g.K.Keeper.rows g.K.Keeper.doubt c.self.inside.annals c.args.client c.args.request.now c.row_put_off-row.result c.commit.new.self c.known.ensures c.row_put_off-row.ensures.added
-    (keeps-left g.K.Keeper.rows g.K.Keeper.doubt c.self.inside.keeper c.commit.new.self c.self.inside.annals.core.rows (Some (Change.Add c.row_put_off-row.result)) h (rw c.in-Err-Fault.field-0-is at c.in-Err-Fault.ensures.committed)))
+    (kept-doubted g.K.Keeper.tells g.K.Keeper.doubt c.self.inside.annals c.args.client c.args.request.now c.row_put_off-row.result c.commit.new.self c.known.ensures c.row_put_off-row.ensures.added
+    (keeps-left g.K.Keeper.tells g.K.Keeper.doubt c.self.inside.keeper c.commit.new.self c.self.inside.annals.core.rows (Some (Change.Add c.row_put_off-row.result)) h (rw c.in-Err-Fault.field-0-is at c.in-Err-Fault.ensures.committed)))
 
 pub invariant_of-self-in-Err-NoMemory : goal.invariant_of-self-in-Err-NoMemory
 invariant_of-self-in-Err-NoMemory g c =
-    house-unstored g.K.Keeper.rows g.K.Keeper.doubt (record { annals = c.self.inside.annals; places = c.self.inside.places.items; pool = c.self.inside.pool; keeper = c.self.inside.keeper })
+    house-unstored g.K.Keeper.tells g.K.Keeper.doubt (record { annals = c.self.inside.annals; places = c.self.inside.places.items; pool = c.self.inside.pool; keeper = c.self.inside.keeper })
     c.args.self.now.annals c.commit.new.self (ap (λ (h : Housed g.row.K.Denot). h.annals) c.self.view_is) c.self.invariant c.known.ensures c.requires.loaded c.requires.runs.on
     (rw c.in-Err-NoMemory.field-0-is at c.in-Err-NoMemory.ensures.committed)

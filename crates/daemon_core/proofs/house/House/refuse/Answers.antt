@@ -23,8 +23,8 @@ pub returns-clause-gave : goal.returns-clause-gave
 returns-clause-gave g c =
     (c.end_claim.ensures.pool, places-same c.args.self.now.places c.end_claim.new.self.places c.end_claim.ensures.places)
 
-pub returns-clause-faults : goal.returns-clause-faults
-returns-clause-faults g c =
+pub returns-clause-fared : goal.returns-clause-fared
+returns-clause-fared g c =
     faults-unclaimed g.K.Keeper.faults c.args.client c.args.ticket (note_of c.args.fetched) c.refused.result c.args.self.now c.end_claim.new.self c.end_claim.ensures.appended (ap is_taken c.refused.ensures) c.end_claim.ensures.keeper
 
 pub returns-clause-counts : goal.returns-clause-counts

@@ -26,10 +26,10 @@ returns-in-Ok-clause-gave g c =
     gave-after c.args.entry c.args.held c.resume_in.result c.args.self.now c.enter.new.self c.resume_in.new.self
     (places-same c.args.self.now.places c.enter.new.self.places c.in-Ok.ensures.elsewhere.places) c.in-Ok.ensures.elsewhere.pool c.resume_in.ensures.gave
 
-pub returns-in-Ok-clause-faults : goal.returns-in-Ok-clause-faults
-returns-in-Ok-clause-faults g c =
+pub returns-in-Ok-clause-fared : goal.returns-in-Ok-clause-fared
+returns-in-Ok-clause-fared g c =
     faults-after g.K.Keeper.faults c.args.self.now c.enter.new.self c.resume_in.new.self
-    (ap (λ (a : Annalled). keeper_faults (past_in a)) c.in-Ok.ensures.entered.same) c.in-Ok.ensures.elsewhere.keeper c.resume_in.ensures.faults
+    (ap (λ (a : Annalled). keeper_faults (past_in a)) c.in-Ok.ensures.entered.same) c.in-Ok.ensures.elsewhere.keeper c.resume_in.ensures.fared
 
 pub returns-in-Ok-clause-counts : goal.returns-in-Ok-clause-counts
 returns-in-Ok-clause-counts g c =
@@ -43,8 +43,8 @@ pub returns-in-Err-clause-gave : goal.returns-in-Err-clause-gave
 returns-in-Err-clause-gave g c =
     (c.in-Err.ensures.elsewhere.pool, places-same c.args.self.now.places c.enter.new.self.places c.in-Err.ensures.elsewhere.places, refl)
 
-pub returns-in-Err-clause-faults : goal.returns-in-Err-clause-faults
-returns-in-Err-clause-faults g c =
+pub returns-in-Err-clause-fared : goal.returns-in-Err-clause-fared
+returns-in-Err-clause-fared g c =
     counted-same g.K.Keeper.faults c.args.self.now c.enter.new.self
     (stopped-faults (Unit {0}) 0 16 c.in-Err.stop c.args.self.now.annals c.enter.new.self.annals c.in-Err.ensures.entered)
     (same-faults g.K.Keeper.faults c.args.self.now c.enter.new.self c.in-Err.ensures.elsewhere.keeper)

@@ -24,8 +24,8 @@ note-requires-in-Refused-clause-quiet g c =
     let r = refusal-other (case_of a.facts (rows_before a) (past_in a) c.args.client c.args.request.now Stage.Schedule) c.in-Refused.refusal (sym c.in-Refused.ensures) in
     ap is_quiet c.put_off-in-Refused.ensures ∙ ap not r
 
-pub returns-in-Refused-clause-faults : goal.returns-in-Refused-clause-faults
-returns-in-Refused-clause-faults g c =
+pub returns-in-Refused-clause-fared : goal.returns-in-Refused-clause-fared
+returns-in-Refused-clause-fared g c =
     let a : Annalled = c.self.inside.annals in
     let r = refusal-other (case_of a.facts (rows_before a) (past_in a) c.args.client c.args.request.now Stage.Schedule) c.in-Refused.refusal (sym c.in-Refused.ensures) in
     let k = ap g.K.Keeper.faults (c.note-in-Refused.ensures.elsewhere.keeper ∙ c.in_ok-enter.ensures.elsewhere.keeper) in
