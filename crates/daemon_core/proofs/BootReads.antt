@@ -61,7 +61,7 @@ found-one Found.Plain change rows = omega arith
 found-one Found.Lost change rows = omega arith
 found-one Found.Fault change rows = omega arith
 
-module _ {K : Type 0} (tells : K → Option (List Row)) (doubts : K → Option Change) (faults : K → ℕ) (old : Housed K) (keeper : K) (h : IsHouse tells doubts old) (k : IsAnnals old.annals) where
+module _ {K : Type 0} (tells : K → List Row → Type 0) (doubts : K → Option Change) (faults : K → ℕ) (old : Housed K) (keeper : K) (h : IsHouse tells doubts old) (k : IsAnnals old.annals) where
   -- a house whose keeper has these rows still
   house-kept : (b : Bool) → (old.annals.loaded ≡ false → doubts keeper ≡ None) → (old.annals.loaded ≡ true → KeepsSo b tells doubts keeper old.annals.core.rows old.annals.core.doubt)
       → IsHouse tells doubts (record { annals = record old.annals { reopened = b }; places = old.places; pool = old.pool; keeper = keeper })

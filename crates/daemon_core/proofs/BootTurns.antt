@@ -65,7 +65,7 @@ rose-cases a b r =
     (λ t. inl (leb-true (a + 1) b t))
     (λ f. let g = leb-false (a + 1) b f in inr (omega (arith, r, g)))
 
-module _ {K : Type 0} (tells : K → Option (List Row)) (doubts : K → Option Change) (faults : K → ℕ) (old room mid new : Housed K) (plan : BootPlan)
+module _ {K : Type 0} (tells : K → List Row → Type 0) (doubts : K → Option Change) (faults : K → ℕ) (old room mid new : Housed K) (plan : BootPlan)
     (roomy : room.annals ≡ roomier old.annals room.annals) (elsewhere : SameElsewhere old room)
     (places : mid.places ≡ room.places) (pool : mid.pool ≡ room.pool) (counts : faults room.keeper ≤ faults mid.keeper) where
   pub counted : faults old.keeper ≤ faults mid.keeper
@@ -170,7 +170,7 @@ module _ {K : Type 0} (tells : K → Option (List Row)) (doubts : K → Option C
       opening-new = b.appended.same.opening
 
 -- what a boot did that found no room
-pub turn-no_room : {K : Type 0} (tells : K → Option (List Row)) (faults : K → ℕ) (old room : Housed K) → room.annals ≡ roomier old.annals room.annals → SameElsewhere old room
+pub turn-no_room : {K : Type 0} (tells : K → List Row → Type 0) (faults : K → ℕ) (old room : Housed K) → room.annals ≡ roomier old.annals room.annals → SameElsewhere old room
     → (NoBoot tells old room × (room.annals.opening ≡ old.annals.opening)) × FaultsCounted faults old room × (faults old.keeper ≤ faults room.keeper)
 turn-no_room tells faults old room e s =
     let l = same-roomier old.annals room.annals e in
@@ -191,7 +191,7 @@ turn-no_room tells faults old room e s =
       omega (arith, k),
     )
 
-module _ {K : Type 0} (tells : K → Option (List Row)) (doubts : K → Option Change) (faults : K → ℕ) (old room mid new : Housed K) (plan : BootPlan)
+module _ {K : Type 0} (tells : K → List Row → Type 0) (doubts : K → Option Change) (faults : K → ℕ) (old room mid new : Housed K) (plan : BootPlan)
     (roomy : room.annals ≡ roomier old.annals room.annals) (elsewhere : SameElsewhere old room)
     (places : mid.places ≡ room.places) (pool : mid.pool ≡ room.pool) (counts : faults room.keeper ≤ faults mid.keeper) where
   loaded-was : room.annals.loaded ≡ old.annals.loaded

@@ -1,7 +1,6 @@
 -- A house after the finish of a live entry.
 use Rattle.std.proofs.Common.{◌≡◌, ◌≢◌, ℕ, suc, ◌<◌, ◌≤◌, ◌+◌, ◌-◌, ◌^◌, true, false, List, [], ◌∷◌, length, refl, ap, sym, ◌∙◌, subst, arith, ◌⊎◌, inl, inr, min}
-use Rattle.std.specs.Prelude.{Option, Some, None, IfSome, ◌==◌, Any, nat_le}
-use Rattle.std.specs.Option.{ForSome}
+use Rattle.std.specs.Prelude.{Option, Some, None, ◌==◌, Any, nat_le}
 use Rattle.std.proofs.lemmas.Bool.{eqb-true, leb-true, leb-false}
 use Rattle.outer_traits.specs.Faults.{Rose}
 use Rattle.block_pool.specs.Views.{PoolCounts}
@@ -54,25 +53,24 @@ any-row (x ∷ xs) entry r h =
     (λ t. (0, x, omega arith, refl, eqb-true x.entry entry t))
     (λ t. let rest = any-row xs entry r (rw t at h) in (suc rest.0, rest.1, (let l = rest.2 in omega (arith, l)), rest.3, rest.4))
 
-all-told : (o : Option (List Row)) (all : List Row) (entry : ℕ) → IfSome o (λ x. x ≡ all) → Any (λ row. row.entry ≡ entry) all → ForSome o (λ x. Any (λ row. row.entry ≡ entry) x)
-all-told None all entry h s = λ x e. cc
-all-told (Some told) all entry h s = λ x e. let same : x ≡ all = (let q : told ≡ x = cc in sym q ∙ h) in subst (λ (r : List Row). Any (λ row. row.entry ≡ entry) r) (sym same) s
+all-told : (o : List Row → Type 0) (all : List Row) (entry : ℕ) → ((x : List Row) → o x → x ≡ all) → Any (λ row. row.entry ≡ entry) all → (x : List Row) → o x → Any (λ row. row.entry ≡ entry) x
+all-told o all entry h s x t = subst (λ (r : List Row). Any (λ row. row.entry ≡ entry) r) (sym (h x t)) s
 
 -- What the keeper is asked for suits its rows.
-pub close-suits : {K : Type 0} (told : K → Option (List Row)) (doubted : K → Option Change) (client entry number : ℕ) (l : LiveEntry) (tail : List Mark) (b : BoardState) (blocks : ℕ) (h : Housed K) → HasRows told doubted h.keeper h.annals.core.rows None → IsAnnals h.annals → HomeTo h.annals client entry number l tail b blocks
-    → ForSome (told h.keeper) (λ all. Any (λ row. row.entry ≡ entry) all)
+pub close-suits : {K : Type 0} (told : K → List Row → Type 0) (doubted : K → Option Change) (client entry number : ℕ) (l : LiveEntry) (tail : List Mark) (b : BoardState) (blocks : ℕ) (h : Housed K) → HasRows told doubted h.keeper h.annals.core.rows None → IsAnnals h.annals → HomeTo h.annals client entry number l tail b blocks
+    → (all : List Row) → told h.keeper all → Any (λ row. row.entry ≡ entry) all
 close-suits told doubted client entry number l tail b blocks h k o s =
     let r = row-on h.annals.facts (rows h.annals.facts (rows_before h.annals) (past h)) entry number (own-board h.annals.facts (rows h.annals.facts (rows_before h.annals) (past h)) entry number s.board) in
     let found : row_of h.annals.core.rows entry ≡ Some r.row = ap (λ (rs : List Row). row_of rs entry) o.stands.rows ∙ r.row_is in
     all-told (told h.keeper) h.annals.core.rows entry k.rows_are (any-row h.annals.core.rows entry r.row found)
 
-stored-changed : {K : Type 0} (told : K → Option (List Row)) (doubted : K → Option Change) (change : Change) (stored : Stored) (old new : K) → StoredAs change stored (told old) (told new) (doubted new) → stored ≢ Stored.Unchanged
+stored-changed : {K : Type 0} (told : K → List Row → Type 0) (doubted : K → Option Change) (change : Change) (stored : Stored) (old new : K) → StoredAs change stored (told old) (told new) (doubted new) → stored ≢ Stored.Unchanged
 stored-changed told doubted change Stored.Yes old new s = λ e. cc
 stored-changed told doubted change Stored.Fault old new s = λ e. cc
 stored-changed told doubted change Stored.NoMemory old new s = λ e. cc
 stored-changed told doubted change Stored.Unchanged old new s = absurd s
 
-pub closed-unchanged : {K : Type 0} (told : K → Option (List Row)) (doubted : K → Option Change) (closed : RowState) (change : Change) (stored : Stored) (old new : K) → ClosedAs told doubted closed change stored old new → UnchangedExactly closed stored
+pub closed-unchanged : {K : Type 0} (told : K → List Row → Type 0) (doubted : K → Option Change) (closed : RowState) (change : Change) (stored : Stored) (old new : K) → ClosedAs told doubted closed change stored old new → UnchangedExactly closed stored
 closed-unchanged told doubted RowState.Begun change stored old new s = s.0
 closed-unchanged told doubted RowState.Pending change stored old new s = stored-changed told doubted change stored old new s
 closed-unchanged told doubted RowState.Success change stored old new s = stored-changed told doubted change stored old new s
@@ -80,17 +78,17 @@ closed-unchanged told doubted RowState.Failed change stored old new s = stored-c
 closed-unchanged told doubted RowState.NeedsReboot change stored old new s = stored-changed told doubted change stored old new s
 
 -- The keeper's rows once the change was stored, or wasn't.
-after-stored : {K : Type 0} (told : K → Option (List Row)) (doubted : K → Option Change) (old new : K) (all : List Row) (entry : ℕ) (closed : RowState) (reason time : ℕ) (stored : Stored) → HasRows told doubted old all None → StoredAs (Change.Advance entry closed reason time) stored (told old) (told new) (doubted new)
+after-stored : {K : Type 0} (told : K → List Row → Type 0) (doubted : K → Option Change) (old new : K) (all : List Row) (entry : ℕ) (closed : RowState) (reason time : ℕ) (stored : Stored) → HasRows told doubted old all None → StoredAs (Change.Advance entry closed reason time) stored (told old) (told new) (doubted new)
     → HasRows told doubted new (rows_by (fate_stored stored) (Some (Change.Advance entry (closing_stored closed stored) reason time)) all) (doubt_by (fate_stored stored) (Some (Change.Advance entry (closing_stored closed stored) reason time)) None)
 after-stored told doubted old new all entry closed reason time Stored.Yes h s = stored-keeps told doubted old new all (Change.Advance entry closed reason time) Stored.Yes h s
 after-stored told doubted old new all entry closed reason time Stored.Fault h s = stored-keeps told doubted old new all (Change.Advance entry closed reason time) Stored.Fault h s
 after-stored told doubted old new all entry closed reason time Stored.NoMemory h s = stored-keeps told doubted old new all (Change.Advance entry closed reason time) Stored.NoMemory h s
 after-stored told doubted old new all entry closed reason time Stored.Unchanged h s = absurd s
 
-after-none : {K : Type 0} (told : K → Option (List Row)) (doubted : K → Option Change) (old new : K) (all : List Row) (change : Change) (stored : Stored) → HasRows told doubted old all None → stored ≡ Stored.Unchanged → new ≡ old → HasRows told doubted new (rows_by (fate_stored stored) (Some change) all) (doubt_by (fate_stored stored) (Some change) None)
+after-none : {K : Type 0} (told : K → List Row → Type 0) (doubted : K → Option Change) (old new : K) (all : List Row) (change : Change) (stored : Stored) → HasRows told doubted old all None → stored ≡ Stored.Unchanged → new ≡ old → HasRows told doubted new (rows_by (fate_stored stored) (Some change) all) (doubt_by (fate_stored stored) (Some change) None)
 after-none told doubted old new all change stored h e n = rw (e, n) h
 
-pub after-closed : {K : Type 0} (told : K → Option (List Row)) (doubted : K → Option Change) (old new : K) (all : List Row) (entry : ℕ) (closed : RowState) (reason time : ℕ) (stored : Stored) → HasRows told doubted old all None → ClosedAs told doubted closed (Change.Advance entry closed reason time) stored old new
+pub after-closed : {K : Type 0} (told : K → List Row → Type 0) (doubted : K → Option Change) (old new : K) (all : List Row) (entry : ℕ) (closed : RowState) (reason time : ℕ) (stored : Stored) → HasRows told doubted old all None → ClosedAs told doubted closed (Change.Advance entry closed reason time) stored old new
     → HasRows told doubted new (rows_by (fate_stored stored) (Some (Change.Advance entry (closing_stored closed stored) reason time)) all) (doubt_by (fate_stored stored) (Some (Change.Advance entry (closing_stored closed stored) reason time)) None)
 after-closed told doubted old new all entry RowState.Begun reason time stored h s = after-none told doubted old new all (Change.Advance entry (closing_stored RowState.Begun stored) reason time) stored h s.0 s.1
 after-closed told doubted old new all entry RowState.Pending reason time stored h s = after-stored told doubted old new all entry RowState.Pending reason time stored h s
@@ -129,13 +127,13 @@ finish-held a client entry number l tail b blocks closed stored k s =
     let h = held-finished (past_in a) client entry (closing_stored closed stored) stored l (out-once w.0 (rows_before a) (past_in a) k.stands.history w.3) s.live in
     let e = s.blocks_are in omega (arith, h, e)
 
-pub finish-fits : {K : Type 0} (told : K → Option (List Row)) (doubted : K → Option Change) (client entry number : ℕ) (l : LiveEntry) (tail : List Mark) (b : BoardState) (blocks : ℕ) (h : Housed K) → IsHouse told doubted h → IsAnnals h.annals → HomeTo h.annals client entry number l tail b blocks → h.pool.free + blocks ≤ h.pool.capacity
+pub finish-fits : {K : Type 0} (told : K → List Row → Type 0) (doubted : K → Option Change) (client entry number : ℕ) (l : LiveEntry) (tail : List Mark) (b : BoardState) (blocks : ℕ) (h : Housed K) → IsHouse told doubted h → IsAnnals h.annals → HomeTo h.annals client entry number l tail b blocks → h.pool.free + blocks ≤ h.pool.capacity
 finish-fits told doubted client entry number l tail b blocks h k o s =
     let e = finish-held h.annals client entry number l tail b blocks RowState.Begun Stored.Unchanged o s in
     let f = k.free in let c = k.capacity in omega (arith, e, f, c)
 
 -- After a finish.
-pub house-finished : {K : Type 0} (told : K → Option (List Row)) (doubted : K → Option Change) (client entry number : ℕ) (l : LiveEntry) (tail : List Mark) (b : BoardState) (blocks : ℕ) (closed : RowState) (stored : Stored) (old : Housed K) (new : Annalled) (pool : PoolCounts) (keeper : K) → IsHouse told doubted old → IsAnnals old.annals → IsAnnals new
+pub house-finished : {K : Type 0} (told : K → List Row → Type 0) (doubted : K → Option Change) (client entry number : ℕ) (l : LiveEntry) (tail : List Mark) (b : BoardState) (blocks : ℕ) (closed : RowState) (stored : Stored) (old : Housed K) (new : Annalled) (pool : PoolCounts) (keeper : K) → IsHouse told doubted old → IsAnnals old.annals → IsAnnals new
     → Appended client (finish_event client entry closed stored) old.annals new → old.annals.loaded ≡ true → off (past old) ≡ false → HomeTo old.annals client entry number l tail b blocks
     → ClosedAs told doubted closed (closing_change old.annals entry closed) stored old.keeper keeper → pool.capacity ≡ old.pool.capacity → pool.free ≡ old.pool.free + blocks
     → IsHouse told doubted (record { annals = new; places = places_with old.places number b; pool = pool; keeper = keeper })

@@ -55,4 +55,5 @@ pub mod ResumeKept
 pub mod ResumeTurns
 pub mod ResumeExits
 pub mod PartsKept
+pub mod Fared
 pub mod Planned

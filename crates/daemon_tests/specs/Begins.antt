@@ -1,7 +1,8 @@
 -- A house that a daemon may be put round, and the name that it has then.
-use Rattle.std.specs.Prelude.{◌≡◌, ◌⊎◌, ◌<◌, ◌≤◌, ◌-◌, ◌^◌, ℕ, true, false, [], None}
+use Rattle.std.specs.Prelude.{◌≡◌, ◌⊎◌, ◌<◌, ◌≤◌, ◌-◌, ◌^◌, ℕ, true, false, [], List}
 use Rattle.update_log.specs.Holding.{holds, live}
 use Rattle.update_log.specs.Pasts.{boots}
+use Rattle.history_keeper.specs.declared.row.Row.{Row}
 use Rattle.daemon_core.specs.Housed.{Housed, past}
 use Rattle.daemon_core.specs.Keeping.{keeper_faults}
 use Rattle.shared_daemon.specs.Entries.{chronicle}
@@ -30,6 +31,7 @@ name_of signs h =
       boots = boots (past h);
       start = chronicle h;
       start_faults = signs.faults h.keeper;
+      start_told = keeper_faults (past h);
       first_faults = signs.faults h.keeper - keeper_faults (past h);
-      told = None;
+      came = (all : List Row) × signs.tells h.keeper all;
     }

@@ -1,5 +1,5 @@
 -- A house keeps its name over every call.
-use Rattle.std.proofs.Common.{◌≡◌, ◌⊎◌, ℕ, ◌≤◌, ◌+◌, ◌-◌, ◌^◌, true, false, List, ◌∷◌, refl, ap, ◌∙◌, inl, inr, ⊎_elim, arith}
+use Rattle.std.proofs.Common.{◌≡◌, ◌⊎◌, ℕ, ◌≤◌, ◌+◌, ◌-◌, ◌^◌, true, false, List, ◌∷◌, refl, ap, sym, ◌∙◌, inl, inr, ⊎_elim, arith}
 use Rattle.std.specs.Prelude.{Result, Ok, Err}
 use Rattle.update_log.specs.declared.event.Event.{Event}
 use Rattle.update_log.specs.Pasts.{boots, is_boot, meets_fault, off, past_of}
@@ -11,6 +11,7 @@ use Rattle.daemon_core.specs.Housed.{Annalled, Housed, past, past_in}
 use Rattle.daemon_core.specs.Keeping.{keeper_faults}
 use Rattle.daemon_core.specs.Turns.{KeeperFared, Signs, Turned, WentOff}
 use Rattle.daemon_core.proofs.AnnalsKept.{appended-past, boots-same}
+use Rattle.daemon_core.proofs.Fared.{fared-same}
 use Rattle.daemon_core.specs.Planned.{HavePlans}
 use Rattle.shared_daemon.specs.Names.{KeepsName, Name}
 use Rattle.daemon_core.proofs.Planned.{plans-same}
@@ -63,16 +64,21 @@ module _ {K : Type 0} (signs : Signs K) (name : Name) (client : ℕ) (old new : 
         booted = n.booted;
         boots_are = grew-boots client old.annals new.annals g ∙ n.boots_are;
         planned = p;
-        counted = counted-still (2 ^ 64 - 1) (keeper_faults (past old)) (keeper_faults (past new)) (signs.faults old.keeper) (signs.faults new.keeper) name.first_faults n.counted f c;
+        counted = counted-still (2 ^ 64 - 1) (keeper_faults (past old)) (keeper_faults (past new)) (signs.faults old.keeper) (signs.faults new.keeper) name.first_faults n.counted f.counted c;
         counts = (let k = n.counts in omega (arith, k, c));
-        told = n.told;
+        grows = (let was = n.grows in let more = f.grows in omega (arith, was, more));
+        quiet = λ e.
+            let was = n.grows in
+            let more = f.grows in
+            let start : keeper_faults (past old) ≡ name.start_told = omega (arith, was, more, e) in
+            f.quiet (e ∙ sym start) ∙ n.quiet start;
+        told = λ all t. let before = f.told all t in n.told before.0 before.1;
       }
 
   pub keeps-calm : KeepsName signs name old → GrewCalm client old.annals new.annals → new.keeper ≡ old.keeper → HavePlans name.plans new.places → KeepsName signs name new
   keeps-calm n g k p =
-      let e : keeper_faults (past new) ≡ keeper_faults (past old) = calm-faults client old.annals new.annals g in
       let f : signs.faults new.keeper ≡ signs.faults old.keeper = ap signs.faults k in
-      keeps-counted n (calm-grew client old.annals new.annals g) (inl (omega arith)) (omega arith) p
+      keeps-counted n (calm-grew client old.annals new.annals g) (fared-same signs old new (calm-faults client old.annals new.annals g) k) (omega arith) p
 
   -- The places are as before.
   pub same-plans : KeepsName signs name old → new.places ≡ old.places → HavePlans name.plans new.places
