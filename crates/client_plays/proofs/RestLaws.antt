@@ -6,6 +6,7 @@ use Rattle.update_log.specs.Pasts.{boots, off}
 use Rattle.daemon_core.specs.Annals.{SameFacts}
 use Rattle.daemon_core.specs.Housed.{Annalled, Housed, past, rows_before, rows_taken}
 use Rattle.daemon_core.specs.Turns.{KeeperFared, Signs}
+use Rattle.daemon_core.proofs.Fared.{fared-both, fared-here}
 use Rattle.daemon_core.proofs.Planned.{keeps-both, keeps-here}
 use Rattle.client_plays.specs.declared.played.Played.{Played}
 use Rattle.client_plays.specs.Moments.{Moment}
@@ -25,19 +26,12 @@ same-both old mid new a b =
       reopened = b.reopened ∙ a.reopened;
     }
 
-pub counted-both : {K : Type 0} (signs : Signs K) (old mid new : Housed K) → KeeperFared signs old mid → KeeperFared signs mid new → signs.faults mid.keeper ≤ signs.faults new.keeper → KeeperFared signs old new
-counted-both signs old mid new a b c =
-    elim a [
-      | inl x ↦ elim b [ inl y ↦ inl (omega arith) | inr y ↦ inr y ]
-      | inr x ↦ inr (omega arith)
-    ]
-
 pub rest-both : {K : Type 0} (signs : Signs K) (old mid new : Housed K) → AtRest signs old mid → AtRest signs mid new → AtRest signs old new
 rest-both signs old mid new a b =
     record {
       idle = b.idle;
       same = same-both old.annals mid.annals new.annals a.same b.same;
-      counted = counted-both signs old mid new a.counted b.counted b.counts;
+      counted = fared-both signs old mid new a.counted b.counted b.counts;
       counts = omega arith;
       plans = keeps-both old.places mid.places new.places a.plans b.plans;
     }
@@ -47,7 +41,7 @@ rest-here signs h i =
     record {
       idle = i;
       same = record { facts = refl; first = refl; opening = refl; loaded = refl; reopened = refl };
-      counted = inl (omega arith);
+      counted = fared-here signs h;
       counts = omega arith;
       plans = keeps-here h.places;
     }

@@ -9,8 +9,5 @@ use Rattle.daemon_core.specs.Turns.{KeeperFared, Signs}
 pub unmoved : (old new : Annalled) → Unchanged old new → past_in new ≡ past_in old
 unmoved old new u = ap past_of u.log
 
-pub counted-same : {K : Type 0} (signs : Signs K) (old new : Housed K) → keeper_faults (past new) ≡ keeper_faults (past old) → new.keeper ≡ old.keeper → KeeperFared signs old new
-counted-same signs old new e k = let same : signs.faults new.keeper ≡ signs.faults old.keeper = ap signs.faults k in inl (omega arith)
-
 pub counts-same : {K : Type 0} (signs : Signs K) (old new : Housed K) → new.keeper ≡ old.keeper → signs.faults old.keeper ≤ signs.faults new.keeper
 counts-same signs old new k = let same : signs.faults new.keeper ≡ signs.faults old.keeper = ap signs.faults k in omega arith

@@ -43,8 +43,8 @@ use Rattle.client_plays.specs.Moments.{Moment, at}
 use Rattle.client_plays.specs.Plays.{IsOwnPlugin, ResumeFetches, ResumePlays, TaskPlays, ToResume, UpdatePlays}
 use Rattle.client_plays.specs.Tools.{Means}
 use Rattle.client_plays.proofs.PlayLaws.{leaves-nothing, task-unplayed}
-use Rattle.client_plays.proofs.RestLaws.{before-same, counted-both}
-use Rattle.client_plays.proofs.TurnLaws.{counted-same, counts-same}
+use Rattle.client_plays.proofs.RestLaws.{before-same}
+use Rattle.client_plays.proofs.TurnLaws.{counts-same}
 use Rattle.daemon_core.specs.Planned.{HasPlan, HavePlans, KeepsPlans}
 use Rattle.install_engine.specs.RunsIn.{RunsIn, parts_taken}
 use Rattle.daemon_core.proofs.Planned.{keeps-both, keeps-here, keeps-same, resume-plans, taken-planned}
@@ -59,6 +59,7 @@ use Rattle.daemon_tasks.specs.Stays.{OthersStay, RunsAlone, rows_at}
 use Rattle.daemon_tasks.proofs.Outs.{held-halted, idle-back, idle-free, no-hold, plugin-within}
 use Rattle.daemon_tasks.proofs.Rows.{others-appended, others-both, others-halted, rows-over}
 use Rattle.daemon_tasks.proofs.Turns.{Halted, boots-appended, faults-appended, halted-boots, halted-holds, halted-live, halted-memory, halted-off, played-back, played-behind, played-last, played-stopped, stopped-alone}
+use Rattle.daemon_core.proofs.Fared.{fared-both, fared-same}
 
 le-both : (a b c : ℕ) → a ≤ b → b ≤ c → a ≤ c
 le-both a b c x y = omega arith
@@ -215,7 +216,7 @@ module _ {K : Type 0} (entry : ℕ) (held : Option (Ticket × Fetched)) (stopped
       let e : keeper_faults (past new) ≡ keeper_faults (past mid) = ap (λ (a : Annalled). keeper_faults (past_in a)) w in
       played-stopped signs stopped.stop 0 (ResumePlays old.annals.facts (rows_before old.annals) means entry asked) old new
       (leaves-nothing 0 (ResumePlays old.annals.facts (rows_before old.annals) means entry asked) (some-resume entry (note_in held)) (note_in held, ResumeAnswer.Refused Refusal.NoDevice, Stored.Yes, refl, f, refl))
-      was h (counted-both signs old mid new counted (counted-same signs mid new e k) (counts-same signs mid new k)) (le-both (signs.faults old.keeper) (signs.faults mid.keeper) (signs.faults new.keeper) counts (counts-same signs mid new k)) (left-plans new s)
+      was h (fared-both signs old mid new counted (fared-same signs mid new e k) (counts-same signs mid new k)) (le-both (signs.faults old.keeper) (signs.faults mid.keeper) (signs.faults new.keeper) counts (counts-same signs mid new k)) (left-plans new s)
   left signs means asked f (Some x) new o was counted counts w k s =
       played-back signs stopped.stop 0 (back_of x.0.pending x.0.request) (ResumePlays old.annals.facts (rows_before old.annals) means entry asked) (some-resume entry (note_in held)) old mid new
       (note_in held, ResumeAnswer.Refused Refusal.NoDevice, Stored.Yes, refl, f, refl) halted w
@@ -309,7 +310,7 @@ pending-behind signs means entry request answer played old mid new k s a p =
     let event = Event.Ask 0 request (Some entry) answer in
     played-behind signs played 0 event (TaskPlays old.annals.facts (rows_before old.annals) means (ToResume entry)) (ResumePlays old.annals.facts (rows_before old.annals) means entry answer) old mid new (record { no_boot = refl; own = refl })
     (λ ms u. (request, answer, refl, u))
-    a (counted-same signs old mid (faults-appended 0 event old.annals mid.annals refl a) k) (counts-same signs old mid k) (keeps-same old.places mid.places s)
+    a (fared-same signs old mid (faults-appended 0 event old.annals mid.annals refl a) k) (counts-same signs old mid k) (keeps-same old.places mid.places s)
     (subst (λ (o : List Row). HousePlayed signs played 0 (ResumePlays old.annals.facts o means entry answer) mid new) (before-same old.annals mid.annals a.same)
     (subst (λ (f : Facts). HousePlayed signs played 0 (ResumePlays f (rows_before mid.annals) means entry answer) mid new) a.same.facts p))
 

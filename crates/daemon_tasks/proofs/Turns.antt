@@ -18,9 +18,10 @@ use Rattle.client_plays.specs.Moments.{Did, Moment, at}
 use Rattle.client_plays.specs.Plays.{Leaves}
 use Rattle.client_plays.specs.Endings.{EndsSo, HousePlayed, IsIdle}
 use Rattle.client_plays.proofs.MomentLaws.{did-both, did-nobody, did-nothing, did-one}
-use Rattle.client_plays.proofs.RestLaws.{counted-both, same-both}
-use Rattle.client_plays.proofs.TurnLaws.{counted-same, counts-same, unmoved}
+use Rattle.client_plays.proofs.RestLaws.{same-both}
+use Rattle.client_plays.proofs.TurnLaws.{counts-same, unmoved}
 use Rattle.daemon_tasks.specs.Ends.{stopped_by}
+use Rattle.daemon_core.proofs.Fared.{fared-both, fared-same}
 
 le-both : (a b c : ℕ) → a ≤ b → b ≤ c → a ≤ c
 le-both a b c x y = omega arith
@@ -76,7 +77,7 @@ played-behind signs played client event Play Rest old mid new o f a counted coun
       rest = record {
         idle = p.rest.idle;
         same = same-both old.annals mid.annals new.annals a.same p.rest.same;
-        counted = counted-both signs old mid new counted p.rest.counted p.rest.counts;
+        counted = fared-both signs old mid new counted p.rest.counted p.rest.counts;
         counts = le-both (signs.faults old.keeper) (signs.faults mid.keeper) (signs.faults new.keeper) counts p.rest.counts;
         plans = keeps-both old.places mid.places new.places keeps p.rest.plans;
       };
@@ -189,7 +190,7 @@ pub stopped-alone : {K : Type 0} (signs : Signs K) (stop : Stop) (client : ℕ) 
     → HousePlayed signs (stopped_by stop) client Play old new
 stopped-alone signs stop client Play old new l i h k s =
     played-stopped signs stop client Play old new l i h
-    (counted-same signs old new (halted-faults stop old.annals new.annals h) k) (counts-same signs old new k) (keeps-same old.places new.places s)
+    (fared-same signs old new (halted-faults stop old.annals new.annals h) k) (counts-same signs old new k) (keeps-same old.places new.places s)
 
 -- The play was left, and what was out was given back.
 pub played-back : {K : Type 0} (signs : Signs K) (stop : Stop) (client : ℕ) (what : Back) (Play : List Moment → Type 0) (some : List Moment) (old mid new : Housed K) → Play some → Halted stop old.annals mid.annals
@@ -209,7 +210,7 @@ played-back signs stop client what Play some old mid new p h a i counted counts 
       rest = record {
         idle = subst IsIdle (sym e) i;
         same = same-both old.annals mid.annals new.annals h.same a.same;
-        counted = counted-both signs old mid new counted (counted-same signs mid new (faults-appended client event mid.annals new.annals refl a) k) (counts-same signs mid new k);
+        counted = fared-both signs old mid new counted (fared-same signs mid new (faults-appended client event mid.annals new.annals refl a) k) (counts-same signs mid new k);
         counts = le-both (signs.faults old.keeper) (signs.faults mid.keeper) (signs.faults new.keeper) counts (counts-same signs mid new k);
         plans = keeps;
       };

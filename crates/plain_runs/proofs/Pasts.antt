@@ -13,6 +13,7 @@ use Rattle.daemon_core.specs.Turns.{KeeperFared, Signs}
 use Rattle.device_claims.specs.declared.claim.Parts.{Parts}
 use Rattle.plugin_trait.specs.Steps.{PluginSteps}
 use Rattle.plain_runs.specs.Ran.{CameBack, Gained, GaveBack, MadeSteps, StepMade, cut_events, start_events, step_events}
+use Rattle.daemon_core.proofs.Fared.{fared-both, fared-same}
 
 -- The past behind these events.
 abbrev pub grown : List Event → List Event → List Event
@@ -80,30 +81,20 @@ back-faults by client entry was old new k =
 
 -- ---- over a house
 
-counted-same : {K : Type 0} (signs : Signs K) (old new : Housed K) → keeper_faults (past new) ≡ keeper_faults (past old) → new.keeper ≡ old.keeper → KeeperFared signs old new
-counted-same signs old new e k = let same : signs.faults new.keeper ≡ signs.faults old.keeper = ap signs.faults k in inl (omega arith)
-
 pub counts-same : {K : Type 0} (signs : Signs K) (old new : Housed K) → new.keeper ≡ old.keeper → signs.faults old.keeper ≤ signs.faults new.keeper
 counts-same signs old new k = let same : signs.faults new.keeper ≡ signs.faults old.keeper = ap signs.faults k in omega arith
 
-counted-both : {K : Type 0} (signs : Signs K) (old mid new : Housed K) → KeeperFared signs old mid → KeeperFared signs mid new → signs.faults mid.keeper ≤ signs.faults new.keeper → KeeperFared signs old new
-counted-both signs old mid new a b c =
-    elim a [
-      | inl x ↦ elim b [ inl y ↦ inl (omega arith) | inr y ↦ inr y ]
-      | inr x ↦ inr (omega arith)
-    ]
-
 -- A claim that was given back.
 pub came-counted : {K : Type 0} (signs : Signs K) (client entry : ℕ) (old new : Housed K) → CameBack client entry old.annals new.annals → new.keeper ≡ old.keeper → KeeperFared signs old new
-came-counted signs client entry old new g k = counted-same signs old new (came-faults client entry old.annals new.annals g) k
+came-counted signs client entry old new g k = fared-same signs old new (came-faults client entry old.annals new.annals g) k
 
 pub back-counted : {K : Type 0} (signs : Signs K) (by : PluginSteps) (client entry : ℕ) (was : Parts) (old new : Housed K) → GaveBack by client entry was old.annals new.annals → new.keeper ≡ old.keeper → KeeperFared signs old new
-back-counted signs by client entry was old new g k = counted-same signs old new (back-faults by client entry was old.annals new.annals g) k
+back-counted signs by client entry was old new g k = fared-same signs old new (back-faults by client entry was old.annals new.annals g) k
 
 -- A finish behind steps.
 pub ran-counted : {K : Type 0} (signs : Signs K) (by : PluginSteps) (client entry : ℕ) (was is : Parts) (old mid new : Housed K) → MadeSteps by client entry was is old.annals mid.annals → mid.keeper ≡ old.keeper → KeeperFared signs mid new → signs.faults mid.keeper ≤ signs.faults new.keeper → KeeperFared signs old new
 ran-counted signs by client entry was is old mid new m k c l =
-    counted-both signs old mid new (counted-same signs old mid (made-faults by client entry was is old.annals mid.annals m) k) c l
+    fared-both signs old mid new (fared-same signs old mid (made-faults by client entry was is old.annals mid.annals m) k) c l
 
 pub ran-counts : {K : Type 0} (signs : Signs K) (old mid new : Housed K) → mid.keeper ≡ old.keeper → signs.faults mid.keeper ≤ signs.faults new.keeper → signs.faults old.keeper ≤ signs.faults new.keeper
 ran-counts signs old mid new k l = let same : signs.faults mid.keeper ≡ signs.faults old.keeper = ap signs.faults k in omega arith

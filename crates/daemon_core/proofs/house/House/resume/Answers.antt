@@ -5,9 +5,10 @@ use Rattle.daemon_core.specs.Resumes.{note_in}
 use Rattle.daemon_core.proofs.ClaimAnswers.{faults-after}
 use Rattle.daemon_core.proofs.ClaimExits.{same-faults, stopped-faults}
 use Rattle.daemon_core.proofs.ClaimRoom.{places-same}
-use Rattle.daemon_core.proofs.PuttingOff.{counted-same}
 use Rattle.daemon_core.proofs.ResumeExits.{entered-in, entered-may, entered-stopped, gave-after, resumed-after}
 use Rattle.daemon_core.proofs.house.House.resume.Goals as goal
+use Rattle.daemon_core.proofs.Fared.{fared-same}
+use Rattle.daemon_core.specs.Turns.{signs_of}
 
 pub resume_in-requires-clause-may : goal.resume_in-requires-clause-may
 resume_in-requires-clause-may g c =
@@ -45,7 +46,7 @@ returns-in-Err-clause-gave g c =
 
 pub returns-in-Err-clause-fared : goal.returns-in-Err-clause-fared
 returns-in-Err-clause-fared g c =
-    counted-same g.K.Keeper.faults c.args.self.now c.enter.new.self
+    fared-same (signs_of g.K.Keeper.tells g.K.Keeper.faults) c.args.self.now c.enter.new.self
     (stopped-faults (Unit {0}) 0 16 c.in-Err.stop c.args.self.now.annals c.enter.new.self.annals c.in-Err.ensures.entered)
     (same-faults g.K.Keeper.faults c.args.self.now c.enter.new.self c.in-Err.ensures.elsewhere.keeper)
 

@@ -6,9 +6,10 @@ use Rattle.daemon_core.specs.Housed.{Annalled, past_in}
 use Rattle.daemon_core.specs.Keeping.{keeper_faults}
 use Rattle.daemon_core.proofs.ClaimAnswers.{faults-after}
 use Rattle.daemon_core.proofs.ClaimExits.{same-faults}
-use Rattle.daemon_core.proofs.PuttingOff.{counted-same}
 use Rattle.daemon_core.proofs.ResumeExits.{gave-after, resume-plan, resumed-over, resuming, turn-left}
 use Rattle.daemon_core.proofs.house.House.resume_whole.Goals as goal
+use Rattle.daemon_core.proofs.Fared.{fared-same}
+use Rattle.daemon_core.specs.Turns.{signs_of}
 
 pub reserve_marks-requires-clause-within : goal.reserve_marks-requires-clause-within
 reserve_marks-requires-clause-within g c =
@@ -32,7 +33,7 @@ returns-in-Err-clause-gave g c =
 
 pub returns-in-Err-clause-fared : goal.returns-in-Err-clause-fared
 returns-in-Err-clause-fared g c =
-    counted-same g.K.Keeper.faults c.args.self.now c.reserve_marks.new.self (ap (λ (a : Annalled). keeper_faults (past_in a)) c.in-Err.ensures.annals) (same-faults g.K.Keeper.faults c.args.self.now c.reserve_marks.new.self c.in-Err.ensures.keeper)
+    fared-same (signs_of g.K.Keeper.tells g.K.Keeper.faults) c.args.self.now c.reserve_marks.new.self (ap (λ (a : Annalled). keeper_faults (past_in a)) c.in-Err.ensures.annals) (same-faults g.K.Keeper.faults c.args.self.now c.reserve_marks.new.self c.in-Err.ensures.keeper)
 
 pub returns-in-Err-clause-counts : goal.returns-in-Err-clause-counts
 returns-in-Err-clause-counts g c =

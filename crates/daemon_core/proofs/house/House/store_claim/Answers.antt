@@ -11,13 +11,14 @@ use Rattle.daemon_core.specs.Claims.{ClaimGave, claim_event}
 use Rattle.daemon_core.specs.Housed.{Housed, past}
 use Rattle.daemon_core.specs.Keeping.{keeper_faults}
 use Rattle.daemon_core.specs.Returns.{place_at}
-use Rattle.daemon_core.specs.Turns.{FaultsCounted}
+use Rattle.daemon_core.specs.Turns.{KeeperFared, signs_of}
 use Rattle.daemon_core.proofs.ClaimAnswers.{gave-taken}
 use Rattle.daemon_core.proofs.ClaimExits.{end-fits, fault-event, fault-ready, faults-failed, faults-took, house-failed, house-left, house-took, made-event, store-plain, store-suits, storing, take-ready, took-live, took-within, turn-failed, turn-left, turn-took}
 use Rattle.daemon_core.proofs.ClaimRoom.{places-same, places-themselves}
 use Rattle.daemon_core.proofs.ClaimTurns.{claim-board, store-within}
-use Rattle.daemon_core.proofs.PuttingOff.{counted-same, keeps-left, keeps-made}
+use Rattle.daemon_core.proofs.PuttingOff.{keeps-left, keeps-made}
 use Rattle.daemon_core.proofs.house.House.store_claim.Goals as goal
+use Rattle.daemon_core.proofs.Fared.{fared-same}
 
 pub commit-requires-clause-no_doubt : goal.commit-requires-clause-no_doubt
 commit-requires-clause-no_doubt g c =
@@ -113,7 +114,7 @@ returns-in-Ok-clause-gave g c =
 
 pub returns-in-Ok-clause-fared : goal.returns-in-Ok-clause-fared
 returns-in-Ok-clause-fared g c =
-    subst (λ (h : Housed g.row.K.Denot). FaultsCounted g.K.Keeper.faults h (record { annals = c.note.new.self; places = c.take_out-board.new.places.items; pool = c.self.inside.pool; keeper = c.commit.new.self })) c.self.view_is
+    subst (λ (h : Housed g.row.K.Denot). KeeperFared (signs_of g.K.Keeper.tells g.K.Keeper.faults) h (record { annals = c.note.new.self; places = c.take_out-board.new.places.items; pool = c.self.inside.pool; keeper = c.commit.new.self })) c.self.view_is
     (faults-took g.K.Keeper.faults c.args.client c.args.ticket c.args.payload c.args.row c.claimed.result (record { annals = c.self.inside.annals; places = c.self.inside.places.items; pool = c.self.inside.pool; keeper = c.self.inside.keeper }) (record { annals = c.note.new.self; places = c.take_out-board.new.places.items; pool = c.self.inside.pool; keeper = c.commit.new.self }) (made-event c.args.client c.args.row.entry c.args.ticket c.args.payload c.args.row c.whole_note-note.result c.claimed.result c.claimed.ensures c.whole_note-note.ensures refl) c.note.ensures.appended c.in-Ok.ensures.counts)
 
 pub returns-in-Ok-clause-counts : goal.returns-in-Ok-clause-counts
@@ -159,7 +160,7 @@ returns-in-Err-Fault-clause-gave g c =
 
 pub returns-in-Err-Fault-clause-fared : goal.returns-in-Err-Fault-clause-fared
 returns-in-Err-Fault-clause-fared g c =
-    subst (λ (h : Housed g.row.K.Denot). FaultsCounted g.K.Keeper.faults h (record { annals = c.note-in-Err-Fault.new.self; places = c.self.inside.places.items; pool = c.give.new.self; keeper = c.commit.new.self })) c.self.view_is
+    subst (λ (h : Housed g.row.K.Denot). KeeperFared (signs_of g.K.Keeper.tells g.K.Keeper.faults) h (record { annals = c.note-in-Err-Fault.new.self; places = c.self.inside.places.items; pool = c.give.new.self; keeper = c.commit.new.self })) c.self.view_is
     (faults-failed g.K.Keeper.faults c.args.client c.args.ticket c.args.payload c.claimed-in-Err-Fault.result (record { annals = c.self.inside.annals; places = c.self.inside.places.items; pool = c.self.inside.pool; keeper = c.self.inside.keeper }) (record { annals = c.note-in-Err-Fault.new.self; places = c.self.inside.places.items; pool = c.give.new.self; keeper = c.commit.new.self }) (fault-event c.args.client c.args.ticket c.args.payload c.whole_note-note.result c.claimed-in-Err-Fault.result c.claimed-in-Err-Fault.ensures c.whole_note-note.ensures) c.note-in-Err-Fault.ensures.appended (c.in-Err-Fault.ensures.cause (ap Err c.in-Err-Fault.field-0-is)))
 
 pub invariant_of-self-in-Err-NoMemory : goal.invariant_of-self-in-Err-NoMemory
@@ -176,4 +177,4 @@ returns-in-Err-NoMemory-clause-gave g c =
 
 pub returns-in-Err-NoMemory-clause-fared : goal.returns-in-Err-NoMemory-clause-fared
 returns-in-Err-NoMemory-clause-fared g c =
-    counted-same g.K.Keeper.faults c.args.self.now (record { annals = c.self.inside.annals; places = c.self.inside.places.items; pool = c.self.inside.pool; keeper = c.commit.new.self }) (ap (λ (h : Housed g.row.K.Denot). keeper_faults (past h)) c.self.view_is) (subst (λ (h : Housed g.row.K.Denot). g.K.Keeper.faults h.keeper ≤ g.K.Keeper.faults c.commit.new.self) c.self.view_is c.in-Err-NoMemory.ensures.counts)
+    fared-same (signs_of g.K.Keeper.tells g.K.Keeper.faults) c.args.self.now (record { annals = c.self.inside.annals; places = c.self.inside.places.items; pool = c.self.inside.pool; keeper = c.commit.new.self }) (ap (λ (h : Housed g.row.K.Denot). keeper_faults (past h)) c.self.view_is) (subst (λ (h : Housed g.row.K.Denot). g.K.Keeper.faults h.keeper ≤ g.K.Keeper.faults c.commit.new.self) c.self.view_is c.in-Err-NoMemory.ensures.counts)

@@ -7,8 +7,9 @@ use Rattle.daemon_core.specs.Keeping.{keeper_faults}
 use Rattle.daemon_core.specs.PutOff.{IsAccept}
 use Rattle.daemon_core.proofs.ClaimAnswers.{faults-after, gave-after}
 use Rattle.daemon_core.proofs.ClaimExits.{may-over, payload-over, same-faults, store-over, take-plan, turn-left, turn-over}
-use Rattle.daemon_core.proofs.PuttingOff.{counted-same}
 use Rattle.daemon_core.proofs.house.House.take.Goals as goal
+use Rattle.daemon_core.proofs.Fared.{fared-same}
+use Rattle.daemon_core.specs.Turns.{signs_of}
 
 pub row_begun-row-requires : goal.row_begun-row-requires
 row_begun-row-requires g c =
@@ -44,7 +45,7 @@ returns-in-Err-clause-gave g c =
 
 pub returns-in-Err-clause-fared : goal.returns-in-Err-clause-fared
 returns-in-Err-clause-fared g c =
-    counted-same g.K.Keeper.faults c.args.self.now c.reserve_marks.new.self (ap (λ (a : Annalled). keeper_faults (past_in a)) c.in-Err.ensures.annals) (same-faults g.K.Keeper.faults c.args.self.now c.reserve_marks.new.self c.in-Err.ensures.keeper)
+    fared-same (signs_of g.K.Keeper.tells g.K.Keeper.faults) c.args.self.now c.reserve_marks.new.self (ap (λ (a : Annalled). keeper_faults (past_in a)) c.in-Err.ensures.annals) (same-faults g.K.Keeper.faults c.args.self.now c.reserve_marks.new.self c.in-Err.ensures.keeper)
 
 pub returns-in-Err-clause-counts : goal.returns-in-Err-clause-counts
 returns-in-Err-clause-counts g c =
