@@ -39,7 +39,9 @@ impl Keeper for OwnKeeper {
     ghost use Rattle.std.specs.Prelude.{None, Some};
     ghost use Rattle.history_keeper.specs.Changes.{AddsNone};
 
-    ghost rows = { λ rows. Some rows };
+    ghost tells = { λ rows all. rows ≡ all };
+
+    ghost settled = { λ first now. now ≡ first };
 
     ghost doubt = { λ _. None };
 
