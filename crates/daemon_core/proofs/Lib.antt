@@ -13,6 +13,7 @@ pub mod ClaimDone
 pub mod HeldOnce
 pub mod Held
 pub mod KeptSo
+pub mod Fared
 pub mod HouseKept
 pub mod Answered
 pub mod BoardsQuiet
@@ -55,5 +56,4 @@ pub mod ResumeKept
 pub mod ResumeTurns
 pub mod ResumeExits
 pub mod PartsKept
-pub mod Fared
 pub mod Planned
