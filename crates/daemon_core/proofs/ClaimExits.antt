@@ -29,7 +29,7 @@ use Rattle.daemon_core.specs.House.{IsHouse}
 use Rattle.daemon_core.specs.Housed.{Annalled, Housed, Place, past, past_in, rows_before}
 use Rattle.daemon_core.specs.Keeping.{HasRows, keeper_faults}
 use Rattle.daemon_core.specs.Turns.{KeeperFared, Signs, ToldBefore, Turned}
-use Rattle.daemon_core.proofs.Fared.{fared-quiet, fared-same}
+use Rattle.daemon_core.proofs.Fared.{counted-more, fared-quiet, fared-same}
 use Rattle.daemon_core.proofs.Answered.{same-unchanged}
 use Rattle.daemon_core.specs.PutOff.{IsAccept}
 use Rattle.daemon_core.specs.Returns.{place_at}
@@ -42,7 +42,7 @@ use Rattle.daemon_core.proofs.ClaimHouse.{IsReady}
 use Rattle.daemon_core.proofs.ClaimKept.{AddsRow, claim-doubted, claim-fits, claim-keeps, claim-made, claim-ready, claims, house-claimed, house-unclaimed, not-taken}
 use Rattle.daemon_core.proofs.ClaimTurns.{answers-broken, answers-refused, answers-whole, claim-board, claim-live, claim-same_held, claim-takes_entry, entry-next, store-plan, store-within, takes_event}
 use Rattle.daemon_core.proofs.CommitKept.{house-unstored}
-use Rattle.daemon_core.proofs.PuttingOff.{counted-more, house-plain, quiet-faults, refusal-other, suits-told}
+use Rattle.daemon_core.proofs.PuttingOff.{house-plain, quiet-faults, refusal-other, suits-told}
 use Rattle.daemon_core.proofs.KeptSo.{so-has}
 
 -- What holds of the annals of the call holds of those inside.

@@ -1,7 +1,7 @@
 -- A house after the finish of a live entry.
-use Rattle.std.proofs.Common.{◌≡◌, ◌≢◌, ℕ, suc, ◌<◌, ◌≤◌, ◌+◌, ◌-◌, ◌^◌, true, false, List, [], ◌∷◌, length, refl, ap, sym, ◌∙◌, subst, arith, ◌⊎◌, inl, inr, min}
-use Rattle.std.specs.Prelude.{Option, Some, None, ◌==◌, Any, nat_le}
-use Rattle.std.proofs.lemmas.Bool.{eqb-true, leb-true, leb-false}
+use Rattle.std.proofs.Common.{◌≡◌, ◌≢◌, ℕ, suc, ◌<◌, ◌≤◌, ◌+◌, true, false, List, [], ◌∷◌, length, refl, ap, sym, ◌∙◌, subst, arith, ◌⊎◌, inl, inr}
+use Rattle.std.specs.Prelude.{Option, Some, None, ◌==◌, Any}
+use Rattle.std.proofs.lemmas.Bool.{eqb-true}
 use Rattle.outer_traits.specs.Faults.{Rose}
 use Rattle.block_pool.specs.Views.{PoolCounts}
 use Rattle.emulated_boards.specs.Boards.{BoardState}
@@ -26,13 +26,15 @@ use Rattle.daemon_core.specs.Finishes.{ClosedAs, IsDone}
 use Rattle.daemon_core.specs.House.{IsHouse}
 use Rattle.daemon_core.specs.Housed.{Annalled, Housed, past, past_in, rows_before}
 use Rattle.daemon_core.specs.Keeping.{HasRows, keeper_faults}
+use Rattle.daemon_core.specs.Turns.{KeeperFared, Signs, ToldBefore}
 use Rattle.daemon_core.specs.Returns.{place_at, places_with}
 use Rattle.daemon_core.proofs.ClaimAlone.{row-on}
 use Rattle.daemon_core.proofs.ClaimDone.{finish-ends}
 use Rattle.daemon_core.proofs.ClaimEnds.{length-set, own-board}
 use Rattle.daemon_core.proofs.ClaimHome.{HomeTo, home-places}
 use Rattle.daemon_core.proofs.ClaimHouse.{IsReady, runs-takes, spent-ready}
-use Rattle.daemon_core.proofs.CommitKept.{house-clear, on-no_doubt, stored-keeps}
+use Rattle.daemon_core.proofs.CommitKept.{house-clear, on-no_doubt, stored-before, stored-keeps}
+use Rattle.daemon_core.proofs.Fared.{calm-stored, counted-more, fared-quiet, told-same}
 use Rattle.daemon_core.proofs.Held.{held-finished}
 use Rattle.daemon_core.proofs.HeldOnce.{out-once}
 use Rattle.daemon_core.proofs.HouseKept.{house-next}
@@ -155,14 +157,17 @@ house-finished told doubted client entry number l tail b blocks closed stored ol
       free = (let e = finish-held old.annals client entry number l tail b blocks closed stored o s in let f = h.free in omega (arith, pf, e, f));
     })
 
--- Its fault was counted.
-pub finish-counted : (client entry : ℕ) (state : RowState) (stored : Stored) (past : List Event) (before after : ℕ) → (stored ≡ Stored.Fault → Rose before after) → before ≤ after → (keeper_faults (Event.Finish client entry state stored ∷ past) + before ≤ keeper_faults past + after) ⊎ (2 ^ 64 - 1 ≤ after)
-finish-counted client entry state Stored.Yes past before after c l = inl (omega arith)
-finish-counted client entry state Stored.NoMemory past before after c l = inl (omega arith)
-finish-counted client entry state Stored.Unchanged past before after c l = inl (omega arith)
-finish-counted client entry state Stored.Fault past before after c l =
-    let r : min (before + 1) (2 ^ 64 - 1) ≤ after = c refl in
-    at (before + 1) (2 ^ 64 - 1) r refl
-  where
-    at : (m n : ℕ) → min m n ≤ after → m ≡ before + 1 → (keeper_faults past + 1 + before ≤ keeper_faults past + after) ⊎ (n ≤ after)
-    at m n h e = by_test (nat_le m n) _ (λ t. inl (let le : m ≤ n = leb-true m n t in omega arith)) (λ t. inr (let le = leb-false m n t in omega arith))
+closed-before : {K : Type 0} (told : K → List Row → Type 0) (doubted : K → Option Change) (closed : RowState) (change : Change) (stored : Stored) (old new : K) → ClosedAs told doubted closed change stored old new → ToldBefore told old new
+closed-before told doubted RowState.Begun change stored old new c = told-same told old new c.1
+closed-before told doubted RowState.Pending change stored old new c = stored-before told old new change stored (doubted new) c
+closed-before told doubted RowState.Success change stored old new c = stored-before told old new change stored (doubted new) c
+closed-before told doubted RowState.Failed change stored old new c = stored-before told old new change stored (doubted new) c
+closed-before told doubted RowState.NeedsReboot change stored old new c = stored-before told old new change stored (doubted new) c
+
+-- So the keeper fared as the log tells.
+pub finish-fared : {K : Type 0} (signs : Signs K) (doubted : K → Option Change) (client entry : ℕ) (closed state : RowState) (change : Change) (stored : Stored) (old new : Housed K) → past new ≡ Event.Finish client entry state stored ∷ past old → ClosedAs signs.tells doubted closed change stored old.keeper new.keeper
+    → (stored ≡ Stored.Fault → Rose (signs.faults old.keeper) (signs.faults new.keeper)) → (stored ≡ Stored.Fault) ⊎ (signs.faults new.keeper ≡ signs.faults old.keeper) → KeeperFared signs old new
+finish-fared signs doubted client entry closed state change Stored.Fault old new p c r q = counted-more signs old new (ap keeper_faults p) (r refl) (closed-before signs.tells doubted closed change Stored.Fault old.keeper new.keeper c)
+finish-fared signs doubted client entry closed state change Stored.Yes old new p c r q = fared-quiet signs old new (ap keeper_faults p) (calm-stored Stored.Yes refl q) (closed-before signs.tells doubted closed change Stored.Yes old.keeper new.keeper c)
+finish-fared signs doubted client entry closed state change Stored.NoMemory old new p c r q = fared-quiet signs old new (ap keeper_faults p) (calm-stored Stored.NoMemory refl q) (closed-before signs.tells doubted closed change Stored.NoMemory old.keeper new.keeper c)
+finish-fared signs doubted client entry closed state change Stored.Unchanged old new p c r q = fared-quiet signs old new (ap keeper_faults p) (calm-stored Stored.Unchanged refl q) (closed-before signs.tells doubted closed change Stored.Unchanged old.keeper new.keeper c)

@@ -3,14 +3,13 @@ use Rattle.std.proofs.Common.{◌≡◌, ◌≢◌, ℕ, ◌<◌, ◌≤◌, ◌
 use Rattle.std.specs.Prelude.{Option, Some, None, nat_le, All}
 use Rattle.std.specs.List.{list_any}
 use Rattle.std.specs.Str.{bytes_eq}
-use Rattle.std.proofs.lemmas.Bool.{leb-false, leb-true}
+use Rattle.std.proofs.lemmas.Bool.{leb-false}
 use Rattle.fw_facts.specs.declared.seen.Seen.{Seen}
 use Rattle.history_keeper.specs.Changes.{Suits, changed}
 use Rattle.history_keeper.specs.Keepers.{StillTold, ToldWith}
 use Rattle.history_keeper.specs.declared.change.Change.{Change}
 use Rattle.history_keeper.specs.declared.row.Row.{Row}
 use Rattle.history_keeper.specs.declared.row.RowState.{RowState}
-use Rattle.outer_traits.specs.Faults.{Rose}
 use Rattle.update_log.proofs.Accepts.{accepts-target}
 use Rattle.update_log.proofs.CoreLegal.{decided-other}
 use Rattle.update_log.proofs.Lists.{by_test}
@@ -38,7 +37,6 @@ use Rattle.daemon_core.specs.House.{IsHouse}
 use Rattle.daemon_core.specs.Housed.{Annalled, Housed, past, past_in, rows_before}
 use Rattle.daemon_core.specs.Keeping.{HasRows, KeepsSo, keeper_faults}
 use Rattle.daemon_core.specs.PutOff.{IsAccept}
-use Rattle.daemon_core.specs.Turns.{KeeperFared, Signs, ToldBefore}
 use Rattle.daemon_core.proofs.BoardsQuiet.{kept-so, quiet-board}
 use Rattle.daemon_core.proofs.HouseKept.{house-next}
 use Rattle.daemon_core.proofs.KeptSo.{so-clear, so-has}
@@ -60,18 +58,6 @@ keeps-left told doubted old new all left h c = record { rows_are = λ now t. h.r
 
 pub suits-told : (o : List Row → Type 0) (all : List Row) (change : Change) → ((x : List Row) → o x → x ≡ all) → Suits change all → (x : List Row) → o x → Suits change x
 suits-told o all change h s x t = subst (λ (l : List Row). Suits change l) (sym (h x t)) s
-
--- Where the log has one fault more, and the count rose.
-pub counted-more : {K : Type 0} (signs : Signs K) (old new : Housed K) → keeper_faults (past new) ≡ keeper_faults (past old) + 1 → Rose (signs.faults old.keeper) (signs.faults new.keeper) → ToldBefore signs.tells old.keeper new.keeper → KeeperFared signs old new
-counted-more signs old new e h t =
-    record {
-      grows = omega (arith, e);
-      counted = by_test (nat_le (signs.faults old.keeper + 1) (2 ^ 64 - 1)) ((keeper_faults (past new) + signs.faults old.keeper ≤ keeper_faults (past old) + signs.faults new.keeper) ⊎ (2 ^ 64 - 1 ≤ signs.faults new.keeper))
-          (λ y. let l = leb-true _ _ y in inl (omega (arith, e, h, l)))
-          (λ f. let l = leb-false _ _ f in inr (omega (arith, h, l)));
-      quiet = λ same. absurd (omega (arith, e, same));
-      told = t;
-    }
 
 -- ---- the row
 

@@ -1,5 +1,5 @@
 -- The exits of a resumption, over what each of its steps ensures.
-use Rattle.std.proofs.Common.{◌≡◌, ℕ, ◌<◌, ◌≤◌, ◌+◌, false, List, [], ◌∷◌, length, refl, ap, sym, ◌∙◌, subst, ◌⊎◌}
+use Rattle.std.proofs.Common.{◌≡◌, ℕ, ◌<◌, ◌≤◌, ◌+◌, ◌||◌, false, List, [], ◌∷◌, length, refl, ap, sym, ◌∙◌, subst, ◌⊎◌, inl, inr}
 use Rattle.std.specs.Prelude.{Option, Some, None, IfSome, IsSome, is_some, unwrap_or, Result, Ok, Err}
 use Rattle.history_keeper.specs.Keepers.{StillTold}
 use Rattle.block_pool.specs.Views.{PoolCounts, SealedBytes}
@@ -43,14 +43,14 @@ use Rattle.daemon_core.specs.PutOff.{IsAccept}
 use Rattle.daemon_core.specs.Resumes.{ComesIn, IsOpenHold, IsPutOff, IsToResume, MayFail, MayResume, ResumeGave, ResumeTurned, StoppedBy, WasRefused, begun_event, blocks_in, doubt_event, failed_event, note_in, resume_verdict}
 use Rattle.daemon_core.specs.Returns.{place_at}
 use Rattle.daemon_core.specs.Turns.{KeeperFared, Signs, ToldBefore}
-use Rattle.daemon_core.proofs.Fared.{fared-quiet}
+use Rattle.daemon_core.proofs.Fared.{calm-stored, counted-more, fared-quiet}
 use Rattle.daemon_core.proofs.AnnalsKept.{appended-past}
 use Rattle.daemon_core.proofs.Answered.{roomier-same, same-unchanged, stopped, unchanged-appended}
 use Rattle.daemon_core.proofs.ClaimAnswers.{turned-after}
 use Rattle.daemon_core.proofs.ClaimHouse.{IsReady}
 use Rattle.daemon_core.proofs.ClaimRoom.{board-itself, board-on, places-same, room-at, room-on, room-out}
 use Rattle.daemon_core.proofs.CommitKept.{house-clear, house-unstored}
-use Rattle.daemon_core.proofs.PuttingOff.{counted-more, quiet-faults, refusal-other}
+use Rattle.daemon_core.proofs.PuttingOff.{quiet-faults, refusal-other}
 use Rattle.daemon_core.proofs.ResumeHolds.{last-names_other, last-refused_by}
 use Rattle.daemon_core.proofs.ResumeKept.{Answers, change_of, house-begun, house-refused, refused-fits, resume-ready, resume-suits, resumes}
 use Rattle.daemon_core.proofs.ResumeTurns.{begins, doubt-answers, resume-answers, resume-board, resume-broken, resume-live, resume-refused, resume-same_held, resume-sheet, resume-taken, resume-takes_entry, resume-within, to-resume}
@@ -166,10 +166,6 @@ turn-left a b entry said held e m = (m.runs.on, same-unchanged b a e)
 -- A resumption that was refused for another cause met a fault exactly where it stored one.
 pub other-met : (refusal : Refusal) (stored : Stored) → is_keeper_fault refusal ≡ false → (is_keeper_fault refusal || is_fault stored) ≡ is_fault stored
 other-met refusal stored f = rw f refl
-
-calm-stored : {P : Type 0} (stored : Stored) → is_fault stored ≡ false → (stored ≡ Stored.Fault) ⊎ P → P
-calm-stored stored c (inl e) = let bad : true ≡ false = sym (ap is_fault e) ∙ c in cc
-calm-stored stored c (inr p) = p
 
 pub faults-resumed : {K : Type 0} (signs : Signs K) (entry : ℕ) (said : Option FetchNote) (answer : ResumeAnswer) (stored : Stored) (event : Event) (old new : Housed K) → event ≡ resumes entry said answer stored → meets_fault (resumes entry said answer stored) ≡ is_fault stored → Appended 0 event old.annals new.annals
     → (stored ≡ Stored.Fault → Rose (signs.faults old.keeper) (signs.faults new.keeper)) → (stored ≡ Stored.Fault) ⊎ (signs.faults new.keeper ≡ signs.faults old.keeper) → ToldBefore signs.tells old.keeper new.keeper → KeeperFared signs old new

@@ -5,7 +5,7 @@ use Rattle.daemon_core.specs.Annals.{Appended}
 use Rattle.daemon_core.specs.Fetches.{note_of}
 use Rattle.daemon_core.proofs.ClaimExits.{faults-unclaimed, refused-answers, refused-none, same-faults}
 use Rattle.daemon_core.proofs.ClaimRoom.{places-same}
-use Rattle.daemon_core.proofs.ClaimTurns.{answers-kept}
+use Rattle.daemon_core.proofs.ClaimTurns.{answers-kept, signs_of}
 use Rattle.daemon_core.proofs.house.House.claim_in.Goals as goal
 
 pub accept-requires-clause-accepted : goal.accept-requires-clause-accepted
@@ -34,7 +34,7 @@ returns-in-Kept-clause-gave g c =
 
 pub returns-in-Kept-clause-fared : goal.returns-in-Kept-clause-fared
 returns-in-Kept-clause-fared g c =
-    faults-unclaimed g.K.Keeper.faults c.args.client c.args.ticket (note_of c.args.fetched) (ClaimAnswer.Kept c.in-Kept.entry c.in-Kept.state) c.args.self.now c.end_claim.new.self c.end_claim.ensures.appended refl c.end_claim.ensures.keeper
+    faults-unclaimed (signs_of g.K.Keeper.tells g.K.Keeper.faults) c.args.client c.args.ticket (note_of c.args.fetched) (ClaimAnswer.Kept c.in-Kept.entry c.in-Kept.state) c.args.self.now c.end_claim.new.self c.end_claim.ensures.appended refl c.end_claim.ensures.keeper
 
 pub returns-in-Kept-clause-counts : goal.returns-in-Kept-clause-counts
 returns-in-Kept-clause-counts g c =
@@ -50,7 +50,7 @@ returns-in-Refused-clause-gave g c =
 
 pub returns-in-Refused-clause-fared : goal.returns-in-Refused-clause-fared
 returns-in-Refused-clause-fared g c =
-    faults-unclaimed g.K.Keeper.faults c.args.client c.args.ticket (note_of c.args.fetched) c.refused.result c.args.self.now c.end_claim-in-Refused.new.self c.end_claim-in-Refused.ensures.appended (refused-none c.args.self.now.annals c.args.client c.args.ticket c.in-Refused.refusal c.refused.result c.refused.ensures (sym c.in-Refused.ensures)) c.end_claim-in-Refused.ensures.keeper
+    faults-unclaimed (signs_of g.K.Keeper.tells g.K.Keeper.faults) c.args.client c.args.ticket (note_of c.args.fetched) c.refused.result c.args.self.now c.end_claim-in-Refused.new.self c.end_claim-in-Refused.ensures.appended (refused-none c.args.self.now.annals c.args.client c.args.ticket c.in-Refused.refusal c.refused.result c.refused.ensures (sym c.in-Refused.ensures)) c.end_claim-in-Refused.ensures.keeper
 
 pub returns-in-Refused-clause-counts : goal.returns-in-Refused-clause-counts
 returns-in-Refused-clause-counts g c =

@@ -1,19 +1,19 @@
 use Rattle.std.proofs.Common.{◌≤◌, ap, sym, subst, refl}
 use Rattle.std.specs.Prelude.{Ok}
-use Rattle.update_log.specs.Pasts.{is_boot}
+use Rattle.update_log.specs.Pasts.{is_boot, is_fault}
 use Rattle.update_log.specs.declared.answer.ResumeAnswer.{ResumeAnswer}
 use Rattle.update_log.specs.declared.event.Event.{Event}
 use Rattle.daemon_core.specs.declared.claimed.Claimed.{Claimed}
 use Rattle.daemon_core.specs.Annals.{IsMadeBy}
-use Rattle.daemon_core.specs.Housed.{Housed, past}
-use Rattle.daemon_core.specs.Keeping.{keeper_faults}
+use Rattle.daemon_core.specs.Housed.{Housed}
 use Rattle.daemon_core.specs.Resumes.{ResumeGave, note_in}
 use Rattle.daemon_core.specs.Turns.{KeeperFared, signs_of}
 use Rattle.daemon_core.proofs.ClaimRoom.{places-same, places-themselves}
+use Rattle.daemon_core.proofs.CommitKept.{stored-before}
 use Rattle.daemon_core.proofs.JudgeKept.{done-stored}
-use Rattle.daemon_core.proofs.ResumeExits.{fail-clear, fail-fits, fail-ready, fail-suits, failing, faults-resumed, house-failed, house-left, left-as, turn-failed, turn-left}
+use Rattle.daemon_core.proofs.ResumeExits.{fail-clear, fail-fits, fail-ready, fail-suits, failing, faults-resumed, house-failed, house-left, left-as, other-met, turn-failed, turn-left}
 use Rattle.daemon_core.proofs.house.House.fail.Goals as goal
-use Rattle.daemon_core.proofs.Fared.{fared-same}
+use Rattle.daemon_core.proofs.Fared.{calm-stored, fared-quiet}
 
 pub commit-stored-requires-clause-no_doubt : goal.commit-stored-requires-clause-no_doubt
 commit-stored-requires-clause-no_doubt g c =
@@ -76,7 +76,8 @@ returns-clause-gave g c =
 pub returns-clause-fared : goal.returns-clause-fared
 returns-clause-fared g c =
     subst (λ (h : Housed g.row.K.Denot). KeeperFared (signs_of g.K.Keeper.tells g.K.Keeper.faults) h (record { annals = c.note.new.self; places = c.self.inside.places.items; pool = c.give_in.new.pool; keeper = c.commit-stored.new.keeper })) c.self.view_is
-    (faults-resumed g.K.Keeper.faults c.args.entry c.note_in-note.result (ResumeAnswer.Refused c.args.refusal) c.commit-stored.result c.failed.result (record { annals = c.self.inside.annals; places = c.self.inside.places.items; pool = c.self.inside.pool; keeper = c.self.inside.keeper }) (record { annals = c.note.new.self; places = c.self.inside.places.items; pool = c.give_in.new.pool; keeper = c.commit-stored.new.keeper }) c.failed.ensures c.note.ensures.appended c.commit-stored.ensures.counts c.commit-stored.ensures.cause)
+    (faults-resumed (signs_of g.K.Keeper.tells g.K.Keeper.faults) c.args.entry c.note_in-note.result (ResumeAnswer.Refused c.args.refusal) c.commit-stored.result c.failed.result (record { annals = c.self.inside.annals; places = c.self.inside.places.items; pool = c.self.inside.pool; keeper = c.self.inside.keeper }) (record { annals = c.note.new.self; places = c.self.inside.places.items; pool = c.give_in.new.pool; keeper = c.commit-stored.new.keeper }) c.failed.ensures (other-met c.args.refusal c.commit-stored.result c.requires.fails.other) c.note.ensures.appended c.commit-stored.ensures.cause c.commit-stored.ensures.quiet
+    (stored-before g.K.Keeper.tells c.self.inside.keeper c.commit-stored.new.keeper c.resumption-change.result c.commit-stored.result _ c.commit-stored.ensures.stored))
 
 pub returns-clause-counts : goal.returns-clause-counts
 returns-clause-counts g c =
@@ -92,7 +93,10 @@ returns-in-NoMemory-clause-gave g c =
 
 pub returns-in-NoMemory-clause-fared : goal.returns-in-NoMemory-clause-fared
 returns-in-NoMemory-clause-fared g c =
-    fared-same (signs_of g.K.Keeper.tells g.K.Keeper.faults) c.args.self.now (record { annals = c.self.inside.annals; places = c.self.inside.places.items; pool = c.self.inside.pool; keeper = c.commit-stored.new.keeper }) (ap (λ (h : Housed g.row.K.Denot). keeper_faults (past h)) c.self.view_is) (subst (λ (h : Housed g.row.K.Denot). g.K.Keeper.faults h.keeper ≤ g.K.Keeper.faults c.commit-stored.new.keeper) c.self.view_is c.commit-stored.ensures.counts)
+    subst (λ (h : Housed g.row.K.Denot). KeeperFared (signs_of g.K.Keeper.tells g.K.Keeper.faults) h (record { annals = c.self.inside.annals; places = c.self.inside.places.items; pool = c.self.inside.pool; keeper = c.commit-stored.new.keeper })) c.self.view_is
+    (fared-quiet (signs_of g.K.Keeper.tells g.K.Keeper.faults) (record { annals = c.self.inside.annals; places = c.self.inside.places.items; pool = c.self.inside.pool; keeper = c.self.inside.keeper }) (record { annals = c.self.inside.annals; places = c.self.inside.places.items; pool = c.self.inside.pool; keeper = c.commit-stored.new.keeper }) refl
+    (calm-stored c.commit-stored.result (ap is_fault c.in-NoMemory.is) c.commit-stored.ensures.quiet)
+    (stored-before g.K.Keeper.tells c.self.inside.keeper c.commit-stored.new.keeper c.resumption-change.result c.commit-stored.result _ c.commit-stored.ensures.stored))
 
 pub returns-in-NoMemory-clause-counts : goal.returns-in-NoMemory-clause-counts
 returns-in-NoMemory-clause-counts g c =

@@ -29,8 +29,8 @@ returns-in-Ok-clause-gave g c =
 
 pub returns-in-Ok-clause-fared : goal.returns-in-Ok-clause-fared
 returns-in-Ok-clause-fared g c =
-    faults-after g.K.Keeper.faults c.args.self.now c.enter.new.self c.resume_in.new.self
-    (ap (λ (a : Annalled). keeper_faults (past_in a)) c.in-Ok.ensures.entered.same) c.in-Ok.ensures.elsewhere.keeper c.resume_in.ensures.fared
+    faults-after (signs_of g.K.Keeper.tells g.K.Keeper.faults) c.args.self.now c.enter.new.self c.resume_in.new.self
+    (ap (λ (a : Annalled). keeper_faults (past_in a)) c.in-Ok.ensures.entered.same) c.in-Ok.ensures.elsewhere.keeper c.resume_in.ensures.counts c.resume_in.ensures.fared
 
 pub returns-in-Ok-clause-counts : goal.returns-in-Ok-clause-counts
 returns-in-Ok-clause-counts g c =
@@ -48,7 +48,7 @@ pub returns-in-Err-clause-fared : goal.returns-in-Err-clause-fared
 returns-in-Err-clause-fared g c =
     fared-same (signs_of g.K.Keeper.tells g.K.Keeper.faults) c.args.self.now c.enter.new.self
     (stopped-faults (Unit {0}) 0 16 c.in-Err.stop c.args.self.now.annals c.enter.new.self.annals c.in-Err.ensures.entered)
-    (same-faults g.K.Keeper.faults c.args.self.now c.enter.new.self c.in-Err.ensures.elsewhere.keeper)
+    c.in-Err.ensures.elsewhere.keeper
 
 pub returns-in-Err-clause-counts : goal.returns-in-Err-clause-counts
 returns-in-Err-clause-counts g c =

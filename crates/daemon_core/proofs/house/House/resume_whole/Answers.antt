@@ -33,7 +33,7 @@ returns-in-Err-clause-gave g c =
 
 pub returns-in-Err-clause-fared : goal.returns-in-Err-clause-fared
 returns-in-Err-clause-fared g c =
-    fared-same (signs_of g.K.Keeper.tells g.K.Keeper.faults) c.args.self.now c.reserve_marks.new.self (ap (λ (a : Annalled). keeper_faults (past_in a)) c.in-Err.ensures.annals) (same-faults g.K.Keeper.faults c.args.self.now c.reserve_marks.new.self c.in-Err.ensures.keeper)
+    fared-same (signs_of g.K.Keeper.tells g.K.Keeper.faults) c.args.self.now c.reserve_marks.new.self (ap (λ (a : Annalled). keeper_faults (past_in a)) c.in-Err.ensures.annals) c.in-Err.ensures.keeper
 
 pub returns-in-Err-clause-counts : goal.returns-in-Err-clause-counts
 returns-in-Err-clause-counts g c =
@@ -49,7 +49,7 @@ returns-in-Ok-clause-gave g c =
 
 pub returns-in-Ok-clause-fared : goal.returns-in-Ok-clause-fared
 returns-in-Ok-clause-fared g c =
-    faults-after g.K.Keeper.faults c.args.self.now c.reserve_marks.new.self c.store_begin.new.self (ap (λ (a : Annalled). keeper_faults (past_in a)) c.in-Ok.ensures.annals) c.in-Ok.ensures.keeper c.store_begin.ensures.fared
+    faults-after (signs_of g.K.Keeper.tells g.K.Keeper.faults) c.args.self.now c.reserve_marks.new.self c.store_begin.new.self (ap (λ (a : Annalled). keeper_faults (past_in a)) c.in-Ok.ensures.annals) c.in-Ok.ensures.keeper c.store_begin.ensures.counts c.store_begin.ensures.fared
 
 pub returns-in-Ok-clause-counts : goal.returns-in-Ok-clause-counts
 returns-in-Ok-clause-counts g c =

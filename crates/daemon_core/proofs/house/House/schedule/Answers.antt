@@ -1,4 +1,4 @@
-use Rattle.std.proofs.Common.{◌≡◌, ap, sym, ◌∙◌, arith}
+use Rattle.std.proofs.Common.{◌≡◌, ap, sym, ◌∙◌}
 use Rattle.std.specs.Prelude.{not}
 use Rattle.update_log.specs.Verdicts.{case_of, verdict}
 use Rattle.update_log.specs.declared.decision.Stage.{Stage}
@@ -30,8 +30,7 @@ pub returns-in-Refused-clause-fared : goal.returns-in-Refused-clause-fared
 returns-in-Refused-clause-fared g c =
     let a : Annalled = c.self.inside.annals in
     let r = refusal-other (case_of a.facts (rows_before a) (past_in a) c.args.client c.args.request.now Stage.Schedule) c.in-Refused.refusal (sym c.in-Refused.ensures) in
-    let k = ap g.K.Keeper.faults (c.note-in-Refused.ensures.elsewhere.keeper ∙ c.in_ok-enter.ensures.elsewhere.keeper) in
     fared-same (signs_of g.K.Keeper.tells g.K.Keeper.faults) c.args.self.now c.note-in-Refused.new.self
     (quiet-faults c.args.client c.put_off-in-Refused.result c.enter.new.self.annals c.note-in-Refused.new.self.annals c.note-in-Refused.ensures.appended (ap meets_fault c.put_off-in-Refused.ensures ∙ r)
     ∙ ap (λ (x : Annalled). keeper_faults (past_in x)) c.in_ok-enter.ensures.entered.same)
-    (omega (arith, k))
+    (c.note-in-Refused.ensures.elsewhere.keeper ∙ c.in_ok-enter.ensures.elsewhere.keeper)

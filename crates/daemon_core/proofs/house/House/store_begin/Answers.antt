@@ -1,5 +1,5 @@
-use Rattle.std.proofs.Common.{◌≤◌, ◌∙◌, ◌+◌, ℕ, ap, sym, subst, refl, arith}
-use Rattle.std.specs.Prelude.{Err, IfSome, Some, Ok}
+use Rattle.std.proofs.Common.{◌≤◌, ◌∙◌, ◌+◌, ℕ, ap, sym, subst, refl, arith, inl, inr}
+use Rattle.std.specs.Prelude.{Err, IfSome, None, Some, Ok}
 use Rattle.update_log.specs.Pasts.{is_boot}
 use Rattle.update_log.specs.declared.answer.ResumeAnswer.{ResumeAnswer}
 use Rattle.update_log.specs.declared.event.Event.{Event}
@@ -18,7 +18,7 @@ use Rattle.daemon_core.proofs.ClaimRoom.{places-same, places-themselves}
 use Rattle.daemon_core.proofs.ResumeExits.{begin-event, begin-home, begin-live, begin-ready, begin-sheet, doubt-fits, doubt-ready, doubtful-event, fail-clear, fail-suits, faults-resumed, gave-taken, house-doubts, house-left, house-took, resuming, turn-doubts, turn-left, turn-took}
 use Rattle.daemon_core.proofs.ResumeTurns.{resume-within}
 use Rattle.daemon_core.proofs.house.House.store_begin.Goals as goal
-use Rattle.daemon_core.proofs.Fared.{fared-same}
+use Rattle.daemon_core.proofs.Fared.{calm-memory, calm-ok, fared-quiet, told-left, told-with}
 
 pub commit-requires-clause-no_doubt : goal.commit-requires-clause-no_doubt
 commit-requires-clause-no_doubt g c =
@@ -133,7 +133,8 @@ returns-in-Ok-clause-gave g c =
 pub returns-in-Ok-clause-fared : goal.returns-in-Ok-clause-fared
 returns-in-Ok-clause-fared g c =
     subst (λ (h : Housed g.row.K.Denot). KeeperFared (signs_of g.K.Keeper.tells g.K.Keeper.faults) h (record { annals = c.note.new.self; places = c.take_out-board.new.places.items; pool = c.self.inside.pool; keeper = c.commit.new.self })) c.self.view_is
-    (faults-resumed g.K.Keeper.faults c.args.entry (Some (whole_note c.args.payload)) ResumeAnswer.Begun Stored.Yes c.begun.result (record { annals = c.self.inside.annals; places = c.self.inside.places.items; pool = c.self.inside.pool; keeper = c.self.inside.keeper }) (record { annals = c.note.new.self; places = c.take_out-board.new.places.items; pool = c.self.inside.pool; keeper = c.commit.new.self }) (begin-event c.args.entry c.args.payload c.whole_note-note.result c.begun.result c.begun.ensures c.whole_note-note.ensures) c.note.ensures.appended c.in-Ok.ensures.counts (λ e. cc))
+    (faults-resumed (signs_of g.K.Keeper.tells g.K.Keeper.faults) c.args.entry (Some (whole_note c.args.payload)) ResumeAnswer.Begun Stored.Yes c.begun.result (record { annals = c.self.inside.annals; places = c.self.inside.places.items; pool = c.self.inside.pool; keeper = c.self.inside.keeper }) (record { annals = c.note.new.self; places = c.take_out-board.new.places.items; pool = c.self.inside.pool; keeper = c.commit.new.self }) (begin-event c.args.entry c.args.payload c.whole_note-note.result c.begun.result c.begun.ensures c.whole_note-note.ensures) refl c.note.ensures.appended (λ e. cc)
+    (inr (calm-ok _ _ refl c.in-Ok.ensures.quiet)) (told-with g.K.Keeper.tells c.self.inside.keeper c.commit.new.self _ c.in-Ok.ensures.committed.0))
 
 pub returns-in-Ok-clause-counts : goal.returns-in-Ok-clause-counts
 returns-in-Ok-clause-counts g c =
@@ -159,7 +160,8 @@ returns-in-Err-Fault-clause-gave g c =
 pub returns-in-Err-Fault-clause-fared : goal.returns-in-Err-Fault-clause-fared
 returns-in-Err-Fault-clause-fared g c =
     subst (λ (h : Housed g.row.K.Denot). KeeperFared (signs_of g.K.Keeper.tells g.K.Keeper.faults) h (record { annals = c.note-in-Err-Fault.new.self; places = c.self.inside.places.items; pool = c.give.new.self; keeper = c.commit.new.self })) c.self.view_is
-    (faults-resumed g.K.Keeper.faults c.args.entry (Some (whole_note c.args.payload)) (ResumeAnswer.Refused Refusal.KeeperFault) Stored.Fault c.begin_in_doubt.result (record { annals = c.self.inside.annals; places = c.self.inside.places.items; pool = c.self.inside.pool; keeper = c.self.inside.keeper }) (record { annals = c.note-in-Err-Fault.new.self; places = c.self.inside.places.items; pool = c.give.new.self; keeper = c.commit.new.self }) (doubtful-event c.args.entry c.args.payload c.whole_note-note.result c.begin_in_doubt.result c.begin_in_doubt.ensures c.whole_note-note.ensures) c.note-in-Err-Fault.ensures.appended c.in-Err-Fault.ensures.counts (λ e. c.in-Err-Fault.ensures.cause (ap Err c.in-Err-Fault.field-0-is)))
+    (faults-resumed (signs_of g.K.Keeper.tells g.K.Keeper.faults) c.args.entry (Some (whole_note c.args.payload)) (ResumeAnswer.Refused Refusal.KeeperFault) Stored.Fault c.begin_in_doubt.result (record { annals = c.self.inside.annals; places = c.self.inside.places.items; pool = c.self.inside.pool; keeper = c.self.inside.keeper }) (record { annals = c.note-in-Err-Fault.new.self; places = c.self.inside.places.items; pool = c.give.new.self; keeper = c.commit.new.self }) (doubtful-event c.args.entry c.args.payload c.whole_note-note.result c.begin_in_doubt.result c.begin_in_doubt.ensures c.whole_note-note.ensures) refl c.note-in-Err-Fault.ensures.appended (λ e. c.in-Err-Fault.ensures.cause (ap Err c.in-Err-Fault.field-0-is)) (inl refl)
+    (told-left g.K.Keeper.tells g.K.Keeper.doubt c.self.inside.keeper c.commit.new.self _ (rw c.in-Err-Fault.field-0-is at c.in-Err-Fault.ensures.committed)))
 
 pub returns-in-Err-NoMemory-clause-turn : goal.returns-in-Err-NoMemory-clause-turn
 returns-in-Err-NoMemory-clause-turn g c =
@@ -171,4 +173,7 @@ returns-in-Err-NoMemory-clause-gave g c =
 
 pub returns-in-Err-NoMemory-clause-fared : goal.returns-in-Err-NoMemory-clause-fared
 returns-in-Err-NoMemory-clause-fared g c =
-    fared-same (signs_of g.K.Keeper.tells g.K.Keeper.faults) c.args.self.now (record { annals = c.self.inside.annals; places = c.self.inside.places.items; pool = c.self.inside.pool; keeper = c.commit.new.self }) (ap (λ (h : Housed g.row.K.Denot). keeper_faults (past h)) c.self.view_is) (subst (λ (h : Housed g.row.K.Denot). g.K.Keeper.faults h.keeper ≤ g.K.Keeper.faults c.commit.new.self) c.self.view_is c.in-Err-NoMemory.ensures.counts)
+    subst (λ (h : Housed g.row.K.Denot). KeeperFared (signs_of g.K.Keeper.tells g.K.Keeper.faults) h (record { annals = c.self.inside.annals; places = c.self.inside.places.items; pool = c.self.inside.pool; keeper = c.commit.new.self })) c.self.view_is
+    (fared-quiet (signs_of g.K.Keeper.tells g.K.Keeper.faults) (record { annals = c.self.inside.annals; places = c.self.inside.places.items; pool = c.self.inside.pool; keeper = c.self.inside.keeper }) (record { annals = c.self.inside.annals; places = c.self.inside.places.items; pool = c.self.inside.pool; keeper = c.commit.new.self }) refl
+    (calm-memory _ (ap Err c.in-Err-NoMemory.field-0-is) c.in-Err-NoMemory.ensures.quiet)
+    (told-left g.K.Keeper.tells g.K.Keeper.doubt c.self.inside.keeper c.commit.new.self None (rw c.in-Err-NoMemory.field-0-is at c.in-Err-NoMemory.ensures.committed)))
