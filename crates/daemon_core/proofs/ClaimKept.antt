@@ -218,12 +218,12 @@ claim-made told doubted a client ticket note entry row keeper k o e h =
     let all : List Row = rows a.facts (rows_before a) (past_in a) in
     let r : changed (Change.Add row) a.core.rows ≡ rows a.facts (rows_before a) (claims client ticket note (ClaimAnswer.Entry entry) ∷ past_in a) =
     ap (λ (x : List Row). changed (Change.Add row) x) k.stands.rows ∙ sym (ap (λ (x : Option Change). rows_by Fate.Made x all) e) in
-    record { rows_are = subst (λ (x : List Row). IfSome (told keeper) (λ y. y ≡ x)) r h.rows_are; doubt_is = h.doubt_is ∙ sym (no-doubt a k o) }
+    record { rows_are = subst (λ (x : List Row). (y : List Row) → told keeper y → y ≡ x) r h.rows_are; doubt_is = h.doubt_is ∙ sym (no-doubt a k o) }
 
 pub claim-doubted : {K : Type 0} (told : K → List Row → Type 0) (doubted : K → Option Change) (a : Annalled) (client : ℕ) (ticket : Ticket) (note : FetchNote) (row : Row) (keeper : K) → IsAnnals a → AddsRow a client ticket row → HasRows told doubted keeper a.core.rows (Some (Change.Add row))
     → HasRows told doubted keeper (rows a.facts (rows_before a) (claims client ticket note (ClaimAnswer.Refused Refusal.KeeperFault) ∷ past_in a)) (doubt a.facts (rows_before a) (claims client ticket note (ClaimAnswer.Refused Refusal.KeeperFault) ∷ past_in a))
 claim-doubted told doubted a client ticket note row keeper k e h =
-    record { rows_are = subst (λ (x : List Row). IfSome (told keeper) (λ y. y ≡ x)) k.stands.rows h.rows_are; doubt_is = h.doubt_is ∙ sym e }
+    record { rows_are = subst (λ (x : List Row). (y : List Row) → told keeper y → y ≡ x) k.stands.rows h.rows_are; doubt_is = h.doubt_is ∙ sym e }
 
 -- ---- a claim that took an entry
 

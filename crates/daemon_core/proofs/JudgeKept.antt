@@ -4,6 +4,7 @@ use Rattle.std.specs.Prelude.{Option, Some, None, if◌then◌else◌, ◌||◌,
 use Rattle.fw_facts.specs.Views.{is_home, version_of, version_shown}
 use Rattle.fw_facts.specs.declared.seen.Seen.{Seen}
 use Rattle.fw_facts.specs.declared.view.DeviceView.{DeviceView}
+use Rattle.outer_traits.specs.Faults.{Rose}
 use Rattle.history_keeper.specs.Changes.{Suits}
 use Rattle.history_keeper.specs.Histories.{is_unsettled}
 use Rattle.history_keeper.specs.declared.change.Change.{Change}
@@ -28,12 +29,12 @@ use Rattle.daemon_core.specs.Housed.{Annalled, Housed, past, past_in, rows_befor
 use Rattle.daemon_core.specs.Judging.{judged_by, judged_on, must_wait, standing, standing_of}
 use Rattle.daemon_core.specs.Keeping.{HasRows, keeper_faults}
 use Rattle.daemon_core.specs.Owed.{owed}
-use Rattle.daemon_core.specs.Turns.{KeeperFared, Signs, ToldBefore}
-use Rattle.daemon_core.proofs.Fared.{fared-quiet}
+use Rattle.daemon_core.specs.Turns.{KeeperFared, Signs}
+use Rattle.daemon_core.proofs.Fared.{calm-stored, counted-more, fared-quiet}
 use Rattle.daemon_core.specs.declared.judged.Standing.{Standing}
 use Rattle.daemon_core.proofs.AnnalsKept.{legal-next}
 use Rattle.daemon_core.proofs.ClaimHouse.{IsReady, runs-takes}
-use Rattle.daemon_core.proofs.CommitKept.{AsksOnly, house-asked, house-clear, suits-told}
+use Rattle.daemon_core.proofs.CommitKept.{AsksOnly, house-asked, house-clear, stored-before, suits-told}
 use Rattle.daemon_core.proofs.Owed.{adds-legal}
 
 -- What a row that is judged is, and the device that shows the version.
@@ -165,9 +166,13 @@ judge-ready a client entry version state stored k r b room h s =
     same-many a entry state Stored.NoMemory = refl
     same-many a entry state Stored.Unchanged = refl
 
--- Faults are counted.
-pub faults-same : {K : Type 0} (signs : Signs K) (old new : Housed K) → past new ≡ past old → signs.faults new.keeper ≡ signs.faults old.keeper → ToldBefore signs.tells old.keeper new.keeper → KeeperFared signs old new
-faults-same signs old new p f t = fared-quiet signs old new (ap keeper_faults p) f t
+-- The keeper fared as the log tells.
+pub judge-fared : {K : Type 0} (signs : Signs K) (client entry : ℕ) (version : List ℕ) (state : RowState) (change : Change) (stored : Stored) (left : Option Change) (old new : Housed K) → past new ≡ Event.Judge client entry version state stored ∷ past old → StoredAs change stored (signs.tells old.keeper) (signs.tells new.keeper) left
+    → (stored ≡ Stored.Fault → Rose (signs.faults old.keeper) (signs.faults new.keeper)) → (stored ≡ Stored.Fault) ⊎ (signs.faults new.keeper ≡ signs.faults old.keeper) → KeeperFared signs old new
+judge-fared signs client entry version state change Stored.Fault left old new p s r q = counted-more signs old new (ap keeper_faults p) (r refl) (stored-before signs.tells old.keeper new.keeper change Stored.Fault left s)
+judge-fared signs client entry version state change Stored.Yes left old new p s r q = fared-quiet signs old new (ap keeper_faults p) (calm-stored Stored.Yes refl q) (stored-before signs.tells old.keeper new.keeper change Stored.Yes left s)
+judge-fared signs client entry version state change Stored.NoMemory left old new p s r q = fared-quiet signs old new (ap keeper_faults p) (calm-stored Stored.NoMemory refl q) (stored-before signs.tells old.keeper new.keeper change Stored.NoMemory left s)
+judge-fared signs client entry version state change Stored.Unchanged left old new p s r q = absurd s
 
 -- What wasn't for want of memory was stored, or met a fault.
 pub done-stored : (change : Change) (stored : Stored) (old new : List Row → Type 0) (left : Option Change) → StoredAs change stored old new left → (stored ≡ Stored.NoMemory → ⊥) → (stored ≡ Stored.Yes) ⊎ (stored ≡ Stored.Fault)

@@ -116,7 +116,7 @@ module _ (name : Name) (log : List Entry) where
       )
 
 -- Where nothing is out, all boards are at home and all blocks are free.
-pub home-left : {K : Type 0} (told : K → Option (List Row)) (doubted : K → Option Change) (h : Housed K) → IsAnnals h.annals → IsHouse told doubted h → HasNothing (chronicle h) → AllHome h.places
+pub home-left : {K : Type 0} (told : K → List Row → Type 0) (doubted : K → Option Change) (h : Housed K) → IsAnnals h.annals → IsHouse told doubted h → HasNothing (chronicle h) → AllHome h.places
 home-left told doubted h k w n =
     house-home told doubted h w (ap live (sym (past-entries h.annals k)) ∙ n.1)
 
@@ -126,7 +126,7 @@ nothing-held h k n =
     ∙ ap (λ (hs : List Held). blocks_out hs (live (past_seen (chronicle h)))) n.0
     ∙ ap (λ (ls : List LiveEntry). blocks_out [] ls) n.1
 
-pub free-left : {K : Type 0} (told : K → Option (List Row)) (doubted : K → Option Change) (h : Housed K) → IsAnnals h.annals → IsHouse told doubted h → HasNothing (chronicle h) → h.pool.free ≡ h.annals.facts.pool
+pub free-left : {K : Type 0} (told : K → List Row → Type 0) (doubted : K → Option Change) (h : Housed K) → IsAnnals h.annals → IsHouse told doubted h → HasNothing (chronicle h) → h.pool.free ≡ h.annals.facts.pool
 free-left told doubted h k w n =
     let none : held (past h) ≡ 0 = nothing-held h k n in
     let all : h.pool.free + held (past h) ≡ h.annals.facts.pool = w.free in
