@@ -58,7 +58,9 @@ module _ {K : Type 0} (signs : Signs K) where
         planned = plans-picked h.places;
         counted = first-counted h b.counted;
         counts = omega arith;
-        told = tt;
+        grows = omega arith;
+        quiet = λ _. refl;
+        told = λ all t. (all, t);
       })
 
   pub nothing-out : (h : Housed K) → IsAnnals h.annals → IsIdle (past h) → HasNothing (chronicle h)
@@ -90,17 +92,32 @@ module _ {K : Type 0} (signs : Signs K) where
           reopened = n.reopened ∙ sym b.reopened;
         }
 
-    counted-so : (first start : ℕ) → first ≡ signs.faults old.keeper - keeper_faults (past old) → (keeper_faults (past new) + first ≤ signs.faults new.keeper) ⊎ (2 ^ 64 - 1 ≤ signs.faults new.keeper) → KeeperFared signs old new
-    counted-so first start f (inl c) = inl (omega arith)
-    counted-so first start f (inr c) = inr c
+    start-told : name.start_told ≡ keeper_faults (past old)
+    start-told = ap (λ (x : Name). x.start_told) e
+
+    start-faults : name.start_faults ≡ signs.faults old.keeper
+    start-faults = ap (λ (x : Name). x.start_faults) e
+
+    counted-so : (first : ℕ) → first ≡ signs.faults old.keeper - keeper_faults (past old) → (keeper_faults (past new) + first ≤ signs.faults new.keeper) ⊎ (2 ^ 64 - 1 ≤ signs.faults new.keeper) → (keeper_faults (past new) + signs.faults old.keeper ≤ keeper_faults (past old) + signs.faults new.keeper) ⊎ (2 ^ 64 - 1 ≤ signs.faults new.keeper)
+    counted-so first f (inl c) = inl (omega arith)
+    counted-so first f (inr c) = inr c
+
+    fared-so : KeeperFared signs old new
+    fared-so =
+        record {
+          grows = (let start = start-told in let g = n.grows in omega (arith, start, g));
+          counted = counted-so name.first_faults (ap (λ (x : Name). x.first_faults) e) n.counted;
+          quiet = λ q. n.quiet (q ∙ sym start-told) ∙ start-faults;
+          told = λ all t. subst (λ (T : Type 0). T) (ap (λ (x : Name). x.came) e) (n.told all t);
+        }
 
     rest-so : AllHome old.places → HasNothing (chronicle new) → AtRest signs old new
     rest-so home nothing =
         record {
           idle = idle-left new w nothing;
           same = same-facts;
-          counted = counted-so name.first_faults name.start_faults (ap (λ (x : Name). x.first_faults) e) n.counted;
-          counts = (let start : name.start_faults ≡ signs.faults old.keeper = ap (λ (x : Name). x.start_faults) e in let c = n.counts in omega arith);
+          counted = fared-so;
+          counts = (let start = start-faults in let c = n.counts in omega (arith, start, c));
           plans = plans-so home;
         }
 

@@ -24,5 +24,7 @@ begins-named signs h b =
       planned = plans-picked h.places;
       counted = counted-first (keeper_faults (past h)) (signs.faults h.keeper) (2 ^ 64 - 1) b.counted;
       counts = omega arith;
-      told = tt;
+      grows = omega arith;
+      quiet = λ _. refl;
+      told = λ all t. (all, t);
     }
