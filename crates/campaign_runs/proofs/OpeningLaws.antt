@@ -16,8 +16,8 @@ Stays was now before after opening new_opening =
     MatchBool was
     ((now ≡ true) × (new_opening ≡ opening))
     (MatchBool now
-      (AreTold before after new_opening)
-      (StillTold before after × ((new_opening ≡ opening) ⊎ AreTold before after new_opening)))
+    (AreTold before after new_opening)
+    (StillTold before after × ((new_opening ≡ opening) ⊎ AreTold before after new_opening)))
 
 refused-still : (before after came : List Row → Type 0) (opening new_opening : List Row) → StillTold came before → StillTold before after → (new_opening ≡ opening) ⊎ AreTold before after new_opening → (opening ≡ []) ⊎ AreTold came before opening → (new_opening ≡ []) ⊎ AreTold came after new_opening
 refused-still before after came opening new_opening c s (inl o) (inl e) = inl (o ∙ e)

@@ -93,7 +93,7 @@ run-more signs before now means plans scripts count plan old mid begun new at r 
       board_plans = keeps-both old.places mid.places new.places r.board_plans (keeps-both mid.places begun.places new.places b.board_plans m.played.rest.plans);
       opening = told-stays begun.annals.loaded new.annals.loaded (signs.tells begun.keeper) (signs.tells new.keeper) (signs.tells old.keeper) begun.annals.opening new.annals.opening m.played.rest.counted.told
           (stays-same begun.annals.loaded new.annals.loaded (signs.tells begun.keeper) (signs.tells new.keeper) begun.annals.opening new.annals.opening m.played.rest.same.loaded
-              (λ u all t. subst (λ (h : Housed K). signs.tells h.keeper all) (unread u) t) m.played.rest.same.opening)
+          (λ u all t. subst (λ (h : Housed K). signs.tells h.keeper all) (unread u) t) m.played.rest.same.opening)
           (told-stays mid.annals.loaded begun.annals.loaded (signs.tells mid.keeper) (signs.tells begun.keeper) (signs.tells old.keeper) mid.annals.opening begun.annals.opening b.counted.told b.opening r.opening);
     }
   where

@@ -38,8 +38,8 @@ OpeningStays told old new =
     MatchBool old.annals.loaded
     ((new.annals.loaded ≡ true) × (new.annals.opening ≡ old.annals.opening))
     (MatchBool new.annals.loaded
-      (AreTold (told old.keeper) (told new.keeper) new.annals.opening)
-      (StillTold (told old.keeper) (told new.keeper) × ((new.annals.opening ≡ old.annals.opening) ⊎ AreTold (told old.keeper) (told new.keeper) new.annals.opening)))
+    (AreTold (told old.keeper) (told new.keeper) new.annals.opening)
+    (StillTold (told old.keeper) (told new.keeper) × ((new.annals.opening ≡ old.annals.opening) ⊎ AreTold (told old.keeper) (told new.keeper) new.annals.opening)))
 
 -- Where the last boot read the history, nobody opened the keeper again since.
 abbrev pub ReadLast : {K : Type 0} → Housed K → Type 0
