@@ -1,12 +1,14 @@
-use Rattle.std.proofs.Common.{◌≡◌, [], map, Err, inl, inr, subst}
+use Rattle.std.proofs.Common.{[], map, inl, inr, subst, sym}
 use Rattle.std.proofs.lemmas.Result.{err_from_is_err_and}
-use Rattle.history_keeper.specs.declared.refusal.KeeperRefusal.TheVariants.{Fault}
 use Rattle.history_sqlite.specs.Causes.{FailsToOpen}
 use Rattle.history_sqlite.specs.Columns.{taken_over}
 use Rattle.history_sqlite.specs.Finding.{IsAdopted}
 use Rattle.sqlite.specs.Held.{state}
+use Rattle.sqlite.specs.State.{HasCleanDisk}
+use Rattle.history_sqlite.specs.Tables.{HasAny}
 use Rattle.history_sqlite.proofs.Opening.{opened_after, unlimited}
-use Rattle.history_sqlite.proofs.sql_keeper.SqlKeeper.adopt_planned.Goals as goal
+use Rattle.history_sqlite.proofs.TellingLemmas.{knows_opened}
+use Rattle.history_sqlite.proofs.sql_keeper.SqlKeeper.adopt_so.Goals as goal
 
 pub returns-clause-opens : goal.returns-clause-opens
 returns-clause-opens g c clean =
@@ -20,19 +22,21 @@ pub returns-clause-adopted : goal.returns-clause-adopted
 returns-clause-adopted g c clean = subst (IsAdopted g.D.Store) c.set_step_limit.ensures (c.in_ok-open_tables.ensures.adopted (c.load_rows.ensures.clean clean))
 
 pub returns-in_err-open_tables-clause-cause : goal.returns-in_err-open_tables-clause-cause
-returns-in_err-open_tables-clause-cause g c is =
+returns-in_err-open_tables-clause-cause g c =
     let p = err_from_is_err_and c.from_residual.result c.from_residual.ensures.1 in
-    let told : c.from_residual.result ≡ Err p.0 = p.1 in
-    let same = p.2 in
-    let was : c.open_tables.result ≡ Err c.in_err-open_tables.field-0.0 = c.in_err-open_tables.was in
-    let fault : c.open_tables.result ≡ Err Fault = cc in
-    (c.open_tables.new.connection, λ clean. inl (subst (λ h. FailsToOpen g.D.Store h c.open_tables.new.connection) c.set_step_limit.ensures (c.open_tables.ensures.cause clean fault)))
+    rw (p.1, p.2) (c.open_tables.new.connection, λ clean. inl (subst (λ h. FailsToOpen g.D.Store c.in_err-open_tables.field-0.0 h c.open_tables.new.connection) c.set_step_limit.ensures (c.in_err-open_tables.ensures.cause clean)))
 
 pub returns-in_err-_rows-clause-cause : goal.returns-in_err-_rows-clause-cause
-returns-in_err-_rows-clause-cause g c is =
+returns-in_err-_rows-clause-cause g c =
     let p = err_from_is_err_and c.from_residual-in_err-_rows.result c.from_residual-in_err-_rows.ensures.1 in
-    let told : c.from_residual-in_err-_rows.result ≡ Err p.0 = p.1 in
-    let same = p.2 in
-    let was : c.load_rows.result ≡ Err c.in_err-_rows.field-0.0 = c.in_err-_rows.was in
-    let fault : c.load_rows.result ≡ Err Fault = cc in
-    (c.load_rows.new.connection, λ clean. inr (c.open_tables.new.connection, c.load_rows.ensures.cause clean fault))
+    rw (p.1, p.2) (c.load_rows.new.connection, λ clean. inr (c.open_tables.new.connection, c.in_err-_rows.ensures.cause clean))
+
+-- a keeper that may tell has a table, where what is supposed is so
+pub invariant_of-result : goal.invariant_of-result
+invariant_of-result g c = (
+  tt,
+  knows_opened g.D.Lasting.supposed c.args.tells (state g.D.Store c.set_step_limit.new.self) (state g.D.Store c.open_tables.new.connection) (state g.D.Store c.load_rows.new.connection) c.in_ok-_rows._rows.items c.load_rows.ensures.clean
+      (λ clean. c.in_ok-open_tables.ensures.opens clean) c.in_ok-_rows.ensures.loads
+      (λ may so clean. subst (λ h. HasAny (state g.D.Store h)) (sym c.set_step_limit.ensures) (c.requires may so (subst (λ h. HasCleanDisk (state g.D.Store h)) c.set_step_limit.ensures clean)))
+      c.open_tables.ensures.clean,
+)

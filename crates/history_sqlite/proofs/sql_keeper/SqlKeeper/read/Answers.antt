@@ -1,0 +1,31 @@
+use Rattle.std.proofs.Common.{List, refl, subst}
+use Rattle.std.specs.Prelude.{IfOk}
+use Rattle.sqlite.specs.Held.{state}
+use Rattle.history_keeper.specs.declared.row.Row.{Row}
+use Rattle.history_keeper.specs.Keepers.{StillTold}
+use Rattle.history_sqlite.specs.Telling.{TellsRows}
+use Rattle.history_sqlite.proofs.Opening.{if_ok, kept_read}
+use Rattle.history_sqlite.proofs.TellingLemmas.{given, knows_left, still_told}
+use Rattle.history_sqlite.proofs.sql_keeper.SqlKeeper.read.Goals as goal
+
+-- the rows are left, whatever it answers
+pub invariant_of-self : goal.invariant_of-self
+invariant_of-self g c =
+    let s = c.self.inside in (
+      c.self.invariant.0,
+      knows_left g.D.Lasting.supposed (state g.D.Store s.connection) (state g.D.Store c.load_rows.new.connection) c.load_rows.ensures.clean c.load_rows.ensures.open s.tells s.doubt
+          (λ clean is_open. kept_read (state g.D.Store s.connection) (state g.D.Store c.load_rows.new.connection) c.load_rows.result (λ loaded. loaded.items) (c.load_rows.ensures.loads clean) (c.load_rows.ensures.refused clean is_open)) c.self.invariant.1,
+    )
+
+pub returns-clause-unchanged : goal.returns-clause-unchanged
+returns-clause-unchanged g c =
+    let new = (record { connection = c.load_rows.new.connection; doubt = c.self.inside.doubt; plan = c.self.inside.plan.items; calls = c.self.inside.calls; faults = c.self.inside.faults; tells = c.self.inside.tells }) in
+    subst (λ k. StillTold (TellsRows g.D.Store g.D.Lasting.supposed k) (TellsRows g.D.Store g.D.Lasting.supposed new)) c.self.view_is
+    (still_told g.D.Store g.D.Lasting.supposed (record { connection = c.self.inside.connection; doubt = c.self.inside.doubt; plan = c.self.inside.plan.items; calls = c.self.inside.calls; faults = c.self.inside.faults; tells = c.self.inside.tells }) new refl c.self.invariant.1 c.load_rows.ensures.clean c.load_rows.ensures.open
+    (λ clean is_open. kept_read (state g.D.Store c.self.inside.connection) (state g.D.Store c.load_rows.new.connection) c.load_rows.result (λ loaded. loaded.items) (c.load_rows.ensures.loads clean) (c.load_rows.ensures.refused clean is_open)))
+
+pub returns-clause-answer : goal.returns-clause-answer
+returns-clause-answer g c =
+    let new = (record { connection = c.load_rows.new.connection; doubt = c.self.inside.doubt; plan = c.self.inside.plan.items; calls = c.self.inside.calls; faults = c.self.inside.faults; tells = c.self.inside.tells }) in
+    if_ok c.load_rows.result _ (λ loaded is. given g.D.Store g.D.Lasting.supposed (record { connection = c.self.inside.connection; doubt = c.self.inside.doubt; plan = c.self.inside.plan.items; calls = c.self.inside.calls; faults = c.self.inside.faults; tells = c.self.inside.tells }) new refl c.self.invariant.1 c.load_rows.ensures.clean c.load_rows.ensures.open loaded.items
+    (λ clean. rw is at (c.load_rows.ensures.loads clean)))
