@@ -74,13 +74,13 @@ module _ {K : Type 0} (signs : Signs K) where
   pub fared-both : (old mid new : Housed K) → KeeperFared signs old mid → KeeperFared signs mid new → signs.faults mid.keeper ≤ signs.faults new.keeper → KeeperFared signs old new
   fared-both old mid new a b c =
       let first = a.grows in
-      let then = b.grows in
+      let later = b.grows in
       record {
-        grows = omega (arith, first, then);
+        grows = omega (arith, first, later);
         counted = counted-over (2 ^ 64 - 1) (keeper_faults (past old)) (keeper_faults (past mid)) (keeper_faults (past new)) (signs.faults old.keeper) (signs.faults mid.keeper) (signs.faults new.keeper) a.counted b.counted c;
         quiet = λ e.
-            let between : keeper_faults (past mid) ≡ keeper_faults (past old) = omega (arith, first, then, e) in
-            let after : keeper_faults (past new) ≡ keeper_faults (past mid) = omega (arith, first, then, e) in
+            let between : keeper_faults (past mid) ≡ keeper_faults (past old) = omega (arith, first, later, e) in
+            let after : keeper_faults (past new) ≡ keeper_faults (past mid) = omega (arith, first, later, e) in
             b.quiet after ∙ a.quiet between;
         told = told-both signs.tells old.keeper mid.keeper new.keeper a.told b.told;
       }

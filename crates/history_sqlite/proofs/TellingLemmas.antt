@@ -95,14 +95,14 @@ same_rows s a b h k = sym (told_rows s a h) ∙ told_rows s b k
 -- ---- over a call
 
 module _ {D : Type 0} (store : Ghosts D) (supposed : Type 0) (old new : Keeping D) (may : new.tells ≡ old.tells) (knows : Knows old.tells supposed (database store old) old.doubt)
-    (clean : HasCleanDisk (database store new) → HasCleanDisk (database store old)) (open : HasCleanDisk (database store new) → IsTrue (database store new).is_open → IsTrue (database store old).is_open) where
+    (clean : HasCleanDisk (database store new) → HasCleanDisk (database store old)) (was_open : HasCleanDisk (database store new) → IsTrue (database store new).is_open → IsTrue (database store old).is_open) where
   -- a keeper that tells rows now told rows before, which the doubtful change suited
   rows_before : (all : List Row) → TellsRows store supposed new all → (rows : List Row) × TellsRows store supposed old rows × SuitsDoubt old.doubt rows
   rows_before all t =
       let told : old.tells ≡ true = sym may ∙ t.may in
       let k = subst (λ (b : Bool). Knows b supposed (database store old) old.doubt) told knows in
       let was = clean t.clean in
-      let r = k t.store_is was (open t.clean t.holds.is_open) in
+      let r = k t.store_is was (was_open t.clean t.holds.is_open) in
       (r.0, record { may = told; store_is = t.store_is; clean = was; holds = r.1 }, r.2)
 
   -- the rows were left
@@ -127,15 +127,15 @@ module _ {D : Type 0} (store : Ghosts D) (supposed : Type 0) (old new : Keeping 
 
 -- ---- what a keeper knows, over a call of its connection
 
-module _ (supposed : Type 0) (old new : State) (clean : HasCleanDisk new → HasCleanDisk old) (open : HasCleanDisk new → IsTrue new.is_open → IsTrue old.is_open) where
+module _ (supposed : Type 0) (old new : State) (clean : HasCleanDisk new → HasCleanDisk old) (was_open : HasCleanDisk new → IsTrue new.is_open → IsTrue old.is_open) where
   pub knows_left : (tells : Bool) (doubt : Option Doubt) → (HasCleanDisk new → IsTrue new.is_open → Keeps old new) → Knows tells supposed old doubt → Knows tells supposed new doubt
   knows_left false doubt keeps k = tt
-  knows_left true doubt keeps k = λ so c o. let r = k so (clean c) (open c o) in (r.0, keeps c o r.0 r.1, r.2)
+  knows_left true doubt keeps k = λ so c o. let r = k so (clean c) (was_open c o) in (r.0, keeps c o r.0 r.1, r.2)
 
   -- the change suits the rows that are told, so it suits those that are known
   pub knows_made : (tells : Bool) (change : Change) (doubt : Option Doubt) → (tells ≡ true → supposed → HasCleanDisk old → (all : List Row) → HoldsRows old all → Suits change all) → (HasCleanDisk new → Makes old new change) → Knows tells supposed old doubt → Knows tells supposed new None
   knows_made false change doubt suits makes k = tt
-  knows_made true change doubt suits makes k = λ so c o. let r = k so (clean c) (open c o) in (changed change r.0, makes c r.0 r.1 (suits refl so (clean c) r.0 r.1), tt)
+  knows_made true change doubt suits makes k = λ so c o. let r = k so (clean c) (was_open c o) in (changed change r.0, makes c r.0 r.1 (suits refl so (clean c) r.0 r.1), tt)
 
 -- it may be in doubt of a change that suits them
 pub knows_doubted : (supposed : Type 0) (s : State) (tells : Bool) (doubt : Option Doubt) (it : Doubt) → (tells ≡ true → supposed → HasCleanDisk s → (all : List Row) → HoldsRows s all → Suits it.change all) → Knows tells supposed s doubt → Knows tells supposed s (Some it)

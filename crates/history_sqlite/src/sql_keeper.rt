@@ -246,7 +246,7 @@ impl<D: Lasting> SqlKeeper<D> {
         ensures read { HasCleanDisk (database D.Store self.new) → IfOk result (λ loaded. IsRead (database D.Store self.old) (database D.Store self.new) loaded.items) }
         ensures failed { HasCleanDisk (database D.Store self.new) → IfErr result (λ why. FailsToLoad why (database D.Store self.old) (database D.Store self.new)) }
         ensures clean { HasCleanDisk (database D.Store self.new) → HasCleanDisk (database D.Store self.old) }
-        ensures open { HasCleanDisk (database D.Store self.new) → IsTrue (database D.Store self.new).is_open → IsTrue (database D.Store self.old).is_open }
+        ensures was_open { HasCleanDisk (database D.Store self.new) → IsTrue (database D.Store self.new).is_open → IsTrue (database D.Store self.old).is_open }
     {
         load_rows(&mut self.connection, alloc)
     }
@@ -263,7 +263,7 @@ impl<D: Lasting> SqlKeeper<D> {
         ensures refused { HasCleanDisk (database D.Store self.new) → IsTrue (database D.Store self.new).is_open → OnErr result (Keeps (database D.Store self.old) (database D.Store self.new)) }
         ensures failed { HasCleanDisk (database D.Store self.new) → IfErr result (λ why. FailsToMake why change.now (database D.Store self.old) (database D.Store self.new)) }
         ensures clean { HasCleanDisk (database D.Store self.new) → HasCleanDisk (database D.Store self.old) }
-        ensures open { HasCleanDisk (database D.Store self.new) → IsTrue (database D.Store self.new).is_open → IsTrue (database D.Store self.old).is_open }
+        ensures was_open { HasCleanDisk (database D.Store self.new) → IsTrue (database D.Store self.new).is_open → IsTrue (database D.Store self.old).is_open }
     {
         match make(&mut self.connection, change) {
             Ok(()) => {
@@ -283,7 +283,7 @@ impl<D: Lasting> SqlKeeper<D> {
         ensures refused { HasCleanDisk (database D.Store self.new) → IsTrue (database D.Store self.new).is_open → OnErr result (Keeps (database D.Store self.old) (database D.Store self.new)) }
         ensures failed { HasCleanDisk (database D.Store self.new) → IfErr result (λ why. FailsToSettle D.Store why self.old.connection self.new.connection self.old.doubt) }
         ensures clean { HasCleanDisk (database D.Store self.new) → HasCleanDisk (database D.Store self.old) }
-        ensures open { HasCleanDisk (database D.Store self.new) → IsTrue (database D.Store self.new).is_open → IsTrue (database D.Store self.old).is_open }
+        ensures was_open { HasCleanDisk (database D.Store self.new) → IsTrue (database D.Store self.new).is_open → IsTrue (database D.Store self.old).is_open }
     {
         let alloc = self.alloc;
         let _rows = self.read(alloc)?;

@@ -26,7 +26,7 @@ pub fn make<D: Alter>(connection: &mut Connection<D>, change: &Change) -> Result
     ensures refused { HasCleanDisk (state D.Store connection.new) → IsTrue (state D.Store connection.new).is_open → OnErr result (Keeps (state D.Store connection.old) (state D.Store connection.new)) }
     ensures cause { HasCleanDisk (state D.Store connection.new) → IfErr result (λ why. FailsToMake why change.now (state D.Store connection.old) (state D.Store connection.new)) }
     ensures clean { HasCleanDisk (state D.Store connection.new) → HasCleanDisk (state D.Store connection.old) }
-    ensures open { HasCleanDisk (state D.Store connection.new) → IsTrue (state D.Store connection.new).is_open → IsTrue (state D.Store connection.old).is_open }
+    ensures was_open { HasCleanDisk (state D.Store connection.new) → IsTrue (state D.Store connection.new).is_open → IsTrue (state D.Store connection.old).is_open }
 {
     match change {
         Change::Add(row) => insert(connection, row),
@@ -49,7 +49,7 @@ pub fn insert<D: Alter>(connection: &mut Connection<D>, row: &Row) -> Result<(),
     ensures refused { HasCleanDisk (state D.Store connection.new) → IsTrue (state D.Store connection.new).is_open → OnErr result (Keeps (state D.Store connection.old) (state D.Store connection.new)) }
     ensures cause { HasCleanDisk (state D.Store connection.new) → IfErr result (λ why. IsRefused why insert_text (columns_of row.now) (state D.Store connection.old) (state D.Store connection.new)) }
     ensures clean { HasCleanDisk (state D.Store connection.new) → HasCleanDisk (state D.Store connection.old) }
-    ensures open { HasCleanDisk (state D.Store connection.new) → IsTrue (state D.Store connection.new).is_open → IsTrue (state D.Store connection.old).is_open }
+    ensures was_open { HasCleanDisk (state D.Store connection.new) → IsTrue (state D.Store connection.new).is_open → IsTrue (state D.Store connection.old).is_open }
 {
     let columns = columns_of_row(row);
     match connection.execute(
@@ -121,7 +121,7 @@ pub fn update<D: Alter>(
     ensures refused { HasCleanDisk (state D.Store connection.new) → IsTrue (state D.Store connection.new).is_open → OnErr result (Keeps (state D.Store connection.old) (state D.Store connection.new)) }
     ensures cause { HasCleanDisk (state D.Store connection.new) → IfErr result (λ why. IsRefused why update_text (values_of entry reached reason time) (state D.Store connection.old) (state D.Store connection.new)) }
     ensures clean { HasCleanDisk (state D.Store connection.new) → HasCleanDisk (state D.Store connection.old) }
-    ensures open { HasCleanDisk (state D.Store connection.new) → IsTrue (state D.Store connection.new).is_open → IsTrue (state D.Store connection.old).is_open }
+    ensures was_open { HasCleanDisk (state D.Store connection.new) → IsTrue (state D.Store connection.new).is_open → IsTrue (state D.Store connection.old).is_open }
 {
     let values = values_of_state(entry, reached, reason, time);
     match connection.execute(
@@ -159,7 +159,7 @@ pub fn select<D: Alter>(connection: &mut Connection<D>) -> Result<Vec<sqlite::Ro
     ensures cause { HasCleanDisk (state D.Store connection.new) → IfErr result (λ why. IsUnanswered why select_text (state D.Store connection.old) (state D.Store connection.new)) }
     ensures shown { HasCleanDisk (state D.Store connection.new) → IfOk result (λ shown. Shown select_text [] (state D.Store connection.old) (state D.Store connection.new) shown.items) }
     ensures clean { HasCleanDisk (state D.Store connection.new) → HasCleanDisk (state D.Store connection.old) }
-    ensures open { HasCleanDisk (state D.Store connection.new) → IsTrue (state D.Store connection.new).is_open → IsTrue (state D.Store connection.old).is_open }
+    ensures was_open { HasCleanDisk (state D.Store connection.new) → IsTrue (state D.Store connection.new).is_open → IsTrue (state D.Store connection.old).is_open }
 {
     match connection.query_all(
         "SELECT entry, tag, client, device, component, version_old, version_new, digest, flags, state, reason, time_added, time_changed, duration, protocol, retry_of FROM history2 ORDER BY entry",
@@ -181,7 +181,7 @@ pub fn load_rows<D: Alter>(
     ensures refused { HasCleanDisk (state D.Store connection.new) → IsTrue (state D.Store connection.new).is_open → OnErr result (Keeps (state D.Store connection.old) (state D.Store connection.new)) }
     ensures cause { HasCleanDisk (state D.Store connection.new) → IfErr result (λ why. FailsToLoad why (state D.Store connection.old) (state D.Store connection.new)) }
     ensures clean { HasCleanDisk (state D.Store connection.new) → HasCleanDisk (state D.Store connection.old) }
-    ensures open { HasCleanDisk (state D.Store connection.new) → IsTrue (state D.Store connection.new).is_open → IsTrue (state D.Store connection.old).is_open }
+    ensures was_open { HasCleanDisk (state D.Store connection.new) → IsTrue (state D.Store connection.new).is_open → IsTrue (state D.Store connection.old).is_open }
 {
     let table = select(connection)?;
     read_rows(alloc, &table)

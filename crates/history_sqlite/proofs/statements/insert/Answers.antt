@@ -17,8 +17,8 @@ returns-in-Err-clause-refused g c clean is_open rows h =
 pub returns-in-Err-clause-cause : goal.returns-in-Err-clause-cause
 returns-in-Err-clause-cause g c clean = (c.in-Err.error, sym c.refusal_of_error.ensures, rw c.columns_of_row-columns.ensures at (c.in-Err.ensures.runs clean))
 
-pub returns-in-Ok-clause-open : goal.returns-in-Ok-clause-open
-returns-in-Ok-clause-open g c clean is_open = executed_open _ _ (state g.D.Store c.args.connection.now) (state g.D.Store c.execute.new.self) (Ok c.in-Ok.field-0) (c.in-Ok.ensures.runs clean) is_open
+pub returns-in-Ok-clause-was_open : goal.returns-in-Ok-clause-was_open
+returns-in-Ok-clause-was_open g c clean is_open = executed_open _ _ (state g.D.Store c.args.connection.now) (state g.D.Store c.execute.new.self) (Ok c.in-Ok.field-0) (c.in-Ok.ensures.runs clean) is_open
 
-pub returns-in-Err-clause-open : goal.returns-in-Err-clause-open
-returns-in-Err-clause-open g c clean is_open = executed_open _ _ (state g.D.Store c.args.connection.now) (state g.D.Store c.execute.new.self) (Err c.in-Err.error) (c.in-Err.ensures.runs clean) is_open
+pub returns-in-Err-clause-was_open : goal.returns-in-Err-clause-was_open
+returns-in-Err-clause-was_open g c clean is_open = executed_open _ _ (state g.D.Store c.args.connection.now) (state g.D.Store c.execute.new.self) (Err c.in-Err.error) (c.in-Err.ensures.runs clean) is_open

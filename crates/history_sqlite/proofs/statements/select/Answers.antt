@@ -15,8 +15,8 @@ returns-in-Err-clause-refused g c clean is_open rows h =
 pub returns-in-Err-clause-cause : goal.returns-in-Err-clause-cause
 returns-in-Err-clause-cause g c clean = (c.in-Err.error, sym c.refusal_of_error.ensures, c.in-Err.ensures.err clean)
 
-pub returns-in-Ok-clause-open : goal.returns-in-Ok-clause-open
-returns-in-Ok-clause-open g c clean is_open = shown_open _ _ (state g.D.Store c.args.connection.now) (state g.D.Store c.query_all.new.self) c.in-Ok.rows.items (c.in-Ok.ensures.ok clean)
+pub returns-in-Ok-clause-was_open : goal.returns-in-Ok-clause-was_open
+returns-in-Ok-clause-was_open g c clean is_open = shown_open _ _ (state g.D.Store c.args.connection.now) (state g.D.Store c.query_all.new.self) c.in-Ok.rows.items (c.in-Ok.ensures.ok clean)
 
-pub returns-in-Err-clause-open : goal.returns-in-Err-clause-open
-returns-in-Err-clause-open g c clean is_open = unanswered_open _ _ (state g.D.Store c.args.connection.now) (state g.D.Store c.query_all.new.self) c.in-Err.error (c.in-Err.ensures.err clean) is_open
+pub returns-in-Err-clause-was_open : goal.returns-in-Err-clause-was_open
+returns-in-Err-clause-was_open g c clean is_open = unanswered_open _ _ (state g.D.Store c.args.connection.now) (state g.D.Store c.query_all.new.self) c.in-Err.error (c.in-Err.ensures.err clean) is_open

@@ -14,7 +14,7 @@ invariant_of-self g c =
     let s = c.self.inside in
     let suits = subst (λ k. (all : List Row) → TellsRows g.D.Store g.D.Lasting.supposed k all → Suits c.args.change.now all) (sym c.self.view_is) c.requires.suits in (
       tt,
-      knows_made g.D.Lasting.supposed (state g.D.Store s.connection) (state g.D.Store c.make.new.connection) c.make.ensures.clean c.make.ensures.open s.tells c.args.change.now s.doubt
+      knows_made g.D.Lasting.supposed (state g.D.Store s.connection) (state g.D.Store c.make.new.connection) c.make.ensures.clean c.make.ensures.was_open s.tells c.args.change.now s.doubt
           (λ may so clean all holds. suits all (record { may = may; store_is = so; clean = clean; holds = holds })) c.in-Ok.ensures.makes c.self.invariant.1,
     )
 
@@ -22,7 +22,7 @@ pub invariant_of-self-in-Err : goal.invariant_of-self-in-Err
 invariant_of-self-in-Err g c =
     let s = c.self.inside in (
       c.self.invariant.0,
-      knows_left g.D.Lasting.supposed (state g.D.Store s.connection) (state g.D.Store c.make.new.connection) c.make.ensures.clean c.make.ensures.open s.tells s.doubt c.in-Err.ensures.refused c.self.invariant.1,
+      knows_left g.D.Lasting.supposed (state g.D.Store s.connection) (state g.D.Store c.make.new.connection) c.make.ensures.clean c.make.ensures.was_open s.tells s.doubt c.in-Err.ensures.refused c.self.invariant.1,
     )
 
 pub returns-in-Ok-clause-made : goal.returns-in-Ok-clause-made
@@ -30,10 +30,10 @@ returns-in-Ok-clause-made g c =
     let suits = subst (λ k. (all : List Row) → TellsRows g.D.Store g.D.Lasting.supposed k all → Suits c.args.change.now all) (sym c.self.view_is) c.requires.suits in
     let new = (record { connection = c.make.new.connection; doubt = None; plan = c.self.inside.plan.items; calls = c.self.inside.calls; faults = c.self.inside.faults; tells = c.self.inside.tells }) in
     subst (λ k. ToldWith c.args.change.now (TellsRows g.D.Store g.D.Lasting.supposed k) (TellsRows g.D.Store g.D.Lasting.supposed new)) c.self.view_is
-    (told_made g.D.Store g.D.Lasting.supposed (record { connection = c.self.inside.connection; doubt = c.self.inside.doubt; plan = c.self.inside.plan.items; calls = c.self.inside.calls; faults = c.self.inside.faults; tells = c.self.inside.tells }) new refl c.self.invariant.1 c.make.ensures.clean c.make.ensures.open c.args.change.now suits c.in-Ok.ensures.makes)
+    (told_made g.D.Store g.D.Lasting.supposed (record { connection = c.self.inside.connection; doubt = c.self.inside.doubt; plan = c.self.inside.plan.items; calls = c.self.inside.calls; faults = c.self.inside.faults; tells = c.self.inside.tells }) new refl c.self.invariant.1 c.make.ensures.clean c.make.ensures.was_open c.args.change.now suits c.in-Ok.ensures.makes)
 
 pub returns-in-Err-clause-unchanged : goal.returns-in-Err-clause-unchanged
 returns-in-Err-clause-unchanged g c =
     let new = (record { connection = c.make.new.connection; doubt = c.self.inside.doubt; plan = c.self.inside.plan.items; calls = c.self.inside.calls; faults = c.self.inside.faults; tells = c.self.inside.tells }) in
     subst (λ k. StillTold (TellsRows g.D.Store g.D.Lasting.supposed k) (TellsRows g.D.Store g.D.Lasting.supposed new)) c.self.view_is
-    (still_told g.D.Store g.D.Lasting.supposed (record { connection = c.self.inside.connection; doubt = c.self.inside.doubt; plan = c.self.inside.plan.items; calls = c.self.inside.calls; faults = c.self.inside.faults; tells = c.self.inside.tells }) new refl c.self.invariant.1 c.make.ensures.clean c.make.ensures.open c.in-Err.ensures.refused)
+    (still_told g.D.Store g.D.Lasting.supposed (record { connection = c.self.inside.connection; doubt = c.self.inside.doubt; plan = c.self.inside.plan.items; calls = c.self.inside.calls; faults = c.self.inside.faults; tells = c.self.inside.tells }) new refl c.self.invariant.1 c.make.ensures.clean c.make.ensures.was_open c.in-Err.ensures.refused)
