@@ -1,3 +1,4 @@
 pub mod Following
+pub mod Memories
 pub mod Prefixes
 pub mod Numbered
