@@ -3,9 +3,10 @@ use Rattle.update_log.specs.declared.answer.ClaimAnswer.{ClaimAnswer}
 use Rattle.update_log.specs.declared.event.Event.{Event}
 use Rattle.daemon_core.specs.Annals.{Appended}
 use Rattle.daemon_core.specs.Fetches.{note_of}
+use Rattle.daemon_core.specs.Turns.{signs_of}
 use Rattle.daemon_core.proofs.ClaimExits.{faults-unclaimed, refused-answers, refused-none, same-faults}
 use Rattle.daemon_core.proofs.ClaimRoom.{places-same}
-use Rattle.daemon_core.proofs.ClaimTurns.{answers-kept, signs_of}
+use Rattle.daemon_core.proofs.ClaimTurns.{answers-kept}
 use Rattle.daemon_core.proofs.house.House.claim_in.Goals as goal
 
 pub accept-requires-clause-accepted : goal.accept-requires-clause-accepted

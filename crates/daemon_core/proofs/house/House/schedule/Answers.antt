@@ -6,6 +6,7 @@ use Rattle.update_log.specs.Pasts.{meets_fault}
 use Rattle.daemon_core.specs.Housed.{Annalled, Housed, past_in, rows_before}
 use Rattle.daemon_core.specs.Keeping.{keeper_faults}
 use Rattle.daemon_core.specs.Quiet.{is_quiet}
+use Rattle.daemon_core.proofs.ClaimAnswers.{faults-after}
 use Rattle.daemon_core.proofs.PuttingOff.{quiet-faults, refusal-other}
 use Rattle.daemon_core.proofs.house.House.schedule.Goals as goal
 use Rattle.daemon_core.proofs.Fared.{fared-same}
@@ -34,3 +35,7 @@ returns-in-Refused-clause-fared g c =
     (quiet-faults c.args.client c.put_off-in-Refused.result c.enter.new.self.annals c.note-in-Refused.new.self.annals c.note-in-Refused.ensures.appended (ap meets_fault c.put_off-in-Refused.ensures ∙ r)
     ∙ ap (λ (x : Annalled). keeper_faults (past_in x)) c.in_ok-enter.ensures.entered.same)
     (c.note-in-Refused.ensures.elsewhere.keeper ∙ c.in_ok-enter.ensures.elsewhere.keeper)
+
+pub returns-in-Accept-clause-fared : goal.returns-in-Accept-clause-fared
+returns-in-Accept-clause-fared g c =
+    faults-after (signs_of g.K.Keeper.tells g.K.Keeper.faults) c.args.self.now c.enter.new.self c.put_off.new.self (ap (λ (x : Annalled). keeper_faults (past_in x)) c.in_ok-enter.ensures.entered.same) c.in_ok-enter.ensures.elsewhere.keeper c.put_off.ensures.counts c.put_off.ensures.fared
