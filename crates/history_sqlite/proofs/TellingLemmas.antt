@@ -22,7 +22,7 @@ use Rattle.history_sqlite.specs.Columns.{state_in, state_number, taken_over, tex
 use Rattle.history_sqlite.specs.Finding.{table_with}
 use Rattle.history_sqlite.specs.Keeping.{Keeping, doubtful}
 use Rattle.history_sqlite.specs.Tables.{Layout, HasAny, HoldsRows, Keeps, Loads, Makes, Opens, history_schema, rows_tree, stored}
-use Rattle.history_sqlite.specs.Telling.{Knows, Settles, SuitsDoubt, TellsRows, database}
+use Rattle.history_sqlite.specs.Telling.{Knows, SettledSo, Settles, SuitsDoubt, TellsRows, database}
 
 -- ---- a table holds one list of rows: each is read back from what is stored
 
@@ -157,6 +157,11 @@ knows_opened supposed true old mid new loaded late opens loads any before = λ s
     at o l (inr (inr blank)) = ([], (l [] (o.1.1 blank)).1, tt)
 
 -- ---- what a reopening settles
+
+-- it stays settled over a call that leaves the rows
+pub still_settled : (first old new : State) (doubt left : Option Doubt) → (HasCleanDisk new → HasCleanDisk old) → (HasCleanDisk new → IsTrue new.is_open → IsTrue old.is_open) → (HasCleanDisk new → IsTrue new.is_open → Keeps old new) → SettledSo first old doubt left → SettledSo first new doubt left
+still_settled first old new doubt left clean was_open keeps s =
+    record { no_doubt = s.no_doubt; settles = λ c o rows holds suits. keeps c o (kept doubt rows) (s.settles (clean c) (was_open c o) rows holds suits) }
 
 kept_is : (change : Change) (keep : Bool) (rows : List Row) → keep ≡ true → kept (Some (record { change = change; keep = keep })) rows ≡ changed change rows
 kept_is change true rows h = refl

@@ -9,19 +9,22 @@ use Rattle.history_keeper.specs.declared.plan.KeeperPlan.{KeeperPlan}
 use Rattle.history_keeper.specs.Changes.{Suits}
 use Rattle.history_keeper.specs.Memories.{kept}
 use Rattle.history_sqlite.specs.Tables.{HoldsRows}
-use Rattle.history_sqlite.specs.Keeping.{Keeping, doubtful}
+use Rattle.history_sqlite.specs.Keeping.{Keeping}
 
 -- The database of a keeper.
 abbrev pub database : {D : Type 0} → Ghosts D → Keeping D → State
 database store keeping = state store keeping.connection
 
--- The keeper tells these rows: it was made so that it may, what is supposed of its store is so, the disk returned
--- what was written, and the table has them.
-pub record TellsRows {D : Type 0} (store : Ghosts D) (supposed : Type 0) (keeping : Keeping D) (all : List Row) : Type 0 where
-  pub may : keeping.tells ≡ true
+-- A keeper over a database tells these rows: it was made so that it may, what is supposed of its store is so, the
+-- disk returned what was written, and the table has them.
+pub record TellsSo (tells : Bool) (supposed : Type 0) (s : State) (all : List Row) : Type 0 where
+  pub may : tells ≡ true
   pub store_is : supposed
-  pub clean : HasCleanDisk (database store keeping)
-  pub holds : HoldsRows (database store keeping) all
+  pub clean : HasCleanDisk s
+  pub holds : HoldsRows s all
+
+abbrev pub TellsRows : {D : Type 0} → Ghosts D → Type 0 → Keeping D → List Row → Type 0
+TellsRows store supposed keeping all = TellsSo keeping.tells supposed (database store keeping) all
 
 -- The doubtful change suits the rows, and its times fit the table.
 abbrev pub SuitsDoubt : Option Doubt → List Row → Type 0
@@ -32,11 +35,15 @@ SuitsDoubt (Some doubt) rows = Suits doubt.change rows
 abbrev pub Settles : State → State → Option Doubt → Type 0
 Settles old new doubt = (rows : List Row) → HoldsRows old rows → SuitsDoubt doubt rows → HoldsRows new (kept doubt rows)
 
--- The keeper is what a reopening made of the first, while the disk returns what was written and the connection is
--- open: nothing is in doubt, and the doubtful change was settled.
-pub record IsSettled {D : Type 0} (store : Ghosts D) (first keeping : Keeping D) : Type 0 where
-  pub no_doubt : doubtful keeping ≡ None
-  pub settles : HasCleanDisk (database store keeping) → IsTrue (database store keeping).is_open → Settles (database store first) (database store keeping) first.doubt
+-- A reopening made this database of the first, while the disk returns what was written and the connection is open:
+-- nothing is left in doubt, and the doubtful change was settled.
+pub record SettledSo (first s : State) (doubt left : Option Doubt) : Type 0 where
+  pub no_doubt : left ≡ None
+  pub settles : HasCleanDisk s → IsTrue s.is_open → Settles first s doubt
+
+-- The keeper is what a reopening made of the first.
+abbrev pub IsSettled : {D : Type 0} → Ghosts D → Keeping D → Keeping D → Type 0
+IsSettled store first keeping = SettledSo (database store first) (database store keeping) first.doubt keeping.doubt
 
 -- A keeper that may tell has rows in its table, which the doubtful change suits. So it is as long as what is
 -- supposed of its store is so, the disk returns what was written, and the connection is open.
