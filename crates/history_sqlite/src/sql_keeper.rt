@@ -156,6 +156,7 @@ impl<D: Lasting + Drop> SqlKeeper<D> {
         requires { tells ≡ true → D.Lasting.supposed → HasCleanDisk (state D.Store connection) → HasAny (state D.Store (record connection { step_limit = None })) }
         ensures unused { IfOk result (λ keeper. IsUnused tells plan.items keeper) }
         ensures opens { IfOk result (λ keeper. HasCleanDisk (database D.Store keeper) → Opens (state D.Store connection) (database D.Store keeper)) }
+        ensures clean { IfOk result (λ keeper. HasCleanDisk (database D.Store keeper) → HasCleanDisk (state D.Store connection)) }
         ensures adopted { IfOk result (λ keeper. HasCleanDisk (database D.Store keeper) → IsAdopted D.Store (record connection { step_limit = None })) }
         ensures cause { IfErr result (λ why. IsUnadopted D.Store why (record connection { step_limit = None })) }
     {

@@ -40,3 +40,6 @@ invariant_of-result g c = (
       (λ may so clean. subst (λ h. HasAny (state g.D.Store h)) (sym c.set_step_limit.ensures) (c.requires may so (subst (λ h. HasCleanDisk (state g.D.Store h)) c.set_step_limit.ensures clean)))
       c.open_tables.ensures.clean,
 )
+
+pub returns-clause-clean : goal.returns-clause-clean
+returns-clause-clean g c clean = subst (λ h. HasCleanDisk (state g.D.Store h)) c.set_step_limit.ensures (c.open_tables.ensures.clean (c.load_rows.ensures.clean clean))
