@@ -121,6 +121,10 @@ pub if_err : {T E : Type 0} (r : Result T E) (P : E → Type 0) → ((e : E) →
 if_err (Ok x) P each = tt
 if_err (Err e) P each = each e refl
 
+pub on_err : {T E P : Type 0} (r : Result T E) → ((e : E) → r ≡ Err e → P) → OnErr r P
+on_err (Ok x) each = tt
+on_err (Err e) each = each e refl
+
 pub if_ok : {T E : Type 0} (r : Result T E) (P : T → Type 0) → ((x : T) → r ≡ Ok x → P x) → IfOk r P
 if_ok (Ok x) P each = each x refl
 if_ok (Err e) P each = tt

@@ -242,6 +242,7 @@ impl<D: Lasting> SqlKeeper<D> {
         ensures same { self.new ≡ record self.old { connection = self.new.connection } }
         ensures answer { IfOk result (λ loaded. (all : List Row) → TellsRows D.Store D.Lasting.supposed self.new all → loaded.items ≡ all) }
         ensures unchanged { StillTold (TellsRows D.Store D.Lasting.supposed self.old) (TellsRows D.Store D.Lasting.supposed self.new) }
+        ensures settled { StillSettled (IsSettled D.Store) self.old self.new }
         ensures loads { HasCleanDisk (database D.Store self.new) → IfOk result (λ loaded. Loads (database D.Store self.old) (database D.Store self.new) loaded.items) }
         ensures refused { HasCleanDisk (database D.Store self.new) → IsTrue (database D.Store self.new).is_open → OnErr result (Keeps (database D.Store self.old) (database D.Store self.new)) }
         ensures read { HasCleanDisk (database D.Store self.new) → IfOk result (λ loaded. IsRead (database D.Store self.old) (database D.Store self.new) loaded.items) }
@@ -278,6 +279,8 @@ impl<D: Lasting> SqlKeeper<D> {
     // Reads the rows once more, and then makes the doubtful change where it is to be kept.
     fn settle(&mut self) -> Result<(), KeeperRefusal>
         ensures reopened { Reopened result (TellsRows D.Store D.Lasting.supposed self.old) (doubtful self.old) (TellsRows D.Store D.Lasting.supposed self.new) (doubtful self.new) }
+        ensures clear { OnOk result (self.new.doubt ≡ None) }
+        ensures still { OnErr result (StillSettled (IsSettled D.Store) self.old self.new) }
         ensures same { self.new ≡ record self.old { connection = self.new.connection; doubt = self.new.doubt } }
         ensures settles { HasCleanDisk (database D.Store self.new) → OnOk result (Settles (database D.Store self.old) (database D.Store self.new) self.old.doubt) }
         ensures reads { HasCleanDisk (database D.Store self.new) → OnOk result (IsReadAgain D.Store self.old.connection) }

@@ -2,9 +2,9 @@ use Rattle.std.proofs.Common.{◌≡◌, ◌∙◌, Some, inr, sym, ap, subst}
 use Rattle.std.proofs.lemmas.Result.{IfErr-weaker, on_ok_weaker, on_err_weaker}
 use Rattle.sqlite.specs.State.{HasCleanDisk}
 use Rattle.history_sqlite.specs.Keeping.{Keeping}
-use Rattle.history_sqlite.specs.Telling.{TellsRows, database}
-use Rattle.history_sqlite.proofs.Opening.{where_ok}
-use Rattle.history_sqlite.proofs.TellingLemmas.{reopened_written, settled}
+use Rattle.history_sqlite.specs.Telling.{SettledSo, TellsRows, database}
+use Rattle.history_sqlite.proofs.Opening.{on_err, where_ok}
+use Rattle.history_sqlite.proofs.TellingLemmas.{reopened_written, settled, still_settled}
 use Rattle.history_sqlite.proofs.sql_keeper.SqlKeeper.settle.Goals as goal
 
 pub returns-in-Some-clause-settles : goal.returns-in-Some-clause-settles
@@ -41,3 +41,13 @@ returns-in-Some-clause-reopened g c =
     let tells = TellsRows g.D.Store g.D.Lasting.supposed in
     reopened_written tells c.args.self.now c.read.new.self c.write.new.self c.write.result c.in-Some.doubt doubt
     (ap (λ (k : Keeping g.row.D.Denot). k.doubt) c.read.ensures.same) c.read.ensures.unchanged c.write.ensures.made c.write.ensures.no_doubt c.write.ensures.unchanged c.write.ensures.same
+
+pub returns-in-Some-clause-still : goal.returns-in-Some-clause-still
+returns-in-Some-clause-still g c =
+    let mid = c.read.new.self in
+    let new = c.write.new.self in
+    on_err c.write.result (λ e is first s.
+    let same : new ≡ record mid { connection = new.connection } = rw is at c.write.ensures.same in
+    subst (λ left. SettledSo (database g.D.Store first) (database g.D.Store new) first.doubt left) (sym (ap (λ (k : Keeping g.row.D.Denot). k.doubt) same))
+    (still_settled (database g.D.Store first) (database g.D.Store mid) (database g.D.Store new) first.doubt mid.doubt c.write.ensures.clean c.write.ensures.was_open
+    (λ clean is_open. rw is at (c.write.ensures.refused clean is_open)) (c.read.ensures.settled first s)))
