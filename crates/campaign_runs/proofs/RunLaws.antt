@@ -11,7 +11,8 @@ use Rattle.update_log.specs.declared.facts.Facts.{Facts}
 use Rattle.update_log.specs.Pasts.{boots, is_boot, off}
 use Rattle.daemon_core.specs.Housed.{Housed, past, rows_before}
 use Rattle.daemon_core.specs.Keeping.{keeper_faults, last_faulted}
-use Rattle.daemon_core.specs.Turns.{FaultsCounted}
+use Rattle.daemon_core.specs.Turns.{KeeperFared, Signs}
+use Rattle.daemon_core.proofs.Fared.{fared-both, fared-here}
 use Rattle.daemon_core.proofs.Planned.{keeps-both, keeps-here}
 use Rattle.client_scripts.specs.declared.item.Item.{Item}
 use Rattle.client_plays.specs.Moments.{Grew, began, mine}
@@ -21,11 +22,11 @@ use Rattle.client_plays.specs.Endings.{HouseBootPlayed, IsCounted, IsIdle}
 use Rattle.client_plays.specs.Tools.{Means}
 use Rattle.client_plays.proofs.BootLaws.{so-told}
 use Rattle.client_plays.proofs.MomentLaws.{grew-boots}
-use Rattle.client_plays.proofs.RestLaws.{before-same, counted-both}
+use Rattle.client_plays.proofs.RestLaws.{before-same}
 use Rattle.campaign_runs.specs.declared.ending.Ending.{Ending}
 use Rattle.campaign_runs.specs.Planned.{BootsPlanned}
 use Rattle.campaign_runs.specs.Runs.{BootMore, CampaignRan, EndedSo, HasBegun, NoneBegan, RanSoFar, ReadLast, StoppedBy}
-use Rattle.campaign_runs.proofs.OpeningLaws.{told-new, told-same}
+use Rattle.campaign_runs.proofs.OpeningLaws.{stays-same, told-new, told-stays}
 use Rattle.campaign_runs.proofs.FaultBoots.{faults-earlier, faults-played}
 use Rattle.campaign_runs.proofs.PlannedLaws.{earlier-grown, planned-grown}
 
@@ -53,8 +54,8 @@ earlier-told before now facts opening means scripts (event ∷ past) h p = (
 )
 
 -- The boots before one that just began.
-earlier-begun : {K : Type 0} (told : K → Option (List Row)) (faults : K → ℕ) (wanting : Bool) (means : ℕ → Means) (plan : BootPlan) (scripts : List (List (List Item))) (count : ℕ) (mid begun : Housed K) → HasBegun told faults plan mid begun → boots (past mid) ≡ count → BootPlayed wanting mid.annals.facts (rows_before mid.annals) means (scripts_in scripts count) (past mid) → EarlierPlayed wanting mid.annals.facts (rows_before mid.annals) means scripts (past mid) → EarlierPlayed wanting mid.annals.facts (rows_before begun.annals) means scripts (past begun)
-earlier-begun told faults wanting means plan scripts count mid begun b n p e =
+earlier-begun : {K : Type 0} (signs : Signs K) (wanting : Bool) (means : ℕ → Means) (plan : BootPlan) (scripts : List (List (List Item))) (count : ℕ) (mid begun : Housed K) → HasBegun signs plan mid begun → boots (past mid) ≡ count → BootPlayed wanting mid.annals.facts (rows_before mid.annals) means (scripts_in scripts count) (past mid) → EarlierPlayed wanting mid.annals.facts (rows_before mid.annals) means scripts (past mid) → EarlierPlayed wanting mid.annals.facts (rows_before begun.annals) means scripts (past begun)
+earlier-begun signs wanting means plan scripts count mid begun b n p e =
     let facts = mid.annals.facts in
     let P = λ (o : List Row). BootPlayed wanting facts o means (scripts_in scripts (boots (past mid))) (past mid) × EarlierPlayed wanting facts o means scripts (past mid) in
     let both : P (rows_before begun.annals) =
@@ -66,15 +67,15 @@ earlier-begun told faults wanting means plan scripts count mid begun b n p e =
     subst (EarlierPlayed wanting facts (rows_before begun.annals) means scripts) (sym b.past_is) both
 
 -- One boot more was started and played.
-pub run-more : {K : Type 0} (told : K → Option (List Row)) (faults : K → ℕ) (before now : Bool) (means : ℕ → Means) (plans : List BootPlan) (scripts : List (List (List Item))) (count : ℕ) (plan : BootPlan) (old mid begun new : Housed K) → slice_get plans count ≡ Some plan → RanSoFar told faults before means plans scripts count old mid → HasBegun told faults plan mid begun → BootMore faults now before means (scripts_in scripts (count + 1)) begun new → (begun.annals.loaded ≡ false → new ≡ begun) → RanSoFar told faults now means plans scripts (count + 1) old new
-run-more told faults before now means plans scripts count plan old mid begun new at r b m unread =
+pub run-more : {K : Type 0} (signs : Signs K) (before now : Bool) (means : ℕ → Means) (plans : List BootPlan) (scripts : List (List (List Item))) (count : ℕ) (plan : BootPlan) (old mid begun new : Housed K) → slice_get plans count ≡ Some plan → RanSoFar signs before means plans scripts count old mid → HasBegun signs plan mid begun → BootMore signs now before means (scripts_in scripts (count + 1)) begun new → (begun.annals.loaded ≡ false → new ≡ begun) → RanSoFar signs now means plans scripts (count + 1) old new
+run-more signs before now means plans scripts count plan old mid begun new at r b m unread =
     let g = m.played.grew in
     let facts : new.annals.facts ≡ mid.annals.facts = m.played.rest.same.facts ∙ b.facts in
     let rows : rows_before new.annals ≡ rows_before begun.annals = before-same begun.annals new.annals m.played.rest.same in
     let n : boots (past begun) ≡ count + 1 = ap boots b.past_is ∙ ap (λ (k : ℕ). k + 1) r.count_is in
     let planned : BootsPlanned plans (past begun) =
     subst (BootsPlanned plans) (sym b.past_is) ((plan, subst (λ (k : ℕ). slice_get plans k ≡ Some plan) (sym r.count_is) at, b.planned), r.planned) in
-    let earlier = earlier-begun told faults before means plan scripts count mid begun b r.count_is (midfacts r.played) r.earlier in
+    let earlier = earlier-begun signs before means plan scripts count mid begun b r.count_is (midfacts r.played) r.earlier in
     let grown = earlier-grown before mid.annals.facts (rows_before begun.annals) means scripts (past begun) (past new) g earlier in
     let E = λ (f : Facts) (o : List Row). EarlierPlayed now f o means scripts (past new) in
     let B = λ (f : Facts) (o : List Row). BootPlayed now f o means (scripts_in scripts (count + 1)) (past new) in
@@ -87,11 +88,13 @@ run-more told faults before now means plans scripts count plan old mid begun new
       earlier = subst (λ (f : Facts). E f (rows_before new.annals)) (sym facts) (subst (λ (o : List Row). E mid.annals.facts o) (sym rows)
           (earlier-told before now mid.annals.facts (rows_before begun.annals) means scripts (past new) m.told grown));
       idle = m.played.rest.idle;
-      counted = counted-both faults old mid new r.counted (counted-both faults mid begun new b.counted m.played.rest.counted m.played.rest.counts) (le-both _ _ _ b.counts m.played.rest.counts);
+      counted = fared-both signs old mid new r.counted (fared-both signs mid begun new b.counted m.played.rest.counted m.played.rest.counts) (le-both _ _ _ b.counts m.played.rest.counts);
       counts = le-both _ _ _ r.counts (le-both _ _ _ b.counts m.played.rest.counts);
       board_plans = keeps-both old.places mid.places new.places r.board_plans (keeps-both mid.places begun.places new.places b.board_plans m.played.rest.plans);
-      opening = told-same begun.annals.loaded new.annals.loaded (told begun.keeper) (told new.keeper) (told old.keeper) begun.annals.opening new.annals.opening m.played.rest.same.loaded
-          (λ u. ap (λ (h : Housed _). told h.keeper) (unread u)) m.played.rest.same.opening (b.opening (told old.keeper) r.opening);
+      opening = told-stays begun.annals.loaded new.annals.loaded (signs.tells begun.keeper) (signs.tells new.keeper) (signs.tells old.keeper) begun.annals.opening new.annals.opening m.played.rest.counted.told
+          (stays-same begun.annals.loaded new.annals.loaded (signs.tells begun.keeper) (signs.tells new.keeper) begun.annals.opening new.annals.opening m.played.rest.same.loaded
+          (λ u all t. subst (λ (h : Housed K). signs.tells h.keeper all) (unread u) t) m.played.rest.same.opening)
+          (told-stays mid.annals.loaded begun.annals.loaded (signs.tells mid.keeper) (signs.tells begun.keeper) (signs.tells old.keeper) mid.annals.opening begun.annals.opening b.counted.told b.opening r.opening);
     }
   where
     midfacts : BootPlayed before mid.annals.facts (rows_before mid.annals) means (scripts_in scripts count) (past mid) → BootPlayed before mid.annals.facts (rows_before mid.annals) means (scripts_in scripts count) (past mid)
@@ -101,8 +104,8 @@ run-more told faults before now means plans scripts count plan old mid begun new
     le-both a b c x y = omega arith
 
 -- No boot was begun.
-pub run-stopped : {K : Type 0} (told : K → Option (List Row)) (faults : K → ℕ) (wanting : Bool) (means : ℕ → Means) (plans : List BootPlan) (scripts : List (List (List Item))) (count : ℕ) (old mid new : Housed K) → RanSoFar told faults wanting means plans scripts count old mid → NoneBegan told faults mid new → RanSoFar told faults wanting means plans scripts count old new
-run-stopped told faults wanting means plans scripts count old mid new r n =
+pub run-stopped : {K : Type 0} (signs : Signs K) (wanting : Bool) (means : ℕ → Means) (plans : List BootPlan) (scripts : List (List (List Item))) (count : ℕ) (old mid new : Housed K) → RanSoFar signs wanting means plans scripts count old mid → NoneBegan signs mid new → RanSoFar signs wanting means plans scripts count old new
+run-stopped signs wanting means plans scripts count old mid new r n =
     let B = λ (f : Facts) (o : List Row) (p : List Event). BootPlayed wanting f o means (scripts_in scripts count) p in
     let E = λ (f : Facts) (o : List Row) (p : List Event). EarlierPlayed wanting f o means scripts p in
     record {
@@ -115,15 +118,15 @@ run-stopped told faults wanting means plans scripts count old mid new r n =
       earlier = subst (λ (f : Facts). E f (rows_before new.annals) (past new)) (sym n.facts)
           (subst (λ (o : List Row). E mid.annals.facts o (past new)) (sym n.before) (subst (λ (p : List Event). E mid.annals.facts (rows_before mid.annals) p) (sym n.past_is) r.earlier));
       idle = subst IsIdle (sym n.past_is) r.idle;
-      counted = counted-both faults old mid new r.counted n.counted n.counts;
+      counted = fared-both signs old mid new r.counted n.counted n.counts;
       counts = omega arith;
       board_plans = keeps-both old.places mid.places new.places r.board_plans n.board_plans;
-      opening = n.opening (told old.keeper) r.opening;
+      opening = told-stays mid.annals.loaded new.annals.loaded (signs.tells mid.keeper) (signs.tells new.keeper) (signs.tells old.keeper) mid.annals.opening new.annals.opening n.counted.told n.opening r.opening;
     }
 
 -- Nothing was run yet.
-pub run-none : {K : Type 0} (told : K → Option (List Row)) (faults : K → ℕ) (wanting : Bool) (means : ℕ → Means) (plans : List BootPlan) (scripts : List (List (List Item))) (h : Housed K) → past h ≡ [] → h.annals.loaded ≡ false → h.annals.opening ≡ [] → RanSoFar told faults wanting means plans scripts 0 h h
-run-none told faults wanting means plans scripts h e unread blank =
+pub run-none : {K : Type 0} (signs : Signs K) (wanting : Bool) (means : ℕ → Means) (plans : List BootPlan) (scripts : List (List (List Item))) (h : Housed K) → past h ≡ [] → h.annals.loaded ≡ false → h.annals.opening ≡ [] → RanSoFar signs wanting means plans scripts 0 h h
+run-none signs wanting means plans scripts h e unread blank =
     record {
       facts = refl;
       first = refl;
@@ -132,10 +135,10 @@ run-none told faults wanting means plans scripts h e unread blank =
       played = subst (λ (p : List Event). BootPlayed wanting h.annals.facts (rows_before h.annals) means (scripts_in scripts 0) p) (sym e) (faults-played wanting h.annals.facts (rows_before h.annals) means scripts [] tt);
       earlier = subst (EarlierPlayed wanting h.annals.facts (rows_before h.annals) means scripts) (sym e) tt;
       idle = subst IsIdle (sym e) (record { no_hold = refl; no_live = refl });
-      counted = inl (omega arith);
+      counted = fared-here signs h;
       counts = omega arith;
       board_plans = keeps-here h.places;
-      opening = told-new h.annals.loaded (told h.keeper) h.annals.opening unread blank;
+      opening = told-new h.annals.loaded (signs.tells h.keeper) h.annals.opening unread blank;
     }
 
 -- The last boot is that which was played.
@@ -149,8 +152,8 @@ faulted-more (event ∷ more) past b =
 pub grew-faulted : (old new : List Event) → Grew old new → last_faulted new ≡ last_faulted old
 grew-faulted old new g = ap last_faulted g.are ∙ faulted-more g.more old g.no_boot
 
-pub run-read : {K : Type 0} (told : K → Option (List Row)) (faults : K → ℕ) (now before : Bool) (means : ℕ → Means) (of_boot : List (List Item)) (plan : BootPlan) (mid begun new : Housed K) → HasBegun told faults plan mid begun → BootMore faults now before means of_boot begun new → ReadLast new
-run-read told faults now before means of_boot plan mid begun new b m f =
+pub run-read : {K : Type 0} (signs : Signs K) (now before : Bool) (means : ℕ → Means) (of_boot : List (List Item)) (plan : BootPlan) (mid begun new : Housed K) → HasBegun signs plan mid begun → BootMore signs now before means of_boot begun new → ReadLast new
+run-read signs now before means of_boot plan mid begun new b m f =
     m.played.rest.same.reopened ∙ b.read (sym (grew-faulted (past begun) (past new) m.played.grew) ∙ f)
 
 -- Memory was wanting now, or before.
@@ -162,8 +165,8 @@ or-other : (a b : Bool) → b ≡ true → (a || b) ≡ true
 or-other true b e = refl
 or-other false b e = e
 
-pub boot-either : {K : Type 0} (faults : K → ℕ) (told before now : Bool) (means : ℕ → Means) (of_boot : List (List Item)) (old new : Housed K) → told ≡ (before || now) → HouseBootPlayed faults now means of_boot old new → BootMore faults told before means of_boot old new
-boot-either faults told before now means of_boot old new e h =
+pub boot-either : {K : Type 0} (signs : Signs K) (told before now : Bool) (means : ℕ → Means) (of_boot : List (List Item)) (old new : Housed K) → told ≡ (before || now) → HouseBootPlayed signs now means of_boot old new → BootMore signs told before means of_boot old new
+boot-either signs told before now means of_boot old new e h =
     record {
       played = record {
         played = played-told now told old.annals.facts (rows_before old.annals) means of_boot (past new) (λ n. e ∙ or-other before now n) h.played;
@@ -183,8 +186,8 @@ boot-means wanting facts opening now means of_boot past e p =
       idle = p.idle;
     }
 
-pub same-means : {K : Type 0} (faults : K → ℕ) (wanting before : Bool) (now means : ℕ → Means) (of_boot : List (List Item)) (old new : Housed K) → ((client : ℕ) → now client ≡ means client) → BootMore faults wanting before now of_boot old new → BootMore faults wanting before means of_boot old new
-same-means faults wanting before now means of_boot old new e m =
+pub same-means : {K : Type 0} (signs : Signs K) (wanting before : Bool) (now means : ℕ → Means) (of_boot : List (List Item)) (old new : Housed K) → ((client : ℕ) → now client ≡ means client) → BootMore signs wanting before now of_boot old new → BootMore signs wanting before means of_boot old new
+same-means signs wanting before now means of_boot old new e m =
     record {
       played = record {
         played = boot-means wanting old.annals.facts (rows_before old.annals) now means of_boot (past new) e m.played.played;
@@ -195,10 +198,10 @@ same-means faults wanting before now means of_boot old new e m =
     }
 
 -- The log was empty at first, so the keeper counted each fault that it tells.
-pub begun-counted : {K : Type 0} (faults : K → ℕ) (old mid new : Housed K) → past old ≡ [] → FaultsCounted faults old mid → FaultsCounted faults mid new → faults mid.keeper ≤ faults new.keeper → IsCounted faults new
-begun-counted faults old mid new e a b c =
+pub begun-counted : {K : Type 0} (signs : Signs K) (old mid new : Housed K) → past old ≡ [] → KeeperFared signs old mid → KeeperFared signs mid new → signs.faults mid.keeper ≤ signs.faults new.keeper → IsCounted signs new
+begun-counted signs old mid new e a b c =
     let none : keeper_faults (past old) ≡ 0 = ap keeper_faults e in
-    elim (counted-both faults old mid new a b c) [ inl x ↦ inl (omega arith) | inr x ↦ inr x ]
+    elim (fared-both signs old mid new a b c).counted [ inl x ↦ inl (omega arith) | inr x ↦ inr x ]
 
 -- What holds of every boot's scripts holds of those of one, and of none.
 pub scripts-all : (P : List (List Item) → Type 0) (scripts : List (List (List Item))) (n : ℕ) → All P scripts → P [] → P (scripts_in scripts (n + 1))
@@ -212,14 +215,14 @@ scripts-all P scripts n a none = rw add-one (at-place P scripts n a none)
         ]
 
 -- The campaign ended before all boots were run.
-stopped-so : {K : Type 0} (told : K → Option (List Row)) (ending : Ending) (plans : List BootPlan) (count : ℕ) (mid new : Housed K) → count < length plans → StoppedBy told ending mid new → EndedSo told ending plans count new
+stopped-so : {K : Type 0} (told : K → List Row → Type 0) (ending : Ending) (plans : List BootPlan) (count : ℕ) (mid new : Housed K) → count < length plans → StoppedBy told ending mid new → EndedSo told ending plans count new
 stopped-so told Ending.Whole plans count mid new lt s = absurd s
 stopped-so told (Ending.BadHistory entry) plans count mid new lt s = (lt, (mid, s.0, s.1))
 stopped-so told Ending.NoMemory plans count mid new lt s = lt
 
-pub ran-stopped : {K : Type 0} (told : K → Option (List Row)) (faults : K → ℕ) (ending : Ending) (wanting : Bool) (means : ℕ → Means) (plans : List BootPlan) (scripts : List (List (List Item))) (count : ℕ) (old mid new : Housed K) → count < length plans → RanSoFar told faults wanting means plans scripts count old mid → NoneBegan told faults mid new → StoppedBy told ending mid new → CampaignRan told faults ending wanting means plans scripts old new
-ran-stopped told faults ending wanting means plans scripts count old mid new lt r n s =
-    record { count = count; ran = run-stopped told faults wanting means plans scripts count old mid new r n; ended = stopped-so told ending plans count mid new lt s }
+pub ran-stopped : {K : Type 0} (signs : Signs K) (ending : Ending) (wanting : Bool) (means : ℕ → Means) (plans : List BootPlan) (scripts : List (List (List Item))) (count : ℕ) (old mid new : Housed K) → count < length plans → RanSoFar signs wanting means plans scripts count old mid → NoneBegan signs mid new → StoppedBy signs.tells ending mid new → CampaignRan signs ending wanting means plans scripts old new
+ran-stopped signs ending wanting means plans scripts count old mid new lt r n s =
+    record { count = count; ran = run-stopped signs wanting means plans scripts count old mid new r n; ended = stopped-so signs.tells ending plans count mid new lt s }
 
 -- The plan of a boot.
 pub plan-at : (plans : List BootPlan) (n : ℕ) (plan : BootPlan) → plan ≡ get_or plans n plan → n < length plans → slice_get plans n ≡ Some plan

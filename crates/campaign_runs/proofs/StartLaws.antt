@@ -18,12 +18,12 @@ use Rattle.daemon_core.specs.Boots.{BootTurned, CouldntRead, NoBoot, WentWell}
 use Rattle.daemon_core.specs.Housed.{Housed, Place, past, rows_taken}
 use Rattle.daemon_core.specs.Keeping.{last_faulted}
 use Rattle.daemon_core.specs.Reading.{AreTold}
-use Rattle.daemon_core.specs.Turns.{FaultsCounted}
+use Rattle.daemon_core.specs.Turns.{KeeperFared, Signs}
 use Rattle.daemon_core.proofs.Planned.{keeps-same, keeps-started}
 use Rattle.campaign_runs.specs.declared.ending.Ending.{Ending}
 use Rattle.campaign_runs.specs.Planned.{IsPlanned}
-use Rattle.campaign_runs.specs.Runs.{HasBegun, NoneBegan, OpeningTold, StartedSo, ended_by}
-use Rattle.campaign_runs.proofs.OpeningLaws.{told-refused, told-same, told-well}
+use Rattle.campaign_runs.specs.Runs.{HasBegun, NoneBegan, OpeningStays, StartedSo, ended_by}
+use Rattle.campaign_runs.proofs.OpeningLaws.{stays-refused, stays-same, stays-well}
 use Rattle.campaign_runs.proofs.Present.{started-present}
 
 -- A list as long has something at the same place.
@@ -53,8 +53,8 @@ rows-first : (A : Type 0) (loaded new_loaded : Bool) (opening new_opening : List
 rows-first A true new_loaded opening new_opening Fault e f m = inl (ap (λ (b : Bool). rows_taken b new_opening) e ∙ m)
 rows-first A false new_loaded opening new_opening Fault e f m = inr (f refl)
 
-begun-well : {K : Type 0} (told : K → Option (List Row)) (doubted : K → Option Change) (faults : K → ℕ) (plan : BootPlan) (found : Found) (listed : List BoardSeen) (old new : Housed K) → IsAnnals old.annals → FaultsCounted faults old new → faults old.keeper ≤ faults new.keeper → WentWell told doubted plan found listed old new → HasBegun told faults plan old new
-begun-well told doubted faults plan found listed old new k counted counts w =
+begun-well : {K : Type 0} (signs : Signs K) (doubted : K → Option Change) (settled : K → K → Type 0) (plan : BootPlan) (found : Found) (listed : List BoardSeen) (old new : Housed K) → IsAnnals old.annals → KeeperFared signs old new → signs.faults old.keeper ≤ signs.faults new.keeper → WentWell signs.tells doubted settled plan found listed old new → HasBegun signs plan old new
+begun-well signs doubted settled plan found listed old new k counted counts w =
     record {
       facts = w.noted.grounds.facts;
       first = w.noted.grounds.first;
@@ -63,15 +63,15 @@ begun-well told doubted faults plan found listed old new k counted counts w =
       past_is = ap past_of w.noted.log ∙ past-push old.annals.core.log (next_boot (past old) plan found listed);
       planned = planned-so plan old.places new.places listed w.noted.started;
       read = λ _. w.reopened;
-      before = rows-first (IsHistory new.annals.opening × AreTold (told old.keeper) new.annals.opening) old.annals.loaded new.annals.loaded old.annals.opening new.annals.opening (AllFaults (past old)) w.loaded k.unloaded w.opening;
+      before = rows-first (IsHistory new.annals.opening × AreTold (signs.tells old.keeper) (signs.tells new.keeper) new.annals.opening) old.annals.loaded new.annals.loaded old.annals.opening new.annals.opening (AllFaults (past old)) w.loaded k.unloaded w.opening;
       counted = counted;
       counts = counts;
       board_plans = keeps-started plan old.places new.places listed w.noted.started;
-      opening = λ came. told-well old.annals.loaded new.annals.loaded (told old.keeper) (told new.keeper) came old.annals.opening new.annals.opening w.loaded w.opening;
+      opening = stays-well old.annals.loaded new.annals.loaded (signs.tells old.keeper) (signs.tells new.keeper) old.annals.opening new.annals.opening w.loaded w.opening;
     }
 
-begun-fault : {K : Type 0} (told : K → Option (List Row)) (faults : K → ℕ) (plan : BootPlan) (listed : List BoardSeen) (old new : Housed K) → FaultsCounted faults old new → faults old.keeper ≤ faults new.keeper → CouldntRead told plan listed old new → HasBegun told faults plan old new
-begun-fault told faults plan listed old new counted counts w =
+begun-fault : {K : Type 0} (signs : Signs K) (plan : BootPlan) (listed : List BoardSeen) (old new : Housed K) → KeeperFared signs old new → signs.faults old.keeper ≤ signs.faults new.keeper → CouldntRead signs.tells plan listed old new → HasBegun signs plan old new
+begun-fault signs plan listed old new counted counts w =
     record {
       facts = w.noted.grounds.facts;
       first = w.noted.grounds.first;
@@ -86,11 +86,11 @@ begun-fault told faults plan listed old new counted counts w =
       counted = counted;
       counts = counts;
       board_plans = keeps-started plan old.places new.places listed w.noted.started;
-      opening = λ came. told-same old.annals.loaded new.annals.loaded (told old.keeper) (told new.keeper) came old.annals.opening new.annals.opening w.loaded w.stays w.opening;
+      opening = stays-same old.annals.loaded new.annals.loaded (signs.tells old.keeper) (signs.tells new.keeper) old.annals.opening new.annals.opening w.loaded w.stays w.opening;
     }
 
-none-began : {K : Type 0} (told : K → Option (List Row)) (faults : K → ℕ) (old new : Housed K) → FaultsCounted faults old new → faults old.keeper ≤ faults new.keeper → NoBoot told old new → (old.annals.loaded ≡ true → new.annals.opening ≡ old.annals.opening) → ((came : Option (List Row)) → OpeningTold told came old → OpeningTold told came new) → NoneBegan told faults old new
-none-began told faults old new counted counts n o opening =
+none-began : {K : Type 0} (signs : Signs K) (old new : Housed K) → KeeperFared signs old new → signs.faults old.keeper ≤ signs.faults new.keeper → NoBoot signs.tells old new → (old.annals.loaded ≡ true → new.annals.opening ≡ old.annals.opening) → OpeningStays signs.tells old new → NoneBegan signs old new
+none-began signs old new counted counts n o opening =
     record {
       facts = n.grounds.facts;
       first = n.grounds.first;
@@ -102,20 +102,20 @@ none-began told faults old new counted counts n o opening =
       opening = opening;
     }
 
-pub started-so : {K : Type 0} (told : K → Option (List Row)) (doubted : K → Option Change) (faults : K → ℕ) (plan : BootPlan) (outcome : Result (Unit {0}) BootStop) (ending : Option Ending) (old new : Housed K) → ending ≡ ended_by outcome → IsAnnals old.annals → FaultsCounted faults old new → faults old.keeper ≤ faults new.keeper → BootTurned told doubted plan outcome old new → StartedSo told faults ending plan old new
-started-so told doubted faults plan outcome ending old new e k counted counts t =
-    subst (λ (x : Option Ending). StartedSo told faults x plan old new) (sym e) (so outcome t)
+pub started-so : {K : Type 0} (signs : Signs K) (doubted : K → Option Change) (settled : K → K → Type 0) (plan : BootPlan) (outcome : Result (Unit {0}) BootStop) (ending : Option Ending) (old new : Housed K) → ending ≡ ended_by outcome → IsAnnals old.annals → KeeperFared signs old new → signs.faults old.keeper ≤ signs.faults new.keeper → BootTurned signs.tells doubted settled plan outcome old new → StartedSo signs ending plan old new
+started-so signs doubted settled plan outcome ending old new e k counted counts t =
+    subst (λ (x : Option Ending). StartedSo signs x plan old new) (sym e) (so outcome t)
   where
-    so : (outcome : Result (Unit {0}) BootStop) → BootTurned told doubted plan outcome old new → StartedSo told faults (ended_by outcome) plan old new
-    so (Ok unit) t = begun-well told doubted faults plan t.0 t.1 old new k counted counts t.2
-    so (Err BootStop.KeeperFault) t = begun-fault told faults plan t.0 old new counted counts t.1
+    so : (outcome : Result (Unit {0}) BootStop) → BootTurned signs.tells doubted settled plan outcome old new → StartedSo signs (ended_by outcome) plan old new
+    so (Ok unit) t = begun-well signs doubted settled plan t.0 t.1 old new k counted counts t.2
+    so (Err BootStop.KeeperFault) t = begun-fault signs plan t.0 old new counted counts t.1
     so (Err (BootStop.BadHistory entry)) t = (
-      none-began told faults old new counted counts t.none (λ l. (t.later l).0)
-          (λ came. told-refused old.annals.loaded new.annals.loaded (told old.keeper) (told new.keeper) came old.annals.opening new.annals.opening t.none.loaded t.none.stays (λ l. (t.later l).0) (λ u. (t.first u).1)),
+      none-began signs old new counted counts t.none (λ l. (t.later l).0)
+          (stays-refused old.annals.loaded new.annals.loaded (signs.tells old.keeper) (signs.tells new.keeper) old.annals.opening new.annals.opening t.none.loaded t.none.stays (λ l. (t.later l).0) (λ u. (t.first u).1)),
       (k, t),
     )
     so (Err BootStop.NoMemory) t = (
-      none-began told faults old new counted counts t.0 (λ l. t.1)
-          (λ came. told-same old.annals.loaded new.annals.loaded (told old.keeper) (told new.keeper) came old.annals.opening new.annals.opening t.0.loaded t.0.stays t.1),
+      none-began signs old new counted counts t.0 (λ l. t.1)
+          (stays-same old.annals.loaded new.annals.loaded (signs.tells old.keeper) (signs.tells new.keeper) old.annals.opening new.annals.opening t.0.loaded t.0.stays t.1),
       tt,
     )

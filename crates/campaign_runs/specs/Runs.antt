@@ -1,6 +1,7 @@
 -- What the boots of a campaign did to a house.
 use Rattle.std.specs.Prelude.{◌≡◌, ◌⊎◌, ◌≤◌, ◌<◌, ℕ, Bool, true, false, MatchBool, List, [], ◌∷◌, length, Option, Some, None, Result, Ok, Err}
 use Rattle.history_keeper.specs.declared.row.Row.{Row}
+use Rattle.history_keeper.specs.Keepers.{StillTold}
 use Rattle.update_log.specs.declared.event.BoardSeen.{BoardSeen}
 use Rattle.update_log.specs.declared.event.Found.{Found}
 use Rattle.update_log.specs.declared.facts.BootPlan.{BootPlan}
@@ -13,7 +14,7 @@ use Rattle.daemon_core.specs.Boots.{ReadOthers}
 use Rattle.daemon_core.specs.Housed.{Housed, past, rows_before}
 use Rattle.daemon_core.specs.Keeping.{last_faulted}
 use Rattle.daemon_core.specs.Reading.{AreTold}
-use Rattle.daemon_core.specs.Turns.{FaultsCounted}
+use Rattle.daemon_core.specs.Turns.{KeeperFared, Signs}
 use Rattle.daemon_core.specs.Planned.{KeepsPlans}
 use Rattle.client_scripts.specs.declared.item.Item.{Item}
 use Rattle.client_plays.specs.Endings.{HouseBootPlayed, IsIdle}
@@ -22,13 +23,23 @@ use Rattle.client_plays.specs.Tools.{Means}
 use Rattle.campaign_runs.specs.declared.ending.Ending.{Ending}
 use Rattle.campaign_runs.specs.Planned.{BootsPlanned, IsPlanned}
 
--- The rows before the log are those that the keeper told as it came, where it told any, once a boot took
--- them. Until then it tells the same rows still; and what a boot refused, if one did, were these.
-abbrev pub OpeningTold : {K : Type 0} → (K → Option (List Row)) → Option (List Row) → Housed K → Type 0
+-- The rows before the log, once a boot took them, are those that the keeper told as it came, if it tells any
+-- still. Until then what it tells it told as it came; and what a boot refused, if one did, were those.
+abbrev pub OpeningTold : {K : Type 0} → (K → List Row → Type 0) → (List Row → Type 0) → Housed K → Type 0
 OpeningTold told came h =
     MatchBool h.annals.loaded
-    (AreTold came h.annals.opening)
-    ((told h.keeper ≡ came) × ((h.annals.opening ≡ []) ⊎ AreTold came h.annals.opening))
+    (AreTold came (told h.keeper) h.annals.opening)
+    (StillTold came (told h.keeper) × ((h.annals.opening ≡ []) ⊎ AreTold came (told h.keeper) h.annals.opening))
+
+-- The same over the start of a boot: rows that were taken stay; and those that are taken in it, or refused, the
+-- keeper told before.
+abbrev pub OpeningStays : {K : Type 0} → (K → List Row → Type 0) → Housed K → Housed K → Type 0
+OpeningStays told old new =
+    MatchBool old.annals.loaded
+    ((new.annals.loaded ≡ true) × (new.annals.opening ≡ old.annals.opening))
+    (MatchBool new.annals.loaded
+    (AreTold (told old.keeper) (told new.keeper) new.annals.opening)
+    (StillTold (told old.keeper) (told new.keeper) × ((new.annals.opening ≡ old.annals.opening) ⊎ AreTold (told old.keeper) (told new.keeper) new.annals.opening)))
 
 -- Where the last boot read the history, nobody opened the keeper again since.
 abbrev pub ReadLast : {K : Type 0} → Housed K → Type 0
@@ -37,7 +48,7 @@ ReadLast h = last_faulted (past h) ≡ false → h.annals.reopened ≡ false
 -- So many boots of a campaign were run: each by its plan, in order, and played. Nobody has anything out,
 -- each fault of the keeper that the log tells was counted, and each board at home has the faults planned that
 -- its number had.
-pub record RanSoFar {K : Type 0} (told : K → Option (List Row)) (faults : K → ℕ) (wanting : Bool) (means : ℕ → Means) (plans : List BootPlan) (scripts : List (List (List Item))) (count : ℕ) (old new : Housed K) : Type 0 where
+pub record RanSoFar {K : Type 0} (signs : Signs K) (wanting : Bool) (means : ℕ → Means) (plans : List BootPlan) (scripts : List (List (List Item))) (count : ℕ) (old new : Housed K) : Type 0 where
   pub facts : new.annals.facts ≡ old.annals.facts
   pub first : new.annals.first ≡ old.annals.first
   pub count_is : boots (past new) ≡ count
@@ -45,29 +56,29 @@ pub record RanSoFar {K : Type 0} (told : K → Option (List Row)) (faults : K �
   pub played : BootPlayed wanting new.annals.facts (rows_before new.annals) means (scripts_in scripts count) (past new)
   pub earlier : EarlierPlayed wanting new.annals.facts (rows_before new.annals) means scripts (past new)
   pub idle : IsIdle (past new)
-  pub counted : FaultsCounted faults old new
-  pub counts : faults old.keeper ≤ faults new.keeper
+  pub counted : KeeperFared signs old new
+  pub counts : signs.faults old.keeper ≤ signs.faults new.keeper
   pub board_plans : KeepsPlans old.places new.places
-  pub opening : OpeningTold told (told old.keeper) new
+  pub opening : OpeningTold signs.tells (signs.tells old.keeper) new
 
 -- How the campaign ended: all boots were run, and nobody opened the keeper again but a last one that couldn't
 -- read the history; or a boot read no history that could be the log's; or memory was wanting for a boot. In
 -- the last two the boots before were run.
-abbrev pub EndedSo : {K : Type 0} → (K → Option (List Row)) → Ending → List BootPlan → ℕ → Housed K → Type 0
+abbrev pub EndedSo : {K : Type 0} → (K → List Row → Type 0) → Ending → List BootPlan → ℕ → Housed K → Type 0
 EndedSo told Ending.Whole plans count new = (count ≡ length plans) × ReadLast new
 EndedSo told (Ending.BadHistory entry) plans count new = (count < length plans) × ((mid : Housed _) × IsAnnals mid.annals × ReadOthers told entry mid new)
 EndedSo told Ending.NoMemory plans count new = count < length plans
 
 -- The boots of a campaign were run, as far as it went.
-pub record CampaignRan {K : Type 0} (told : K → Option (List Row)) (faults : K → ℕ) (ending : Ending) (wanting : Bool) (means : ℕ → Means) (plans : List BootPlan) (scripts : List (List (List Item))) (old new : Housed K) : Type 0 where
+pub record CampaignRan {K : Type 0} (signs : Signs K) (ending : Ending) (wanting : Bool) (means : ℕ → Means) (plans : List BootPlan) (scripts : List (List (List Item))) (old new : Housed K) : Type 0 where
   pub count : ℕ
-  pub ran : RanSoFar told faults wanting means plans scripts count old new
-  pub ended : EndedSo told ending plans count new
+  pub ran : RanSoFar signs wanting means plans scripts count old new
+  pub ended : EndedSo signs.tells ending plans count new
 
 -- A boot began by its plan: it stands behind the log, and nothing was done in it yet. The rows before the
 -- log are as before, unless no boot before could read the history, and the faults that are planned for the
 -- boards at home are.
-pub record HasBegun {K : Type 0} (told : K → Option (List Row)) (faults : K → ℕ) (plan : BootPlan) (old new : Housed K) : Type 0 where
+pub record HasBegun {K : Type 0} (signs : Signs K) (plan : BootPlan) (old new : Housed K) : Type 0 where
   pub facts : new.annals.facts ≡ old.annals.facts
   pub first : new.annals.first ≡ old.annals.first
   pub found : Found
@@ -76,24 +87,24 @@ pub record HasBegun {K : Type 0} (told : K → Option (List Row)) (faults : K �
   pub planned : IsPlanned plan plan.time plan.limit listed
   pub before : (rows_before new.annals ≡ rows_before old.annals) ⊎ AllFaults (past old)
   pub read : ReadLast new
-  pub counted : FaultsCounted faults old new
-  pub counts : faults old.keeper ≤ faults new.keeper
+  pub counted : KeeperFared signs old new
+  pub counts : signs.faults old.keeper ≤ signs.faults new.keeper
   pub board_plans : KeepsPlans old.places new.places
-  pub opening : (came : Option (List Row)) → OpeningTold told came old → OpeningTold told came new
+  pub opening : OpeningStays signs.tells old new
 
 -- No boot began.
-pub record NoneBegan {K : Type 0} (told : K → Option (List Row)) (faults : K → ℕ) (old new : Housed K) : Type 0 where
+pub record NoneBegan {K : Type 0} (signs : Signs K) (old new : Housed K) : Type 0 where
   pub facts : new.annals.facts ≡ old.annals.facts
   pub first : new.annals.first ≡ old.annals.first
   pub past_is : past new ≡ past old
   pub before : rows_before new.annals ≡ rows_before old.annals
-  pub counted : FaultsCounted faults old new
-  pub counts : faults old.keeper ≤ faults new.keeper
+  pub counted : KeeperFared signs old new
+  pub counts : signs.faults old.keeper ≤ signs.faults new.keeper
   pub board_plans : KeepsPlans old.places new.places
-  pub opening : (came : Option (List Row)) → OpeningTold told came old → OpeningTold told came new
+  pub opening : OpeningStays signs.tells old new
 
 -- Why none began.
-abbrev pub StoppedBy : {K : Type 0} → (K → Option (List Row)) → Ending → Housed K → Housed K → Type 0
+abbrev pub StoppedBy : {K : Type 0} → (K → List Row → Type 0) → Ending → Housed K → Housed K → Type 0
 StoppedBy told Ending.Whole old new = ⊥
 StoppedBy told (Ending.BadHistory entry) old new = IsAnnals old.annals × ReadOthers told entry old new
 StoppedBy told Ending.NoMemory old new = Unit {0}
@@ -106,11 +117,11 @@ ended_by (Err (BootStop.BadHistory entry)) = Some (Ending.BadHistory entry)
 ended_by (Err BootStop.NoMemory) = Some Ending.NoMemory
 
 -- What became of the start of a boot: it began, or why the campaign ends.
-abbrev pub StartedSo : {K : Type 0} → (K → Option (List Row)) → (K → ℕ) → Option Ending → BootPlan → Housed K → Housed K → Type 0
-StartedSo told faults None plan old new = HasBegun told faults plan old new
-StartedSo told faults (Some ending) plan old new = NoneBegan told faults old new × StoppedBy told ending old new
+abbrev pub StartedSo : {K : Type 0} → Signs K → Option Ending → BootPlan → Housed K → Housed K → Type 0
+StartedSo signs None plan old new = HasBegun signs plan old new
+StartedSo signs (Some ending) plan old new = NoneBegan signs old new × StoppedBy signs.tells ending old new
 
 -- A boot was played, after others; `before` says that memory was wanting before.
-pub record BootMore {K : Type 0} (faults : K → ℕ) (wanting before : Bool) (means : ℕ → Means) (of_boot : List (List Item)) (old new : Housed K) : Type 0 where
-  pub played : HouseBootPlayed faults wanting means of_boot old new
+pub record BootMore {K : Type 0} (signs : Signs K) (wanting before : Bool) (means : ℕ → Means) (of_boot : List (List Item)) (old new : Housed K) : Type 0 where
+  pub played : HouseBootPlayed signs wanting means of_boot old new
   pub told : before ≡ true → wanting ≡ true

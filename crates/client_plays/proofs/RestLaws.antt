@@ -5,7 +5,8 @@ use Rattle.history_keeper.specs.declared.row.Row.{Row}
 use Rattle.update_log.specs.Pasts.{boots, off}
 use Rattle.daemon_core.specs.Annals.{SameFacts}
 use Rattle.daemon_core.specs.Housed.{Annalled, Housed, past, rows_before, rows_taken}
-use Rattle.daemon_core.specs.Turns.{FaultsCounted}
+use Rattle.daemon_core.specs.Turns.{KeeperFared, Signs}
+use Rattle.daemon_core.proofs.Fared.{fared-both, fared-here}
 use Rattle.daemon_core.proofs.Planned.{keeps-both, keeps-here}
 use Rattle.client_plays.specs.declared.played.Played.{Played}
 use Rattle.client_plays.specs.Moments.{Moment}
@@ -24,44 +25,37 @@ same-both old mid new a b =
       reopened = b.reopened ∙ a.reopened;
     }
 
-pub counted-both : {K : Type 0} (faults : K → ℕ) (old mid new : Housed K) → FaultsCounted faults old mid → FaultsCounted faults mid new → faults mid.keeper ≤ faults new.keeper → FaultsCounted faults old new
-counted-both faults old mid new a b c =
-    elim a [
-      | inl x ↦ elim b [ inl y ↦ inl (omega arith) | inr y ↦ inr y ]
-      | inr x ↦ inr (omega arith)
-    ]
-
-pub rest-both : {K : Type 0} (faults : K → ℕ) (old mid new : Housed K) → AtRest faults old mid → AtRest faults mid new → AtRest faults old new
-rest-both faults old mid new a b =
+pub rest-both : {K : Type 0} (signs : Signs K) (old mid new : Housed K) → AtRest signs old mid → AtRest signs mid new → AtRest signs old new
+rest-both signs old mid new a b =
     record {
       idle = b.idle;
       same = same-both old.annals mid.annals new.annals a.same b.same;
-      counted = counted-both faults old mid new a.counted b.counted b.counts;
+      counted = fared-both signs old mid new a.counted b.counted b.counts;
       counts = omega arith;
       plans = keeps-both old.places mid.places new.places a.plans b.plans;
     }
 
-pub rest-here : {K : Type 0} (faults : K → ℕ) (h : Housed K) → IsIdle (past h) → AtRest faults h h
-rest-here faults h i =
+pub rest-here : {K : Type 0} (signs : Signs K) (h : Housed K) → IsIdle (past h) → AtRest signs h h
+rest-here signs h i =
     record {
       idle = i;
       same = record { facts = refl; first = refl; opening = refl; loaded = refl; reopened = refl };
-      counted = inl (omega arith);
+      counted = fared-here signs h;
       counts = omega arith;
       plans = keeps-here h.places;
     }
 
 -- One thing more, by how its play ended.
-pub more-done : {K : Type 0} (faults : K → ℕ) (wanting : Bool) (client : ℕ) (Play : List Moment → Type 0) (old new : Housed K) → HousePlayed faults Played.Done client Play old new → HouseOnceMore faults (Some wanting) wanting client Play old new
-more-done faults true client Play old new p =
+pub more-done : {K : Type 0} (signs : Signs K) (wanting : Bool) (client : ℕ) (Play : List Moment → Type 0) (old new : Housed K) → HousePlayed signs Played.Done client Play old new → HouseOnceMore signs (Some wanting) wanting client Play old new
+more-done signs true client Play old new p =
     record { moments = p.ended.moments; did = p.ended.did; more = (inl refl, inl p.ended.ends); rest = p.rest }
-more-done faults false client Play old new p =
+more-done signs false client Play old new p =
     record { moments = p.ended.moments; did = p.ended.did; more = (inr refl, p.ended.ends); rest = p.rest }
 
 -- Nothing was done yet.
-pub so_far-nothing : {K X : Type 0} (faults : K → ℕ) (wanting : Bool) (client : ℕ) (Play : X → List Moment → Type 0) (h : Housed K) → IsIdle (past h) → SoFar faults wanting client Play [] h h
-so_far-nothing faults wanting client Play h i =
-    record { moments = []; did = did-nothing client (past h); plays = refl; rest = rest-here faults h i }
+pub so_far-nothing : {K X : Type 0} (signs : Signs K) (wanting : Bool) (client : ℕ) (Play : X → List Moment → Type 0) (h : Housed K) → IsIdle (past h) → SoFar signs wanting client Play [] h h
+so_far-nothing signs wanting client Play h i =
+    record { moments = []; did = did-nothing client (past h); plays = refl; rest = rest-here signs h i }
 
 -- What was played is still played where memory is told to be wanting.
 still-played : {X : Type 0} (now wanting : Bool) (client : ℕ) (Play : X → List Moment → Type 0) (xs : List X) (moments : List Moment) → (now ≡ true) ⊎ (now ≡ wanting) → PlaysAll wanting client Play xs moments → PlaysAll now client Play xs moments
@@ -70,13 +64,13 @@ still-played now wanting client Play xs moments h p =
     elim h [ inl e ↦ subst P (sym e) (all-more client Play xs moments wanting p) | inr e ↦ subst P (sym e) p ]
 
 -- One thing more was played.
-pub so_far-more : {K X : Type 0} (faults : K → ℕ) (now wanting : Bool) (client : ℕ) (Play : X → List Moment → Type 0) (done : List X) (x : X) (old mid new : Housed K) → SoFar faults wanting client Play done old mid → HouseOnceMore faults (Some now) wanting client (Play x) mid new → SoFar faults now client Play (done ++ x ∷ []) old new
-so_far-more faults now wanting client Play done x old mid new s m =
+pub so_far-more : {K X : Type 0} (signs : Signs K) (now wanting : Bool) (client : ℕ) (Play : X → List Moment → Type 0) (done : List X) (x : X) (old mid new : Housed K) → SoFar signs wanting client Play done old mid → HouseOnceMore signs (Some now) wanting client (Play x) mid new → SoFar signs now client Play (done ++ x ∷ []) old new
+so_far-more signs now wanting client Play done x old mid new s m =
     record {
       moments = s.moments ++ m.moments;
       did = did-both client s.moments m.moments (past old) (past mid) (past new) s.did m.did;
       plays = all-push now client Play done x s.moments m.moments (still-played now wanting client Play done s.moments m.more.0 s.plays) m.more.1;
-      rest = rest-both faults old mid new s.rest m.rest;
+      rest = rest-both signs old mid new s.rest m.rest;
     }
 
 -- The next thing was left, in a boot that is off.
@@ -84,8 +78,8 @@ pub so-left : {X : Type 0} (is_off wanting : Bool) (client : ℕ) (Play : X → 
 so-left true wanting client Play xs moments e p = p
 so-left false wanting client Play xs moments e p = cc
 
-pub went-left : {K X : Type 0} (faults : K → ℕ) (wanting : Bool) (client : ℕ) (Play : X → List Moment → Type 0) (done : List X) (x : X) (others all : List X) (old mid new : Housed K) → done ++ x ∷ others ≡ all → SoFar faults wanting client Play done old mid → HouseOnceMore faults None wanting client (Play x) mid new → HouseWent faults wanting client Play all old new
-went-left faults wanting client Play done x others all old mid new e s m =
+pub went-left : {K X : Type 0} (signs : Signs K) (wanting : Bool) (client : ℕ) (Play : X → List Moment → Type 0) (done : List X) (x : X) (others all : List X) (old mid new : Housed K) → done ++ x ∷ others ≡ all → SoFar signs wanting client Play done old mid → HouseOnceMore signs None wanting client (Play x) mid new → HouseWent signs wanting client Play all old new
+went-left signs wanting client Play done x others all old mid new e s m =
     let until = until-left wanting client Play done x others s.moments m.moments s.plays m.more.0 in
     record {
       went = record {
@@ -94,20 +88,20 @@ went-left faults wanting client Play done x others all old mid new e s m =
         plays = subst (λ (xs : List _). PlayedSo (off (past new)) wanting client Play xs (s.moments ++ m.moments)) e
             (so-left (off (past new)) wanting client Play (done ++ x ∷ others) (s.moments ++ m.moments) m.more.1 until);
       };
-      rest = rest-both faults old mid new s.rest m.rest;
+      rest = rest-both signs old mid new s.rest m.rest;
     }
 
 -- All were played.
-pub went-all : {K X : Type 0} (faults : K → ℕ) (wanting : Bool) (client : ℕ) (Play : X → List Moment → Type 0) (all : List X) (old new : Housed K) → SoFar faults wanting client Play all old new → HouseWent faults wanting client Play all old new
-went-all faults wanting client Play all old new s =
+pub went-all : {K X : Type 0} (signs : Signs K) (wanting : Bool) (client : ℕ) (Play : X → List Moment → Type 0) (all : List X) (old new : Housed K) → SoFar signs wanting client Play all old new → HouseWent signs wanting client Play all old new
+went-all signs wanting client Play all old new s =
     record {
       went = record { moments = s.moments; did = s.did; plays = so-all (off (past new)) wanting client Play all s.moments s.plays };
       rest = s.rest;
     }
 
 -- A boot that ran goes on running.
-pub still-booted : {K X : Type 0} (faults : K → ℕ) (wanting : Bool) (client : ℕ) (Play : X → List Moment → Type 0) (done : List X) (old new : Housed K) → SoFar faults wanting client Play done old new → 0 < boots (past old) → 0 < boots (past new)
-still-booted faults wanting client Play done old new s b = subst (λ (n : ℕ). 0 < n) (sym (grew-boots (past old) (past new) s.did.grew)) b
+pub still-booted : {K X : Type 0} (signs : Signs K) (wanting : Bool) (client : ℕ) (Play : X → List Moment → Type 0) (done : List X) (old new : Housed K) → SoFar signs wanting client Play done old new → 0 < boots (past old) → 0 < boots (past new)
+still-booted signs wanting client Play done old new s b = subst (λ (n : ℕ). 0 < n) (sym (grew-boots (past old) (past new) s.did.grew)) b
 
 -- The facts and the rows before the log are the same all along.
 pub before-same : (old new : Annalled) → SameFacts old new → rows_before new ≡ rows_before old

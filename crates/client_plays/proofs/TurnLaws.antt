@@ -4,13 +4,10 @@ use Rattle.update_log.specs.Pasts.{past_of}
 use Rattle.daemon_core.specs.Annals.{Unchanged}
 use Rattle.daemon_core.specs.Housed.{Annalled, Housed, past, past_in}
 use Rattle.daemon_core.specs.Keeping.{keeper_faults}
-use Rattle.daemon_core.specs.Turns.{FaultsCounted}
+use Rattle.daemon_core.specs.Turns.{KeeperFared, Signs}
 
 pub unmoved : (old new : Annalled) → Unchanged old new → past_in new ≡ past_in old
 unmoved old new u = ap past_of u.log
 
-pub counted-same : {K : Type 0} (faults : K → ℕ) (old new : Housed K) → keeper_faults (past new) ≡ keeper_faults (past old) → new.keeper ≡ old.keeper → FaultsCounted faults old new
-counted-same faults old new e k = let same : faults new.keeper ≡ faults old.keeper = ap faults k in inl (omega arith)
-
-pub counts-same : {K : Type 0} (faults : K → ℕ) (old new : Housed K) → new.keeper ≡ old.keeper → faults old.keeper ≤ faults new.keeper
-counts-same faults old new k = let same : faults new.keeper ≡ faults old.keeper = ap faults k in omega arith
+pub counts-same : {K : Type 0} (signs : Signs K) (old new : Housed K) → new.keeper ≡ old.keeper → signs.faults old.keeper ≤ signs.faults new.keeper
+counts-same signs old new k = let same : signs.faults new.keeper ≡ signs.faults old.keeper = ap signs.faults k in omega arith

@@ -15,6 +15,7 @@ use Rattle.update_log.specs.declared.facts.Facts.{Facts}
 use Rattle.update_log.specs.declared.request.Request.{Request}
 use Rattle.release_catalogue.specs.declared.reference.ReleaseRef.{ReleaseRef}
 use Rattle.daemon_core.specs.Housed.{Housed}
+use Rattle.daemon_core.specs.Turns.{Signs}
 use Rattle.device_claims.specs.Claims.{StepGives}
 use Rattle.client_scripts.specs.declared.item.Item.{Item}
 use Rattle.client_plays.specs.declared.played.Played.{Played}
@@ -86,15 +87,15 @@ module _ {X : Type 0} (wanting : Bool) (client : ℕ) (Wide Play : X → List Mo
   so-wider true xs moments p = until-wider xs moments p
   so-wider false xs moments p = all-wider xs moments p
 
-  pub went-wider : {K : Type 0} (faults : K → ℕ) (xs : List X) (old new : Housed K) → HouseWent faults wanting client Play xs old new → HouseWent faults wanting client Wide xs old new
-  went-wider faults xs old new h =
+  pub went-wider : {K : Type 0} (signs : Signs K) (xs : List X) (old new : Housed K) → HouseWent signs wanting client Play xs old new → HouseWent signs wanting client Wide xs old new
+  went-wider signs xs old new h =
       record {
         went = record { moments = h.went.moments; did = h.went.did; plays = so-wider _ xs h.went.moments h.went.plays };
         rest = h.rest;
       }
 
-  pub so_far-wider : {K : Type 0} (faults : K → ℕ) (xs : List X) (old new : Housed K) → SoFar faults wanting client Play xs old new → SoFar faults wanting client Wide xs old new
-  so_far-wider faults xs old new s =
+  pub so_far-wider : {K : Type 0} (signs : Signs K) (xs : List X) (old new : Housed K) → SoFar signs wanting client Play xs old new → SoFar signs wanting client Wide xs old new
+  so_far-wider signs xs old new s =
       record { moments = s.moments; did = s.did; plays = all-wider xs s.moments s.plays; rest = s.rest }
 
 -- ---- plays without a plugin

@@ -8,7 +8,7 @@ use Rattle.daemon_core.specs.declared.stop.Stop.{Stop}
 use Rattle.daemon_core.specs.Annals.{SameFacts}
 use Rattle.daemon_core.specs.Housed.{Housed, past, rows_before}
 use Rattle.daemon_core.specs.Keeping.{keeper_faults}
-use Rattle.daemon_core.specs.Turns.{FaultsCounted}
+use Rattle.daemon_core.specs.Turns.{KeeperFared, Signs}
 use Rattle.daemon_core.specs.Planned.{KeepsPlans}
 use Rattle.client_scripts.specs.declared.item.Item.{Item}
 use Rattle.client_plays.specs.declared.played.Played.{Played}
@@ -61,21 +61,21 @@ pub record Ended (played : Played) (client : ℕ) (Play : List Moment → Type 0
 -- A house is at rest, after plays in one boot: nobody has anything out, what no event but a boot
 -- changes is as before, and each fault of the keeper that the log tells was counted. Each board at home has
 -- the faults planned that its number had.
-pub record AtRest {K : Type 0} (faults : K → ℕ) (old new : Housed K) : Type 0 where
+pub record AtRest {K : Type 0} (signs : Signs K) (old new : Housed K) : Type 0 where
   pub idle : IsIdle (past new)
   pub same : SameFacts old.annals new.annals
-  pub counted : FaultsCounted faults old new
-  pub counts : faults old.keeper ≤ faults new.keeper
+  pub counted : KeeperFared signs old new
+  pub counts : signs.faults old.keeper ≤ signs.faults new.keeper
   pub plans : KeepsPlans old.places new.places
 
 -- The keeper counted each fault that the log tells, or its count stands at its end.
-abbrev pub IsCounted : {K : Type 0} → (K → ℕ) → Housed K → Type 0
-IsCounted faults h = (keeper_faults (past h) ≤ faults h.keeper) ⊎ (2 ^ 64 - 1 ≤ faults h.keeper)
+abbrev pub IsCounted : {K : Type 0} → Signs K → Housed K → Type 0
+IsCounted signs h = (keeper_faults (past h) ≤ signs.faults h.keeper) ⊎ (2 ^ 64 - 1 ≤ signs.faults h.keeper)
 
 -- What a play did to a house.
-pub record HousePlayed {K : Type 0} (faults : K → ℕ) (played : Played) (client : ℕ) (Play : List Moment → Type 0) (old new : Housed K) : Type 0 where
+pub record HousePlayed {K : Type 0} (signs : Signs K) (played : Played) (client : ℕ) (Play : List Moment → Type 0) (old new : Housed K) : Type 0 where
   pub ended : Ended played client Play (past old) (past new)
-  pub rest : AtRest faults old new
+  pub rest : AtRest signs old new
 
 -- What a client did who went through a list of things, between two pasts of one boot. `wanting` says
 -- that memory was wanting.
@@ -85,9 +85,9 @@ pub record WentThrough {X : Type 0} (wanting : Bool) (client : ℕ) (Play : X �
   pub plays : PlayedSo (off new) wanting client Play xs moments
 
 -- What that did to a house.
-pub record HouseWent {K X : Type 0} (faults : K → ℕ) (wanting : Bool) (client : ℕ) (Play : X → List Moment → Type 0) (xs : List X) (old new : Housed K) : Type 0 where
+pub record HouseWent {K X : Type 0} (signs : Signs K) (wanting : Bool) (client : ℕ) (Play : X → List Moment → Type 0) (xs : List X) (old new : Housed K) : Type 0 where
   pub went : WentThrough wanting client Play xs (past old) (past new)
-  pub rest : AtRest faults old new
+  pub rest : AtRest signs old new
 
 -- What a client did who played one thing more: it was played; or it was left for want of memory, and
 -- that is told; or it was left in a boot that is off.
@@ -96,24 +96,24 @@ OnceMore (Some now) wanting client Play new moments =
     ((now ≡ true) ⊎ (now ≡ wanting)) × PlayedOrLeft now client Play moments
 OnceMore None wanting client Play new moments = Leaves client Play moments × (off new ≡ true)
 
-pub record HouseOnceMore {K : Type 0} (faults : K → ℕ) (told : Option Bool) (wanting : Bool) (client : ℕ) (Play : List Moment → Type 0) (old new : Housed K) : Type 0 where
+pub record HouseOnceMore {K : Type 0} (signs : Signs K) (told : Option Bool) (wanting : Bool) (client : ℕ) (Play : List Moment → Type 0) (old new : Housed K) : Type 0 where
   pub moments : List Moment
   pub did : Did client moments (past old) (past new)
   pub more : OnceMore told wanting client Play (past new) moments
-  pub rest : AtRest faults old new
+  pub rest : AtRest signs old new
 
 -- What a client has done so far who goes through a list of things.
-pub record SoFar {K X : Type 0} (faults : K → ℕ) (wanting : Bool) (client : ℕ) (Play : X → List Moment → Type 0) (done : List X) (old new : Housed K) : Type 0 where
+pub record SoFar {K X : Type 0} (signs : Signs K) (wanting : Bool) (client : ℕ) (Play : X → List Moment → Type 0) (done : List X) (old new : Housed K) : Type 0 where
   pub moments : List Moment
   pub did : Did client moments (past old) (past new)
   pub plays : PlaysAll wanting client Play done moments
-  pub rest : AtRest faults old new
+  pub rest : AtRest signs old new
 
 -- A boot was played: the log grew by events of this boot, and the house is at rest.
-pub record HouseBootPlayed {K : Type 0} (faults : K → ℕ) (wanting : Bool) (means : ℕ → Means) (of_boot : List (List Item)) (old new : Housed K) : Type 0 where
+pub record HouseBootPlayed {K : Type 0} (signs : Signs K) (wanting : Bool) (means : ℕ → Means) (of_boot : List (List Item)) (old new : Housed K) : Type 0 where
   pub played : BootPlayed wanting old.annals.facts (rows_before old.annals) means of_boot (past new)
   pub grew : Grew (past old) (past new)
-  pub rest : AtRest faults old new
+  pub rest : AtRest signs old new
 
 -- A boot has just begun.
 pub record IsFresh (past : List Event) : Type 0 where
@@ -124,7 +124,7 @@ pub record IsFresh (past : List Event) : Type 0 where
 
 -- What it did to a house where a client went through a list of things, after others; `before` says that
 -- memory was wanting before.
-pub record HouseMore {K X : Type 0} (faults : K → ℕ) (wanting before : Bool) (client : ℕ) (Play : X → List Moment → Type 0) (xs : List X) (old new : Housed K) : Type 0 where
+pub record HouseMore {K X : Type 0} (signs : Signs K) (wanting before : Bool) (client : ℕ) (Play : X → List Moment → Type 0) (xs : List X) (old new : Housed K) : Type 0 where
   pub went : WentThrough wanting client Play xs (past old) (past new)
   pub told : before ≡ true → wanting ≡ true
-  pub rest : AtRest faults old new
+  pub rest : AtRest signs old new

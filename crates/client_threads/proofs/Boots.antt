@@ -8,7 +8,7 @@ use Rattle.update_log.specs.Pasts.{boots, off}
 use Rattle.update_log.specs.Shows.{Campaign}
 use Rattle.daemon_core.specs.Annals.{SameFacts}
 use Rattle.daemon_core.specs.Housed.{Housed, past, rows_before}
-use Rattle.daemon_core.specs.Turns.{FaultsCounted}
+use Rattle.daemon_core.specs.Turns.{KeeperFared, Signs}
 use Rattle.client_scripts.specs.declared.item.Item.{Item}
 use Rattle.client_plays.specs.Endings.{HouseBootPlayed, HouseWent, IsCounted, IsFresh, IsIdle}
 use Rattle.client_plays.specs.Moments.{Moment, NoClients, began, mine}
@@ -43,8 +43,8 @@ or-other true b e = refl
 or-other false b e = e
 
 -- Nothing was done in a boot that was off from the first.
-pub boot-off : {K : Type 0} (faults : K → ℕ) (means : ℕ → Means) (of_boot : List (List Item)) (h : Housed K) → IsIdle (past h) → IsFresh (past h) → off (past h) ≡ true → HouseBootPlayed faults false means of_boot h h
-boot-off faults means of_boot h i f o =
+pub boot-off : {K : Type 0} (signs : Signs K) (means : ℕ → Means) (of_boot : List (List Item)) (h : Housed K) → IsIdle (past h) → IsFresh (past h) → off (past h) ≡ true → HouseBootPlayed signs false means of_boot h h
+boot-off signs means of_boot h i f o =
     let facts = h.annals.facts in
     let opening = rows_before h.annals in
     let all : List Task = tasks facts opening (began (past h)) in
@@ -57,18 +57,18 @@ boot-off faults means of_boot h i f o =
         idle = subst EndsIdle (sym f.are) (fresh-idle f.boot f.before f.is);
       };
       grew = grew-nothing (past h);
-      rest = rest-here faults h i;
+      rest = rest-here signs h i;
     }
 
-module _ {K : Type 0} (faults : K → ℕ) (now : Bool) (means : Means) (old mid : Housed K) (h : HouseWent faults now 0 (TaskPlays old.annals.facts (rows_before old.annals) means) (tasks old.annals.facts (rows_before old.annals) (began (past old))) old mid) where
+module _ {K : Type 0} (signs : Signs K) (now : Bool) (means : Means) (old mid : Housed K) (h : HouseWent signs now 0 (TaskPlays old.annals.facts (rows_before old.annals) means) (tasks old.annals.facts (rows_before old.annals) (began (past old))) old mid) where
   -- After the tasks.
   pub no-clients_yet : IsFresh (past old) → NoClients (past mid)
   no-clients_yet f client c = h.went.did.others client (not-first client c) ∙ fresh-mine (past old) client f
 
-  pub still-counted : IsCounted faults old → IsCounted faults mid
+  pub still-counted : IsCounted signs old → IsCounted signs mid
   still-counted c = both c h.rest.counted h.rest.counts
     where
-      both : IsCounted faults old → FaultsCounted faults old mid → faults old.keeper ≤ faults mid.keeper → IsCounted faults mid
+      both : IsCounted signs old → KeeperFared signs old mid → signs.faults old.keeper ≤ signs.faults mid.keeper → IsCounted signs mid
       both (inl x) (inl y) z = inl (omega arith)
       both (inr x) (inl y) z = inr (omega arith)
       both x (inr y) z = inr y
@@ -80,7 +80,7 @@ module _ {K : Type 0} (faults : K → ℕ) (now : Bool) (means : Means) (old mid
   still-read r f = h.rest.same.reopened ∙ r (sym (grew-faulted (past old) (past mid) h.went.did.grew) ∙ f)
 
   -- After the clients.
-  module _ (wanting : Bool) (told then : ℕ → Means) (of_boot : List (List Item)) (new : Housed K) (f : IsFresh (past old)) (first : told 0 ≡ means) (same : (client : ℕ) → then client ≡ told client) (p : ClientsPlayed faults wanting then of_boot mid new) where
+  module _ (wanting : Bool) (told then : ℕ → Means) (of_boot : List (List Item)) (new : Housed K) (f : IsFresh (past old)) (first : told 0 ≡ means) (same : (client : ℕ) → then client ≡ told client) (p : ClientsPlayed signs wanting then of_boot mid new) where
     stays : off (past mid) ≡ true → off (past new) ≡ true
     stays = grew-off (past mid) (past new) p.grew
 
@@ -103,7 +103,7 @@ module _ {K : Type 0} (faults : K → ℕ) (now : Bool) (means : Means) (old mid
         (subst (λ (o : List Row). P old.annals.facts o (then client)) (before-same old.annals mid.annals s)
         (subst (λ (fs : Facts). P fs (rows_before mid.annals) (then client)) s.facts (p.clients client c))))
 
-    pub boot-played : (c : Campaign) (opening : List Row) → IsLegal c opening (past new) → HouseBootPlayed faults (now || wanting) told of_boot old new
+    pub boot-played : (c : Campaign) (opening : List Row) → IsLegal c opening (past new) → HouseBootPlayed signs (now || wanting) told of_boot old new
     boot-played c opening legal =
         record {
           played = record {
@@ -113,5 +113,5 @@ module _ {K : Type 0} (faults : K → ℕ) (now : Bool) (means : Means) (old mid
             idle = ends-idle c opening (past new) legal p.rest.idle;
           };
           grew = grew-both (past old) (past mid) (past new) h.went.did.grew p.grew;
-          rest = rest-both faults old mid new h.rest p.rest;
+          rest = rest-both signs old mid new h.rest p.rest;
         }

@@ -5,8 +5,8 @@ use Rattle.std.specs.List.{list_any}
 use Rattle.update_log.proofs.Lists.{by_test}
 use Rattle.update_log.specs.declared.event.Event.{Event}
 use Rattle.update_log.specs.CoreFolds.{AllFaults, is_fault_boot}
-use Rattle.update_log.specs.Pasts.{boots, is_boot, off, past_of, puts_off}
-use Rattle.daemon_core.specs.Keeping.{last_faulted, met_fault}
+use Rattle.update_log.specs.Pasts.{boots, is_boot, meets_fault, off, past_of, puts_off}
+use Rattle.daemon_core.specs.Keeping.{last_faulted}
 use Rattle.client_plays.specs.Moments.{Grew}
 use Rattle.shared_daemon.specs.declared.entry.Entry.{Entry}
 use Rattle.shared_daemon.specs.Entries.{events, past_seen}
@@ -79,7 +79,7 @@ pub on-unread : (loaded : Bool) (past : List Event) → (loaded ≡ false → Al
 on-unread loaded past h b o u = let bad : true ≡ false = sym (on-loaded loaded past h b o) ∙ u in cc
 
 -- A boot that isn't off read the history.
-boot-met : (event : Event) → is_boot event ≡ true → puts_off event ≡ met_fault event
+boot-met : (event : Event) → is_boot event ≡ true → puts_off event ≡ meets_fault event
 boot-met (Event.Boot number time limit found boards) b = refl
 boot-met (Event.Query client query) b = cc
 boot-met (Event.Ask client request pending answer) b = cc

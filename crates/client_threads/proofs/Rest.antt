@@ -10,7 +10,7 @@ use Rattle.daemon_core.specs.Annals.{IsAnnals, SameFacts}
 use Rattle.daemon_core.specs.Housed.{Housed, past, rows_before}
 use Rattle.daemon_core.specs.Keeping.{keeper_faults}
 use Rattle.daemon_core.specs.Parts.{AllHome}
-use Rattle.daemon_core.specs.Turns.{FaultsCounted}
+use Rattle.daemon_core.specs.Turns.{KeeperFared, Signs}
 use Rattle.daemon_core.specs.Planned.{HavePlans, KeepsPlans}
 use Rattle.daemon_core.proofs.Planned.{keeps-picked, plans-picked}
 use Rattle.client_scripts.specs.declared.item.Item.{Item}
@@ -33,20 +33,20 @@ use Rattle.client_threads.proofs.Pasts.{log-grew, on-loaded, on-read}
 use Rattle.client_threads.proofs.ShelfFaults.{count-closed}
 use Rattle.client_threads.proofs.Plays.{items-beyond, left-off, left-wanting, nothing-so}
 
-module _ {K : Type 0} (faults : K → ℕ) where
+module _ {K : Type 0} (signs : Signs K) where
   -- A daemon may begin round a house that was booted, and isn't off.
-  pub can-begin : (h : Housed K) → IsAnnals h.annals → 0 < boots (past h) → off (past h) ≡ false → IsCounted faults h → IsIdle (past h) → ReadLast h → CanBegin faults h
+  pub can-begin : (h : Housed K) → IsAnnals h.annals → 0 < boots (past h) → off (past h) ≡ false → IsCounted signs h → IsIdle (past h) → ReadLast h → CanBegin signs h
   can-begin h k b o c i r =
       record { loaded = on-loaded h.annals.loaded (past h) k.unloaded b o; reopened = r (on-read (past h) o); booted = b; counted = c; idle = i }
 
-  first-counted : (h : Housed K) → IsCounted faults h → (keeper_faults (past h) + (faults h.keeper - keeper_faults (past h)) ≤ faults h.keeper) ⊎ (2 ^ 64 - 1 ≤ faults h.keeper)
+  first-counted : (h : Housed K) → IsCounted signs h → (keeper_faults (past h) + (signs.faults h.keeper - keeper_faults (past h)) ≤ signs.faults h.keeper) ⊎ (2 ^ 64 - 1 ≤ signs.faults h.keeper)
   first-counted h (inl c) = inl (omega arith)
   first-counted h (inr c) = inr c
 
   -- It has the name that it has as the daemon begins.
-  pub begins-named : (name : Name) (h : Housed K) → name ≡ name_of faults h → CanBegin faults h → KeepsName faults name h
+  pub begins-named : (name : Name) (h : Housed K) → name ≡ name_of signs h → CanBegin signs h → KeepsName signs name h
   begins-named name h e b =
-      subst (λ (n : Name). KeepsName faults n h) (sym e)
+      subst (λ (n : Name). KeepsName signs n h) (sym e)
       (record {
         facts_are = refl;
         first_are = refl;
@@ -58,7 +58,9 @@ module _ {K : Type 0} (faults : K → ℕ) where
         planned = plans-picked h.places;
         counted = first-counted h b.counted;
         counts = omega arith;
-        told = tt;
+        grows = omega arith;
+        quiet = λ _. refl;
+        told = λ all t. (all, t);
       })
 
   pub nothing-out : (h : Housed K) → IsAnnals h.annals → IsIdle (past h) → HasNothing (chronicle h)
@@ -75,7 +77,7 @@ module _ {K : Type 0} (faults : K → ℕ) where
       }
 
   -- The daemon closed.
-  module _ (name : Name) (old new : Housed K) (e : name ≡ name_of faults old) (b : CanBegin faults old) (k : IsAnnals old.annals) (w : IsAnnals new.annals) (n : KeepsName faults name new) where
+  module _ (name : Name) (old new : Housed K) (e : name ≡ name_of signs old) (b : CanBegin signs old) (k : IsAnnals old.annals) (w : IsAnnals new.annals) (n : KeepsName signs name new) where
     -- All boards were at home as it began, so the name has the plans of all.
     plans-so : AllHome old.places → KeepsPlans old.places new.places
     plans-so home = keeps-picked old.places new.places home (subst (λ (plans : List (List PlannedFault)). HavePlans plans new.places) (ap (λ (x : Name). x.plans) e) n.planned)
@@ -90,22 +92,37 @@ module _ {K : Type 0} (faults : K → ℕ) where
           reopened = n.reopened ∙ sym b.reopened;
         }
 
-    counted-so : (first start : ℕ) → first ≡ faults old.keeper - keeper_faults (past old) → (keeper_faults (past new) + first ≤ faults new.keeper) ⊎ (2 ^ 64 - 1 ≤ faults new.keeper) → FaultsCounted faults old new
-    counted-so first start f (inl c) = inl (omega arith)
-    counted-so first start f (inr c) = inr c
+    start-told : name.start_told ≡ keeper_faults (past old)
+    start-told = ap (λ (x : Name). x.start_told) e
 
-    rest-so : AllHome old.places → HasNothing (chronicle new) → AtRest faults old new
+    start-faults : name.start_faults ≡ signs.faults old.keeper
+    start-faults = ap (λ (x : Name). x.start_faults) e
+
+    counted-so : (first : ℕ) → first ≡ signs.faults old.keeper - keeper_faults (past old) → (keeper_faults (past new) + first ≤ signs.faults new.keeper) ⊎ (2 ^ 64 - 1 ≤ signs.faults new.keeper) → (keeper_faults (past new) + signs.faults old.keeper ≤ keeper_faults (past old) + signs.faults new.keeper) ⊎ (2 ^ 64 - 1 ≤ signs.faults new.keeper)
+    counted-so first f (inl c) = inl (omega arith)
+    counted-so first f (inr c) = inr c
+
+    fared-so : KeeperFared signs old new
+    fared-so =
+        record {
+          grows = (let start = start-told in let g = n.grows in omega (arith, start, g));
+          counted = counted-so name.first_faults (ap (λ (x : Name). x.first_faults) e) n.counted;
+          quiet = λ q. n.quiet (q ∙ sym start-told) ∙ start-faults;
+          told = λ all t. subst (λ (T : Type 0). T) (ap (λ (x : Name). x.came) e) (n.told all t);
+        }
+
+    rest-so : AllHome old.places → HasNothing (chronicle new) → AtRest signs old new
     rest-so home nothing =
         record {
           idle = idle-left new w nothing;
           same = same-facts;
-          counted = counted-so name.first_faults name.start_faults (ap (λ (x : Name). x.first_faults) e) n.counted;
-          counts = (let start : name.start_faults ≡ faults old.keeper = ap (λ (x : Name). x.start_faults) e in let c = n.counts in omega arith);
+          counted = fared-so;
+          counts = (let start = start-faults in let c = n.counts in omega (arith, start, c));
           plans = plans-so home;
         }
 
     rows-so : name.opening ≡ rows_before old.annals
-    rows-so = sym (before-named faults name old (begins-named name old e b))
+    rows-so = sym (before-named signs name old (begins-named name old e b))
 
     -- What a log of the name says, of the house.
     old-past : past_seen name.start ≡ past old
@@ -117,7 +134,7 @@ module _ {K : Type 0} (faults : K → ℕ) where
     pub shelves-counted : (was now : List ShelfTold) → ShelvesCount (past_seen name.start) (past_seen (chronicle new)) was now → ShelvesCount (past old) (past new) was now
     shelves-counted was now c = count-closed (past_seen name.start) (past_seen (chronicle new)) (past old) (past new) was now old-past new-past c
 
-    pub clients-played : AllHome old.places → (wanting : Bool) (means : ℕ → Means) (of_boot : List (List Item)) → IsLogOf name name.start → IsLogOf name (chronicle new) → HasNothing (chronicle new) → NoClients (past old) → PlayedBehind wanting name means of_boot (chronicle new) → ClientsPlayed faults wanting means of_boot old new
+    pub clients-played : AllHome old.places → (wanting : Bool) (means : ℕ → Means) (of_boot : List (List Item)) → IsLogOf name name.start → IsLogOf name (chronicle new) → HasNothing (chronicle new) → NoClients (past old) → PlayedBehind wanting name means of_boot (chronicle new) → ClientsPlayed signs wanting means of_boot old new
     clients-played home wanting means of_boot s l nothing none p =
         record {
           daemon = ap (mine 0) (sym new-past) ∙ p.daemon ∙ ap (mine 0) old-past;
@@ -133,7 +150,7 @@ module _ {K : Type 0} (faults : K → ℕ) where
 
   -- Nothing was done.
   module _ (means : ℕ → Means) (of_boot : List (List Item)) (h : Housed K) (i : IsIdle (past h)) (none : NoClients (past h)) where
-    pub no-clients : (wanting : Bool) → of_boot ≡ [] → ClientsPlayed faults wanting means of_boot h h
+    pub no-clients : (wanting : Bool) → of_boot ≡ [] → ClientsPlayed signs wanting means of_boot h h
     no-clients wanting e =
         record {
           daemon = refl;
@@ -141,25 +158,25 @@ module _ {K : Type 0} (faults : K → ℕ) where
               nothing-so (off (past h)) wanting client (Plays h.annals.facts (rows_before h.annals) (means client) client) (items_of of_boot client) (mine client (past h))
               (ap (λ (all : List (List Item)). items_of all client) e ∙ items-beyond [] client c) (none client c);
           grew = grew-nothing (past h);
-          rest = rest-here faults h i;
+          rest = rest-here signs h i;
         }
 
-    pub clients-off : (wanting : Bool) → off (past h) ≡ true → ClientsPlayed faults wanting means of_boot h h
+    pub clients-off : (wanting : Bool) → off (past h) ≡ true → ClientsPlayed signs wanting means of_boot h h
     clients-off wanting o =
         record {
           daemon = refl;
           clients = λ client c.
               left-off h.annals.facts (rows_before h.annals) (means client) client (items_of of_boot client) (mine client (past h)) (off (past h)) wanting o (none client c);
           grew = grew-nothing (past h);
-          rest = rest-here faults h i;
+          rest = rest-here signs h i;
         }
 
-    pub clients-left : ClientsPlayed faults true means of_boot h h
+    pub clients-left : ClientsPlayed signs true means of_boot h h
     clients-left =
         record {
           daemon = refl;
           clients = λ client c.
               left-wanting h.annals.facts (rows_before h.annals) (means client) client (items_of of_boot client) (mine client (past h)) (off (past h)) (none client c);
           grew = grew-nothing (past h);
-          rest = rest-here faults h i;
+          rest = rest-here signs h i;
         }

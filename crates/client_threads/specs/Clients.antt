@@ -2,6 +2,7 @@
 use Rattle.std.specs.Prelude.{◌≡◌, ◌<◌, ℕ, Bool, List, []}
 use Rattle.update_log.specs.Pasts.{off}
 use Rattle.daemon_core.specs.Housed.{Housed, past, rows_before}
+use Rattle.daemon_core.specs.Turns.{Signs}
 use Rattle.client_scripts.specs.declared.item.Item.{Item}
 use Rattle.client_plays.specs.Endings.{AtRest}
 use Rattle.client_plays.specs.Faults.{FaultsTold}
@@ -34,11 +35,11 @@ pub record PlayedScript {P : Type 0} (files : P → Files) (plugins : ℕ → Pl
   pub told : FaultsTold (own old.pass) (own new.pass) (faults old.shelf) (faults new.shelf)
 
 -- The clients of a boot went through their scripts, the daemon itself did nothing, and the house is at rest.
-pub record ClientsPlayed {K : Type 0} (faults : K → ℕ) (wanting : Bool) (means : ℕ → Means) (of_boot : List (List Item)) (old new : Housed K) : Type 0 where
+pub record ClientsPlayed {K : Type 0} (signs : Signs K) (wanting : Bool) (means : ℕ → Means) (of_boot : List (List Item)) (old new : Housed K) : Type 0 where
   pub daemon : mine 0 (past new) ≡ mine 0 (past old)
   pub clients : (client : ℕ) → 0 < client → PlayedSo (off (past new)) wanting client (Plays old.annals.facts (rows_before old.annals) (means client) client) (items_of of_boot client) (mine client (past new))
   pub grew : Grew (past old) (past new)
-  pub rest : AtRest faults old new
+  pub rest : AtRest signs old new
 
 -- What the clients of a boot did behind the lock, by the log as the daemon closed: the daemon itself did
 -- nothing, and each client that had done nothing before went through its script.

@@ -5,6 +5,7 @@ ghost use Rattle.plugin_trait.specs.Steps.{steps_at};
 ghost use Rattle.update_log.specs.Pasts.{boots};
 ghost use Rattle.daemon_core.specs.Annals.{IsAnnals};
 ghost use Rattle.daemon_core.specs.Housed.{past};
+ghost use Rattle.daemon_core.specs.Turns.{signs_of};
 ghost use Rattle.turn_lock.specs.Shown.{IsFresh as IsNewPass};
 ghost use Rattle.shared_daemon.specs.Entries.{chronicle, past_seen};
 ghost use Rattle.shared_daemon.specs.Names.{HasNothing, IsLogOf, IsPass, KeepsName};
@@ -65,7 +66,7 @@ fn play_behind<
     requires proper { All (All IsScriptItem) of_boot.now }
     requires served { length N.name.facts.vetoes ≤ length plugins.now }
     ensures start { IsLogOf N.name N.name.start }
-    ensures name { KeepsName K.faults N.name result.0 }
+    ensures name { KeepsName (signs_of K.tells K.faults) N.name result.0 }
     ensures log { IsLogOf N.name (chronicle result.0) }
     ensures nothing { HasNothing (chronicle result.0) }
     ensures annals { IsAnnals result.0.annals }
@@ -108,15 +109,15 @@ fn play_named<
     plugins: &[Box<dyn Plugin>],
     gate: &G,
 ) -> (House<K>, bool)
-    requires name { N.name ≡ name_of K.faults house }
-    requires begins { CanBegin K.faults house }
+    requires name { N.name ≡ name_of (signs_of K.tells K.faults) house }
+    requires begins { CanBegin (signs_of K.tells K.faults) house }
     requires none { NoClients (past house) }
     requires some { 0 < length of_boot.now }
     requires few { length of_boot.now ≤ 16 }
     requires proper { All (All IsScriptItem) of_boot.now }
     requires shelves { length of_boot.now ≤ length shelves.old.items }
     requires served { length house.annals.facts.vetoes ≤ length plugins.now }
-    ensures played { ClientsPlayed K.faults result.1 (means_for (steps_at (λ p. steps p) plugins.now) (shelves_told P.files P.faults shelves.old.items)) of_boot.now house result.0 }
+    ensures played { ClientsPlayed (signs_of K.tells K.faults) result.1 (means_for (steps_at (λ p. steps p) plugins.now) (shelves_told P.files P.faults shelves.old.items)) of_boot.now house result.0 }
     ensures kept { ShelvesStay (shelves_told P.files P.faults shelves.old.items) (shelves_told P.files P.faults shelves.new.items) }
     ensures told { ShelvesCount (past house) (past result.0) (shelves_told P.files P.faults shelves.old.items) (shelves_told P.files P.faults shelves.new.items) }
 {
@@ -149,14 +150,14 @@ fn play_clients<R: Threads + Wait + Sync, K: Keeper + Send, P: Shelf + Send, G: 
 ) -> (House<K>, bool)
     requires booted { 0 < boots (past house) }
     requires idle { IsIdle (past house) }
-    requires counted { IsCounted K.faults house }
+    requires counted { IsCounted (signs_of K.tells K.faults) house }
     requires read { ReadLast house }
     requires none { NoClients (past house) }
     requires few { length of_boot.now ≤ 16 }
     requires proper { All (All IsScriptItem) of_boot.now }
     requires shelves { length of_boot.now ≤ length shelves.old.items }
     requires served { length house.annals.facts.vetoes ≤ length plugins.now }
-    ensures played { ClientsPlayed K.faults result.1 (means_for (steps_at (λ p. steps p) plugins.now) (shelves_told P.files P.faults shelves.old.items)) of_boot.now house result.0 }
+    ensures played { ClientsPlayed (signs_of K.tells K.faults) result.1 (means_for (steps_at (λ p. steps p) plugins.now) (shelves_told P.files P.faults shelves.old.items)) of_boot.now house result.0 }
     ensures kept { ShelvesStay (shelves_told P.files P.faults shelves.old.items) (shelves_told P.files P.faults shelves.new.items) }
     ensures told { ShelvesCount (past house) (past result.0) (shelves_told P.files P.faults shelves.old.items) (shelves_told P.files P.faults shelves.new.items) }
 {
@@ -190,13 +191,13 @@ pub(crate) fn play_boot<
     requires booted { 0 < boots (past house) }
     requires idle { IsIdle (past house) }
     requires fresh { IsFresh (past house) }
-    requires counted { IsCounted K.faults house }
+    requires counted { IsCounted (signs_of K.tells K.faults) house }
     requires read { ReadLast house }
     requires proper { All (All IsScriptItem) of_boot.now }
     requires few { length of_boot.now ≤ 16 }
     requires serves { Serves (tools_of P.files P.faults (length plugins.now) shelves.old.items) house.annals.facts (length of_boot.now) }
     ensures unread { house.annals.loaded ≡ false → result.0 ≡ house }
-    ensures played { HouseBootPlayed K.faults result.1 (means_for (steps_at (λ p. steps p) plugins.now) (shelves_told P.files P.faults shelves.old.items)) of_boot.now house result.0 }
+    ensures played { HouseBootPlayed (signs_of K.tells K.faults) result.1 (means_for (steps_at (λ p. steps p) plugins.now) (shelves_told P.files P.faults shelves.old.items)) of_boot.now house result.0 }
     ensures kept { ShelvesStay (shelves_told P.files P.faults shelves.old.items) (shelves_told P.files P.faults shelves.new.items) }
     ensures told { ShelvesCount (past house) (past result.0) (shelves_told P.files P.faults shelves.old.items) (shelves_told P.files P.faults shelves.new.items) }
 {

@@ -3,6 +3,7 @@ ghost use Rattle.std.specs.Prelude.{◌≡◌, ◌≤◌, ◌<◌, ◌-◌, ◌^
 ghost use Rattle.plugin_trait.specs.Steps.{steps_at};
 ghost use Rattle.update_log.specs.Legal.{IsLegal};
 ghost use Rattle.daemon_core.specs.Housed.{past, rows_before};
+ghost use Rattle.daemon_core.specs.Turns.{signs_of};
 ghost use Rattle.client_plays.specs.Endings.{IsScriptItem};
 ghost use Rattle.client_plays.specs.Faults.{ShelvesCount};
 ghost use Rattle.client_plays.specs.Shelves.{means_for};
@@ -47,7 +48,7 @@ pub fn run_on_threads<R: Threads + Wait + Sync, K: Keeper + Send, P: Shelf + Sen
     requires proper { All (All (All IsScriptItem)) scripts.now }
     requires clients { All (λ of_boot. length of_boot ≤ 16) scripts.now }
     requires shelves { All (λ of_boot. length of_boot ≤ length (shelves_told P.files P.faults shelves.items)) scripts.now }
-    ensures ran { CampaignRan K.rows K.faults result.1.ending result.1.wanting (means_for (steps_at (λ p. steps p) plugins.items) (shelves_told P.files P.faults shelves.items)) plans.now scripts.now house result.0 }
+    ensures ran { CampaignRan (signs_of K.tells K.faults) result.1.ending result.1.wanting (means_for (steps_at (λ p. steps p) plugins.items) (shelves_told P.files P.faults shelves.items)) plans.now scripts.now house result.0 }
     ensures legal { IsLegal (with_plans result.0.annals.facts result.0.annals.first plans.now) (rows_before result.0.annals) (past result.0) }
     ensures kept { ShelvesStay (shelves_told P.files P.faults shelves.items) (shelves_told P.files P.faults result.2.items) }
     ensures told { ShelvesCount (past house) (past result.0) (shelves_told P.files P.faults shelves.items) (shelves_told P.files P.faults result.2.items) }

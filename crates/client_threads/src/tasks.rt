@@ -3,6 +3,7 @@ ghost use Rattle.std.specs.Prelude.{◌≡◌, ◌≤◌, ◌<◌, length};
 ghost use Rattle.plugin_trait.specs.Steps.{steps_at};
 ghost use Rattle.update_log.specs.Pasts.{boots};
 ghost use Rattle.daemon_core.specs.Housed.{past, rows_before};
+ghost use Rattle.daemon_core.specs.Turns.{signs_of};
 ghost use Rattle.client_plays.specs.Endings.{HouseWent, IsFresh, IsIdle};
 ghost use Rattle.client_plays.specs.Faults.{ShelvesCount};
 ghost use Rattle.client_plays.specs.Has.{shelves_told};
@@ -32,7 +33,7 @@ pub(crate) fn do_tasks_first<K: Keeper, P: Shelf>(
     requires fresh { IsFresh (past house.old) }
     requires shelf { 0 < length shelves.old.items }
     requires served { length house.old.annals.facts.vetoes ≤ length plugins.now }
-    ensures went { HouseWent K.faults result 0 (TaskPlays house.old.annals.facts (rows_before house.old.annals) (means_for (steps_at (λ p. steps p) plugins.now) (shelves_told P.files P.faults shelves.old.items) 0)) (tasks house.old.annals.facts (rows_before house.old.annals) (began (past house.old))) house.old house.new }
+    ensures went { HouseWent (signs_of K.tells K.faults) result 0 (TaskPlays house.old.annals.facts (rows_before house.old.annals) (means_for (steps_at (λ p. steps p) plugins.now) (shelves_told P.files P.faults shelves.old.items) 0)) (tasks house.old.annals.facts (rows_before house.old.annals) (began (past house.old))) house.old house.new }
     ensures kept { ShelvesStay (shelves_told P.files P.faults shelves.old.items) (shelves_told P.files P.faults shelves.new.items) }
     ensures told { ShelvesCount (past house.old) (past house.new) (shelves_told P.files P.faults shelves.old.items) (shelves_told P.files P.faults shelves.new.items) }
 {

@@ -155,7 +155,7 @@ held-more past client request pending blocks release h =
     rw e (omega arith)
 
 -- A house, after an ask that was accepted.
-pub house-held : {K : Type 0} (told : K → Option (List Row)) (doubted : K → Option Change) (client : ℕ) (request : Request) (pending : Option ℕ) (blocks : ℕ) (release : ReleaseRef) (old : Housed K) (new : Annalled) (pool : PoolCounts) → IsHouse told doubted old → IsAnnals old.annals → IsAnnals new → Appended client (Event.Ask client request pending (AskAnswer.Hold blocks release)) old.annals new → old.annals.loaded ≡ true
+pub house-held : {K : Type 0} (told : K → List Row → Type 0) (doubted : K → Option Change) (client : ℕ) (request : Request) (pending : Option ℕ) (blocks : ℕ) (release : ReleaseRef) (old : Housed K) (new : Annalled) (pool : PoolCounts) → IsHouse told doubted old → IsAnnals old.annals → IsAnnals new → Appended client (Event.Ask client request pending (AskAnswer.Hold blocks release)) old.annals new → old.annals.loaded ≡ true
     → hold (past old) client ≡ None → pool.capacity ≡ old.pool.capacity → pool.free + blocks ≡ old.pool.free → IsHouse told doubted (record old { annals = new; pool = pool })
 house-held told doubted client request pending blocks release old new pool h o k a l none cap free =
     let more = held-more (past old) client request pending blocks release none in

@@ -118,7 +118,7 @@ map-get f (x' ∷ xs) zero x h = cc
 map-get f (x' ∷ xs) (suc i) x h = map-get f xs i x h
 
 -- A new house is a house.
-pub house-new : {K : Type 0} (told : K → Option (List Row)) (doubted : K → Option Change) (facts : Facts) (boards : List BoardState) (pool : PoolCounts) (keeper : K) (h : Housed K) → IsNewHouse facts boards pool keeper h → length boards ≡ length facts.sheets
+pub house-new : {K : Type 0} (told : K → List Row → Type 0) (doubted : K → Option Change) (facts : Facts) (boards : List BoardState) (pool : PoolCounts) (keeper : K) (h : Housed K) → IsNewHouse facts boards pool keeper h → length boards ≡ length facts.sheets
     → ((number : ℕ) (b : BoardState) → slice_get boards number ≡ Some b → IsNewBoard b) → doubted keeper ≡ None → pool.capacity ≡ facts.pool → pool.free ≡ pool.capacity → IsHouse told doubted h
 house-new {K} told doubted facts boards pool keeper h n count new no_doubt capacity free =
     let p : past h ≡ [] = blank-past facts (map shown_by boards) h.annals n.blank in

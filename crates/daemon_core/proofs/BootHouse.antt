@@ -142,7 +142,7 @@ stand-over old all n places k l p =
     }
 
 -- the house behind a boot
-pub house-booted : {K : Type 0} (tells : K → Option (List Row)) (doubts : K → Option Change) (mid new : Annalled) (places after : List Place) (pool : PoolCounts) (keeper : K) (plan : BootPlan) (found : Found)
+pub house-booted : {K : Type 0} (tells : K → List Row → Type 0) (doubts : K → Option Change) (mid new : Annalled) (places after : List Place) (pool : PoolCounts) (keeper : K) (plan : BootPlan) (found : Found)
     → IsAnnals mid → IsAnnals new → PlacesStand mid places → live (past_in mid) ≡ [] → holds (past_in mid) ≡ [] → BoardsStarted plan found mid new places after
     → pool.capacity ≡ mid.facts.pool → pool.free + held (past_in mid) ≡ mid.facts.pool
     → (mid.loaded ≡ false → doubts keeper ≡ None)

@@ -1,6 +1,6 @@
 -- A house that read the history.
 use Rattle.std.proofs.Common.{◌≡◌, ℕ, Bool, true, false, List, refl, sym, ◌∙◌, ◌⊎◌, inl, inr, ◌+◌, ◌≤◌, arith, length, subst}
-use Rattle.std.specs.Prelude.{Some, None, Option, IfSome, Result, Ok, Err}
+use Rattle.std.specs.Prelude.{Some, None, Option, Result, Ok, Err}
 use Rattle.fw_base.specs.declared.memory.NoMemory.{NoMemory}
 use Rattle.history_keeper.specs.declared.change.Change.{Change}
 use Rattle.history_keeper.specs.declared.row.Row.{Row}
@@ -33,13 +33,12 @@ found-cases Found.Plain change rows = inl refl
 found-cases Found.Lost change rows = inl refl
 found-cases Found.Fault change rows = inl refl
 
-told-cases : (told : Option (List Row)) (found : Found) (change : Option Change) (rows : List Row) → IfSome told (λ all. all ≡ rows_found found change rows) → IfSome told (λ all. (all ≡ rows) ⊎ (all ≡ with_doubt change rows))
-told-cases None found change rows h = tt
-told-cases (Some all) found change rows h = at (found-cases found change rows)
+told-cases : (told : List Row → Type 0) (found : Found) (change : Option Change) (rows : List Row) → ((all : List Row) → told all → all ≡ rows_found found change rows) → (all : List Row) → told all → (all ≡ rows) ⊎ (all ≡ with_doubt change rows)
+told-cases told found change rows h all t = at (found-cases found change rows)
   where
     at : (rows_found found change rows ≡ rows) ⊎ (rows_found found change rows ≡ with_doubt change rows) → (all ≡ rows) ⊎ (all ≡ with_doubt change rows)
-    at (inl e) = inl (h ∙ e)
-    at (inr e) = inr (h ∙ e)
+    at (inl e) = inl (h all t ∙ e)
+    at (inr e) = inr (h all t ∙ e)
 
 -- a boot that went well leaves no doubt
 found-none : (found : Found) (change : Option Change) → FoundAllowed found change → is_found_fault found ≡ false → doubt_found found change ≡ None
@@ -61,7 +60,7 @@ found-one Found.Plain change rows = omega arith
 found-one Found.Lost change rows = omega arith
 found-one Found.Fault change rows = omega arith
 
-module _ {K : Type 0} (tells : K → Option (List Row)) (doubts : K → Option Change) (faults : K → ℕ) (old : Housed K) (keeper : K) (h : IsHouse tells doubts old) (k : IsAnnals old.annals) where
+module _ {K : Type 0} (tells : K → List Row → Type 0) (doubts : K → Option Change) (faults : K → ℕ) (settled : K → K → Type 0) (old : Housed K) (keeper : K) (h : IsHouse tells doubts old) (k : IsAnnals old.annals) where
   -- a house whose keeper has these rows still
   house-kept : (b : Bool) → (old.annals.loaded ≡ false → doubts keeper ≡ None) → (old.annals.loaded ≡ true → KeepsSo b tells doubts keeper old.annals.core.rows old.annals.core.doubt)
       → IsHouse tells doubts (record { annals = record old.annals { reopened = b }; places = old.places; pool = old.pool; keeper = keeper })
@@ -108,25 +107,25 @@ module _ {K : Type 0} (tells : K → Option (List Row)) (doubts : K → Option C
   house-first : (result : Result Loaded NoMemory) (new : Annalled) → old.annals.loaded ≡ false → FirstRead tells doubts faults result old.annals new old.keeper keeper
       → IsHouse tells doubts (record { annals = new; places = old.places; pool = old.pool; keeper = keeper })
   house-first (Ok (Loaded.Found found)) new l r =
-      subst (λ (a : Annalled). IsHouse tells doubts (record { annals = a; places = old.places; pool = old.pool; keeper = keeper })) (sym r.opened_so)
-      (house-opened new.opening new.core.row_room l r.keeps)
+      subst (λ (a : Annalled). IsHouse tells doubts (record { annals = a; places = old.places; pool = old.pool; keeper = keeper })) (sym r.0.opened_so)
+      (house-opened new.opening new.core.row_room l r.0.keeps)
   house-first (Ok (Loaded.Bad entry)) new l r =
-      subst (λ (a : Annalled). IsHouse tells doubts (record { annals = a; places = old.places; pool = old.pool; keeper = keeper })) (sym r.same)
-      (house-refused new.opening l r.no_doubt)
+      subst (λ (a : Annalled). IsHouse tells doubts (record { annals = a; places = old.places; pool = old.pool; keeper = keeper })) (sym r.0.same)
+      (house-refused new.opening l r.0.no_doubt)
   house-first (Ok Loaded.Fault) new l r = house-same old.annals.reopened new r.0.same (λ _. r.0.no_doubt) (not-loaded l)
-  house-first (Err refused) new l r = house-same old.annals.reopened new r.same (λ _. r.no_doubt) (not-loaded l)
+  house-first (Err refused) new l r = house-same old.annals.reopened new r.0.same (λ _. r.0.no_doubt) (not-loaded l)
 
-  house-later : (result : Result Loaded NoMemory) (new : Annalled) → old.annals.loaded ≡ true → new ≡ record old.annals { reopened = true } → LaterRead tells doubts faults result old.annals.core.rows old.annals.core.doubt old.keeper keeper
+  house-later : (result : Result Loaded NoMemory) (new : Annalled) → old.annals.loaded ≡ true → new ≡ record old.annals { reopened = true } → LaterRead tells doubts faults settled result old.annals.core.rows old.annals.core.doubt old.keeper keeper
       → IsHouse tells doubts (record { annals = new; places = old.places; pool = old.pool; keeper = keeper })
   house-later (Ok (Loaded.Found found)) new t e r =
-      house-same true new e (not-unloaded t) (λ _. inr (record { rows_are = told-cases (tells keeper) found old.annals.core.doubt old.annals.core.rows r.keeps.rows_are; no_doubt = r.keeps.doubt_is }))
-  house-later (Ok (Loaded.Bad entry)) new t e r = house-same true new e (not-unloaded t) (λ _. r.keeps)
+      house-same true new e (not-unloaded t) (λ _. inr (record { rows_are = told-cases (tells keeper) found old.annals.core.doubt old.annals.core.rows r.0.keeps.rows_are; no_doubt = r.0.keeps.doubt_is }))
+  house-later (Ok (Loaded.Bad entry)) new t e r = house-same true new e (not-unloaded t) (λ _. r.0.keeps)
   house-later (Ok Loaded.Fault) new t e r = house-same true new e (not-unloaded t) (λ _. r.0)
-  house-later (Err refused) new t e r = house-same true new e (not-unloaded t) (λ _. r)
+  house-later (Err refused) new t e r = house-same true new e (not-unloaded t) (λ _. r.0)
 
   pub house-read : (result : Result Loaded NoMemory) (new : Annalled)
       → (old.annals.loaded ≡ false → FirstRead tells doubts faults result old.annals new old.keeper keeper)
-      → (old.annals.loaded ≡ true → (new ≡ record old.annals { reopened = true }) × LaterRead tells doubts faults result old.annals.core.rows old.annals.core.doubt old.keeper keeper)
+      → (old.annals.loaded ≡ true → (new ≡ record old.annals { reopened = true }) × LaterRead tells doubts faults settled result old.annals.core.rows old.annals.core.doubt old.keeper keeper)
       → IsHouse tells doubts (record { annals = new; places = old.places; pool = old.pool; keeper = keeper })
   house-read result new first later =
       by_test old.annals.loaded _
@@ -155,23 +154,23 @@ module _ {K : Type 0} (tells : K → Option (List Row)) (doubts : K → Option C
     can-first : (result : Result Loaded NoMemory) (new : Annalled) → old.annals.loaded ≡ false → FirstRead tells doubts faults result old.annals new old.keeper keeper
         → CanBootAfter tells doubts result (record { annals = new; places = old.places; pool = old.pool; keeper = keeper })
     can-first (Ok (Loaded.Found found)) new l r =
-        subst (λ (f : Found). CanBoot tells doubts f (record { annals = new; places = old.places; pool = old.pool; keeper = keeper })) (sym r.found_is)
-        (subst (λ (a : Annalled). CanBoot tells doubts Found.Plain (record { annals = a; places = old.places; pool = old.pool; keeper = keeper })) (sym r.opened_so)
-        (can-open new.opening new.core.row_room l r.keeps))
+        subst (λ (f : Found). CanBoot tells doubts f (record { annals = new; places = old.places; pool = old.pool; keeper = keeper })) (sym r.0.found_is)
+        (subst (λ (a : Annalled). CanBoot tells doubts Found.Plain (record { annals = a; places = old.places; pool = old.pool; keeper = keeper })) (sym r.0.opened_so)
+        (can-open new.opening new.core.row_room l r.0.keeps))
     can-first (Ok (Loaded.Bad entry)) new l r = tt
     can-first (Ok Loaded.Fault) new l r = can-same old.annals.reopened Found.Fault (can-fault old.annals.reopened (not-loaded l)) new r.0.same
     can-first (Err refused) new l r = tt
 
-    can-later : (result : Result Loaded NoMemory) (new : Annalled) → old.annals.loaded ≡ true → new ≡ record old.annals { reopened = true } → LaterRead tells doubts faults result old.annals.core.rows old.annals.core.doubt old.keeper keeper
+    can-later : (result : Result Loaded NoMemory) (new : Annalled) → old.annals.loaded ≡ true → new ≡ record old.annals { reopened = true } → LaterRead tells doubts faults settled result old.annals.core.rows old.annals.core.doubt old.keeper keeper
         → CanBootAfter tells doubts result (record { annals = new; places = old.places; pool = old.pool; keeper = keeper })
     can-later (Ok (Loaded.Found found)) new t e r =
-        let none : doubt_found found old.annals.core.doubt ≡ None = found-none found old.annals.core.doubt r.allowed r.well in
+        let none : doubt_found found old.annals.core.doubt ≡ None = found-none found old.annals.core.doubt r.0.allowed r.0.well in
         can-same true found (record {
-          allowed = r.allowed;
+          allowed = r.0.allowed;
           unloaded = λ l. let bad : true ≡ false = sym t ∙ l in cc;
           keeps = λ _.
               so-has (still_reopened found true) tells doubts keeper (rows_found found old.annals.core.doubt old.annals.core.rows) (doubt_found found old.annals.core.doubt)
-              (subst (λ (d : Option Change). HasRows tells doubts keeper (rows_found found old.annals.core.doubt old.annals.core.rows) d) (sym none) r.keeps);
+              (subst (λ (d : Option Change). HasRows tells doubts keeper (rows_found found old.annals.core.doubt old.annals.core.rows) d) (sym none) r.0.keeps);
           row = (let one = found-one found old.annals.core.doubt old.annals.core.rows in omega (arith, one, room));
         }) new e
     can-later (Ok (Loaded.Bad entry)) new t e r = tt
@@ -180,7 +179,7 @@ module _ {K : Type 0} (tells : K → Option (List Row)) (doubts : K → Option C
 
     pub can-boot : (result : Result Loaded NoMemory) (new : Annalled)
         → (old.annals.loaded ≡ false → FirstRead tells doubts faults result old.annals new old.keeper keeper)
-        → (old.annals.loaded ≡ true → (new ≡ record old.annals { reopened = true }) × LaterRead tells doubts faults result old.annals.core.rows old.annals.core.doubt old.keeper keeper)
+        → (old.annals.loaded ≡ true → (new ≡ record old.annals { reopened = true }) × LaterRead tells doubts faults settled result old.annals.core.rows old.annals.core.doubt old.keeper keeper)
         → CanBootAfter tells doubts result (record { annals = new; places = old.places; pool = old.pool; keeper = keeper })
     can-boot result new first later =
         by_test old.annals.loaded _

@@ -7,6 +7,7 @@ use Rattle.outer_traits.specs.Faults.{Rose}
 use Rattle.history_keeper.specs.declared.change.Change.{Change}
 use Rattle.history_keeper.specs.declared.row.Row.{Row}
 use Rattle.history_keeper.specs.Histories.{IsHistory}
+use Rattle.history_keeper.specs.Keepers.{StillTold}
 use Rattle.update_log.proofs.Lists.{by_test}
 use Rattle.update_log.specs.Crashes.{next_boot}
 use Rattle.update_log.specs.declared.event.BoardSeen.{BoardSeen}
@@ -17,6 +18,7 @@ use Rattle.update_log.specs.Holding.{holds, live}
 use Rattle.update_log.specs.Known.{rows_found}
 use Rattle.update_log.specs.Pasts.{boots, is_found_fault, past_of}
 use Rattle.daemon_core.proofs.AnnalsKept.{appended-past}
+use Rattle.daemon_core.proofs.Fared.{fared-quiet, fared-same}
 use Rattle.daemon_core.proofs.KeptSo.{still-read}
 use Rattle.daemon_core.specs.Annals.{roomier}
 use Rattle.daemon_core.specs.Booting.{AllStarted, BoardsStarted, opened}
@@ -24,8 +26,8 @@ use Rattle.daemon_core.specs.Boots.{BootNoted, CouldntRead, IsReady, NoBoot, Rea
 use Rattle.daemon_core.specs.House.{SameElsewhere}
 use Rattle.daemon_core.specs.Housed.{Annalled, Housed, Place, past}
 use Rattle.daemon_core.specs.Keeping.{HasRows, keeper_faults}
-use Rattle.daemon_core.specs.Reading.{AreOthers, AreTold, CanBoot, FirstRead, LaterRead}
-use Rattle.daemon_core.specs.Turns.{FaultsCounted}
+use Rattle.daemon_core.specs.Reading.{AreOthers, AreTold, CanBoot, FirstRead, IsUngiven, LaterRead, WasShown}
+use Rattle.daemon_core.specs.Turns.{KeeperFared, ToldBefore, signs_of}
 use Rattle.daemon_core.specs.declared.reading.Loaded.{Loaded}
 
 -- the annals with the same log
@@ -65,21 +67,24 @@ rose-cases a b r =
     (λ t. inl (leb-true (a + 1) b t))
     (λ f. let g = leb-false (a + 1) b f in inr (omega (arith, r, g)))
 
-module _ {K : Type 0} (tells : K → Option (List Row)) (doubts : K → Option Change) (faults : K → ℕ) (old room mid new : Housed K) (plan : BootPlan)
+module _ {K : Type 0} (tells : K → List Row → Type 0) (doubts : K → Option Change) (faults : K → ℕ) (settled : K → K → Type 0) (old room mid new : Housed K) (plan : BootPlan)
     (roomy : room.annals ≡ roomier old.annals room.annals) (elsewhere : SameElsewhere old room)
-    (places : mid.places ≡ room.places) (pool : mid.pool ≡ room.pool) (counts : faults room.keeper ≤ faults mid.keeper) where
+    (places : mid.places ≡ room.places) (pool : mid.pool ≡ room.pool) (counts : faults room.keeper ≤ faults mid.keeper) (told : ToldBefore tells room.keeper mid.keeper) where
   pub counted : faults old.keeper ≤ faults mid.keeper
   counted = subst (λ (k : K). faults k ≤ faults mid.keeper) elsewhere.keeper counts
+
+  told-mid : ToldBefore tells old.keeper mid.keeper
+  told-mid = subst (λ (k : K). ToldBefore tells k mid.keeper) elsewhere.keeper told
 
   -- what reading left
   module _ (result : Result Loaded NoMemory)
       (first : room.annals.loaded ≡ false → FirstRead tells doubts faults result room.annals mid.annals room.keeper mid.keeper)
-      (later : room.annals.loaded ≡ true → (mid.annals ≡ record room.annals { reopened = true }) × LaterRead tells doubts faults result room.annals.core.rows room.annals.core.doubt room.keeper mid.keeper) where
+      (later : room.annals.loaded ≡ true → (mid.annals ≡ record room.annals { reopened = true }) × LaterRead tells doubts faults settled result room.annals.core.rows room.annals.core.doubt room.keeper mid.keeper) where
     first-same : (r : Result Loaded NoMemory) → FirstRead tells doubts faults r room.annals mid.annals room.keeper mid.keeper → SameLog room.annals mid.annals
-    first-same (Ok (Loaded.Found found)) f = same-opened room.annals mid.annals mid.annals.opening mid.annals.core.row_room f.opened_so
-    first-same (Ok (Loaded.Bad entry)) f = same-refused room.annals mid.annals mid.annals.opening f.same
+    first-same (Ok (Loaded.Found found)) f = same-opened room.annals mid.annals mid.annals.opening mid.annals.core.row_room f.0.opened_so
+    first-same (Ok (Loaded.Bad entry)) f = same-refused room.annals mid.annals mid.annals.opening f.0.same
     first-same (Ok Loaded.Fault) f = same-itself room.annals mid.annals f.0.same
-    first-same (Err refused) f = same-itself room.annals mid.annals f.same
+    first-same (Err refused) f = same-itself room.annals mid.annals f.0.same
 
     pub same-log : SameLog old.annals mid.annals
     same-log = same-trans old.annals room.annals mid.annals (same-roomier old.annals room.annals roomy)
@@ -99,10 +104,10 @@ module _ {K : Type 0} (tells : K → Option (List Row)) (doubts : K → Option C
 
     -- it left the room
     first-room : (r : Result Loaded NoMemory) → FirstRead tells doubts faults r room.annals mid.annals room.keeper mid.keeper → mid.annals.room ≡ room.annals.room
-    first-room (Ok (Loaded.Found found)) f = ap (λ (a : Annalled). a.room) f.opened_so
-    first-room (Ok (Loaded.Bad entry)) f = ap (λ (a : Annalled). a.room) f.same
+    first-room (Ok (Loaded.Found found)) f = ap (λ (a : Annalled). a.room) f.0.opened_so
+    first-room (Ok (Loaded.Bad entry)) f = ap (λ (a : Annalled). a.room) f.0.same
     first-room (Ok Loaded.Fault) f = ap (λ (a : Annalled). a.room) f.0.same
-    first-room (Err refused) f = ap (λ (a : Annalled). a.room) f.same
+    first-room (Err refused) f = ap (λ (a : Annalled). a.room) f.0.same
 
     same-room : mid.annals.room ≡ room.annals.room
     same-room = by_test room.annals.loaded _ (λ t. ap (λ (a : Annalled). a.room) (later t).0) (λ l. first-room result (first l))
@@ -122,11 +127,11 @@ module _ {K : Type 0} (tells : K → Option (List Row)) (doubts : K → Option C
           timely = t;
         }
 
-    pub none-noted : mid.annals.loaded ≡ old.annals.loaded → (old.annals.loaded ≡ false → tells mid.keeper ≡ tells old.keeper) → NoBoot tells old mid
+    pub none-noted : mid.annals.loaded ≡ old.annals.loaded → (old.annals.loaded ≡ false → StillTold (tells old.keeper) (tells mid.keeper)) → NoBoot tells old mid
     none-noted l s = record { grounds = grounds; log = same-log.log; makers = same-log.makers; loaded = l; places = places ∙ elsewhere.places; stays = s }
 
-    pub faults-none : FaultsCounted faults old mid
-    faults-none = inl (let e : keeper_faults (past mid) ≡ keeper_faults (past old) = ap keeper_faults same-past in let c = counted in omega (arith, e, c))
+    pub fared-none : faults mid.keeper ≡ faults room.keeper → KeeperFared (signs_of tells faults) old mid
+    fared-none e = fared-quiet (signs_of tells faults) old mid (ap keeper_faults same-past) (e ∙ ap faults elsewhere.keeper) told-mid
 
     -- what a boot put behind the log
     module _ (found : Found) (b : BoardsStarted plan found mid.annals new.annals mid.places new.places) (keeper : new.keeper ≡ mid.keeper) (pool_new : new.pool ≡ mid.pool) where
@@ -145,16 +150,26 @@ module _ {K : Type 0} (tells : K → Option (List Row)) (doubts : K → Option C
       pub counts-new : faults old.keeper ≤ faults new.keeper
       counts-new = subst (λ (k : K). faults old.keeper ≤ faults k) (sym keeper) counted
 
-      pub faults-well : is_found_fault found ≡ false → FaultsCounted faults old new
-      faults-well w =
-          let e : keeper_faults (past new) ≡ keeper_faults (past mid) = ap keeper_faults past-new ∙ rw w refl in
-          let f : keeper_faults (past mid) ≡ keeper_faults (past old) = ap keeper_faults same-past in
-          let c = counts-new in inl (omega (arith, e, f, c))
+      told-new : ToldBefore tells old.keeper new.keeper
+      told-new = subst (λ (k : K). ToldBefore tells old.keeper k) (sym keeper) told-mid
 
-      pub faults-fault : is_found_fault found ≡ true → Rose (faults room.keeper) (faults mid.keeper) → FaultsCounted faults old new
-      faults-fault w r = at (rose-cases (faults room.keeper) (faults mid.keeper) r)
+      pub fared-well : is_found_fault found ≡ false → faults mid.keeper ≡ faults room.keeper → KeeperFared (signs_of tells faults) old new
+      fared-well w e =
+          let p : keeper_faults (past new) ≡ keeper_faults (past mid) = ap keeper_faults past-new ∙ rw w refl in
+          fared-quiet (signs_of tells faults) old new (p ∙ ap keeper_faults same-past) (ap faults keeper ∙ e ∙ ap faults elsewhere.keeper) told-new
+
+      pub fared-fault : is_found_fault found ≡ true → Rose (faults room.keeper) (faults mid.keeper) → KeeperFared (signs_of tells faults) old new
+      fared-fault w r =
+          let e : keeper_faults (past new) ≡ keeper_faults (past mid) + 1 = ap keeper_faults past-new ∙ rw w refl in
+          let f : keeper_faults (past mid) ≡ keeper_faults (past old) = ap keeper_faults same-past in
+          record {
+            grows = omega (arith, e, f);
+            counted = at (rose-cases (faults room.keeper) (faults mid.keeper) r);
+            quiet = λ q. absurd (omega (arith, e, f, q));
+            told = told-new;
+          }
         where
-          at : (faults room.keeper + 1 ≤ faults mid.keeper) ⊎ (2 ^ 64 - 1 ≤ faults mid.keeper) → FaultsCounted faults old new
+          at : (faults room.keeper + 1 ≤ faults mid.keeper) ⊎ (2 ^ 64 - 1 ≤ faults mid.keeper) → (keeper_faults (past new) + faults old.keeper ≤ keeper_faults (past old) + faults new.keeper) ⊎ (2 ^ 64 - 1 ≤ faults new.keeper)
           at (inl h) =
               let e : keeper_faults (past new) ≡ keeper_faults (past mid) + 1 = ap keeper_faults past-new ∙ rw w refl in
               let f : keeper_faults (past mid) ≡ keeper_faults (past old) = ap keeper_faults same-past in
@@ -169,13 +184,20 @@ module _ {K : Type 0} (tells : K → Option (List Row)) (doubts : K → Option C
       pub opening-new : new.annals.opening ≡ mid.annals.opening
       opening-new = b.appended.same.opening
 
+-- no change was made of a keeper that stayed, or that reading alone was done to
+pub ungiven-same : {K : Type 0} (settled : K → K → Type 0) (old new : K) → new ≡ old → IsUngiven settled old new
+ungiven-same settled old new e = inr (λ first s. subst (λ (k : _). settled first k) (sym e) s)
+
+pub ungiven-over : {K : Type 0} (settled : K → K → Type 0) (old room mid new : K) → room ≡ old → new ≡ mid → IsUngiven settled room mid → IsUngiven settled old new
+ungiven-over settled old room mid new e k u =
+    subst (λ (x : _). IsUngiven settled old x) (sym k) (subst (λ (x : _). IsUngiven settled x mid) e u)
+
 -- what a boot did that found no room
-pub turn-no_room : {K : Type 0} (tells : K → Option (List Row)) (faults : K → ℕ) (old room : Housed K) → room.annals ≡ roomier old.annals room.annals → SameElsewhere old room
-    → (NoBoot tells old room × (room.annals.opening ≡ old.annals.opening)) × FaultsCounted faults old room × (faults old.keeper ≤ faults room.keeper)
+pub turn-no_room : {K : Type 0} (tells : K → List Row → Type 0) (faults : K → ℕ) (old room : Housed K) → room.annals ≡ roomier old.annals room.annals → SameElsewhere old room
+    → (NoBoot tells old room × (room.annals.opening ≡ old.annals.opening)) × KeeperFared (signs_of tells faults) old room × (faults old.keeper ≤ faults room.keeper)
 turn-no_room tells faults old room e s =
     let l = same-roomier old.annals room.annals e in
-    let k : faults room.keeper ≡ faults old.keeper = ap faults s.keeper in
-    let p : keeper_faults (past room) ≡ keeper_faults (past old) = ap (λ (es : List Event). keeper_faults (past_of es)) l.log in (
+    let k : faults room.keeper ≡ faults old.keeper = ap faults s.keeper in (
       (
         record {
           grounds = record { facts = l.facts; first = l.first; pool = s.pool };
@@ -183,17 +205,17 @@ turn-no_room tells faults old room e s =
           makers = l.makers;
           loaded = ap (λ (a : Annalled). a.loaded) e;
           places = s.places;
-          stays = λ _. ap tells s.keeper;
+          stays = λ _ all t. subst (λ (x : _). tells x all) s.keeper t;
         },
         ap (λ (a : Annalled). a.opening) e,
       ),
-      inl (omega (arith, p, k)),
+      fared-same (signs_of tells faults) old room (ap (λ (es : List Event). keeper_faults (past_of es)) l.log) s.keeper,
       omega (arith, k),
     )
 
-module _ {K : Type 0} (tells : K → Option (List Row)) (doubts : K → Option Change) (faults : K → ℕ) (old room mid new : Housed K) (plan : BootPlan)
+module _ {K : Type 0} (tells : K → List Row → Type 0) (doubts : K → Option Change) (faults : K → ℕ) (settled : K → K → Type 0) (old room mid new : Housed K) (plan : BootPlan)
     (roomy : room.annals ≡ roomier old.annals room.annals) (elsewhere : SameElsewhere old room)
-    (places : mid.places ≡ room.places) (pool : mid.pool ≡ room.pool) (counts : faults room.keeper ≤ faults mid.keeper) where
+    (places : mid.places ≡ room.places) (pool : mid.pool ≡ room.pool) (counts : faults room.keeper ≤ faults mid.keeper) (told : ToldBefore tells room.keeper mid.keeper) where
   loaded-was : room.annals.loaded ≡ old.annals.loaded
   loaded-was = ap (λ (a : Annalled). a.loaded) roomy
 
@@ -203,36 +225,37 @@ module _ {K : Type 0} (tells : K → Option (List Row)) (doubts : K → Option C
   -- want of memory
   pub turn-none : (refused : NoMemory)
       → (room.annals.loaded ≡ false → FirstRead tells doubts faults (Err refused) room.annals mid.annals room.keeper mid.keeper)
-      → (room.annals.loaded ≡ true → (mid.annals ≡ record room.annals { reopened = true }) × LaterRead tells doubts faults (Err refused) room.annals.core.rows room.annals.core.doubt room.keeper mid.keeper)
-      → (NoBoot tells old mid × (mid.annals.opening ≡ old.annals.opening)) × FaultsCounted faults old mid × (faults old.keeper ≤ faults mid.keeper)
+      → (room.annals.loaded ≡ true → (mid.annals ≡ record room.annals { reopened = true }) × LaterRead tells doubts faults settled (Err refused) room.annals.core.rows room.annals.core.doubt room.keeper mid.keeper)
+      → (NoBoot tells old mid × (mid.annals.opening ≡ old.annals.opening)) × KeeperFared (signs_of tells faults) old mid × (faults old.keeper ≤ faults mid.keeper)
   turn-none refused first later =
-      let loaded : mid.annals.loaded ≡ room.annals.loaded = by_test room.annals.loaded _ (λ t. ap (λ (a : Annalled). a.loaded) (later t).0) (λ l. ap (λ (a : Annalled). a.loaded) (first l).same) in
-      let opening : mid.annals.opening ≡ room.annals.opening = by_test room.annals.loaded _ (λ t. ap (λ (a : Annalled). a.opening) (later t).0) (λ l. ap (λ (a : Annalled). a.opening) (first l).same) in (
+      let loaded : mid.annals.loaded ≡ room.annals.loaded = by_test room.annals.loaded _ (λ t. ap (λ (a : Annalled). a.loaded) (later t).0) (λ l. ap (λ (a : Annalled). a.loaded) (first l).0.same) in
+      let opening : mid.annals.opening ≡ room.annals.opening = by_test room.annals.loaded _ (λ t. ap (λ (a : Annalled). a.opening) (later t).0) (λ l. ap (λ (a : Annalled). a.opening) (first l).0.same) in (
         (
-          none-noted tells doubts faults old room mid new plan roomy elsewhere places pool counts (Err refused) first later (loaded ∙ loaded-was)
-              (λ l. (first (loaded-was ∙ l)).told_stay ∙ ap tells elsewhere.keeper),
+          none-noted tells doubts faults settled old room mid new plan roomy elsewhere places pool counts told (Err refused) first later (loaded ∙ loaded-was)
+              (λ l all t. subst (λ (k : K). tells k all) elsewhere.keeper ((first (loaded-was ∙ l)).0.told_stay all t)),
           opening ∙ opening-was,
         ),
-        faults-none tells doubts faults old room mid new plan roomy elsewhere places pool counts (Err refused) first later,
-        counted tells doubts faults old room mid new plan roomy elsewhere places pool counts,
+        fared-none tells doubts faults settled old room mid new plan roomy elsewhere places pool counts told (Err refused) first later
+            (by_test room.annals.loaded _ (λ t. (later t).1.1) (λ l. (first l).1)),
+        counted tells doubts faults settled old room mid new plan roomy elsewhere places pool counts told,
       )
 
   -- other rows
   pub turn-others : (entry : ℕ)
       → (room.annals.loaded ≡ false → FirstRead tells doubts faults (Ok (Loaded.Bad entry)) room.annals mid.annals room.keeper mid.keeper)
-      → (room.annals.loaded ≡ true → (mid.annals ≡ record room.annals { reopened = true }) × LaterRead tells doubts faults (Ok (Loaded.Bad entry)) room.annals.core.rows room.annals.core.doubt room.keeper mid.keeper)
-      → ReadOthers tells entry old mid × FaultsCounted faults old mid × (faults old.keeper ≤ faults mid.keeper)
+      → (room.annals.loaded ≡ true → (mid.annals ≡ record room.annals { reopened = true }) × LaterRead tells doubts faults settled (Ok (Loaded.Bad entry)) room.annals.core.rows room.annals.core.doubt room.keeper mid.keeper)
+      → ReadOthers tells entry old mid × KeeperFared (signs_of tells faults) old mid × (faults old.keeper ≤ faults mid.keeper)
   turn-others entry first later =
-      let loaded : mid.annals.loaded ≡ room.annals.loaded = by_test room.annals.loaded _ (λ t. ap (λ (a : Annalled). a.loaded) (later t).0) (λ l. ap (λ (a : Annalled). a.loaded) (first l).same) in (
+      let loaded : mid.annals.loaded ≡ room.annals.loaded = by_test room.annals.loaded _ (λ t. ap (λ (a : Annalled). a.loaded) (later t).0) (λ l. ap (λ (a : Annalled). a.loaded) (first l).0.same) in (
         record {
-          none = none-noted tells doubts faults old room mid new plan roomy elsewhere places pool counts (Ok (Loaded.Bad entry)) first later (loaded ∙ loaded-was)
-              (λ l. (first (loaded-was ∙ l)).told_stay ∙ ap tells elsewhere.keeper);
+          none = none-noted tells doubts faults settled old room mid new plan roomy elsewhere places pool counts told (Ok (Loaded.Bad entry)) first later (loaded ∙ loaded-was)
+              (λ l all t. subst (λ (k : K). tells k all) elsewhere.keeper ((first (loaded-was ∙ l)).0.told_stay all t));
           first = λ l.
-              let f = first (loaded-was ∙ l) in
-              (record { at = f.at; faulty = f.faulty; entry_is = f.entry_is }, subst (λ (k : K). AreTold (tells k) mid.annals.opening) elsewhere.keeper f.told_are);
+              let f = (first (loaded-was ∙ l)).0 in
+              (record { at = f.at; faulty = f.faulty; entry_is = f.entry_is }, subst (λ (k : K). AreTold (tells k) (tells mid.keeper) mid.annals.opening) elsewhere.keeper f.told_are);
           later = λ t.
               let w = later (loaded-was ∙ t) in
-              let o = w.1 in (
+              let o = w.1.0 in (
                 ap (λ (a : Annalled). a.opening) w.0 ∙ opening-was,
                 o.silent,
                 (
@@ -242,15 +265,16 @@ module _ {K : Type 0} (tells : K → Option (List Row)) (doubts : K → Option C
                 ),
               );
         },
-        faults-none tells doubts faults old room mid new plan roomy elsewhere places pool counts (Ok (Loaded.Bad entry)) first later,
-        counted tells doubts faults old room mid new plan roomy elsewhere places pool counts,
+        fared-none tells doubts faults settled old room mid new plan roomy elsewhere places pool counts told (Ok (Loaded.Bad entry)) first later
+            (by_test room.annals.loaded _ (λ t. (later t).1.1) (λ l. (first l).1)),
+        counted tells doubts faults settled old room mid new plan roomy elsewhere places pool counts told,
       )
 
   -- a boot that couldn't read
   pub turn-fault : (first : room.annals.loaded ≡ false → FirstRead tells doubts faults (Ok Loaded.Fault) room.annals mid.annals room.keeper mid.keeper)
-      → (later : room.annals.loaded ≡ true → (mid.annals ≡ record room.annals { reopened = true }) × LaterRead tells doubts faults (Ok Loaded.Fault) room.annals.core.rows room.annals.core.doubt room.keeper mid.keeper)
+      → (later : room.annals.loaded ≡ true → (mid.annals ≡ record room.annals { reopened = true }) × LaterRead tells doubts faults settled (Ok Loaded.Fault) room.annals.core.rows room.annals.core.doubt room.keeper mid.keeper)
       → (b : BoardsStarted plan Found.Fault mid.annals new.annals mid.places new.places) → new.keeper ≡ mid.keeper → new.pool ≡ mid.pool
-      → ((listed : List BoardSeen) × CouldntRead tells plan listed old new) × FaultsCounted faults old new × (faults old.keeper ≤ faults new.keeper)
+      → ((listed : List BoardSeen) × CouldntRead tells plan listed old new) × KeeperFared (signs_of tells faults) old new × (faults old.keeper ≤ faults new.keeper)
   turn-fault first later b keeper pool_new =
       let loaded : mid.annals.loaded ≡ room.annals.loaded = by_test room.annals.loaded _ (λ t. ap (λ (a : Annalled). a.loaded) (later t).0) (λ l. ap (λ (a : Annalled). a.loaded) (first l).0.same) in
       let opening : mid.annals.opening ≡ room.annals.opening = by_test room.annals.loaded _ (λ t. ap (λ (a : Annalled). a.opening) (later t).0) (λ l. ap (λ (a : Annalled). a.opening) (first l).0.same) in
@@ -258,61 +282,76 @@ module _ {K : Type 0} (tells : K → Option (List Row)) (doubts : K → Option C
         (
           b.listed,
           record {
-            noted = noted tells doubts faults old room mid new plan roomy elsewhere places pool counts (Ok Loaded.Fault) first later Found.Fault b keeper pool_new;
+            noted = noted tells doubts faults settled old room mid new plan roomy elsewhere places pool counts told (Ok Loaded.Fault) first later Found.Fault b keeper pool_new;
             loaded = b.appended.same.loaded ∙ loaded ∙ loaded-was;
             opening = b.appended.same.opening ∙ opening ∙ opening-was;
-            stays = λ l. ap tells keeper ∙ (first (loaded-was ∙ l)).0.told_stay ∙ ap tells elsewhere.keeper;
+            stays = λ l all t. subst (λ (k : K). tells k all) elsewhere.keeper ((first (loaded-was ∙ l)).0.told_stay all (subst (λ (k : K). tells k all) keeper t));
           },
         ),
-        faults-fault tells doubts faults old room mid new plan roomy elsewhere places pool counts (Ok Loaded.Fault) first later Found.Fault b keeper pool_new refl rose,
-        counts-new tells doubts faults old room mid new plan roomy elsewhere places pool counts (Ok Loaded.Fault) first later Found.Fault b keeper pool_new,
+        fared-fault tells doubts faults settled old room mid new plan roomy elsewhere places pool counts told (Ok Loaded.Fault) first later Found.Fault b keeper pool_new refl rose,
+        counts-new tells doubts faults settled old room mid new plan roomy elsewhere places pool counts told (Ok Loaded.Fault) first later Found.Fault b keeper pool_new,
       )
 
   -- one that went well
   module _ (found : Found)
       (first : room.annals.loaded ≡ false → FirstRead tells doubts faults (Ok (Loaded.Found found)) room.annals mid.annals room.keeper mid.keeper)
-      (later : room.annals.loaded ≡ true → (mid.annals ≡ record room.annals { reopened = true }) × LaterRead tells doubts faults (Ok (Loaded.Found found)) room.annals.core.rows room.annals.core.doubt room.keeper mid.keeper)
+      (later : room.annals.loaded ≡ true → (mid.annals ≡ record room.annals { reopened = true }) × LaterRead tells doubts faults settled (Ok (Loaded.Found found)) room.annals.core.rows room.annals.core.doubt room.keeper mid.keeper)
       (b : BoardsStarted plan found mid.annals new.annals mid.places new.places) (keeper : new.keeper ≡ mid.keeper) (pool_new : new.pool ≡ mid.pool)
       (rows_are : new.annals.core.rows ≡ rows_found found mid.annals.core.doubt mid.annals.core.rows) where
     was-read : is_found_fault found ≡ false
-    was-read = by_test room.annals.loaded _ (λ t. (later t).1.well) (λ l. ap is_found_fault (first l).found_is)
+    was-read = by_test room.annals.loaded _ (λ t. (later t).1.0.well) (λ l. ap is_found_fault (first l).0.found_is)
 
     now-loaded : mid.annals.loaded ≡ true
-    now-loaded = by_test room.annals.loaded _ (λ t. ap (λ (a : Annalled). a.loaded) (later t).0 ∙ t) (λ l. ap (λ (a : Annalled). a.loaded) (first l).opened_so)
+    now-loaded = by_test room.annals.loaded _ (λ t. ap (λ (a : Annalled). a.loaded) (later t).0 ∙ t) (λ l. ap (λ (a : Annalled). a.loaded) (first l).0.opened_so)
 
     mid-keeps : HasRows tells doubts mid.keeper (rows_found found mid.annals.core.doubt mid.annals.core.rows) None
     mid-keeps =
         by_test room.annals.loaded _
-        (λ t. subst (λ (a : Annalled). HasRows tells doubts mid.keeper (rows_found found a.core.doubt a.core.rows) None) (sym (later t).0) (later t).1.keeps)
+        (λ t. subst (λ (a : Annalled). HasRows tells doubts mid.keeper (rows_found found a.core.doubt a.core.rows) None) (sym (later t).0) (later t).1.0.keeps)
         (λ l.
-        let f = first l in
+        let f = (first l).0 in
         let all : rows_found found mid.annals.core.doubt mid.annals.core.rows ≡ mid.annals.opening =
         ap (λ (x : Found). rows_found x mid.annals.core.doubt mid.annals.core.rows) f.found_is ∙ ap (λ (a : Annalled). a.core.rows) f.opened_so in
         subst (λ (rs : List Row). HasRows tells doubts mid.keeper rs None) (sym all) f.keeps)
 
-    opened-well : MatchBool old.annals.loaded (new.annals.opening ≡ old.annals.opening) (IsHistory new.annals.opening × AreTold (tells old.keeper) new.annals.opening)
+    opened-well : MatchBool old.annals.loaded (new.annals.opening ≡ old.annals.opening) (IsHistory new.annals.opening × AreTold (tells old.keeper) (tells new.keeper) new.annals.opening)
     opened-well =
         by_test old.annals.loaded _
         (λ t. rw t (b.appended.same.opening ∙ ap (λ (a : Annalled). a.opening) (later (loaded-was ∙ t)).0 ∙ opening-was))
         (λ l.
-        let f = first (loaded-was ∙ l) in
+        let f = (first (loaded-was ∙ l)).0 in
         let o : mid.annals.opening ≡ new.annals.opening = sym b.appended.same.opening in
-        rw l (subst IsHistory o f.history, subst (λ (k : K). AreTold (tells k) new.annals.opening) elsewhere.keeper (subst (λ (rs : List Row). AreTold (tells room.keeper) rs) o f.told_are)))
+        let told_are : AreTold (tells old.keeper) (tells new.keeper) new.annals.opening =
+        subst (λ (k : K). AreTold (tells old.keeper) (tells k) new.annals.opening) (sym keeper)
+        (subst (λ (k : K). AreTold (tells k) (tells mid.keeper) new.annals.opening) elsewhere.keeper
+        (subst (λ (rs : List Row). AreTold (tells room.keeper) (tells mid.keeper) rs) o f.told_are)) in
+        rw l (subst IsHistory o f.history, told_are))
 
-    pub turn-well : ((f : Found) × (listed : List BoardSeen) × WentWell tells doubts plan f listed old new) × FaultsCounted faults old new × (faults old.keeper ≤ faults new.keeper)
+    -- what the reopened keeper showed
+    shown-well : old.annals.loaded ≡ true → WasShown tells settled new.annals.core.rows old.keeper new.keeper
+    shown-well t =
+        let w = later (loaded-was ∙ t) in
+        let same : new.annals.core.rows ≡ rows_found found room.annals.core.doubt room.annals.core.rows = rows_are ∙ ap (λ (a : Annalled). rows_found found a.core.doubt a.core.rows) w.0 in
+        subst (λ (k : K). WasShown tells settled new.annals.core.rows old.keeper k) (sym keeper)
+        (subst (λ (k : K). WasShown tells settled new.annals.core.rows k mid.keeper) elsewhere.keeper
+        (subst (λ (rs : List Row). WasShown tells settled rs room.keeper mid.keeper) (sym same) w.1.0.shown))
+
+    pub turn-well : ((f : Found) × (listed : List BoardSeen) × WentWell tells doubts settled plan f listed old new) × KeeperFared (signs_of tells faults) old new × (faults old.keeper ≤ faults new.keeper)
     turn-well = (
       (
         found,
         b.listed,
         record {
-          noted = noted tells doubts faults old room mid new plan roomy elsewhere places pool counts (Ok (Loaded.Found found)) first later found b keeper pool_new;
+          noted = noted tells doubts faults settled old room mid new plan roomy elsewhere places pool counts told (Ok (Loaded.Found found)) first later found b keeper pool_new;
           read = was-read;
           loaded = b.appended.same.loaded ∙ now-loaded;
           reopened = b.reopened ∙ still-read found mid.annals.reopened was-read;
           opening = opened-well;
+          shown = shown-well;
           keeps = subst (λ (k : K). HasRows tells doubts k new.annals.core.rows None) (sym keeper) (subst (λ (rs : List Row). HasRows tells doubts mid.keeper rs None) (sym rows_are) mid-keeps);
         },
       ),
-      faults-well tells doubts faults old room mid new plan roomy elsewhere places pool counts (Ok (Loaded.Found found)) first later found b keeper pool_new was-read,
-      counts-new tells doubts faults old room mid new plan roomy elsewhere places pool counts (Ok (Loaded.Found found)) first later found b keeper pool_new,
+      fared-well tells doubts faults settled old room mid new plan roomy elsewhere places pool counts told (Ok (Loaded.Found found)) first later found b keeper pool_new was-read
+          (by_test room.annals.loaded _ (λ t. (later t).1.1) (λ l. (first l).1)),
+      counts-new tells doubts faults settled old room mid new plan roomy elsewhere places pool counts told (Ok (Loaded.Found found)) first later found b keeper pool_new,
     )

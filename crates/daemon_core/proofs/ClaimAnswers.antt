@@ -24,7 +24,8 @@ use Rattle.daemon_core.specs.House.{IsHouse}
 use Rattle.daemon_core.specs.Housed.{Annalled, Housed, past, past_in, rows_before}
 use Rattle.daemon_core.specs.Keeping.{keeper_faults}
 use Rattle.daemon_core.specs.Returns.{place_at}
-use Rattle.daemon_core.specs.Turns.{FaultsCounted, Turned}
+use Rattle.daemon_core.specs.Turns.{KeeperFared, Signs, Turned}
+use Rattle.daemon_core.proofs.Fared.{fared-both, fared-same}
 use Rattle.daemon_core.proofs.Answered.{roomier-same, unchanged-appended, unchanged-on}
 use Rattle.daemon_core.proofs.ClaimRoom.{board-itself, board-on, places-same, room-at, room-on, room-out}
 use Rattle.daemon_core.proofs.ClaimTurns.{claim-board, claim-taken, takes_event}
@@ -60,12 +61,11 @@ gave-after client ticket fetched (Ok (Claimed.Kept entry state)) old mid new r p
 gave-after client ticket fetched (Ok (Claimed.Refused refusal)) old mid new r p g = (g.0 ∙ ap (λ (x : PoolCounts). x.free + block_count fetched) p, room-on old.places mid.places new.places r g.1)
 gave-after client ticket fetched (Err stopped) old mid new r p g = (g.0 ∙ p, room-on old.places mid.places new.places r g.1, g.2, g.3)
 
-pub faults-after : {K : Type 0} (faults : K → ℕ) (old mid new : Housed K) → keeper_faults (past mid) ≡ keeper_faults (past old) → mid.keeper ≡ old.keeper → FaultsCounted faults mid new → FaultsCounted faults old new
-faults-after faults old mid new e k (inl h) = let f = ap faults k in inl (omega (arith, e, f, h))
-faults-after faults old mid new e k (inr h) = inr h
+pub faults-after : {K : Type 0} (signs : Signs K) (old mid new : Housed K) → keeper_faults (past mid) ≡ keeper_faults (past old) → mid.keeper ≡ old.keeper → signs.faults mid.keeper ≤ signs.faults new.keeper → KeeperFared signs mid new → KeeperFared signs old new
+faults-after signs old mid new e k c h = fared-both signs old mid new (fared-same signs old mid e k) h c
 
 -- What became of a claim that took its entry.
-pub gave-taken : {K : Type 0} (told : K → Option (List Row)) (doubted : K → Option Change) (client : ℕ) (ticket : Ticket) (payload : SealedBytes) (row : Row) (number : ℕ) (taken : Taken) (old new : Housed K) → IsHouse told doubted old → IsAnnals old.annals → MayClaim old.annals client ticket payload.count → IsPayloadOf old.annals.facts ticket.release payload → IsToStore old.annals client ticket row number → number < length old.places
+pub gave-taken : {K : Type 0} (told : K → List Row → Type 0) (doubted : K → Option Change) (client : ℕ) (ticket : Ticket) (payload : SealedBytes) (row : Row) (number : ℕ) (taken : Taken) (old new : Housed K) → IsHouse told doubted old → IsAnnals old.annals → MayClaim old.annals client ticket payload.count → IsPayloadOf old.annals.facts ticket.release payload → IsToStore old.annals client ticket row number → number < length old.places
     → IfSome (place_at old.places number).board (λ b. 8 ≤ b.room) → Appended client (takes_event client ticket payload row) old.annals new.annals → new.pool ≡ old.pool → new.places ≡ places_without old.places number → (place_at old.places number).board ≡ Some taken.board → taken.entry ≡ row.entry → taken.payload ≡ payload
     → taken.plugin ≡ place_given (unwrap_or (plugin_at new.annals.facts number) 0) → trace new.annals.facts (rows_before new.annals) row.entry (past new) ≡ Some taken.trace
     → ClaimGave client ticket (Fetched.Whole payload) (Ok (Claimed.Taken taken)) old new

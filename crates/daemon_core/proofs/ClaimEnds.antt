@@ -155,7 +155,7 @@ end-live a client entry op outcome number b k r s =
     let w = k.legal in open-entry_live w.0 (rows_before a) (past_in a) entry (record { client = client; entry = entry; op = op }) w.3 r.on s.allowed.open_is
 
 -- After the end of a step.
-pub house-ended : {K : Type 0} (told : K → Option (List Row)) (doubted : K → Option Change) (client entry : ℕ) (op : Op) (outcome : Result (Unit {0}) BoardFault) (number : ℕ) (b : BoardState) (old : Housed K) (new : Annalled) → IsHouse told doubted old → IsAnnals old.annals → IsAnnals new → Appended client (end_event old.annals client entry op outcome b) old.annals new → old.annals.loaded ≡ true → Runs old.annals → EndsIn old.annals client entry op outcome number b
+pub house-ended : {K : Type 0} (told : K → List Row → Type 0) (doubted : K → Option Change) (client entry : ℕ) (op : Op) (outcome : Result (Unit {0}) BoardFault) (number : ℕ) (b : BoardState) (old : Housed K) (new : Annalled) → IsHouse told doubted old → IsAnnals old.annals → IsAnnals new → Appended client (end_event old.annals client entry op outcome b) old.annals new → old.annals.loaded ≡ true → Runs old.annals → EndsIn old.annals client entry op outcome number b
     → IsHouse told doubted (record old { annals = new; places = slice_set old.places number (record (place_at old.places number) { told = length b.journal }) })
 house-ended told doubted client entry op outcome number b old new h o k a loaded r s =
     house-next told doubted client (end_event old.annals client entry op outcome b) old (record old { annals = new; places = slice_set old.places number (record (place_at old.places number) { told = length b.journal }) }) h a k
@@ -195,7 +195,7 @@ pub record EndPlan (a : Annalled) (places : List Place) (entry number n : ℕ) (
   pub marks_are : drop (place_at places n).told b.journal ≡ marks_in a entry b
   pub few : length (drop (place_at places n).told b.journal) ≤ 2
 
-pub end-plan : {K : Type 0} (told : K → Option (List Row)) (doubted : K → Option Change) (client entry : ℕ) (op : Op) (outcome : Result (Unit {0}) BoardFault) (number n : ℕ) (b : BoardState) (h : Housed K) → IsHouse told doubted h → IsAnnals h.annals → EndsIn h.annals client entry op outcome number b
+pub end-plan : {K : Type 0} (told : K → List Row → Type 0) (doubted : K → Option Change) (client entry : ℕ) (op : Op) (outcome : Result (Unit {0}) BoardFault) (number n : ℕ) (b : BoardState) (h : Housed K) → IsHouse told doubted h → IsAnnals h.annals → EndsIn h.annals client entry op outcome number b
     → n ≡ unwrap_or (board_of h.annals.facts h.annals.core.rows entry) 0 → EndPlan h.annals h.places entry number n b
 end-plan told' doubted client entry op outcome number n b h k o s e =
     record {

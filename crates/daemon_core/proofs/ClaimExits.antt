@@ -1,7 +1,7 @@
 -- The exits of a claim, over what each of its steps ensures.
 use Rattle.std.proofs.Common.{◌≡◌, ℕ, ◌<◌, ◌≤◌, ◌+◌, Bool, true, false, List, [], ◌∷◌, length, refl, ap, sym, ◌∙◌, subst, arith, inl, inr}
 use Rattle.std.specs.Prelude.{Option, Some, None, IfSome, IsSome, OnOk, is_err, is_some, unwrap_or, Result, Ok, Err}
-use Rattle.std.specs.Option.{ForSome}
+use Rattle.history_keeper.specs.Keepers.{StillTold}
 use Rattle.block_pool.specs.Views.{PoolCounts, SealedBytes}
 use Rattle.history_keeper.specs.Changes.{IsTimely, Suits, changed}
 use Rattle.history_keeper.specs.declared.change.Change.{Change}
@@ -27,20 +27,22 @@ use Rattle.daemon_core.specs.Claims.{IsToStore, MayAnswer, MayClaim, claim_event
 use Rattle.daemon_core.specs.Fetches.{IsPayloadOf, is_payload, note_of, whole_note}
 use Rattle.daemon_core.specs.House.{IsHouse}
 use Rattle.daemon_core.specs.Housed.{Annalled, Housed, Place, past, past_in, rows_before}
-use Rattle.daemon_core.specs.Keeping.{HasRows, keeper_faults, met_fault}
-use Rattle.daemon_core.specs.Turns.{FaultsCounted, Turned}
+use Rattle.daemon_core.specs.Keeping.{HasRows, keeper_faults}
+use Rattle.daemon_core.specs.Turns.{KeeperFared, Signs, ToldBefore, Turned}
+use Rattle.daemon_core.proofs.Fared.{counted-more, fared-quiet, fared-same}
 use Rattle.daemon_core.proofs.Answered.{same-unchanged}
 use Rattle.daemon_core.specs.PutOff.{IsAccept}
 use Rattle.daemon_core.specs.Returns.{place_at}
 use Rattle.std.proofs.lemmas.Option.{slice_get_within}
 use Rattle.update_log.specs.declared.facts.Facts.{Facts}
+use Rattle.update_log.specs.Pasts.{meets_fault}
 use Rattle.daemon_core.proofs.AnnalsKept.{appended-past}
 use Rattle.daemon_core.proofs.ClaimAlone.{on-board}
 use Rattle.daemon_core.proofs.ClaimHouse.{IsReady}
 use Rattle.daemon_core.proofs.ClaimKept.{AddsRow, claim-doubted, claim-fits, claim-keeps, claim-made, claim-ready, claims, house-claimed, house-unclaimed, not-taken}
 use Rattle.daemon_core.proofs.ClaimTurns.{answers-broken, answers-refused, answers-whole, claim-board, claim-live, claim-same_held, claim-takes_entry, entry-next, store-plan, store-within, takes_event}
 use Rattle.daemon_core.proofs.CommitKept.{house-unstored}
-use Rattle.daemon_core.proofs.PuttingOff.{counted-more, counted-same, house-plain, quiet-faults, refusal-other, suits-told}
+use Rattle.daemon_core.proofs.PuttingOff.{house-plain, quiet-faults, refusal-other, suits-told}
 use Rattle.daemon_core.proofs.KeptSo.{so-has}
 
 -- What holds of the annals of the call holds of those inside.
@@ -57,11 +59,11 @@ end-ready a b client blocks ticket note note' answer event same k m w e n =
     subst (λ (x : Event). IsReady a x) (end-event client ticket note note' answer event e n)
     (claim-ready a client blocks ticket note answer k (may-over a b client blocks ticket same m) (subst (λ (x : Annalled). MayAnswer x client ticket note answer) (sym same) w))
 
-pub end-fits : {K : Type 0} (told : K → Option (List Row)) (doubted : K → Option Change) (client blocks count : ℕ) (ticket : Ticket) (h : Housed K) (b : Annalled) → h.annals ≡ b → IsHouse told doubted h → IsAnnals h.annals → MayClaim b client ticket blocks → count ≡ blocks → h.pool.free + count ≤ h.pool.capacity
+pub end-fits : {K : Type 0} (told : K → List Row → Type 0) (doubted : K → Option Change) (client blocks count : ℕ) (ticket : Ticket) (h : Housed K) (b : Annalled) → h.annals ≡ b → IsHouse told doubted h → IsAnnals h.annals → MayClaim b client ticket blocks → count ≡ blocks → h.pool.free + count ≤ h.pool.capacity
 end-fits told doubted client blocks count ticket h b same w k m e =
     let f = claim-fits told doubted client blocks ticket h w k (may-over h.annals b client blocks ticket same m) in omega (arith, f, e)
 
-pub end-house : {K : Type 0} (told : K → Option (List Row)) (doubted : K → Option Change) (client blocks : ℕ) (ticket : Ticket) (note note' : FetchNote) (answer : ClaimAnswer) (event : Event) (h : Housed K) (b new : Annalled) (pool : PoolCounts) → h.annals ≡ b → IsHouse told doubted h → IsAnnals h.annals → IsAnnals new → MayClaim b client ticket blocks → MayAnswer b client ticket note answer → is_taken answer ≡ false
+pub end-house : {K : Type 0} (told : K → List Row → Type 0) (doubted : K → Option Change) (client blocks : ℕ) (ticket : Ticket) (note note' : FetchNote) (answer : ClaimAnswer) (event : Event) (h : Housed K) (b new : Annalled) (pool : PoolCounts) → h.annals ≡ b → IsHouse told doubted h → IsAnnals h.annals → IsAnnals new → MayClaim b client ticket blocks → MayAnswer b client ticket note answer → is_taken answer ≡ false
     → event ≡ claims client ticket note' answer → note' ≡ note → Appended client event h.annals new → pool.capacity ≡ h.pool.capacity → pool.free ≡ h.pool.free + blocks → IsHouse told doubted (record { annals = new; places = h.places; pool = pool; keeper = h.keeper })
 end-house told doubted client blocks ticket note note' answer event h b new pool same w k k' m v n e f a cap free =
     let m' = may-over h.annals b client blocks ticket same m in
@@ -83,10 +85,10 @@ storing a b client ticket payload row number e m p s =
     subst (λ (x : Annalled). Storing x client ticket payload row number) (sym e) (record { may = m; whole = p; store = s })
 
 -- The keeper has the rows of the log, without a doubt.
-pub store-plain : {K : Type 0} (told : K → Option (List Row)) (doubted : K → Option Change) (client : ℕ) (ticket : Ticket) (payload : SealedBytes) (row : Row) (number : ℕ) (h : Housed K) → IsHouse told doubted h → IsAnnals h.annals → Storing h.annals client ticket payload row number → HasRows told doubted h.keeper h.annals.core.rows None
+pub store-plain : {K : Type 0} (told : K → List Row → Type 0) (doubted : K → Option Change) (client : ℕ) (ticket : Ticket) (payload : SealedBytes) (row : Row) (number : ℕ) (h : Housed K) → IsHouse told doubted h → IsAnnals h.annals → Storing h.annals client ticket payload row number → HasRows told doubted h.keeper h.annals.core.rows None
 store-plain told doubted client ticket payload row number h w k s = house-plain told doubted h h.annals refl w k s.may.loaded s.may.runs.on
 
-pub store-suits : {K : Type 0} (told : K → Option (List Row)) (doubted : K → Option Change) (client : ℕ) (ticket : Ticket) (payload : SealedBytes) (row : Row) (number : ℕ) (h : Housed K) → IsHouse told doubted h → IsAnnals h.annals → Storing h.annals client ticket payload row number → ForSome (told h.keeper) (λ all. Suits (Change.Add row) all)
+pub store-suits : {K : Type 0} (told : K → List Row → Type 0) (doubted : K → Option Change) (client : ℕ) (ticket : Ticket) (payload : SealedBytes) (row : Row) (number : ℕ) (h : Housed K) → IsHouse told doubted h → IsAnnals h.annals → Storing h.annals client ticket payload row number → (all : List Row) → told h.keeper all → Suits (Change.Add row) all
 store-suits told doubted client ticket payload row number h w k s =
     suits-told (told h.keeper) h.annals.core.rows (Change.Add row) (store-plain told doubted client ticket payload row number h w k s).rows_are s.store.suits
 
@@ -113,7 +115,7 @@ fault-ready a client ticket payload row number event k s e =
     subst (λ (x : Event). IsReady a x) e (claim-ready a client payload.count ticket (whole_note payload) (ClaimAnswer.Refused Refusal.KeeperFault) k s.may (may-fault a client ticket payload row number s))
 
 -- The house, where the row was stored.
-pub house-took : {K : Type 0} (told : K → Option (List Row)) (doubted : K → Option Change) (client : ℕ) (ticket : Ticket) (payload : SealedBytes) (row : Row) (number : ℕ) (event : Event) (h : Housed K) (new : Annalled) (keeper : K) (places : List Place) → IsHouse told doubted h → IsAnnals h.annals → IsAnnals new → Storing h.annals client ticket payload row number
+pub house-took : {K : Type 0} (told : K → List Row → Type 0) (doubted : K → Option Change) (client : ℕ) (ticket : Ticket) (payload : SealedBytes) (row : Row) (number : ℕ) (event : Event) (h : Housed K) (new : Annalled) (keeper : K) (places : List Place) → IsHouse told doubted h → IsAnnals h.annals → IsAnnals new → Storing h.annals client ticket payload row number
     → takes_event client ticket payload row ≡ event → Appended client event h.annals new → HasRows told doubted keeper (changed (Change.Add row) h.annals.core.rows) None → places ≡ places_without h.places number → IsHouse told doubted (record { annals = new; places = places; pool = h.pool; keeper = keeper })
 house-took told doubted client ticket payload row number event h new keeper places w k k' s e a made p =
     subst (λ (ps : List Place). IsHouse told doubted (record { annals = new; places = ps; pool = h.pool; keeper = keeper })) (sym p)
@@ -124,7 +126,7 @@ house-took told doubted client ticket payload row number event h new keeper plac
     (claim-same_held h.annals client ticket payload row k s.may s.whole))
 
 -- And where that failed.
-pub house-failed : {K : Type 0} (told : K → Option (List Row)) (doubted : K → Option Change) (client : ℕ) (ticket : Ticket) (payload : SealedBytes) (row : Row) (number : ℕ) (event : Event) (h : Housed K) (new : Annalled) (keeper : K) (pool : PoolCounts) → IsHouse told doubted h → IsAnnals h.annals → IsAnnals new → Storing h.annals client ticket payload row number
+pub house-failed : {K : Type 0} (told : K → List Row → Type 0) (doubted : K → Option Change) (client : ℕ) (ticket : Ticket) (payload : SealedBytes) (row : Row) (number : ℕ) (event : Event) (h : Housed K) (new : Annalled) (keeper : K) (pool : PoolCounts) → IsHouse told doubted h → IsAnnals h.annals → IsAnnals new → Storing h.annals client ticket payload row number
     → claims client ticket (whole_note payload) (ClaimAnswer.Refused Refusal.KeeperFault) ≡ event → Appended client event h.annals new → HasRows told doubted keeper h.annals.core.rows (Some (Change.Add row)) → pool.capacity ≡ h.pool.capacity → pool.free ≡ h.pool.free + payload.count → IsHouse told doubted (record { annals = new; places = h.places; pool = pool; keeper = keeper })
 house-failed told doubted client ticket payload row number event h new keeper pool w k k' s e a kept cap free =
     house-unclaimed told doubted client payload.count ticket (whole_note payload) (ClaimAnswer.Refused Refusal.KeeperFault) h new pool keeper w k k'
@@ -168,24 +170,23 @@ turn-stopped b client blocks ticket event m = (m.runs.on, same-unchanged b b ref
 
 -- ---- faults of the keeper
 
-pub faults-took : {K : Type 0} (faults : K → ℕ) (client : ℕ) (ticket : Ticket) (payload : SealedBytes) (row : Row) (event : Event) (old new : Housed K) → takes_event client ticket payload row ≡ event → Appended client event old.annals new.annals → faults old.keeper ≤ faults new.keeper → FaultsCounted faults old new
-faults-took faults client ticket payload row event old new e p h =
-    counted-same faults old new (quiet-faults client event old.annals new.annals p (ap met_fault (sym e))) h
+pub faults-took : {K : Type 0} (signs : Signs K) (client : ℕ) (ticket : Ticket) (payload : SealedBytes) (row : Row) (event : Event) (old new : Housed K) → takes_event client ticket payload row ≡ event → Appended client event old.annals new.annals → signs.faults new.keeper ≡ signs.faults old.keeper → ToldBefore signs.tells old.keeper new.keeper → KeeperFared signs old new
+faults-took signs client ticket payload row event old new e p h t =
+    fared-quiet signs old new (quiet-faults client event old.annals new.annals p (ap meets_fault (sym e))) h t
 
-pub faults-failed : {K : Type 0} (faults : K → ℕ) (client : ℕ) (ticket : Ticket) (payload : SealedBytes) (event : Event) (old new : Housed K) → claims client ticket (whole_note payload) (ClaimAnswer.Refused Refusal.KeeperFault) ≡ event → Appended client event old.annals new.annals → Rose (faults old.keeper) (faults new.keeper) → FaultsCounted faults old new
-faults-failed faults client ticket payload event old new e p h =
+pub faults-failed : {K : Type 0} (signs : Signs K) (client : ℕ) (ticket : Ticket) (payload : SealedBytes) (event : Event) (old new : Housed K) → claims client ticket (whole_note payload) (ClaimAnswer.Refused Refusal.KeeperFault) ≡ event → Appended client event old.annals new.annals → Rose (signs.faults old.keeper) (signs.faults new.keeper) → ToldBefore signs.tells old.keeper new.keeper → KeeperFared signs old new
+faults-failed signs client ticket payload event old new e p h t =
     let q : keeper_faults (past new) ≡ keeper_faults (claims client ticket (whole_note payload) (ClaimAnswer.Refused Refusal.KeeperFault) ∷ past old) = ap keeper_faults (appended-past client event old.annals new.annals p ∙ ap (λ (x : Event). x ∷ past old) (sym e)) in
-    counted-more faults old new q h
+    counted-more signs old new q h t
 
-unmet : (client : ℕ) (ticket : Ticket) (note : FetchNote) (answer : ClaimAnswer) → is_taken answer ≡ false → met_fault (claims client ticket note answer) ≡ false
+unmet : (client : ℕ) (ticket : Ticket) (note : FetchNote) (answer : ClaimAnswer) → is_taken answer ≡ false → meets_fault (claims client ticket note answer) ≡ false
 unmet client ticket note (ClaimAnswer.Entry entry) h = cc
 unmet client ticket note (ClaimAnswer.Kept entry state) h = refl
 unmet client ticket note (ClaimAnswer.Refused refusal) h = h
 
-pub faults-unclaimed : {K : Type 0} (faults : K → ℕ) (client : ℕ) (ticket : Ticket) (note : FetchNote) (answer : ClaimAnswer) (old new : Housed K) → Appended client (claims client ticket note answer) old.annals new.annals → is_taken answer ≡ false → new.keeper ≡ old.keeper → FaultsCounted faults old new
-faults-unclaimed faults client ticket note answer old new p h k =
-    let e = ap faults k in
-    counted-same faults old new (quiet-faults client (claims client ticket note answer) old.annals new.annals p (unmet client ticket note answer h)) (omega (arith, e))
+pub faults-unclaimed : {K : Type 0} (signs : Signs K) (client : ℕ) (ticket : Ticket) (note : FetchNote) (answer : ClaimAnswer) (old new : Housed K) → Appended client (claims client ticket note answer) old.annals new.annals → is_taken answer ≡ false → new.keeper ≡ old.keeper → KeeperFared signs old new
+faults-unclaimed signs client ticket note answer old new p h k =
+    fared-same signs old new (quiet-faults client (claims client ticket note answer) old.annals new.annals p (unmet client ticket note answer h)) k
 
 -- ---- the answers of a claim that isn't accepted
 
@@ -202,7 +203,7 @@ broken-answers a client ticket fetched note answer e n w h =
 
 -- ---- a claim for which the keeper wanted memory
 
-pub house-left : {K : Type 0} (told : K → Option (List Row)) (doubted : K → Option Change) (client : ℕ) (ticket : Ticket) (payload : SealedBytes) (row : Row) (number : ℕ) (h : Housed K) (keeper : K) → IsHouse told doubted h → IsAnnals h.annals → Storing h.annals client ticket payload row number → (told keeper ≡ told h.keeper) × (doubted keeper ≡ None) → IsHouse told doubted (record h { keeper = keeper })
+pub house-left : {K : Type 0} (told : K → List Row → Type 0) (doubted : K → Option Change) (client : ℕ) (ticket : Ticket) (payload : SealedBytes) (row : Row) (number : ℕ) (h : Housed K) (keeper : K) → IsHouse told doubted h → IsAnnals h.annals → Storing h.annals client ticket payload row number → StillTold (told h.keeper) (told keeper) × (doubted keeper ≡ None) → IsHouse told doubted (record h { keeper = keeper })
 house-left told doubted client ticket payload row number h keeper w k s c = house-unstored told doubted h h.annals keeper refl w k s.may.loaded s.may.runs.on c
 
 pub turn-left : (a b : Annalled) (client blocks : ℕ) (ticket : Ticket) (event : Claimed → Event) → a ≡ b → MayClaim b client ticket blocks → Turned client event (Err Stop.NoMemory) b a
@@ -216,7 +217,7 @@ pub record TakePlan {K : Type 0} (h : Housed K) (client : ℕ) (ticket : Ticket)
   pub home : IsSome (place_at h.places number).board
   pub store : IsToStore h.annals client ticket row number
 
-pub take-plan : {K : Type 0} (told : K → Option (List Row)) (doubted : K → Option Change) (client blocks : ℕ) (ticket : Ticket) (row : Row) (number : ℕ) (h b : Housed K) → h ≡ b → IsHouse told doubted h → IsAnnals h.annals → MayClaim b.annals client ticket blocks → IsAccept (claim_verdict b.annals client ticket) → AddsRow h.annals client ticket row
+pub take-plan : {K : Type 0} (told : K → List Row → Type 0) (doubted : K → Option Change) (client blocks : ℕ) (ticket : Ticket) (row : Row) (number : ℕ) (h b : Housed K) → h ≡ b → IsHouse told doubted h → IsAnnals h.annals → MayClaim b.annals client ticket blocks → IsAccept (claim_verdict b.annals client ticket) → AddsRow h.annals client ticket row
     → row.entry ≡ length h.annals.core.rows + 1 → Suits (Change.Add row) h.annals.core.rows → IsTimely (Change.Add row) → number ≡ unwrap_or (board_with h.annals.facts row.device) 0 → TakePlan b client ticket row number
 take-plan {K = K} told doubted client blocks ticket row number h b e w k m v added entry suits timely num =
     let m' : MayClaim h.annals client ticket blocks = subst (λ (x : Housed K). MayClaim x.annals client ticket blocks) (sym e) m in

@@ -1,8 +1,7 @@
 -- A house after the finish of a live entry.
-use Rattle.std.proofs.Common.{◌≡◌, ◌≢◌, ℕ, suc, ◌<◌, ◌≤◌, ◌+◌, ◌-◌, ◌^◌, true, false, List, [], ◌∷◌, length, refl, ap, sym, ◌∙◌, subst, arith, ◌⊎◌, inl, inr, min}
-use Rattle.std.specs.Prelude.{Option, Some, None, IfSome, ◌==◌, Any, nat_le}
-use Rattle.std.specs.Option.{ForSome}
-use Rattle.std.proofs.lemmas.Bool.{eqb-true, leb-true, leb-false}
+use Rattle.std.proofs.Common.{◌≡◌, ◌≢◌, ℕ, suc, ◌<◌, ◌≤◌, ◌+◌, true, false, List, [], ◌∷◌, length, refl, ap, sym, ◌∙◌, subst, arith, ◌⊎◌, inl, inr}
+use Rattle.std.specs.Prelude.{Option, Some, None, ◌==◌, Any}
+use Rattle.std.proofs.lemmas.Bool.{eqb-true}
 use Rattle.outer_traits.specs.Faults.{Rose}
 use Rattle.block_pool.specs.Views.{PoolCounts}
 use Rattle.emulated_boards.specs.Boards.{BoardState}
@@ -27,13 +26,15 @@ use Rattle.daemon_core.specs.Finishes.{ClosedAs, IsDone}
 use Rattle.daemon_core.specs.House.{IsHouse}
 use Rattle.daemon_core.specs.Housed.{Annalled, Housed, past, past_in, rows_before}
 use Rattle.daemon_core.specs.Keeping.{HasRows, keeper_faults}
+use Rattle.daemon_core.specs.Turns.{KeeperFared, Signs, ToldBefore}
 use Rattle.daemon_core.specs.Returns.{place_at, places_with}
 use Rattle.daemon_core.proofs.ClaimAlone.{row-on}
 use Rattle.daemon_core.proofs.ClaimDone.{finish-ends}
 use Rattle.daemon_core.proofs.ClaimEnds.{length-set, own-board}
 use Rattle.daemon_core.proofs.ClaimHome.{HomeTo, home-places}
 use Rattle.daemon_core.proofs.ClaimHouse.{IsReady, runs-takes, spent-ready}
-use Rattle.daemon_core.proofs.CommitKept.{house-clear, on-no_doubt, stored-keeps}
+use Rattle.daemon_core.proofs.CommitKept.{house-clear, on-no_doubt, stored-before, stored-keeps}
+use Rattle.daemon_core.proofs.Fared.{calm-stored, counted-more, fared-quiet, told-same}
 use Rattle.daemon_core.proofs.Held.{held-finished}
 use Rattle.daemon_core.proofs.HeldOnce.{out-once}
 use Rattle.daemon_core.proofs.HouseKept.{house-next}
@@ -54,25 +55,24 @@ any-row (x ∷ xs) entry r h =
     (λ t. (0, x, omega arith, refl, eqb-true x.entry entry t))
     (λ t. let rest = any-row xs entry r (rw t at h) in (suc rest.0, rest.1, (let l = rest.2 in omega (arith, l)), rest.3, rest.4))
 
-all-told : (o : Option (List Row)) (all : List Row) (entry : ℕ) → IfSome o (λ x. x ≡ all) → Any (λ row. row.entry ≡ entry) all → ForSome o (λ x. Any (λ row. row.entry ≡ entry) x)
-all-told None all entry h s = λ x e. cc
-all-told (Some told) all entry h s = λ x e. let same : x ≡ all = (let q : told ≡ x = cc in sym q ∙ h) in subst (λ (r : List Row). Any (λ row. row.entry ≡ entry) r) (sym same) s
+all-told : (o : List Row → Type 0) (all : List Row) (entry : ℕ) → ((x : List Row) → o x → x ≡ all) → Any (λ row. row.entry ≡ entry) all → (x : List Row) → o x → Any (λ row. row.entry ≡ entry) x
+all-told o all entry h s x t = subst (λ (r : List Row). Any (λ row. row.entry ≡ entry) r) (sym (h x t)) s
 
 -- What the keeper is asked for suits its rows.
-pub close-suits : {K : Type 0} (told : K → Option (List Row)) (doubted : K → Option Change) (client entry number : ℕ) (l : LiveEntry) (tail : List Mark) (b : BoardState) (blocks : ℕ) (h : Housed K) → HasRows told doubted h.keeper h.annals.core.rows None → IsAnnals h.annals → HomeTo h.annals client entry number l tail b blocks
-    → ForSome (told h.keeper) (λ all. Any (λ row. row.entry ≡ entry) all)
+pub close-suits : {K : Type 0} (told : K → List Row → Type 0) (doubted : K → Option Change) (client entry number : ℕ) (l : LiveEntry) (tail : List Mark) (b : BoardState) (blocks : ℕ) (h : Housed K) → HasRows told doubted h.keeper h.annals.core.rows None → IsAnnals h.annals → HomeTo h.annals client entry number l tail b blocks
+    → (all : List Row) → told h.keeper all → Any (λ row. row.entry ≡ entry) all
 close-suits told doubted client entry number l tail b blocks h k o s =
     let r = row-on h.annals.facts (rows h.annals.facts (rows_before h.annals) (past h)) entry number (own-board h.annals.facts (rows h.annals.facts (rows_before h.annals) (past h)) entry number s.board) in
     let found : row_of h.annals.core.rows entry ≡ Some r.row = ap (λ (rs : List Row). row_of rs entry) o.stands.rows ∙ r.row_is in
     all-told (told h.keeper) h.annals.core.rows entry k.rows_are (any-row h.annals.core.rows entry r.row found)
 
-stored-changed : {K : Type 0} (told : K → Option (List Row)) (doubted : K → Option Change) (change : Change) (stored : Stored) (old new : K) → StoredAs change stored (told old) (told new) (doubted new) → stored ≢ Stored.Unchanged
+stored-changed : {K : Type 0} (told : K → List Row → Type 0) (doubted : K → Option Change) (change : Change) (stored : Stored) (old new : K) → StoredAs change stored (told old) (told new) (doubted new) → stored ≢ Stored.Unchanged
 stored-changed told doubted change Stored.Yes old new s = λ e. cc
 stored-changed told doubted change Stored.Fault old new s = λ e. cc
 stored-changed told doubted change Stored.NoMemory old new s = λ e. cc
 stored-changed told doubted change Stored.Unchanged old new s = absurd s
 
-pub closed-unchanged : {K : Type 0} (told : K → Option (List Row)) (doubted : K → Option Change) (closed : RowState) (change : Change) (stored : Stored) (old new : K) → ClosedAs told doubted closed change stored old new → UnchangedExactly closed stored
+pub closed-unchanged : {K : Type 0} (told : K → List Row → Type 0) (doubted : K → Option Change) (closed : RowState) (change : Change) (stored : Stored) (old new : K) → ClosedAs told doubted closed change stored old new → UnchangedExactly closed stored
 closed-unchanged told doubted RowState.Begun change stored old new s = s.0
 closed-unchanged told doubted RowState.Pending change stored old new s = stored-changed told doubted change stored old new s
 closed-unchanged told doubted RowState.Success change stored old new s = stored-changed told doubted change stored old new s
@@ -80,17 +80,17 @@ closed-unchanged told doubted RowState.Failed change stored old new s = stored-c
 closed-unchanged told doubted RowState.NeedsReboot change stored old new s = stored-changed told doubted change stored old new s
 
 -- The keeper's rows once the change was stored, or wasn't.
-after-stored : {K : Type 0} (told : K → Option (List Row)) (doubted : K → Option Change) (old new : K) (all : List Row) (entry : ℕ) (closed : RowState) (reason time : ℕ) (stored : Stored) → HasRows told doubted old all None → StoredAs (Change.Advance entry closed reason time) stored (told old) (told new) (doubted new)
+after-stored : {K : Type 0} (told : K → List Row → Type 0) (doubted : K → Option Change) (old new : K) (all : List Row) (entry : ℕ) (closed : RowState) (reason time : ℕ) (stored : Stored) → HasRows told doubted old all None → StoredAs (Change.Advance entry closed reason time) stored (told old) (told new) (doubted new)
     → HasRows told doubted new (rows_by (fate_stored stored) (Some (Change.Advance entry (closing_stored closed stored) reason time)) all) (doubt_by (fate_stored stored) (Some (Change.Advance entry (closing_stored closed stored) reason time)) None)
 after-stored told doubted old new all entry closed reason time Stored.Yes h s = stored-keeps told doubted old new all (Change.Advance entry closed reason time) Stored.Yes h s
 after-stored told doubted old new all entry closed reason time Stored.Fault h s = stored-keeps told doubted old new all (Change.Advance entry closed reason time) Stored.Fault h s
 after-stored told doubted old new all entry closed reason time Stored.NoMemory h s = stored-keeps told doubted old new all (Change.Advance entry closed reason time) Stored.NoMemory h s
 after-stored told doubted old new all entry closed reason time Stored.Unchanged h s = absurd s
 
-after-none : {K : Type 0} (told : K → Option (List Row)) (doubted : K → Option Change) (old new : K) (all : List Row) (change : Change) (stored : Stored) → HasRows told doubted old all None → stored ≡ Stored.Unchanged → new ≡ old → HasRows told doubted new (rows_by (fate_stored stored) (Some change) all) (doubt_by (fate_stored stored) (Some change) None)
+after-none : {K : Type 0} (told : K → List Row → Type 0) (doubted : K → Option Change) (old new : K) (all : List Row) (change : Change) (stored : Stored) → HasRows told doubted old all None → stored ≡ Stored.Unchanged → new ≡ old → HasRows told doubted new (rows_by (fate_stored stored) (Some change) all) (doubt_by (fate_stored stored) (Some change) None)
 after-none told doubted old new all change stored h e n = rw (e, n) h
 
-pub after-closed : {K : Type 0} (told : K → Option (List Row)) (doubted : K → Option Change) (old new : K) (all : List Row) (entry : ℕ) (closed : RowState) (reason time : ℕ) (stored : Stored) → HasRows told doubted old all None → ClosedAs told doubted closed (Change.Advance entry closed reason time) stored old new
+pub after-closed : {K : Type 0} (told : K → List Row → Type 0) (doubted : K → Option Change) (old new : K) (all : List Row) (entry : ℕ) (closed : RowState) (reason time : ℕ) (stored : Stored) → HasRows told doubted old all None → ClosedAs told doubted closed (Change.Advance entry closed reason time) stored old new
     → HasRows told doubted new (rows_by (fate_stored stored) (Some (Change.Advance entry (closing_stored closed stored) reason time)) all) (doubt_by (fate_stored stored) (Some (Change.Advance entry (closing_stored closed stored) reason time)) None)
 after-closed told doubted old new all entry RowState.Begun reason time stored h s = after-none told doubted old new all (Change.Advance entry (closing_stored RowState.Begun stored) reason time) stored h s.0 s.1
 after-closed told doubted old new all entry RowState.Pending reason time stored h s = after-stored told doubted old new all entry RowState.Pending reason time stored h s
@@ -129,13 +129,13 @@ finish-held a client entry number l tail b blocks closed stored k s =
     let h = held-finished (past_in a) client entry (closing_stored closed stored) stored l (out-once w.0 (rows_before a) (past_in a) k.stands.history w.3) s.live in
     let e = s.blocks_are in omega (arith, h, e)
 
-pub finish-fits : {K : Type 0} (told : K → Option (List Row)) (doubted : K → Option Change) (client entry number : ℕ) (l : LiveEntry) (tail : List Mark) (b : BoardState) (blocks : ℕ) (h : Housed K) → IsHouse told doubted h → IsAnnals h.annals → HomeTo h.annals client entry number l tail b blocks → h.pool.free + blocks ≤ h.pool.capacity
+pub finish-fits : {K : Type 0} (told : K → List Row → Type 0) (doubted : K → Option Change) (client entry number : ℕ) (l : LiveEntry) (tail : List Mark) (b : BoardState) (blocks : ℕ) (h : Housed K) → IsHouse told doubted h → IsAnnals h.annals → HomeTo h.annals client entry number l tail b blocks → h.pool.free + blocks ≤ h.pool.capacity
 finish-fits told doubted client entry number l tail b blocks h k o s =
     let e = finish-held h.annals client entry number l tail b blocks RowState.Begun Stored.Unchanged o s in
     let f = k.free in let c = k.capacity in omega (arith, e, f, c)
 
 -- After a finish.
-pub house-finished : {K : Type 0} (told : K → Option (List Row)) (doubted : K → Option Change) (client entry number : ℕ) (l : LiveEntry) (tail : List Mark) (b : BoardState) (blocks : ℕ) (closed : RowState) (stored : Stored) (old : Housed K) (new : Annalled) (pool : PoolCounts) (keeper : K) → IsHouse told doubted old → IsAnnals old.annals → IsAnnals new
+pub house-finished : {K : Type 0} (told : K → List Row → Type 0) (doubted : K → Option Change) (client entry number : ℕ) (l : LiveEntry) (tail : List Mark) (b : BoardState) (blocks : ℕ) (closed : RowState) (stored : Stored) (old : Housed K) (new : Annalled) (pool : PoolCounts) (keeper : K) → IsHouse told doubted old → IsAnnals old.annals → IsAnnals new
     → Appended client (finish_event client entry closed stored) old.annals new → old.annals.loaded ≡ true → off (past old) ≡ false → HomeTo old.annals client entry number l tail b blocks
     → ClosedAs told doubted closed (closing_change old.annals entry closed) stored old.keeper keeper → pool.capacity ≡ old.pool.capacity → pool.free ≡ old.pool.free + blocks
     → IsHouse told doubted (record { annals = new; places = places_with old.places number b; pool = pool; keeper = keeper })
@@ -157,14 +157,17 @@ house-finished told doubted client entry number l tail b blocks closed stored ol
       free = (let e = finish-held old.annals client entry number l tail b blocks closed stored o s in let f = h.free in omega (arith, pf, e, f));
     })
 
--- Its fault was counted.
-pub finish-counted : (client entry : ℕ) (state : RowState) (stored : Stored) (past : List Event) (before after : ℕ) → (stored ≡ Stored.Fault → Rose before after) → before ≤ after → (keeper_faults (Event.Finish client entry state stored ∷ past) + before ≤ keeper_faults past + after) ⊎ (2 ^ 64 - 1 ≤ after)
-finish-counted client entry state Stored.Yes past before after c l = inl (omega arith)
-finish-counted client entry state Stored.NoMemory past before after c l = inl (omega arith)
-finish-counted client entry state Stored.Unchanged past before after c l = inl (omega arith)
-finish-counted client entry state Stored.Fault past before after c l =
-    let r : min (before + 1) (2 ^ 64 - 1) ≤ after = c refl in
-    at (before + 1) (2 ^ 64 - 1) r refl
-  where
-    at : (m n : ℕ) → min m n ≤ after → m ≡ before + 1 → (keeper_faults past + 1 + before ≤ keeper_faults past + after) ⊎ (n ≤ after)
-    at m n h e = by_test (nat_le m n) _ (λ t. inl (let le : m ≤ n = leb-true m n t in omega arith)) (λ t. inr (let le = leb-false m n t in omega arith))
+closed-before : {K : Type 0} (told : K → List Row → Type 0) (doubted : K → Option Change) (closed : RowState) (change : Change) (stored : Stored) (old new : K) → ClosedAs told doubted closed change stored old new → ToldBefore told old new
+closed-before told doubted RowState.Begun change stored old new c = told-same told old new c.1
+closed-before told doubted RowState.Pending change stored old new c = stored-before told old new change stored (doubted new) c
+closed-before told doubted RowState.Success change stored old new c = stored-before told old new change stored (doubted new) c
+closed-before told doubted RowState.Failed change stored old new c = stored-before told old new change stored (doubted new) c
+closed-before told doubted RowState.NeedsReboot change stored old new c = stored-before told old new change stored (doubted new) c
+
+-- So the keeper fared as the log tells.
+pub finish-fared : {K : Type 0} (signs : Signs K) (doubted : K → Option Change) (client entry : ℕ) (closed state : RowState) (change : Change) (stored : Stored) (old new : Housed K) → past new ≡ Event.Finish client entry state stored ∷ past old → ClosedAs signs.tells doubted closed change stored old.keeper new.keeper
+    → (stored ≡ Stored.Fault → Rose (signs.faults old.keeper) (signs.faults new.keeper)) → (stored ≡ Stored.Fault) ⊎ (signs.faults new.keeper ≡ signs.faults old.keeper) → KeeperFared signs old new
+finish-fared signs doubted client entry closed state change Stored.Fault old new p c r q = counted-more signs old new (ap keeper_faults p) (r refl) (closed-before signs.tells doubted closed change Stored.Fault old.keeper new.keeper c)
+finish-fared signs doubted client entry closed state change Stored.Yes old new p c r q = fared-quiet signs old new (ap keeper_faults p) (calm-stored Stored.Yes refl q) (closed-before signs.tells doubted closed change Stored.Yes old.keeper new.keeper c)
+finish-fared signs doubted client entry closed state change Stored.NoMemory old new p c r q = fared-quiet signs old new (ap keeper_faults p) (calm-stored Stored.NoMemory refl q) (closed-before signs.tells doubted closed change Stored.NoMemory old.keeper new.keeper c)
+finish-fared signs doubted client entry closed state change Stored.Unchanged old new p c r q = fared-quiet signs old new (ap keeper_faults p) (calm-stored Stored.Unchanged refl q) (closed-before signs.tells doubted closed change Stored.Unchanged old.keeper new.keeper c)

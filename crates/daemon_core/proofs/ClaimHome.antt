@@ -40,7 +40,7 @@ pub record HomePlan (places : List Place) (number n : ℕ) : Type 0 where
   pub number_is : n ≡ number
   pub within : n < length places
 
-pub home-plan : {K : Type 0} (told : K → Option (List Row)) (doubted : K → Option Change) (client entry number n : ℕ) (l : LiveEntry) (tail : List Mark) (b : BoardState) (blocks : ℕ) (h : Housed K) → IsHouse told doubted h → IsAnnals h.annals → HomeTo h.annals client entry number l tail b blocks
+pub home-plan : {K : Type 0} (told : K → List Row → Type 0) (doubted : K → Option Change) (client entry number n : ℕ) (l : LiveEntry) (tail : List Mark) (b : BoardState) (blocks : ℕ) (h : Housed K) → IsHouse told doubted h → IsAnnals h.annals → HomeTo h.annals client entry number l tail b blocks
     → n ≡ unwrap_or (board_of h.annals.facts h.annals.core.rows entry) 0 → HomePlan h.places number n
 home-plan told doubted client entry number n l tail b blocks h k o s e =
     let all : board_of h.annals.facts h.annals.core.rows entry ≡ Some number = ap (λ (rs : List Row). board_of h.annals.facts rs entry) o.stands.rows ∙ s.board in
@@ -102,12 +102,12 @@ back-held a client entry number l tail b blocks k s =
     let h = held-given_entry (past_in a) client entry l (out-once w.0 (rows_before a) (past_in a) k.stands.history w.3) s.live s.client_is in
     let e = s.blocks_are in omega (arith, h, e)
 
-pub back-fits : {K : Type 0} (told : K → Option (List Row)) (doubted : K → Option Change) (client entry number : ℕ) (l : LiveEntry) (tail : List Mark) (b : BoardState) (blocks : ℕ) (h : Housed K) → IsHouse told doubted h → IsAnnals h.annals → HomeTo h.annals client entry number l tail b blocks → h.pool.free + blocks ≤ h.pool.capacity
+pub back-fits : {K : Type 0} (told : K → List Row → Type 0) (doubted : K → Option Change) (client entry number : ℕ) (l : LiveEntry) (tail : List Mark) (b : BoardState) (blocks : ℕ) (h : Housed K) → IsHouse told doubted h → IsAnnals h.annals → HomeTo h.annals client entry number l tail b blocks → h.pool.free + blocks ≤ h.pool.capacity
 back-fits told doubted client entry number l tail b blocks h k o s =
     let e = back-held h.annals client entry number l tail b blocks o s in
     let f = k.free in let c = k.capacity in omega (arith, e, f, c)
 
-pub house-back : {K : Type 0} (told : K → Option (List Row)) (doubted : K → Option Change) (client entry number : ℕ) (l : LiveEntry) (tail : List Mark) (b : BoardState) (blocks : ℕ) (old : Housed K) (new : Annalled) (pool : PoolCounts) → IsHouse told doubted old → IsAnnals old.annals → IsAnnals new → Appended client (back_event client entry) old.annals new → old.annals.loaded ≡ true → HomeTo old.annals client entry number l tail b blocks
+pub house-back : {K : Type 0} (told : K → List Row → Type 0) (doubted : K → Option Change) (client entry number : ℕ) (l : LiveEntry) (tail : List Mark) (b : BoardState) (blocks : ℕ) (old : Housed K) (new : Annalled) (pool : PoolCounts) → IsHouse told doubted old → IsAnnals old.annals → IsAnnals new → Appended client (back_event client entry) old.annals new → old.annals.loaded ≡ true → HomeTo old.annals client entry number l tail b blocks
     → pool.capacity ≡ old.pool.capacity → pool.free ≡ old.pool.free + blocks → IsHouse told doubted (record { annals = new; places = places_with old.places number b; pool = pool; keeper = old.keeper })
 house-back told doubted client entry number l tail b blocks old new pool h o k a loaded s pc pf =
     house-next told doubted client (back_event client entry) old (record { annals = new; places = places_with old.places number b; pool = pool; keeper = old.keeper }) h a k

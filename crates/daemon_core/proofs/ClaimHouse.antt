@@ -23,7 +23,7 @@ use Rattle.daemon_core.proofs.HouseKept.{house-next, house-quiet}
 use Rattle.daemon_core.proofs.Owed.{spends, spends-legal}
 
 -- However going on went, it is a house.
-pub house-gone : {K A : Type 0} (told : K → Option (List Row)) (doubted : K → Option Change) (client : ℕ) (result : Result A Off) (old : Housed K) (new : Annalled) → IsHouse told doubted old → IsAnnals old.annals → IsAnnals new → GoesOn client result old.annals new → IsHouse told doubted (record old { annals = new })
+pub house-gone : {K A : Type 0} (told : K → List Row → Type 0) (doubted : K → Option Change) (client : ℕ) (result : Result A Off) (old : Housed K) (new : Annalled) → IsHouse told doubted old → IsAnnals old.annals → IsAnnals new → GoesOn client result old.annals new → IsHouse told doubted (record old { annals = new })
 house-gone told doubted client (Ok unit) old new h o k g = subst (λ (x : Annalled). IsHouse told doubted (record old { annals = x })) (sym g.2) h
 house-gone told doubted client (Err e) old new h o k (inl g) = subst (λ (x : Annalled). IsHouse told doubted (record old { annals = x })) (sym g.1) h
 house-gone told doubted client (Err e) old new h o k (inr g) = house-quiet told doubted client Event.Cut old new h o k g.2 g.1 refl
@@ -71,7 +71,7 @@ start-ready a b client entry op l e k r n s =
     refl (same-length (length (rows a.facts (rows_before a) (past_in a))))
 
 -- After a start.
-pub house-started : {K : Type 0} (told : K → Option (List Row)) (doubted : K → Option Change) (client entry : ℕ) (op : Op) (l : LiveEntry) (old : Housed K) (new : Annalled) → IsHouse told doubted old → IsAnnals old.annals → IsAnnals new → Appended client (Event.Start client entry op) old.annals new → old.annals.loaded ≡ true → StartAllowed old.annals.facts (rows_before old.annals) (past old) client entry op l → IsHouse told doubted (record old { annals = new })
+pub house-started : {K : Type 0} (told : K → List Row → Type 0) (doubted : K → Option Change) (client entry : ℕ) (op : Op) (l : LiveEntry) (old : Housed K) (new : Annalled) → IsHouse told doubted old → IsAnnals old.annals → IsAnnals new → Appended client (Event.Start client entry op) old.annals new → old.annals.loaded ≡ true → StartAllowed old.annals.facts (rows_before old.annals) (past old) client entry op l → IsHouse told doubted (record old { annals = new })
 house-started told doubted client entry op l old new h o k a loaded s =
     house-next told doubted client (Event.Start client entry op) old (record old { annals = new }) h a k
     (record {

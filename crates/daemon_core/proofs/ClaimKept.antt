@@ -173,20 +173,20 @@ claim-held a client blocks ticket note (ClaimAnswer.Refused refusal) k m h =
     let w = k.legal in held-refused (past_in a) client ticket.request note refusal (held_by ticket blocks) (out-once w.0 (rows_before a) (past_in a) k.stands.history w.3) m.held_is
 
 -- The blocks fit into the pool.
-pub claim-fits : {K : Type 0} (told : K → Option (List Row)) (doubted : K → Option Change) (client blocks : ℕ) (ticket : Ticket) (h : Housed K) → IsHouse told doubted h → IsAnnals h.annals → MayClaim h.annals client ticket blocks → h.pool.free + blocks ≤ h.pool.capacity
+pub claim-fits : {K : Type 0} (told : K → List Row → Type 0) (doubted : K → Option Change) (client blocks : ℕ) (ticket : Ticket) (h : Housed K) → IsHouse told doubted h → IsAnnals h.annals → MayClaim h.annals client ticket blocks → h.pool.free + blocks ≤ h.pool.capacity
 claim-fits told doubted client blocks ticket h w k m =
     let e = claim-held h.annals client blocks ticket FetchNote.Missing (ClaimAnswer.Refused Refusal.KeeperFault) k m refl in
     let f = w.free in let c = w.capacity in omega (arith, e, f, c)
 
 -- The keeper, where nothing was asked of it.
-pub claim-keeps : {K : Type 0} (told : K → Option (List Row)) (doubted : K → Option Change) (client : ℕ) (ticket : Ticket) (note : FetchNote) (answer : ClaimAnswer) (h : Housed K) → IsHouse told doubted h → IsAnnals h.annals → h.annals.loaded ≡ true → is_taken answer ≡ false
+pub claim-keeps : {K : Type 0} (told : K → List Row → Type 0) (doubted : K → Option Change) (client : ℕ) (ticket : Ticket) (note : FetchNote) (answer : ClaimAnswer) (h : Housed K) → IsHouse told doubted h → IsAnnals h.annals → h.annals.loaded ≡ true → is_taken answer ≡ false
     → KeepsSo h.annals.reopened told doubted h.keeper (rows h.annals.facts (rows_before h.annals) (claims client ticket note answer ∷ past h)) (doubt h.annals.facts (rows_before h.annals) (claims client ticket note answer ∷ past h))
 claim-keeps told doubted client ticket note answer h w k l n =
     let s = claim-rows_same h.annals.facts (rows_before h.annals) (past h) client ticket.request note answer n in
     subst (λ (x : List Row). KeepsSo h.annals.reopened told doubted h.keeper x (doubt h.annals.facts (rows_before h.annals) (claims client ticket note answer ∷ past h))) (sym (s.0 ∙ sym k.stands.rows))
     (subst (λ (x : Option Change). KeepsSo h.annals.reopened told doubted h.keeper h.annals.core.rows x) (sym (s.1 ∙ sym k.stands.doubt)) (w.kept l))
 
-pub house-unclaimed : {K : Type 0} (told : K → Option (List Row)) (doubted : K → Option Change) (client blocks : ℕ) (ticket : Ticket) (note : FetchNote) (answer : ClaimAnswer) (old : Housed K) (new : Annalled) (pool : PoolCounts) (keeper : K) → IsHouse told doubted old → IsAnnals old.annals → IsAnnals new
+pub house-unclaimed : {K : Type 0} (told : K → List Row → Type 0) (doubted : K → Option Change) (client blocks : ℕ) (ticket : Ticket) (note : FetchNote) (answer : ClaimAnswer) (old : Housed K) (new : Annalled) (pool : PoolCounts) (keeper : K) → IsHouse told doubted old → IsAnnals old.annals → IsAnnals new
     → Appended client (claims client ticket note answer) old.annals new → MayClaim old.annals client ticket blocks → MayAnswer old.annals client ticket note answer → gives_entry answer ≡ false
     → KeepsSo old.annals.reopened told doubted keeper (rows old.annals.facts (rows_before old.annals) (claims client ticket note answer ∷ past old)) (doubt old.annals.facts (rows_before old.annals) (claims client ticket note answer ∷ past old))
     → pool.capacity ≡ old.pool.capacity → pool.free ≡ old.pool.free + blocks → IsHouse told doubted (record { annals = new; places = old.places; pool = pool; keeper = keeper })
@@ -212,22 +212,22 @@ house-unclaimed told doubted client blocks ticket note answer old new pool keepe
 abbrev pub AddsRow : Annalled → ℕ → Ticket → Row → Type 0
 AddsRow a client ticket row = addition a.facts (time_of (past_in a)) (live (past_in a)) (known a.facts (rows_before a) (past_in a)) client ticket.request RowState.Begun ≡ Some (Change.Add row)
 
-pub claim-made : {K : Type 0} (told : K → Option (List Row)) (doubted : K → Option Change) (a : Annalled) (client : ℕ) (ticket : Ticket) (note : FetchNote) (entry : ℕ) (row : Row) (keeper : K) → IsAnnals a → off (past_in a) ≡ false → AddsRow a client ticket row → HasRows told doubted keeper (changed (Change.Add row) a.core.rows) None
+pub claim-made : {K : Type 0} (told : K → List Row → Type 0) (doubted : K → Option Change) (a : Annalled) (client : ℕ) (ticket : Ticket) (note : FetchNote) (entry : ℕ) (row : Row) (keeper : K) → IsAnnals a → off (past_in a) ≡ false → AddsRow a client ticket row → HasRows told doubted keeper (changed (Change.Add row) a.core.rows) None
     → HasRows told doubted keeper (rows a.facts (rows_before a) (claims client ticket note (ClaimAnswer.Entry entry) ∷ past_in a)) (doubt a.facts (rows_before a) (claims client ticket note (ClaimAnswer.Entry entry) ∷ past_in a))
 claim-made told doubted a client ticket note entry row keeper k o e h =
     let all : List Row = rows a.facts (rows_before a) (past_in a) in
     let r : changed (Change.Add row) a.core.rows ≡ rows a.facts (rows_before a) (claims client ticket note (ClaimAnswer.Entry entry) ∷ past_in a) =
     ap (λ (x : List Row). changed (Change.Add row) x) k.stands.rows ∙ sym (ap (λ (x : Option Change). rows_by Fate.Made x all) e) in
-    record { rows_are = subst (λ (x : List Row). IfSome (told keeper) (λ y. y ≡ x)) r h.rows_are; doubt_is = h.doubt_is ∙ sym (no-doubt a k o) }
+    record { rows_are = subst (λ (x : List Row). (y : List Row) → told keeper y → y ≡ x) r h.rows_are; doubt_is = h.doubt_is ∙ sym (no-doubt a k o) }
 
-pub claim-doubted : {K : Type 0} (told : K → Option (List Row)) (doubted : K → Option Change) (a : Annalled) (client : ℕ) (ticket : Ticket) (note : FetchNote) (row : Row) (keeper : K) → IsAnnals a → AddsRow a client ticket row → HasRows told doubted keeper a.core.rows (Some (Change.Add row))
+pub claim-doubted : {K : Type 0} (told : K → List Row → Type 0) (doubted : K → Option Change) (a : Annalled) (client : ℕ) (ticket : Ticket) (note : FetchNote) (row : Row) (keeper : K) → IsAnnals a → AddsRow a client ticket row → HasRows told doubted keeper a.core.rows (Some (Change.Add row))
     → HasRows told doubted keeper (rows a.facts (rows_before a) (claims client ticket note (ClaimAnswer.Refused Refusal.KeeperFault) ∷ past_in a)) (doubt a.facts (rows_before a) (claims client ticket note (ClaimAnswer.Refused Refusal.KeeperFault) ∷ past_in a))
 claim-doubted told doubted a client ticket note row keeper k e h =
-    record { rows_are = subst (λ (x : List Row). IfSome (told keeper) (λ y. y ≡ x)) k.stands.rows h.rows_are; doubt_is = h.doubt_is ∙ sym e }
+    record { rows_are = subst (λ (x : List Row). (y : List Row) → told keeper y → y ≡ x) k.stands.rows h.rows_are; doubt_is = h.doubt_is ∙ sym e }
 
 -- ---- a claim that took an entry
 
-pub house-claimed : {K : Type 0} (told : K → Option (List Row)) (doubted : K → Option Change) (client blocks : ℕ) (ticket : Ticket) (note : FetchNote) (entry number : ℕ) (old : Housed K) (new : Annalled) (keeper : K) → IsHouse told doubted old → IsAnnals old.annals → IsAnnals new
+pub house-claimed : {K : Type 0} (told : K → List Row → Type 0) (doubted : K → Option Change) (client blocks : ℕ) (ticket : Ticket) (note : FetchNote) (entry number : ℕ) (old : Housed K) (new : Annalled) (keeper : K) → IsHouse told doubted old → IsAnnals old.annals → IsAnnals new
     → Appended client (claims client ticket note (ClaimAnswer.Entry entry)) old.annals new → MayClaim old.annals client ticket blocks → MayAnswer old.annals client ticket note (ClaimAnswer.Entry entry)
     → HasRows told doubted keeper (rows old.annals.facts (rows_before old.annals) (claims client ticket note (ClaimAnswer.Entry entry) ∷ past old)) (doubt old.annals.facts (rows_before old.annals) (claims client ticket note (ClaimAnswer.Entry entry) ∷ past old))
     → Takes old.annals.facts (rows_before old.annals) (past old) (claims client ticket note (ClaimAnswer.Entry entry)) entry number → number < length old.places → held (claims client ticket note (ClaimAnswer.Entry entry) ∷ past old) ≡ held (past old)

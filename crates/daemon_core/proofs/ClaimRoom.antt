@@ -202,7 +202,7 @@ pub places-roomier : (facts : Facts) (first : List Seen) (opening : List Row) (p
 places-roomier facts first opening past old new r s n p e = let w = r.each n p e in place-roomier facts first opening past n w.0 p w.2 (s n w.0 w.1)
 
 -- It is the same house.
-pub house-with_room : {K : Type 0} (told : K → Option (List Row)) (doubted : K → Option Change) (h : Housed K) (places : List Place) → IsHouse told doubted h → RoomierPlaces h.places places → IsHouse told doubted (record h { places = places })
+pub house-with_room : {K : Type 0} (told : K → List Row → Type 0) (doubted : K → Option Change) (h : Housed K) (places : List Place) → IsHouse told doubted h → RoomierPlaces h.places places → IsHouse told doubted (record h { places = places })
 house-with_room told doubted h places w r =
     record {
       count = r.count ∙ w.count;

@@ -268,7 +268,7 @@ claim-taken a new client ticket payload row number taken k m p s ap' b r e q g t
 -- ---- the board that goes out
 
 -- It is home, and stands with no untold mark.
-pub claim-board : {K : Type 0} (told : K → Option (List Row)) (doubted : K → Option Change) (client blocks : ℕ) (ticket : Ticket) (row : Row) (number : ℕ) (h : Housed K) → IsHouse told doubted h → IsAnnals h.annals → MayClaim h.annals client ticket blocks → IsToStore h.annals client ticket row number → number < length h.places
+pub claim-board : {K : Type 0} (told : K → List Row → Type 0) (doubted : K → Option Change) (client blocks : ℕ) (ticket : Ticket) (row : Row) (number : ℕ) (h : Housed K) → IsHouse told doubted h → IsAnnals h.annals → MayClaim h.annals client ticket blocks → IsToStore h.annals client ticket row number → number < length h.places
     → (b : BoardState) × ((place_at h.places number).board ≡ Some b) × BoardStands h.annals.facts h.annals.first (rows_before h.annals) (past h) number b []
 claim-board told doubted client blocks ticket row number h w k m s within =
     let p = w.places number (place_at h.places number) (place-found h.places number within) in
@@ -276,7 +276,7 @@ claim-board told doubted client blocks ticket row number h w k m s within =
     (b.0, b.1, home-tail h.annals.facts h.annals.first (rows_before h.annals) (past h) number b.0 b.2.0 k.legal m.runs.on s.board.home b.2.1)
 
 -- Its number is a place.
-pub store-within : {K : Type 0} (told : K → Option (List Row)) (doubted : K → Option Change) (client : ℕ) (ticket : Ticket) (row : Row) (number : ℕ) (h : Housed K) → IsHouse told doubted h → IsToStore h.annals client ticket row number → number < length h.places
+pub store-within : {K : Type 0} (told : K → List Row → Type 0) (doubted : K → Option Change) (client : ℕ) (ticket : Ticket) (row : Row) (number : ℕ) (h : Housed K) → IsHouse told doubted h → IsToStore h.annals client ticket row number → number < length h.places
 store-within told doubted client ticket row number h w s =
     let on = on-board h.annals.facts row.device number s.board.board_is in
     let within = slice_get_within h.annals.facts.sheets number on.board.sheet on.sheet in

@@ -1,10 +1,10 @@
 -- A house, after an event that asks the keeper for a change.
 use Rattle.std.proofs.Common.{◌≡◌, ℕ, ◌+◌, true, false, List, [], ◌∷◌, refl, ap, sym, ◌∙◌, subst}
-use Rattle.std.specs.Prelude.{Option, Some, None, IfSome, option_map}
-use Rattle.std.specs.Option.{ForSome}
+use Rattle.std.specs.Prelude.{Option, Some, None}
 use Rattle.history_keeper.specs.declared.row.Row.{Row}
 use Rattle.history_keeper.specs.declared.change.Change.{Change}
 use Rattle.history_keeper.specs.Changes.{Suits, changed}
+use Rattle.history_keeper.specs.Keepers.{StillTold, ToldWith}
 use Rattle.update_log.proofs.LegalOnce.{past-kept}
 use Rattle.update_log.specs.declared.event.Event.{Event}
 use Rattle.update_log.specs.declared.event.Stored.{Stored}
@@ -23,6 +23,7 @@ use Rattle.daemon_core.specs.Commits.{StoredAs}
 use Rattle.daemon_core.specs.House.{IsHouse}
 use Rattle.daemon_core.specs.Housed.{Annalled, Housed, past, past_in, rows_before}
 use Rattle.daemon_core.specs.Keeping.{HasRows, KeepsSo}
+use Rattle.daemon_core.specs.Turns.{ToldBefore}
 use Rattle.daemon_core.proofs.BoardsQuiet.{quiet-board}
 use Rattle.daemon_core.proofs.HouseKept.{house-next}
 use Rattle.daemon_core.proofs.KeptSo.{so-clear, so-has}
@@ -36,26 +37,30 @@ on-no_doubt a k o =
     ((past-kept l.0 (rows_before a) (past_in a) k.stands.history l.3).rows_kept.doubt_off o)
 
 -- The keeper of a house whose boot isn't off has the rows of the log, and no doubt.
-pub house-clear : {K : Type 0} (told : K → Option (List Row)) (doubted : K → Option Change) (h : Housed K) → IsHouse told doubted h → IsAnnals h.annals → h.annals.loaded ≡ true → off (past h) ≡ false → HasRows told doubted h.keeper h.annals.core.rows None
+pub house-clear : {K : Type 0} (told : K → List Row → Type 0) (doubted : K → Option Change) (h : Housed K) → IsHouse told doubted h → IsAnnals h.annals → h.annals.loaded ≡ true → off (past h) ≡ false → HasRows told doubted h.keeper h.annals.core.rows None
 house-clear told doubted h k a l o =
     so-clear h.annals.reopened told doubted h.keeper h.annals.core.rows
     (subst (λ (d : Option Change). KeepsSo h.annals.reopened told doubted h.keeper h.annals.core.rows d) (a.stands.doubt ∙ on-no_doubt h.annals a o) (k.kept l))
 
 -- So a change that suits the rows of the log suits those of the keeper.
-pub suits-told : (o : Option (List Row)) (rows : List Row) (change : Change) → IfSome o (λ all. all ≡ rows) → Suits change rows → ForSome o (λ all. Suits change all)
-suits-told None rows change h s = λ x e. cc
-suits-told (Some all) rows change h s =
-    λ x e. let same : x ≡ rows = (let q : all ≡ x = cc in sym q ∙ h) in subst (λ (r : List Row). Suits change r) (sym same) s
+pub suits-told : (o : List Row → Type 0) (rows : List Row) (change : Change) → ((all : List Row) → o all → all ≡ rows) → Suits change rows → (all : List Row) → o all → Suits change all
+suits-told o rows change h s all t = subst (λ (r : List Row). Suits change r) (sym (h all t)) s
 
-changed-told : (o p : Option (List Row)) (rows : List Row) (change : Change) → IfSome o (λ all. all ≡ rows) → p ≡ option_map (changed change) o → IfSome p (λ all. all ≡ changed change rows)
-changed-told None p rows change h e = subst (λ (q : Option (List Row)). IfSome q (λ all. all ≡ changed change rows)) (sym e) tt
-changed-told (Some all) p rows change h e = subst (λ (q : Option (List Row)). IfSome q (λ all. all ≡ changed change rows)) (sym e) (ap (changed change) h)
+changed-told : (o p : List Row → Type 0) (rows : List Row) (change : Change) → ((all : List Row) → o all → all ≡ rows) → ToldWith change o p → (all : List Row) → p all → all ≡ changed change rows
+changed-told o p rows change h w all t = let before = w all t in before.2 ∙ ap (λ (l : List Row). changed change l) (h before.0 before.1)
 
-same-told : (o p : Option (List Row)) (rows : List Row) → IfSome o (λ all. all ≡ rows) → p ≡ o → IfSome p (λ all. all ≡ rows)
-same-told o p rows h e = subst (λ (q : Option (List Row)). IfSome q (λ all. all ≡ rows)) (sym e) h
+same-told : (o p : List Row → Type 0) (rows : List Row) → ((all : List Row) → o all → all ≡ rows) → StillTold o p → (all : List Row) → p all → all ≡ rows
+same-told o p rows h s all t = h all (s all t)
+
+-- A keeper that tells rows after it was to make a change told rows before.
+pub stored-before : {K : Type 0} (told : K → List Row → Type 0) (old new : K) (change : Change) (stored : Stored) (left : Option Change) → StoredAs change stored (told old) (told new) left → ToldBefore told old new
+stored-before told old new change Stored.Yes left s all t = let before = s.0 all t in (before.0, before.1)
+stored-before told old new change Stored.Fault left s all t = (all, s.0 all t)
+stored-before told old new change Stored.NoMemory left s all t = (all, s.0 all t)
+stored-before told old new change Stored.Unchanged left s all t = absurd s
 
 -- A house whose keeper made no change, over annals that are equal to those that a call began with.
-pub house-unstored : {K : Type 0} (told : K → Option (List Row)) (doubted : K → Option Change) (h : Housed K) (b : Annalled) (keeper : K) → h.annals ≡ b → IsHouse told doubted h → IsAnnals h.annals → b.loaded ≡ true → off (past_in b) ≡ false → (told keeper ≡ told h.keeper) × (doubted keeper ≡ None)
+pub house-unstored : {K : Type 0} (told : K → List Row → Type 0) (doubted : K → Option Change) (h : Housed K) (b : Annalled) (keeper : K) → h.annals ≡ b → IsHouse told doubted h → IsAnnals h.annals → b.loaded ≡ true → off (past_in b) ≡ false → StillTold (told h.keeper) (told keeper) × (doubted keeper ≡ None)
     → IsHouse told doubted (record h { keeper = keeper })
 house-unstored told doubted h b keeper e w k l o c =
     let l' : h.annals.loaded ≡ true = ap (λ (x : Annalled). x.loaded) e ∙ l in
@@ -74,7 +79,7 @@ house-unstored told doubted h b keeper e w k l o c =
     }
 
 -- After a change the keeper has the rows that the log has then, and its doubt.
-pub stored-keeps : {K : Type 0} (told : K → Option (List Row)) (doubted : K → Option Change) (old new : K) (rows : List Row) (change : Change) (stored : Stored) → HasRows told doubted old rows None → StoredAs change stored (told old) (told new) (doubted new)
+pub stored-keeps : {K : Type 0} (told : K → List Row → Type 0) (doubted : K → Option Change) (old new : K) (rows : List Row) (change : Change) (stored : Stored) → HasRows told doubted old rows None → StoredAs change stored (told old) (told new) (doubted new)
     → HasRows told doubted new (rows_by (fate_stored stored) (Some change) rows) (doubt_by (fate_stored stored) (Some change) None)
 stored-keeps told doubted old new rows change Stored.Yes h s = record { rows_are = changed-told (told old) (told new) rows change h.rows_are s.0; doubt_is = s.1 }
 stored-keeps told doubted old new rows change Stored.Fault h s = record { rows_are = same-told (told old) (told new) rows h.rows_are s.0; doubt_is = s.1 }
@@ -105,7 +110,7 @@ pub record AsksOnly (facts : Facts) (opening : List Row) (past : List Event) (ev
   pub doubt_is : doubt facts opening (event ∷ past) ≡ doubt_by (fate_stored stored) (Some change) (doubt facts opening past)
 
 -- After such an event, and the keeper's commit, it is a house.
-pub house-asked : {K : Type 0} (told : K → Option (List Row)) (doubted : K → Option Change) (client : ℕ) (event : Event) (change : Change) (stored : Stored) (old : Housed K) (new : Annalled) (keeper : K) → IsHouse told doubted old → IsAnnals old.annals → IsAnnals new → Appended client event old.annals new → old.annals.loaded ≡ true → off (past old) ≡ false
+pub house-asked : {K : Type 0} (told : K → List Row → Type 0) (doubted : K → Option Change) (client : ℕ) (event : Event) (change : Change) (stored : Stored) (old : Housed K) (new : Annalled) (keeper : K) → IsHouse told doubted old → IsAnnals old.annals → IsAnnals new → Appended client event old.annals new → old.annals.loaded ≡ true → off (past old) ≡ false
     → AsksOnly old.annals.facts (rows_before old.annals) (past old) event change stored → StoredAs change stored (told old.keeper) (told keeper) (doubted keeper) → IsHouse told doubted (record old { annals = new; keeper = keeper })
 house-asked told doubted client event change stored old new keeper h o k a l on q s =
     let f : Facts = old.annals.facts in

@@ -100,7 +100,7 @@ may-give a b client h same k booted e =
     }
 
 -- A house, after a hold was given back.
-pub house-given : {K : Type 0} (told : K → Option (List Row)) (doubted : K → Option Change) (client : ℕ) (pending : Option ℕ) (request : Request) (blocks : ℕ) (old : Housed K) (new : Annalled) (pool : PoolCounts) → IsHouse told doubted old → IsAnnals old.annals → IsAnnals new
+pub house-given : {K : Type 0} (told : K → List Row → Type 0) (doubted : K → Option Change) (client : ℕ) (pending : Option ℕ) (request : Request) (blocks : ℕ) (old : Housed K) (new : Annalled) (pool : PoolCounts) → IsHouse told doubted old → IsAnnals old.annals → IsAnnals new
     → Appended client (back client pending request) old.annals new → MayGive old.annals client pending request blocks → pool.capacity ≡ old.pool.capacity → pool.free ≡ old.pool.free + blocks → IsHouse told doubted (record old { annals = new; pool = pool })
 house-given told doubted client pending request blocks old new pool h o k a m cap free =
     let out = m.blocks_out in

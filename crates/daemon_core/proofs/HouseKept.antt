@@ -37,7 +37,7 @@ appended-doubt client event old new a k =
     ∙ ap (λ (es : List Event). doubt old.facts (rows_before old) es) (appended-past client event old new a)
 
 -- What a house is after an event that isn't a boot, over what was before.
-pub record HouseNext {K : Type 0} (told : K → Option (List Row)) (doubted : K → Option Change) (event : Event) (old new : Housed K) : Type 0 where
+pub record HouseNext {K : Type 0} (told : K → List Row → Type 0) (doubted : K → Option Change) (event : Event) (old new : Housed K) : Type 0 where
   pub count : length new.places ≡ length old.places
   pub places : (number : ℕ) (place : Place) → slice_get new.places number ≡ Some place → PlaceStands old.annals.facts old.annals.first (rows_before old.annals) (event ∷ past old) number place
   pub loaded : old.annals.loaded ≡ true
@@ -45,7 +45,7 @@ pub record HouseNext {K : Type 0} (told : K → Option (List Row)) (doubted : K 
   pub capacity : new.pool.capacity ≡ old.pool.capacity
   pub free : new.pool.free + held (event ∷ past old) ≡ old.annals.facts.pool
 
-pub house-next : {K : Type 0} (told : K → Option (List Row)) (doubted : K → Option Change) (client : ℕ) (event : Event) (old new : Housed K) → IsHouse told doubted old → Appended client event old.annals new.annals → IsAnnals new.annals → HouseNext told doubted event old new → IsHouse told doubted new
+pub house-next : {K : Type 0} (told : K → List Row → Type 0) (doubted : K → Option Change) (client : ℕ) (event : Event) (old new : Housed K) → IsHouse told doubted old → Appended client event old.annals new.annals → IsAnnals new.annals → HouseNext told doubted event old new → IsHouse told doubted new
 house-next told doubted client event old new h a k n =
     let p : past new ≡ event ∷ past old = appended-past client event old.annals new.annals a in
     let b : rows_before new.annals ≡ rows_before old.annals = appended-before client event old.annals new.annals a in
@@ -68,7 +68,7 @@ house-next told doubted client event old new h a k n =
     }
 
 -- With more room it is the same house.
-pub house-roomier : {K : Type 0} (told : K → Option (List Row)) (doubted : K → Option Change) (old : Housed K) (new : Annalled) → IsHouse told doubted old → new ≡ roomier old.annals new → IsHouse told doubted (record old { annals = new })
+pub house-roomier : {K : Type 0} (told : K → List Row → Type 0) (doubted : K → Option Change) (old : Housed K) (new : Annalled) → IsHouse told doubted old → new ≡ roomier old.annals new → IsHouse told doubted (record old { annals = new })
 house-roomier told doubted old new h e =
     subst (λ (x : Annalled). IsHouse told doubted (record old { annals = x })) (sym e)
     (record { count = h.count; places = h.places; unloaded = h.unloaded; kept = h.kept; capacity = h.capacity; free = h.free })
@@ -78,7 +78,7 @@ held-same : (past other : List Event) → holds other ≡ holds past → live ot
 held-same past other h l = ap (λ (x : List Held). blocks_out x (live other)) h ∙ ap (λ (x : List LiveEntry). blocks_out (holds past) x) l
 
 -- After a quiet event.
-pub house-quiet : {K : Type 0} (told : K → Option (List Row)) (doubted : K → Option Change) (client : ℕ) (event : Event) (old : Housed K) (new : Annalled) → IsHouse told doubted old → IsAnnals old.annals → IsAnnals new → Appended client event old.annals new → old.annals.loaded ≡ true → is_quiet event ≡ true
+pub house-quiet : {K : Type 0} (told : K → List Row → Type 0) (doubted : K → Option Change) (client : ℕ) (event : Event) (old : Housed K) (new : Annalled) → IsHouse told doubted old → IsAnnals old.annals → IsAnnals new → Appended client event old.annals new → old.annals.loaded ≡ true → is_quiet event ≡ true
     → IsHouse told doubted (record old { annals = new })
 house-quiet told doubted client event old new h o k a l q =
     let s = quiet-still old.annals.facts old.annals.first (rows_before old.annals) (past old) event q in
@@ -99,7 +99,7 @@ house-quiet told doubted client event old new h o k a l q =
     })
 
 -- However entering a turn went, it is a house.
-pub house-entered : {K A : Type 0} (told : K → Option (List Row)) (doubted : K → Option Change) (client events : ℕ) (result : Result A Stop) (old : Housed K) (new : Annalled) → IsHouse told doubted old → IsAnnals old.annals → IsAnnals new → Entered client events result old.annals new
+pub house-entered : {K A : Type 0} (told : K → List Row → Type 0) (doubted : K → Option Change) (client events : ℕ) (result : Result A Stop) (old : Housed K) (new : Annalled) → IsHouse told doubted old → IsAnnals old.annals → IsAnnals new → Entered client events result old.annals new
     → IsHouse told doubted (record old { annals = new })
 house-entered told doubted client events (Ok unit) old new h o k e = house-roomier told doubted old new h e.same
 house-entered told doubted client events (Err Stop.Off) old new h o k (inl e) = subst (λ (x : Annalled). IsHouse told doubted (record old { annals = x })) (sym e.1) h

@@ -1,10 +1,10 @@
 -- Judgements.
 use Rattle.std.proofs.Common.{◌≡◌, ℕ, suc, ◌<◌, ◌≤◌, ◌+◌, ◌-◌, ◌^◌, Bool, true, false, List, [], ◌∷◌, length, refl, ap, sym, ◌∙◌, subst, arith, ◌⊎◌, inl, inr}
-use Rattle.std.specs.Prelude.{Option, Some, None, IfSome, if◌then◌else◌, ◌||◌, min, not, ◌==◌, option_map, Any}
-use Rattle.std.specs.Option.{ForSome}
+use Rattle.std.specs.Prelude.{Option, Some, None, if◌then◌else◌, ◌||◌, min, not, ◌==◌, option_map, Any}
 use Rattle.fw_facts.specs.Views.{is_home, version_of, version_shown}
 use Rattle.fw_facts.specs.declared.seen.Seen.{Seen}
 use Rattle.fw_facts.specs.declared.view.DeviceView.{DeviceView}
+use Rattle.outer_traits.specs.Faults.{Rose}
 use Rattle.history_keeper.specs.Changes.{Suits}
 use Rattle.history_keeper.specs.Histories.{is_unsettled}
 use Rattle.history_keeper.specs.declared.change.Change.{Change}
@@ -27,13 +27,14 @@ use Rattle.daemon_core.specs.Commits.{StoredAs}
 use Rattle.daemon_core.specs.House.{IsHouse}
 use Rattle.daemon_core.specs.Housed.{Annalled, Housed, past, past_in, rows_before}
 use Rattle.daemon_core.specs.Judging.{judged_by, judged_on, must_wait, standing, standing_of}
-use Rattle.daemon_core.specs.Keeping.{HasRows}
+use Rattle.daemon_core.specs.Keeping.{HasRows, keeper_faults}
 use Rattle.daemon_core.specs.Owed.{owed}
-use Rattle.daemon_core.specs.Turns.{FaultsCounted}
+use Rattle.daemon_core.specs.Turns.{KeeperFared, Signs}
+use Rattle.daemon_core.proofs.Fared.{calm-stored, counted-more, fared-quiet}
 use Rattle.daemon_core.specs.declared.judged.Standing.{Standing}
 use Rattle.daemon_core.proofs.AnnalsKept.{legal-next}
 use Rattle.daemon_core.proofs.ClaimHouse.{IsReady, runs-takes}
-use Rattle.daemon_core.proofs.CommitKept.{AsksOnly, house-asked, house-clear, suits-told}
+use Rattle.daemon_core.proofs.CommitKept.{AsksOnly, house-asked, house-clear, stored-before, suits-told}
 use Rattle.daemon_core.proofs.Owed.{adds-legal}
 
 -- What a row that is judged is, and the device that shows the version.
@@ -165,24 +166,28 @@ judge-ready a client entry version state stored k r b room h s =
     same-many a entry state Stored.NoMemory = refl
     same-many a entry state Stored.Unchanged = refl
 
--- Faults are counted.
-pub faults-same : {K : Type 0} (faults : K → ℕ) (old new : Housed K) → past new ≡ past old → faults old.keeper ≤ faults new.keeper → FaultsCounted faults old new
-faults-same faults old new p c = inl (rw p (omega (arith, c)))
+-- The keeper fared as the log tells.
+pub judge-fared : {K : Type 0} (signs : Signs K) (client entry : ℕ) (version : List ℕ) (state : RowState) (change : Change) (stored : Stored) (left : Option Change) (old new : Housed K) → past new ≡ Event.Judge client entry version state stored ∷ past old → StoredAs change stored (signs.tells old.keeper) (signs.tells new.keeper) left
+    → (stored ≡ Stored.Fault → Rose (signs.faults old.keeper) (signs.faults new.keeper)) → (stored ≡ Stored.Fault) ⊎ (signs.faults new.keeper ≡ signs.faults old.keeper) → KeeperFared signs old new
+judge-fared signs client entry version state change Stored.Fault left old new p s r q = counted-more signs old new (ap keeper_faults p) (r refl) (stored-before signs.tells old.keeper new.keeper change Stored.Fault left s)
+judge-fared signs client entry version state change Stored.Yes left old new p s r q = fared-quiet signs old new (ap keeper_faults p) (calm-stored Stored.Yes refl q) (stored-before signs.tells old.keeper new.keeper change Stored.Yes left s)
+judge-fared signs client entry version state change Stored.NoMemory left old new p s r q = fared-quiet signs old new (ap keeper_faults p) (calm-stored Stored.NoMemory refl q) (stored-before signs.tells old.keeper new.keeper change Stored.NoMemory left s)
+judge-fared signs client entry version state change Stored.Unchanged left old new p s r q = absurd s
 
 -- What wasn't for want of memory was stored, or met a fault.
-pub done-stored : (change : Change) (stored : Stored) (old new : Option (List Row)) (left : Option Change) → StoredAs change stored old new left → (stored ≡ Stored.NoMemory → ⊥) → (stored ≡ Stored.Yes) ⊎ (stored ≡ Stored.Fault)
+pub done-stored : (change : Change) (stored : Stored) (old new : List Row → Type 0) (left : Option Change) → StoredAs change stored old new left → (stored ≡ Stored.NoMemory → ⊥) → (stored ≡ Stored.Yes) ⊎ (stored ≡ Stored.Fault)
 done-stored change Stored.Yes old new left s n = inl refl
 done-stored change Stored.Fault old new left s n = inr refl
 done-stored change Stored.NoMemory old new left s n = absurd (n refl)
 done-stored change Stored.Unchanged old new left s n = absurd s
 
 -- The same over annals that are equal to those that a call began with.
-pub clear-over : {K : Type 0} (told : K → Option (List Row)) (doubted : K → Option Change) (h : Housed K) (b : Annalled) → h.annals ≡ b → IsHouse told doubted h → IsAnnals h.annals → b.loaded ≡ true → Runs b → HasRows told doubted h.keeper h.annals.core.rows None
+pub clear-over : {K : Type 0} (told : K → List Row → Type 0) (doubted : K → Option Change) (h : Housed K) (b : Annalled) → h.annals ≡ b → IsHouse told doubted h → IsAnnals h.annals → b.loaded ≡ true → Runs b → HasRows told doubted h.keeper h.annals.core.rows None
 clear-over told doubted h b e k a l r =
     house-clear told doubted h k a (subst (λ (x : Annalled). x.loaded ≡ true) (sym e) l) (subst Runs (sym e) r).on
 
-pub suits-over : (o : Option (List Row)) (a b : Annalled) (entry : ℕ) (version : List ℕ) (state : RowState) (change : Change) → a ≡ b → IfSome o (λ all. all ≡ a.core.rows) → standing_of b entry ≡ Some (Standing.Judged version state) → change ≡ advance_on (time_of (past_in a)) a.core.rows entry state
-    → ForSome o (λ all. Suits change all)
+pub suits-over : (o : List Row → Type 0) (a b : Annalled) (entry : ℕ) (version : List ℕ) (state : RowState) (change : Change) → a ≡ b → ((all : List Row) → o all → all ≡ a.core.rows) → standing_of b entry ≡ Some (Standing.Judged version state) → change ≡ advance_on (time_of (past_in a)) a.core.rows entry state
+    → (all : List Row) → o all → Suits change all
 suits-over o a b entry version state change e told h is =
     let j = is-judged (past_in a) a.core.views a.core.rows entry version state (subst (λ (x : Annalled). standing_of x entry ≡ Some (Standing.Judged version state)) (sym e) h) in
     suits-told o a.core.rows change told
@@ -198,7 +203,7 @@ ready-over a b client entry version state stored e k r n room h s =
     (subst (λ (x : Annalled). standing_of x entry ≡ Some (Standing.Judged version state)) (sym e) h) s
 
 -- A house, after a judgement.
-pub house-judged : {K : Type 0} (told : K → Option (List Row)) (doubted : K → Option Change) (client entry : ℕ) (version : List ℕ) (state : RowState) (stored : Stored) (change : Change) (old : Housed K) (b : Annalled) (new : Annalled) (keeper : K) → old.annals ≡ b → IsHouse told doubted old → IsAnnals old.annals → IsAnnals new
+pub house-judged : {K : Type 0} (told : K → List Row → Type 0) (doubted : K → Option Change) (client entry : ℕ) (version : List ℕ) (state : RowState) (stored : Stored) (change : Change) (old : Housed K) (b : Annalled) (new : Annalled) (keeper : K) → old.annals ≡ b → IsHouse told doubted old → IsAnnals old.annals → IsAnnals new
     → Appended client (Event.Judge client entry version state stored) old.annals new → b.loaded ≡ true → Runs b → change ≡ advance_on (time_of (past old)) old.annals.core.rows entry state → StoredAs change stored (told old.keeper) (told keeper) (doubted keeper) → IsHouse told doubted (record old { annals = new; keeper = keeper })
 house-judged told doubted client entry version state stored change old b new keeper e h o k a l r is s =
     house-asked told doubted client (Event.Judge client entry version state stored) change stored old new keeper h o k a

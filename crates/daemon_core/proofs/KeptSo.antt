@@ -1,6 +1,6 @@
 -- How the keeper stands to the log, whether it counts as opened again or not.
 use Rattle.std.proofs.Common.{◌≡◌, Bool, true, false, List, refl, ap, ◌⊎◌, inl, inr}
-use Rattle.std.specs.Prelude.{Option, Some, None, IfSome, if◌then◌else◌}
+use Rattle.std.specs.Prelude.{Option, None, if◌then◌else◌}
 use Rattle.history_keeper.specs.declared.change.Change.{Change}
 use Rattle.history_keeper.specs.declared.row.Row.{Row}
 use Rattle.update_log.specs.declared.event.Found.{Found}
@@ -8,25 +8,24 @@ use Rattle.update_log.specs.Pasts.{is_found_fault}
 use Rattle.daemon_core.specs.Keeping.{HasRows, Keeps, KeepsSo, still_reopened}
 
 -- Where it has the rows of the log, and the log's doubt, it doesn't matter.
-pub so-has : {K : Type 0} (b : Bool) (told : K → Option (List Row)) (doubted : K → Option Change) (keeper : K) (rows : List Row) (doubt : Option Change) → HasRows told doubted keeper rows doubt → KeepsSo b told doubted keeper rows doubt
+pub so-has : {K : Type 0} (b : Bool) (told : K → List Row → Type 0) (doubted : K → Option Change) (keeper : K) (rows : List Row) (doubt : Option Change) → HasRows told doubted keeper rows doubt → KeepsSo b told doubted keeper rows doubt
 so-has true told doubted keeper rows doubt h = inl h
 so-has false told doubted keeper rows doubt h = h
 
-pub so-keeps : {K : Type 0} (b : Bool) (told : K → Option (List Row)) (doubted : K → Option Change) (keeper : K) (rows : List Row) (doubt : Option Change) → KeepsSo b told doubted keeper rows doubt → Keeps told doubted keeper rows doubt
+pub so-keeps : {K : Type 0} (b : Bool) (told : K → List Row → Type 0) (doubted : K → Option Change) (keeper : K) (rows : List Row) (doubt : Option Change) → KeepsSo b told doubted keeper rows doubt → Keeps told doubted keeper rows doubt
 so-keeps true told doubted keeper rows doubt k = k
 so-keeps false told doubted keeper rows doubt h = inl h
 
-either-same : (o : Option (List Row)) (rows : List Row) → IfSome o (λ all. (all ≡ rows) ⊎ (all ≡ rows)) → IfSome o (λ all. all ≡ rows)
-either-same None rows h = tt
-either-same (Some all) rows (inl h) = h
-either-same (Some all) rows (inr h) = h
+either-same : (all rows : List Row) → (all ≡ rows) ⊎ (all ≡ rows) → all ≡ rows
+either-same all rows (inl h) = h
+either-same all rows (inr h) = h
 
-keeps-clear : {K : Type 0} (told : K → Option (List Row)) (doubted : K → Option Change) (keeper : K) (rows : List Row) → Keeps told doubted keeper rows None → HasRows told doubted keeper rows None
+keeps-clear : {K : Type 0} (told : K → List Row → Type 0) (doubted : K → Option Change) (keeper : K) (rows : List Row) → Keeps told doubted keeper rows None → HasRows told doubted keeper rows None
 keeps-clear told doubted keeper rows (inl h) = h
-keeps-clear told doubted keeper rows (inr w) = record { rows_are = either-same (told keeper) rows w.rows_are; doubt_is = w.no_doubt }
+keeps-clear told doubted keeper rows (inr w) = record { rows_are = λ all t. either-same all rows (w.rows_are all t); doubt_is = w.no_doubt }
 
 -- Where the log has no doubt, it has the log's rows, also where it was opened again.
-pub so-clear : {K : Type 0} (b : Bool) (told : K → Option (List Row)) (doubted : K → Option Change) (keeper : K) (rows : List Row) → KeepsSo b told doubted keeper rows None → HasRows told doubted keeper rows None
+pub so-clear : {K : Type 0} (b : Bool) (told : K → List Row → Type 0) (doubted : K → Option Change) (keeper : K) (rows : List Row) → KeepsSo b told doubted keeper rows None → HasRows told doubted keeper rows None
 so-clear b told doubted keeper rows k = keeps-clear told doubted keeper rows (so-keeps b told doubted keeper rows None k)
 
 -- Where it wasn't opened again before a boot, it isn't behind it.

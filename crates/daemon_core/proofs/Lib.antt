@@ -13,6 +13,7 @@ pub mod ClaimDone
 pub mod HeldOnce
 pub mod Held
 pub mod KeptSo
+pub mod Fared
 pub mod HouseKept
 pub mod Answered
 pub mod BoardsQuiet
@@ -24,6 +25,7 @@ pub mod BootAnnals
 pub mod BootHouse
 pub mod Compared
 pub mod BootLoops
+pub mod ReadLaws
 pub mod BootReads
 pub mod Asking
 pub mod Beginnings

@@ -128,7 +128,7 @@ number-over a device k =
     ∙ ap (λ (vs : List DeviceView). board_on (map (λ b. b.number) (devices a.facts)) vs device) k.stands.views
     ∙ selector-board a.facts (live (past_in a)) (known a.facts (rows_before a) (past_in a)) device
 
-pub move-plan : {K : Type 0} (told : K → Option (List Row)) (doubted : K → Option Change) (h : Housed K) (device : Selector) (n : ℕ) (view : DeviceView) → IsHouse told doubted h → IsAnnals h.annals → found_view h.annals.core.views device ≡ Some view → view.claim ≡ None → n ≡ unwrap_or (number_found h.annals device) 0 → MovePlan h.annals h.places device n
+pub move-plan : {K : Type 0} (told : K → List Row → Type 0) (doubted : K → Option Change) (h : Housed K) (device : Selector) (n : ℕ) (view : DeviceView) → IsHouse told doubted h → IsAnnals h.annals → found_view h.annals.core.views device ≡ Some view → view.claim ≡ None → n ≡ unwrap_or (number_found h.annals device) 0 → MovePlan h.annals h.places device n
 move-plan told doubted h device n view k o f free e =
     let a : Annalled = h.annals in
     let g = found-board a.facts (live (past_in a)) (known a.facts (rows_before a) (past_in a)) device view (subst (λ (vs : List DeviceView). found_view vs device ≡ Some view) o.stands.views f) in
@@ -151,7 +151,7 @@ move-plan told doubted h device n view k o f free e =
     }
 
 -- A house whose board at one place was moved, at an event that tells of that board alone.
-pub house-moved : {K : Type 0} (told : K → Option (List Row)) (doubted : K → Option Change) (client : ℕ) (event : Event) (n : ℕ) (after : Place) (old : Housed K) (new : Annalled) → IsHouse told doubted old → IsAnnals old.annals → IsAnnals new → Appended client event old.annals new → old.annals.loaded ≡ true
+pub house-moved : {K : Type 0} (told : K → List Row → Type 0) (doubted : K → Option Change) (client : ℕ) (event : Event) (n : ℕ) (after : Place) (old : Housed K) (new : Annalled) → IsHouse told doubted old → IsAnnals old.annals → IsAnnals new → Appended client event old.annals new → old.annals.loaded ≡ true
     → rows old.annals.facts (rows_before old.annals) (event ∷ past old) ≡ rows old.annals.facts (rows_before old.annals) (past old) → doubt old.annals.facts (rows_before old.annals) (event ∷ past old) ≡ doubt old.annals.facts (rows_before old.annals) (past old) → held (event ∷ past old) ≡ held (past old)
     → ((m : ℕ) → m ≢ n → Passes old.annals.facts (rows_before old.annals) (past old) event m) → PlaceStands old.annals.facts old.annals.first (rows_before old.annals) (event ∷ past old) n after
     → IsHouse told doubted (record { annals = new; places = slice_set old.places n after; pool = old.pool; keeper = old.keeper })
@@ -297,7 +297,7 @@ unplug-ready a b client device e k r z w h =
     }
 
 -- The place that the code reads.
-pub unplug-plan : {K : Type 0} (told : K → Option (List Row)) (doubted : K → Option Change) (h : Housed K) (b : Annalled) (device : Selector) (n : ℕ) → h.annals ≡ b → IsHouse told doubted h → IsAnnals h.annals → unplug_refused (found_view b.core.views device) ≡ None → n ≡ unwrap_or (number_found h.annals device) 0 → MovePlan h.annals h.places device n
+pub unplug-plan : {K : Type 0} (told : K → List Row → Type 0) (doubted : K → Option Change) (h : Housed K) (b : Annalled) (device : Selector) (n : ℕ) → h.annals ≡ b → IsHouse told doubted h → IsAnnals h.annals → unplug_refused (found_view b.core.views device) ≡ None → n ≡ unwrap_or (number_found h.annals device) 0 → MovePlan h.annals h.places device n
 unplug-plan told doubted h b device n e k o r num =
     let f = free-out (found_view h.annals.core.views device) (ap (λ (x : Annalled). unplug_refused (found_view x.core.views device)) e ∙ r) in
     move-plan told doubted h device n f.view k o f.view_is f.free num
@@ -317,7 +317,7 @@ board-moved move a device n old new p (after, m, e) =
     record { number = n; before = place_at old n; after = after; found = p.number_is; there = p.there; moved = m; places = e }
 
 -- After an unplug.
-pub house-unplugged : {K : Type 0} (told : K → Option (List Row)) (doubted : K → Option Change) (client : ℕ) (device : Selector) (n : ℕ) (old : Housed K) (b : Annalled) (new : Annalled) (places : List Place) → old.annals ≡ b → IsHouse told doubted old → IsAnnals old.annals → IsAnnals new → Appended client (gone_event client device) old.annals new → b.loaded ≡ true
+pub house-unplugged : {K : Type 0} (told : K → List Row → Type 0) (doubted : K → Option Change) (client : ℕ) (device : Selector) (n : ℕ) (old : Housed K) (b : Annalled) (new : Annalled) (places : List Place) → old.annals ≡ b → IsHouse told doubted old → IsAnnals old.annals → IsAnnals new → Appended client (gone_event client device) old.annals new → b.loaded ≡ true
     → MovePlan old.annals old.places device n → MovedAt unplugged n old.places places → IsHouse told doubted (record { annals = new; places = places; pool = old.pool; keeper = old.keeper })
 house-unplugged told doubted client device n old b new places e h o k a loaded p (after, m, q) =
     subst (λ (ps : List Place). IsHouse told doubted (record { annals = new; places = ps; pool = old.pool; keeper = old.keeper })) (sym q)

@@ -223,7 +223,7 @@ plug-free_over a b core device e s h =
     ap (λ (x : Annalled). plug_refused (found_view x.core.views device)) (sym e) ∙ ap (λ (x : Core). plug_refused (found_view x.views device)) (sym s) ∙ sym h
 
 -- The place that the code reads.
-pub plug-plan : {K : Type 0} (told : K → Option (List Row)) (doubted : K → Option Change) (h : Housed K) (b : Annalled) (device : Selector) (n : ℕ) → h.annals ≡ b → IsHouse told doubted h → IsAnnals h.annals → plug_refused (found_view b.core.views device) ≡ None → n ≡ unwrap_or (number_found h.annals device) 0 → MovePlan h.annals h.places device n
+pub plug-plan : {K : Type 0} (told : K → List Row → Type 0) (doubted : K → Option Change) (h : Housed K) (b : Annalled) (device : Selector) (n : ℕ) → h.annals ≡ b → IsHouse told doubted h → IsAnnals h.annals → plug_refused (found_view b.core.views device) ≡ None → n ≡ unwrap_or (number_found h.annals device) 0 → MovePlan h.annals h.places device n
 plug-plan told doubted h b device n e k o r num =
     let f = free-back (found_view h.annals.core.views device) (ap (λ (x : Annalled). plug_refused (found_view x.core.views device)) e ∙ r) in
     move-plan told doubted h device n f.view k o f.view_is f.free num
@@ -251,7 +251,7 @@ plug-ready a b client device n old new shown e k r z w h p (after, m, q) =
     }
 
 -- After a plug.
-pub house-plugged : {K : Type 0} (told : K → Option (List Row)) (doubted : K → Option Change) (client : ℕ) (device : Selector) (n : ℕ) (shown : Seen) (old : Housed K) (b : Annalled) (new : Annalled) (places : List Place) → old.annals ≡ b → IsHouse told doubted old → IsAnnals old.annals → IsAnnals new → Appended client (back_event client device shown) old.annals new → b.loaded ≡ true → Runs b
+pub house-plugged : {K : Type 0} (told : K → List Row → Type 0) (doubted : K → Option Change) (client : ℕ) (device : Selector) (n : ℕ) (shown : Seen) (old : Housed K) (b : Annalled) (new : Annalled) (places : List Place) → old.annals ≡ b → IsHouse told doubted old → IsAnnals old.annals → IsAnnals new → Appended client (back_event client device shown) old.annals new → b.loaded ≡ true → Runs b
     → MovePlan old.annals old.places device n → BackAt n old.places places shown → IsHouse told doubted (record { annals = new; places = places; pool = old.pool; keeper = old.keeper })
 house-plugged told doubted client device n shown old b new places e h o k a loaded r p (after, m, q) =
     let runs : Runs old.annals = subst Runs (sym e) r in

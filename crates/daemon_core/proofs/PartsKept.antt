@@ -50,11 +50,11 @@ all-home : (places : List Place) → ((n : ℕ) (p : Place) → slice_get places
 all-home [] h = tt
 all-home (p ∷ ps) h = (h 0 p refl, all-home ps (λ n q e. h (suc n) q e))
 
-pub house-home : {K : Type 0} (told : K → Option (List Row)) (doubted : K → Option Change) (h : Housed K) → IsHouse told doubted h → live (past h) ≡ [] → AllHome h.places
+pub house-home : {K : Type 0} (told : K → List Row → Type 0) (doubted : K → Option Change) (h : Housed K) → IsHouse told doubted h → live (past h) ≡ [] → AllHome h.places
 house-home told doubted h w e =
     all-home h.places (λ n p g. home-there h.annals.facts h.annals.first (rows_before h.annals) (past h) n p.board e (w.places n p g).home)
 
-pub house-boards : {K : Type 0} (told : K → Option (List Row)) (doubted : K → Option Change) (h : Housed K) → IsHouse told doubted h → live (past h) ≡ [] → BoardsOf h (boards_in h.places)
+pub house-boards : {K : Type 0} (told : K → List Row → Type 0) (doubted : K → Option Change) (h : Housed K) → IsHouse told doubted h → live (past h) ≡ [] → BoardsOf h (boards_in h.places)
 house-boards told doubted h w e =
     let all = house-home told doubted h w e in
     record {

@@ -1,16 +1,15 @@
 -- A request that is put off, and the keeper that stores its row.
 use Rattle.std.proofs.Common.{◌≡◌, ◌≢◌, ℕ, ◌<◌, ◌≤◌, ◌+◌, ◌-◌, ◌^◌, Bool, true, false, List, [], ◌∷◌, zero, suc, length, map, get_or, refl, ap, sym, ◌∙◌, subst, arith, ◌⊎◌, inl, inr}
-use Rattle.std.specs.Prelude.{Option, Some, None, IfSome, option_map, nat_le, All}
-use Rattle.std.specs.Option.{ForSome}
+use Rattle.std.specs.Prelude.{Option, Some, None, nat_le, All}
 use Rattle.std.specs.List.{list_any}
 use Rattle.std.specs.Str.{bytes_eq}
-use Rattle.std.proofs.lemmas.Bool.{leb-false, leb-true}
+use Rattle.std.proofs.lemmas.Bool.{leb-false}
 use Rattle.fw_facts.specs.declared.seen.Seen.{Seen}
 use Rattle.history_keeper.specs.Changes.{Suits, changed}
+use Rattle.history_keeper.specs.Keepers.{StillTold, ToldWith}
 use Rattle.history_keeper.specs.declared.change.Change.{Change}
 use Rattle.history_keeper.specs.declared.row.Row.{Row}
 use Rattle.history_keeper.specs.declared.row.RowState.{RowState}
-use Rattle.outer_traits.specs.Faults.{Rose}
 use Rattle.update_log.proofs.Accepts.{accepts-target}
 use Rattle.update_log.proofs.CoreLegal.{decided-other}
 use Rattle.update_log.proofs.Lists.{by_test}
@@ -21,7 +20,7 @@ use Rattle.update_log.specs.CoreSteps.{addition_on}
 use Rattle.update_log.specs.Holding.{live}
 use Rattle.update_log.specs.Known.{Fate, Target, addition, doubt, known, new_row, row_with_tag, rows, rows_by, target, views}
 use Rattle.update_log.specs.Legal.{IsFree, ScheduleAllowed, ScheduleAnswered, next_entry}
-use Rattle.update_log.specs.Pasts.{boots, is_keeper_fault, off, time_of}
+use Rattle.update_log.specs.Pasts.{boots, is_keeper_fault, meets_fault, off, time_of}
 use Rattle.update_log.specs.Verdicts.{Case, case_of, decided, verdict, where_so}
 use Rattle.update_log.specs.declared.answer.ClaimAnswer.{ClaimAnswer}
 use Rattle.update_log.specs.declared.decision.Decision.{Decision}
@@ -36,9 +35,8 @@ use Rattle.daemon_core.proofs.AnnalsKept.{appended-past, legal-next}
 use Rattle.daemon_core.proofs.OwedLaws.{owed-cut}
 use Rattle.daemon_core.specs.House.{IsHouse}
 use Rattle.daemon_core.specs.Housed.{Annalled, Housed, past, past_in, rows_before}
-use Rattle.daemon_core.specs.Keeping.{HasRows, KeepsSo, keeper_faults, met_fault}
+use Rattle.daemon_core.specs.Keeping.{HasRows, KeepsSo, keeper_faults}
 use Rattle.daemon_core.specs.PutOff.{IsAccept}
-use Rattle.daemon_core.specs.Turns.{FaultsCounted}
 use Rattle.daemon_core.proofs.BoardsQuiet.{kept-so, quiet-board}
 use Rattle.daemon_core.proofs.HouseKept.{house-next}
 use Rattle.daemon_core.proofs.KeptSo.{so-clear, so-has}
@@ -47,31 +45,19 @@ use Rattle.daemon_core.proofs.PlacesKept.{place-same}
 -- ---- the keeper
 
 -- A commit that went well.
-pub keeps-made : {K : Type 0} (told : K → Option (List Row)) (doubted : K → Option Change) (old new : K) (all : List Row) (change : Change) → HasRows told doubted old all None → (told new ≡ option_map (changed change) (told old)) × (doubted new ≡ None) → HasRows told doubted new (changed change all) None
+pub keeps-made : {K : Type 0} (told : K → List Row → Type 0) (doubted : K → Option Change) (old new : K) (all : List Row) (change : Change) → HasRows told doubted old all None → ToldWith change (told old) (told new) × (doubted new ≡ None) → HasRows told doubted new (changed change all) None
 keeps-made told doubted old new all change h c =
-    record { rows_are = subst (λ (o : Option (List Row)). IfSome o (λ x. x ≡ changed change all)) (sym c.0) (at (told old) h.rows_are); doubt_is = c.1 }
-  where
-    at : (o : Option (List Row)) → IfSome o (λ x. x ≡ all) → IfSome (option_map (changed change) o) (λ x. x ≡ changed change all)
-    at None h = tt
-    at (Some x) e = ap (λ (l : List Row). changed change l) e
+    record {
+      rows_are = λ now t. let before = c.0 now t in before.2 ∙ ap (λ (l : List Row). changed change l) (h.rows_are before.0 before.1);
+      doubt_is = c.1;
+    }
 
 -- One that failed, or wanted for memory.
-pub keeps-left : {K : Type 0} (told : K → Option (List Row)) (doubted : K → Option Change) (old new : K) (all : List Row) (left : Option Change) → HasRows told doubted old all None → (told new ≡ told old) × (doubted new ≡ left) → HasRows told doubted new all left
-keeps-left told doubted old new all left h c = record { rows_are = subst (λ (o : Option (List Row)). IfSome o (λ x. x ≡ all)) (sym c.0) h.rows_are; doubt_is = c.1 }
+pub keeps-left : {K : Type 0} (told : K → List Row → Type 0) (doubted : K → Option Change) (old new : K) (all : List Row) (left : Option Change) → HasRows told doubted old all None → StillTold (told old) (told new) × (doubted new ≡ left) → HasRows told doubted new all left
+keeps-left told doubted old new all left h c = record { rows_are = λ now t. h.rows_are now (c.0 now t); doubt_is = c.1 }
 
-pub suits-told : (o : Option (List Row)) (all : List Row) (change : Change) → IfSome o (λ x. x ≡ all) → Suits change all → ForSome o (λ x. Suits change x)
-suits-told None all change h s = λ x e. cc
-suits-told (Some y) all change h s = λ x e. let f : all ≡ x = (let g : y ≡ x = cc in sym h ∙ g) in subst (λ (l : List Row). Suits change l) f s
-
--- Where the log has as many faults, or one more and the count rose.
-pub counted-same : {K : Type 0} (faults : K → ℕ) (old new : Housed K) → keeper_faults (past new) ≡ keeper_faults (past old) → faults old.keeper ≤ faults new.keeper → FaultsCounted faults old new
-counted-same faults old new e h = inl (omega (arith, e, h))
-
-pub counted-more : {K : Type 0} (faults : K → ℕ) (old new : Housed K) → keeper_faults (past new) ≡ keeper_faults (past old) + 1 → Rose (faults old.keeper) (faults new.keeper) → FaultsCounted faults old new
-counted-more faults old new e h =
-    by_test (nat_le (faults old.keeper + 1) (2 ^ 64 - 1)) (FaultsCounted faults old new)
-    (λ t. let l = leb-true _ _ t in inl (omega (arith, e, h, l)))
-    (λ f. let l = leb-false _ _ f in inr (omega (arith, h, l)))
+pub suits-told : (o : List Row → Type 0) (all : List Row) (change : Change) → ((x : List Row) → o x → x ≡ all) → Suits change all → (x : List Row) → o x → Suits change x
+suits-told o all change h s x t = subst (λ (l : List Row). Suits change l) (sym (h x t)) s
 
 -- ---- the row
 
@@ -133,7 +119,7 @@ pub off-allowed : (facts : Facts) (first : List Seen) (opening : List Row) (past
 off-allowed facts first opening past client request answer a = λ c f i. subst (λ (x : Facts). ScheduleAllowed x opening past client request answer) (sym f) a
 
 -- A house, after a request was put off, or might have been.
-pub house-off : {K : Type 0} (told : K → Option (List Row)) (doubted : K → Option Change) (client : ℕ) (request : Request) (answer : ClaimAnswer) (old : Housed K) (new : Annalled) (keeper : K) → IsHouse told doubted old → IsAnnals old.annals → IsAnnals new
+pub house-off : {K : Type 0} (told : K → List Row → Type 0) (doubted : K → Option Change) (client : ℕ) (request : Request) (answer : ClaimAnswer) (old : Housed K) (new : Annalled) (keeper : K) → IsHouse told doubted old → IsAnnals old.annals → IsAnnals new
     → Appended client (Event.Schedule client request answer) old.annals new → IsLegalSo old.annals.facts old.annals.first (rows_before old.annals) (Event.Schedule client request answer ∷ past old) → old.annals.loaded ≡ true
     → HasRows told doubted keeper (rows old.annals.facts (rows_before old.annals) (Event.Schedule client request answer ∷ past old)) (doubt old.annals.facts (rows_before old.annals) (Event.Schedule client request answer ∷ past old))
     → IsHouse told doubted (record old { annals = new; keeper = keeper })
@@ -175,7 +161,7 @@ suits-over a client request row k h e =
 pub no-doubt : (a : Annalled) → IsAnnals a → off (past_in a) ≡ false → doubt a.facts (rows_before a) (past_in a) ≡ None
 no-doubt a k o = (kept-so a.facts a.first (rows_before a) (past_in a) k.stands.history k.legal).rows_kept.doubt_off o
 
-pub house-plain : {K : Type 0} (told : K → Option (List Row)) (doubted : K → Option Change) (h : Housed K) (b : Annalled) → h.annals ≡ b → IsHouse told doubted h → IsAnnals h.annals → b.loaded ≡ true → off (past_in b) ≡ false → HasRows told doubted h.keeper h.annals.core.rows None
+pub house-plain : {K : Type 0} (told : K → List Row → Type 0) (doubted : K → Option Change) (h : Housed K) (b : Annalled) → h.annals ≡ b → IsHouse told doubted h → IsAnnals h.annals → b.loaded ≡ true → off (past_in b) ≡ false → HasRows told doubted h.keeper h.annals.core.rows None
 house-plain told doubted h b e w k l o =
     let l' : h.annals.loaded ≡ true = ap (λ (x : Annalled). x.loaded) e ∙ l in
     let o' : off (past h) ≡ false = ap (λ (x : Annalled). off (past_in x)) e ∙ o in
@@ -202,20 +188,20 @@ off-legal a b client request answer e k r n f h w =
     at (inr x) next = inr x
 
 -- The keeper after the row was stored, and after that failed.
-pub kept-made : {K : Type 0} (told : K → Option (List Row)) (doubted : K → Option Change) (a : Annalled) (client : ℕ) (request : Request) (entry : ℕ) (row : Row) (keeper : K) → IsAnnals a → off (past_in a) ≡ false
+pub kept-made : {K : Type 0} (told : K → List Row → Type 0) (doubted : K → Option Change) (a : Annalled) (client : ℕ) (request : Request) (entry : ℕ) (row : Row) (keeper : K) → IsAnnals a → off (past_in a) ≡ false
     → addition a.facts (time_of (past_in a)) (live (past_in a)) (known a.facts (rows_before a) (past_in a)) client request RowState.Pending ≡ Some (Change.Add row) → HasRows told doubted keeper (changed (Change.Add row) a.core.rows) None
     → HasRows told doubted keeper (rows a.facts (rows_before a) (Event.Schedule client request (ClaimAnswer.Entry entry) ∷ past_in a)) (doubt a.facts (rows_before a) (Event.Schedule client request (ClaimAnswer.Entry entry) ∷ past_in a))
 kept-made told doubted a client request entry row keeper k o e h =
     let all : List Row = rows a.facts (rows_before a) (past_in a) in
     let r : changed (Change.Add row) a.core.rows ≡ rows_by Fate.Made (addition a.facts (time_of (past_in a)) (live (past_in a)) (known a.facts (rows_before a) (past_in a)) client request RowState.Pending) all =
     ap (λ (x : List Row). changed (Change.Add row) x) k.stands.rows ∙ sym (ap (λ (x : Option Change). rows_by Fate.Made x all) e) in
-    record { rows_are = subst (λ (x : List Row). IfSome (told keeper) (λ y. y ≡ x)) r h.rows_are; doubt_is = h.doubt_is ∙ sym (no-doubt a k o) }
+    record { rows_are = subst (λ (x : List Row). (y : List Row) → told keeper y → y ≡ x) r h.rows_are; doubt_is = h.doubt_is ∙ sym (no-doubt a k o) }
 
-pub kept-doubted : {K : Type 0} (told : K → Option (List Row)) (doubted : K → Option Change) (a : Annalled) (client : ℕ) (request : Request) (row : Row) (keeper : K) → IsAnnals a
+pub kept-doubted : {K : Type 0} (told : K → List Row → Type 0) (doubted : K → Option Change) (a : Annalled) (client : ℕ) (request : Request) (row : Row) (keeper : K) → IsAnnals a
     → addition a.facts (time_of (past_in a)) (live (past_in a)) (known a.facts (rows_before a) (past_in a)) client request RowState.Pending ≡ Some (Change.Add row) → HasRows told doubted keeper a.core.rows (Some (Change.Add row))
     → HasRows told doubted keeper (rows a.facts (rows_before a) (Event.Schedule client request (ClaimAnswer.Refused Refusal.KeeperFault) ∷ past_in a)) (doubt a.facts (rows_before a) (Event.Schedule client request (ClaimAnswer.Refused Refusal.KeeperFault) ∷ past_in a))
 kept-doubted told doubted a client request row keeper k e h =
-    record { rows_are = subst (λ (x : List Row). IfSome (told keeper) (λ y. y ≡ x)) k.stands.rows h.rows_are; doubt_is = h.doubt_is ∙ sym e }
+    record { rows_are = subst (λ (x : List Row). (y : List Row) → told keeper y → y ≡ x) k.stands.rows h.rows_are; doubt_is = h.doubt_is ∙ sym e }
 
 -- The room that is owed doesn't grow.
 pub owed-entry : (past : List Event) (client : ℕ) (request : Request) (entry : ℕ) → owed (Event.Schedule client request (ClaimAnswer.Entry entry) ∷ past) ≤ owed past
@@ -228,5 +214,5 @@ pub owed-faulted : (past : List Event) (client : ℕ) (request : Request) → ow
 owed-faulted past client request = owed-cut past
 
 -- An event that met no fault.
-pub quiet-faults : (client : ℕ) (event : Event) (a b : Annalled) → Appended client event a b → met_fault event ≡ false → keeper_faults (past_in b) ≡ keeper_faults (past_in a)
+pub quiet-faults : (client : ℕ) (event : Event) (a b : Annalled) → Appended client event a b → meets_fault event ≡ false → keeper_faults (past_in b) ≡ keeper_faults (past_in a)
 quiet-faults client event a b p m = ap keeper_faults (appended-past client event a b p) ∙ rw m refl

@@ -13,11 +13,10 @@ use Rattle.update_log.specs.declared.event.Event.{Event}
 use Rattle.update_log.specs.declared.facts.Facts.{Facts}
 use Rattle.update_log.specs.Holding.{holds, live, open_steps}
 use Rattle.update_log.specs.Known.{Known, known, rows, tells}
-use Rattle.update_log.specs.Pasts.{boots, is_keeper_fault}
+use Rattle.update_log.specs.Pasts.{boots, is_keeper_fault, meets_fault}
 use Rattle.update_log.specs.Shows.{raw_of, told_by}
 use Rattle.daemon_core.proofs.PlacesKept.{SameOfBoard}
 use Rattle.daemon_core.specs.Boards.{is_faulty_end}
-use Rattle.daemon_core.specs.Keeping.{met_fault}
 use Rattle.daemon_core.specs.Owed.{owed}
 use Rattle.daemon_core.specs.Quiet.{is_quiet}
 use Rattle.daemon_core.proofs.OwedLaws.{owed-cut}
@@ -33,7 +32,7 @@ pub record Still (facts : Facts) (first : List Seen) (opening : List Row) (past 
   pub same_tells : (number : ℕ) → tells facts (live past) (known facts opening past) event number ≡ None
   pub same_raws : (entry : ℕ) → raw_of entry (event ∷ past) ≡ raw_of entry past
   pub faulty : (number : ℕ) → is_faulty_end facts (rows facts opening past) number event ≡ false
-  pub met : met_fault event ≡ false
+  pub met : meets_fault event ≡ false
   pub owes : owed (event ∷ past) ≤ owed past
 
 same : (n : ℕ) → n ≤ n

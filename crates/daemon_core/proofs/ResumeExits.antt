@@ -1,7 +1,7 @@
 -- The exits of a resumption, over what each of its steps ensures.
-use Rattle.std.proofs.Common.{◌≡◌, ℕ, ◌<◌, ◌≤◌, ◌+◌, false, List, [], ◌∷◌, length, refl, ap, sym, ◌∙◌, subst, ◌⊎◌}
+use Rattle.std.proofs.Common.{◌≡◌, ℕ, ◌<◌, ◌≤◌, ◌+◌, ◌||◌, false, List, [], ◌∷◌, length, refl, ap, sym, ◌∙◌, subst, ◌⊎◌, inl, inr}
 use Rattle.std.specs.Prelude.{Option, Some, None, IfSome, IsSome, is_some, unwrap_or, Result, Ok, Err}
-use Rattle.std.specs.Option.{ForSome}
+use Rattle.history_keeper.specs.Keepers.{StillTold}
 use Rattle.block_pool.specs.Views.{PoolCounts, SealedBytes}
 use Rattle.emulated_boards.specs.Boards.{BoardState}
 use Rattle.history_keeper.specs.Changes.{Suits}
@@ -14,7 +14,7 @@ use Rattle.update_log.proofs.RowsKept.{is_kept}
 use Rattle.update_log.specs.Holding.{live_entry}
 use Rattle.update_log.specs.Known.{Target, board_of, target}
 use Rattle.update_log.specs.Legal.{ResumeStored}
-use Rattle.update_log.specs.Pasts.{boots, is_keeper_fault}
+use Rattle.update_log.specs.Pasts.{boots, is_fault, is_keeper_fault, meets_fault}
 use Rattle.update_log.specs.Steps.{trace}
 use Rattle.update_log.specs.Verdicts.{Case, case_of, first_refusal, is_that_release, need, on_found, on_present, present, refusals, refused_or}
 use Rattle.update_log.specs.declared.answer.ResumeAnswer.{ResumeAnswer}
@@ -38,18 +38,19 @@ use Rattle.daemon_core.specs.Commits.{StoredAs}
 use Rattle.daemon_core.specs.Fetches.{block_count, is_payload, note_of, whole_note}
 use Rattle.daemon_core.specs.House.{IsHouse}
 use Rattle.daemon_core.specs.Housed.{Annalled, Housed, Place, past, past_in, rows_before}
-use Rattle.daemon_core.specs.Keeping.{keeper_faults, met_fault}
+use Rattle.daemon_core.specs.Keeping.{keeper_faults}
 use Rattle.daemon_core.specs.PutOff.{IsAccept}
 use Rattle.daemon_core.specs.Resumes.{ComesIn, IsOpenHold, IsPutOff, IsToResume, MayFail, MayResume, ResumeGave, ResumeTurned, StoppedBy, WasRefused, begun_event, blocks_in, doubt_event, failed_event, note_in, resume_verdict}
 use Rattle.daemon_core.specs.Returns.{place_at}
-use Rattle.daemon_core.specs.Turns.{FaultsCounted}
+use Rattle.daemon_core.specs.Turns.{KeeperFared, Signs, ToldBefore}
+use Rattle.daemon_core.proofs.Fared.{calm-stored, counted-more, fared-quiet}
 use Rattle.daemon_core.proofs.AnnalsKept.{appended-past}
 use Rattle.daemon_core.proofs.Answered.{roomier-same, same-unchanged, stopped, unchanged-appended}
 use Rattle.daemon_core.proofs.ClaimAnswers.{turned-after}
 use Rattle.daemon_core.proofs.ClaimHouse.{IsReady}
 use Rattle.daemon_core.proofs.ClaimRoom.{board-itself, board-on, places-same, room-at, room-on, room-out}
 use Rattle.daemon_core.proofs.CommitKept.{house-clear, house-unstored}
-use Rattle.daemon_core.proofs.PuttingOff.{counted-more, counted-same, quiet-faults, refusal-other}
+use Rattle.daemon_core.proofs.PuttingOff.{quiet-faults, refusal-other}
 use Rattle.daemon_core.proofs.ResumeHolds.{last-names_other, last-refused_by}
 use Rattle.daemon_core.proofs.ResumeKept.{Answers, change_of, house-begun, house-refused, refused-fits, resume-ready, resume-suits, resumes}
 use Rattle.daemon_core.proofs.ResumeTurns.{begins, doubt-answers, resume-answers, resume-board, resume-broken, resume-live, resume-refused, resume-same_held, resume-sheet, resume-taken, resume-takes_entry, resume-within, to-resume}
@@ -121,11 +122,11 @@ pub record Failing (a : Annalled) (entry : ℕ) (held : Option (Ticket × Fetche
 pub failing : (a b : Annalled) (entry : ℕ) (held : Option (Ticket × Fetched)) (refusal : Refusal) → a ≡ b → MayResume b entry → MayFail b entry held refusal → Failing a entry held refusal
 failing a b entry held refusal e m f = subst (λ (x : Annalled). Failing x entry held refusal) (sym e) (record { may = m; fails = f })
 
-pub fail-clear : {K : Type 0} (told : K → Option (List Row)) (doubted : K → Option Change) (entry : ℕ) (h : Housed K) → IsHouse told doubted h → IsAnnals h.annals → MayResume h.annals entry → doubted h.keeper ≡ None
+pub fail-clear : {K : Type 0} (told : K → List Row → Type 0) (doubted : K → Option Change) (entry : ℕ) (h : Housed K) → IsHouse told doubted h → IsAnnals h.annals → MayResume h.annals entry → doubted h.keeper ≡ None
 fail-clear told doubted entry h w k m = (house-clear told doubted h w k m.loaded m.runs.on).doubt_is
 
-pub fail-suits : {K : Type 0} (told : K → Option (List Row)) (doubted : K → Option Change) (entry : ℕ) (answer : ResumeAnswer) (change : Change) (h : Housed K) → IsHouse told doubted h → IsAnnals h.annals → MayResume h.annals entry → change ≡ change_of h.annals entry answer → ForSome (told h.keeper) (λ all. Suits change all)
-fail-suits told doubted entry answer change h w k m e = subst (λ (c : Change). ForSome (told h.keeper) (λ all. Suits c all)) (sym e) (resume-suits told doubted entry answer h w k m)
+pub fail-suits : {K : Type 0} (told : K → List Row → Type 0) (doubted : K → Option Change) (entry : ℕ) (answer : ResumeAnswer) (change : Change) (h : Housed K) → IsHouse told doubted h → IsAnnals h.annals → MayResume h.annals entry → change ≡ change_of h.annals entry answer → (all : List Row) → told h.keeper all → Suits change all
+fail-suits told doubted entry answer change h w k m e = subst (λ (c : Change). (all : List Row) → told h.keeper all → Suits c all) (sym e) (resume-suits told doubted entry answer h w k m)
 
 pub fail-ready : (a : Annalled) (entry : ℕ) (held : Option (Ticket × Fetched)) (said : Option FetchNote) (refusal : Refusal) (stored : Stored) (event : Event) → IsAnnals a → Failing a entry held refusal → (stored ≡ Stored.Yes) ⊎ (stored ≡ Stored.Fault) → said ≡ note_in held → event ≡ failed_event entry said refusal stored → IsReady a event
 fail-ready a entry held said refusal stored event k f s n e =
@@ -135,10 +136,10 @@ fail-ready a entry held said refusal stored event k f s n e =
 fail-appended : (a new : Annalled) (entry : ℕ) (held : Option (Ticket × Fetched)) (said : Option FetchNote) (refusal : Refusal) (stored : Stored) (event : Event) → said ≡ note_in held → event ≡ failed_event entry said refusal stored → Appended 0 event a new → Appended 0 (resumes entry (note_in held) (ResumeAnswer.Refused refusal) stored) a new
 fail-appended a new entry held said refusal stored event n e p = subst (λ (x : Event). Appended 0 x a new) (e ∙ ap (λ (x : Option FetchNote). failed_event entry x refusal stored) n) p
 
-pub fail-fits : {K : Type 0} (told : K → Option (List Row)) (doubted : K → Option Change) (entry : ℕ) (held : Option (Ticket × Fetched)) (refusal : Refusal) (h : Housed K) → IsHouse told doubted h → IsAnnals h.annals → Failing h.annals entry held refusal → h.pool.free + blocks_in held ≤ h.pool.capacity
+pub fail-fits : {K : Type 0} (told : K → List Row → Type 0) (doubted : K → Option Change) (entry : ℕ) (held : Option (Ticket × Fetched)) (refusal : Refusal) (h : Housed K) → IsHouse told doubted h → IsAnnals h.annals → Failing h.annals entry held refusal → h.pool.free + blocks_in held ≤ h.pool.capacity
 fail-fits told doubted entry held refusal h w k f = refused-fits told doubted held h w k f.fails.hold_is
 
-pub house-failed : {K : Type 0} (told : K → Option (List Row)) (doubted : K → Option Change) (entry : ℕ) (held : Option (Ticket × Fetched)) (said : Option FetchNote) (refusal : Refusal) (stored : Stored) (change : Change) (event : Event) (h : Housed K) (new : Annalled) (pool : PoolCounts) (keeper : K) → IsHouse told doubted h → IsAnnals h.annals → IsAnnals new → Failing h.annals entry held refusal
+pub house-failed : {K : Type 0} (told : K → List Row → Type 0) (doubted : K → Option Change) (entry : ℕ) (held : Option (Ticket × Fetched)) (said : Option FetchNote) (refusal : Refusal) (stored : Stored) (change : Change) (event : Event) (h : Housed K) (new : Annalled) (pool : PoolCounts) (keeper : K) → IsHouse told doubted h → IsAnnals h.annals → IsAnnals new → Failing h.annals entry held refusal
     → said ≡ note_in held → event ≡ failed_event entry said refusal stored → Appended 0 event h.annals new → change ≡ change_of h.annals entry (ResumeAnswer.Refused refusal) → StoredAs change stored (told h.keeper) (told keeper) (doubted keeper)
     → pool.capacity ≡ h.pool.capacity → pool.free ≡ h.pool.free + blocks_in held → IsHouse told doubted (record { annals = new; places = h.places; pool = pool; keeper = keeper })
 house-failed told doubted entry held said refusal stored change event h new pool keeper w k k' f n e p c s cap free =
@@ -153,22 +154,31 @@ turn-failed a b new entry held said refusal stored event same f s n e p =
     (f.may.runs, (stored, stored-other refusal stored f.fails.other s, fail-appended a new entry held said refusal stored event n e p))
 
 -- Where the keeper wanted memory, nothing changed.
-pub house-left : {K : Type 0} (told : K → Option (List Row)) (doubted : K → Option Change) (entry : ℕ) (h : Housed K) (keeper : K) → IsHouse told doubted h → IsAnnals h.annals → MayResume h.annals entry → (told keeper ≡ told h.keeper) × (doubted keeper ≡ None) → IsHouse told doubted (record h { keeper = keeper })
+pub house-left : {K : Type 0} (told : K → List Row → Type 0) (doubted : K → Option Change) (entry : ℕ) (h : Housed K) (keeper : K) → IsHouse told doubted h → IsAnnals h.annals → MayResume h.annals entry → StillTold (told h.keeper) (told keeper) × (doubted keeper ≡ None) → IsHouse told doubted (record h { keeper = keeper })
 house-left told doubted entry h keeper w k m c = house-unstored told doubted h h.annals keeper refl w k m.loaded m.runs.on c
 
-pub left-as : (change : Change) (stored : Stored) (old new : Option (List Row)) (left : Option Change) → stored ≡ Stored.NoMemory → StoredAs change stored old new left → (new ≡ old) × (left ≡ None)
+pub left-as : (change : Change) (stored : Stored) (old new : List Row → Type 0) (left : Option Change) → stored ≡ Stored.NoMemory → StoredAs change stored old new left → StillTold old new × (left ≡ None)
 left-as change stored old new left e s = subst (λ (x : Stored). StoredAs change x old new left) e s
 
 pub turn-left : (a b : Annalled) (entry : ℕ) (said : Option FetchNote) (held : Option (Ticket × Fetched)) → a ≡ b → MayResume b entry → ResumeTurned entry said (Err (record { stop = Stop.NoMemory; held = held })) b a
 turn-left a b entry said held e m = (m.runs.on, same-unchanged b a e)
 
-pub faults-resumed : {K : Type 0} (faults : K → ℕ) (entry : ℕ) (said : Option FetchNote) (answer : ResumeAnswer) (stored : Stored) (event : Event) (old new : Housed K) → event ≡ resumes entry said answer stored → Appended 0 event old.annals new.annals → faults old.keeper ≤ faults new.keeper → (stored ≡ Stored.Fault → Rose (faults old.keeper) (faults new.keeper)) → FaultsCounted faults old new
-faults-resumed faults entry said answer Stored.Yes event old new e p c r = counted-same faults old new (quiet-faults 0 event old.annals new.annals p (ap met_fault e)) c
-faults-resumed faults entry said answer Stored.Fault event old new e p c r =
-    let q : keeper_faults (past new) ≡ keeper_faults (resumes entry said answer Stored.Fault ∷ past old) = ap keeper_faults (appended-past 0 event old.annals new.annals p ∙ ap (λ (x : Event). x ∷ past old) e) in
-    counted-more faults old new q (r refl)
-faults-resumed faults entry said answer Stored.NoMemory event old new e p c r = counted-same faults old new (quiet-faults 0 event old.annals new.annals p (ap met_fault e)) c
-faults-resumed faults entry said answer Stored.Unchanged event old new e p c r = counted-same faults old new (quiet-faults 0 event old.annals new.annals p (ap met_fault e)) c
+-- A resumption that was refused for another cause met a fault exactly where it stored one.
+pub other-met : (refusal : Refusal) (stored : Stored) → is_keeper_fault refusal ≡ false → (is_keeper_fault refusal || is_fault stored) ≡ is_fault stored
+other-met refusal stored f = rw f refl
+
+pub faults-resumed : {K : Type 0} (signs : Signs K) (entry : ℕ) (said : Option FetchNote) (answer : ResumeAnswer) (stored : Stored) (event : Event) (old new : Housed K) → event ≡ resumes entry said answer stored → meets_fault (resumes entry said answer stored) ≡ is_fault stored → Appended 0 event old.annals new.annals
+    → (stored ≡ Stored.Fault → Rose (signs.faults old.keeper) (signs.faults new.keeper)) → (stored ≡ Stored.Fault) ⊎ (signs.faults new.keeper ≡ signs.faults old.keeper) → ToldBefore signs.tells old.keeper new.keeper → KeeperFared signs old new
+faults-resumed signs entry said answer Stored.Yes event old new e m p r q t =
+    fared-quiet signs old new (quiet-faults 0 event old.annals new.annals p (ap meets_fault e ∙ m)) (calm-stored Stored.Yes refl q) t
+faults-resumed signs entry said answer Stored.Fault event old new e m p r q t =
+    let more : keeper_faults (past new) ≡ keeper_faults (past old) + 1 =
+    ap keeper_faults (appended-past 0 event old.annals new.annals p ∙ ap (λ (x : Event). x ∷ past old) e) ∙ rw m refl in
+    counted-more signs old new more (r refl) t
+faults-resumed signs entry said answer Stored.NoMemory event old new e m p r q t =
+    fared-quiet signs old new (quiet-faults 0 event old.annals new.annals p (ap meets_fault e ∙ m)) (calm-stored Stored.NoMemory refl q) t
+faults-resumed signs entry said answer Stored.Unchanged event old new e m p r q t =
+    fared-quiet signs old new (quiet-faults 0 event old.annals new.annals p (ap meets_fault e ∙ m)) (calm-stored Stored.Unchanged refl q) t
 
 -- ---- which refusals there are
 
@@ -254,10 +264,10 @@ begin-live a new entry ticket payload number event k s e p =
 pub begin-sheet : (a new : Annalled) (entry : ℕ) (ticket : Ticket) (payload : SealedBytes) (number : ℕ) (event : Event) → IsToResume a entry ticket payload number → Appended 0 event a new → number < length new.facts.sheets
 begin-sheet a new entry ticket payload number event s p = subst (λ (f : Facts). number < length f.sheets) (sym p.same.facts) (resume-sheet a entry ticket payload number s)
 
-pub begin-home : {K : Type 0} (told : K → Option (List Row)) (doubted : K → Option Change) (entry : ℕ) (ticket : Ticket) (payload : SealedBytes) (number : ℕ) (h : Housed K) → IsHouse told doubted h → IsAnnals h.annals → IsToResume h.annals entry ticket payload number → IsSome (place_at h.places number).board
+pub begin-home : {K : Type 0} (told : K → List Row → Type 0) (doubted : K → Option Change) (entry : ℕ) (ticket : Ticket) (payload : SealedBytes) (number : ℕ) (h : Housed K) → IsHouse told doubted h → IsAnnals h.annals → IsToResume h.annals entry ticket payload number → IsSome (place_at h.places number).board
 begin-home told doubted entry ticket payload number h w k s = let b = resume-board told doubted entry ticket payload number h w k s in ap is_some b.1
 
-pub house-took : {K : Type 0} (told : K → Option (List Row)) (doubted : K → Option Change) (entry : ℕ) (ticket : Ticket) (payload : SealedBytes) (number : ℕ) (change : Change) (event : Event) (h : Housed K) (new : Annalled) (keeper : K) (places : List Place) → IsHouse told doubted h → IsAnnals h.annals → IsAnnals new → IsToResume h.annals entry ticket payload number
+pub house-took : {K : Type 0} (told : K → List Row → Type 0) (doubted : K → Option Change) (entry : ℕ) (ticket : Ticket) (payload : SealedBytes) (number : ℕ) (change : Change) (event : Event) (h : Housed K) (new : Annalled) (keeper : K) (places : List Place) → IsHouse told doubted h → IsAnnals h.annals → IsAnnals new → IsToResume h.annals entry ticket payload number
     → event ≡ begins entry payload → Appended 0 event h.annals new → change ≡ change_of h.annals entry ResumeAnswer.Begun → StoredAs change Stored.Yes (told h.keeper) (told keeper) (doubted keeper) → places ≡ places_without h.places number
     → IsHouse told doubted (record { annals = new; places = places; pool = h.pool; keeper = keeper })
 house-took told doubted entry ticket payload number change event h new keeper places w k k' s e p c m q =
@@ -268,7 +278,7 @@ house-took told doubted entry ticket payload number change event h new keeper pl
     (resume-takes_entry h.annals entry ticket payload number k s) (resume-within told doubted entry ticket payload number h w s)
     (resume-same_held h.annals entry ticket payload k s.hold_is))
 
-pub house-doubts : {K : Type 0} (told : K → Option (List Row)) (doubted : K → Option Change) (entry : ℕ) (ticket : Ticket) (payload : SealedBytes) (number : ℕ) (change : Change) (event : Event) (h : Housed K) (new : Annalled) (pool : PoolCounts) (keeper : K) → IsHouse told doubted h → IsAnnals h.annals → IsAnnals new → IsToResume h.annals entry ticket payload number
+pub house-doubts : {K : Type 0} (told : K → List Row → Type 0) (doubted : K → Option Change) (entry : ℕ) (ticket : Ticket) (payload : SealedBytes) (number : ℕ) (change : Change) (event : Event) (h : Housed K) (new : Annalled) (pool : PoolCounts) (keeper : K) → IsHouse told doubted h → IsAnnals h.annals → IsAnnals new → IsToResume h.annals entry ticket payload number
     → event ≡ doubts entry payload → Appended 0 event h.annals new → change ≡ change_of h.annals entry ResumeAnswer.Begun → StoredAs change Stored.Fault (told h.keeper) (told keeper) (doubted keeper) → pool.capacity ≡ h.pool.capacity → pool.free ≡ h.pool.free + payload.count
     → IsHouse told doubted (record { annals = new; places = h.places; pool = pool; keeper = keeper })
 house-doubts told doubted entry ticket payload number change event h new pool keeper w k k' s e p c m cap free =
@@ -276,7 +286,7 @@ house-doubts told doubted entry ticket payload number change event h new pool ke
     (subst (λ (x : Event). Appended 0 x h.annals new) e p) s.may s.hold_is.held_is
     (subst (λ (x : Change). StoredAs x Stored.Fault (told h.keeper) (told keeper) (doubted keeper)) c m) cap free
 
-pub doubt-fits : {K : Type 0} (told : K → Option (List Row)) (doubted : K → Option Change) (entry : ℕ) (ticket : Ticket) (payload : SealedBytes) (number : ℕ) (h : Housed K) → IsHouse told doubted h → IsAnnals h.annals → IsToResume h.annals entry ticket payload number → h.pool.free + payload.count ≤ h.pool.capacity
+pub doubt-fits : {K : Type 0} (told : K → List Row → Type 0) (doubted : K → Option Change) (entry : ℕ) (ticket : Ticket) (payload : SealedBytes) (number : ℕ) (h : Housed K) → IsHouse told doubted h → IsAnnals h.annals → IsToResume h.annals entry ticket payload number → h.pool.free + payload.count ≤ h.pool.capacity
 doubt-fits told doubted entry ticket payload number h w k s = refused-fits told doubted (Some (ticket, Fetched.Whole payload)) h w k s.hold_is.held_is
 
 pub turn-took : (a b new : Annalled) (entry : ℕ) (payload : SealedBytes) (taken : Taken) (event : Event) → a ≡ b → MayResume a entry → event ≡ begins entry payload → Appended 0 event a new → ResumeTurned entry (Some (whole_note payload)) (Ok (Claimed.Taken taken)) b new
@@ -288,7 +298,7 @@ turn-doubts a b new entry payload event same m e p =
     resumed-over entry (Some (whole_note payload)) (Ok (Claimed.Refused Refusal.KeeperFault)) a b new same (m.runs, (Stored.Fault, refl, subst (λ (x : Event). Appended 0 x a new) e p))
 
 -- What became of a resumption that took its entry.
-pub gave-taken : {K : Type 0} (told : K → Option (List Row)) (doubted : K → Option Change) (entry : ℕ) (ticket : Ticket) (payload : SealedBytes) (number : ℕ) (taken : Taken) (event : Event) (old new : Housed K) → IsHouse told doubted old → IsAnnals old.annals → IsToResume old.annals entry ticket payload number
+pub gave-taken : {K : Type 0} (told : K → List Row → Type 0) (doubted : K → Option Change) (entry : ℕ) (ticket : Ticket) (payload : SealedBytes) (number : ℕ) (taken : Taken) (event : Event) (old new : Housed K) → IsHouse told doubted old → IsAnnals old.annals → IsToResume old.annals entry ticket payload number
     → IfSome (place_at old.places number).board (λ b. 8 ≤ b.room) → event ≡ begins entry payload → Appended 0 event old.annals new.annals → new.pool ≡ old.pool → new.places ≡ places_without old.places number → (place_at old.places number).board ≡ Some taken.board → taken.entry ≡ entry → taken.payload ≡ payload
     → taken.plugin ≡ place_given (unwrap_or (plugin_at new.annals.facts number) 0) → trace new.annals.facts (rows_before new.annals) entry (past new) ≡ Some taken.trace
     → ResumeGave entry (Some (ticket, Fetched.Whole payload)) (Ok (Claimed.Taken taken)) old new
@@ -318,7 +328,7 @@ pub record IsAboutTo {K : Type 0} (h : Housed K) (entry : ℕ) (ticket : Ticket)
   pub held : IsOpenHold h.annals entry ticket (Fetched.Whole payload)
   pub accepted : IsAccept (resume_verdict h.annals entry ticket)
 
-pub resume-plan : {K : Type 0} (told : K → Option (List Row)) (doubted : K → Option Change) (entry : ℕ) (ticket : Ticket) (payload : SealedBytes) (number : ℕ) (h b : Housed K) → h ≡ b → IsHouse told doubted h → IsAnnals h.annals → IsAboutTo b entry ticket payload → number ≡ unwrap_or (board_of h.annals.facts h.annals.core.rows entry) 0 → ResumePlan b entry ticket payload number
+pub resume-plan : {K : Type 0} (told : K → List Row → Type 0) (doubted : K → Option Change) (entry : ℕ) (ticket : Ticket) (payload : SealedBytes) (number : ℕ) (h b : Housed K) → h ≡ b → IsHouse told doubted h → IsAnnals h.annals → IsAboutTo b entry ticket payload → number ≡ unwrap_or (board_of h.annals.facts h.annals.core.rows entry) 0 → ResumePlan b entry ticket payload number
 resume-plan {K = K} told doubted entry ticket payload number h b e w k t n =
     let t' : IsAboutTo h entry ticket payload = subst (λ (x : Housed K). IsAboutTo x entry ticket payload) (sym e) t in
     let s = to-resume h.annals entry ticket payload number t'.may k t'.held t'.accepted n in

@@ -1,7 +1,6 @@
 -- A house after a resumption.
 use Rattle.std.proofs.Common.{◌≡◌, ℕ, ◌<◌, ◌≤◌, ◌+◌, List, ◌∷◌, length, refl, ap, sym, ◌∙◌, subst, arith}
 use Rattle.std.specs.Prelude.{Option, Some, None}
-use Rattle.std.specs.Option.{ForSome}
 use Rattle.block_pool.specs.Views.{PoolCounts}
 use Rattle.history_keeper.specs.Changes.{Suits, with_state}
 use Rattle.history_keeper.specs.declared.change.Change.{Change}
@@ -130,7 +129,7 @@ resume-ready a entry said answer stored k m w =
 abbrev pub change_of : Annalled → ℕ → ResumeAnswer → Change
 change_of a entry answer = resumption_on (time_of (past_in a)) a.core.rows entry answer
 
-pub resume-keeps : {K : Type 0} (told : K → Option (List Row)) (doubted : K → Option Change) (entry : ℕ) (said : Option FetchNote) (answer : ResumeAnswer) (stored : Stored) (h : Housed K) (keeper : K) → IsHouse told doubted h → IsAnnals h.annals → MayResume h.annals entry → StoredAs (change_of h.annals entry answer) stored (told h.keeper) (told keeper) (doubted keeper)
+pub resume-keeps : {K : Type 0} (told : K → List Row → Type 0) (doubted : K → Option Change) (entry : ℕ) (said : Option FetchNote) (answer : ResumeAnswer) (stored : Stored) (h : Housed K) (keeper : K) → IsHouse told doubted h → IsAnnals h.annals → MayResume h.annals entry → StoredAs (change_of h.annals entry answer) stored (told h.keeper) (told keeper) (doubted keeper)
     → HasRows told doubted keeper (rows h.annals.facts (rows_before h.annals) (resumes entry said answer stored ∷ past h)) (doubt h.annals.facts (rows_before h.annals) (resumes entry said answer stored ∷ past h))
 resume-keeps told doubted entry said answer stored h keeper w k m s =
     let f : Facts = h.annals.facts in
@@ -147,7 +146,7 @@ resume-keeps told doubted entry said answer stored h keeper w k m s =
     (subst (λ (x : Option Change). HasRows told doubted keeper (rows_by (fate_stored stored) (Some (change_of h.annals entry answer)) h.annals.core.rows) x) d kept)
 
 -- The keeper may be asked for it.
-pub resume-suits : {K : Type 0} (told : K → Option (List Row)) (doubted : K → Option Change) (entry : ℕ) (answer : ResumeAnswer) (h : Housed K) → IsHouse told doubted h → IsAnnals h.annals → MayResume h.annals entry → ForSome (told h.keeper) (λ all. Suits (change_of h.annals entry answer) all)
+pub resume-suits : {K : Type 0} (told : K → List Row → Type 0) (doubted : K → Option Change) (entry : ℕ) (answer : ResumeAnswer) (h : Housed K) → IsHouse told doubted h → IsAnnals h.annals → MayResume h.annals entry → (all : List Row) → told h.keeper all → Suits (change_of h.annals entry answer) all
 resume-suits told doubted entry answer h w k m =
     let clear = house-clear told doubted h w k m.loaded m.runs.on in
     suits-told (told h.keeper) h.annals.core.rows (change_of h.annals entry answer) clear.rows_are
@@ -163,12 +162,12 @@ refused-held a entry (Some x) said refusal stored k h =
     held-not_resumed (past_in a) 0 entry said refusal stored (held_by x.0 (block_count x.1)) (out-once w.0 (rows_before a) (past_in a) k.stands.history w.3) h
 
 -- They fit into the pool.
-pub refused-fits : {K : Type 0} (told : K → Option (List Row)) (doubted : K → Option Change) (held' : Option (Ticket × Fetched)) (h : Housed K) → IsHouse told doubted h → IsAnnals h.annals → HoldIs h.annals held' → h.pool.free + blocks_in held' ≤ h.pool.capacity
+pub refused-fits : {K : Type 0} (told : K → List Row → Type 0) (doubted : K → Option Change) (held' : Option (Ticket × Fetched)) (h : Housed K) → IsHouse told doubted h → IsAnnals h.annals → HoldIs h.annals held' → h.pool.free + blocks_in held' ≤ h.pool.capacity
 refused-fits told doubted held' h w k m =
     let e = refused-held h.annals 0 held' None Refusal.KeeperFault Stored.Fault k m in
     let f = w.free in let c = w.capacity in omega (arith, e, f, c)
 
-pub house-refused : {K : Type 0} (told : K → Option (List Row)) (doubted : K → Option Change) (entry : ℕ) (held' : Option (Ticket × Fetched)) (said : Option FetchNote) (refusal : Refusal) (stored : Stored) (old : Housed K) (new : Annalled) (pool : PoolCounts) (keeper : K) → IsHouse told doubted old → IsAnnals old.annals → IsAnnals new
+pub house-refused : {K : Type 0} (told : K → List Row → Type 0) (doubted : K → Option Change) (entry : ℕ) (held' : Option (Ticket × Fetched)) (said : Option FetchNote) (refusal : Refusal) (stored : Stored) (old : Housed K) (new : Annalled) (pool : PoolCounts) (keeper : K) → IsHouse told doubted old → IsAnnals old.annals → IsAnnals new
     → Appended 0 (resumes entry said (ResumeAnswer.Refused refusal) stored) old.annals new → MayResume old.annals entry → HoldIs old.annals held' → StoredAs (change_of old.annals entry (ResumeAnswer.Refused refusal)) stored (told old.keeper) (told keeper) (doubted keeper)
     → pool.capacity ≡ old.pool.capacity → pool.free ≡ old.pool.free + blocks_in held' → IsHouse told doubted (record { annals = new; places = old.places; pool = pool; keeper = keeper })
 house-refused told doubted entry held' said refusal stored old new pool keeper h o k a m hold s cap free =
@@ -190,7 +189,7 @@ house-refused told doubted entry held' said refusal stored old new pool keeper h
 
 -- ---- a resumption that took its entry
 
-pub house-begun : {K : Type 0} (told : K → Option (List Row)) (doubted : K → Option Change) (entry number : ℕ) (said : Option FetchNote) (old : Housed K) (new : Annalled) (keeper : K) → IsHouse told doubted old → IsAnnals old.annals → IsAnnals new
+pub house-begun : {K : Type 0} (told : K → List Row → Type 0) (doubted : K → Option Change) (entry number : ℕ) (said : Option FetchNote) (old : Housed K) (new : Annalled) (keeper : K) → IsHouse told doubted old → IsAnnals old.annals → IsAnnals new
     → Appended 0 (resumes entry said ResumeAnswer.Begun Stored.Yes) old.annals new → MayResume old.annals entry → StoredAs (change_of old.annals entry ResumeAnswer.Begun) Stored.Yes (told old.keeper) (told keeper) (doubted keeper)
     → Takes old.annals.facts (rows_before old.annals) (past old) (resumes entry said ResumeAnswer.Begun Stored.Yes) entry number → number < length old.places → held (resumes entry said ResumeAnswer.Begun Stored.Yes ∷ past old) ≡ held (past old)
     → IsHouse told doubted (record { annals = new; places = places_without old.places number; pool = old.pool; keeper = keeper })

@@ -121,13 +121,13 @@ resume-sheet a entry ticket payload number s =
     let on = on-board a.facts s.may.put_off.row.device number s.board.board_is in
     slice_get_within a.facts.sheets number on.board.sheet on.sheet
 
-pub resume-within : {K : Type 0} (told : K → Option (List Row)) (doubted : K → Option Change) (entry : ℕ) (ticket : Ticket) (payload : SealedBytes) (number : ℕ) (h : Housed K) → IsHouse told doubted h → IsToResume h.annals entry ticket payload number → number < length h.places
+pub resume-within : {K : Type 0} (told : K → List Row → Type 0) (doubted : K → Option Change) (entry : ℕ) (ticket : Ticket) (payload : SealedBytes) (number : ℕ) (h : Housed K) → IsHouse told doubted h → IsToResume h.annals entry ticket payload number → number < length h.places
 resume-within told doubted entry ticket payload number h w s =
     let within = resume-sheet h.annals entry ticket payload number s in
     let c = w.count in omega (arith, within, c)
 
 -- It is home, and stands with no untold mark.
-pub resume-board : {K : Type 0} (told : K → Option (List Row)) (doubted : K → Option Change) (entry : ℕ) (ticket : Ticket) (payload : SealedBytes) (number : ℕ) (h : Housed K) → IsHouse told doubted h → IsAnnals h.annals → IsToResume h.annals entry ticket payload number
+pub resume-board : {K : Type 0} (told : K → List Row → Type 0) (doubted : K → Option Change) (entry : ℕ) (ticket : Ticket) (payload : SealedBytes) (number : ℕ) (h : Housed K) → IsHouse told doubted h → IsAnnals h.annals → IsToResume h.annals entry ticket payload number
     → (b : BoardState) × ((place_at h.places number).board ≡ Some b) × BoardStands h.annals.facts h.annals.first (rows_before h.annals) (past h) number b []
 resume-board told doubted entry ticket payload number h w k s =
     let within = resume-within told doubted entry ticket payload number h w s in

@@ -3,6 +3,7 @@ use Rattle.std.specs.Prelude.{◌≡◌, ◌≤◌, ◌<◌, ◌+◌, ◌-◌, �
 use Rattle.history_keeper.specs.declared.change.Change.{Change}
 use Rattle.history_keeper.specs.declared.row.Row.{Row}
 use Rattle.history_keeper.specs.Histories.{IsFirstFaulty, IsHistory}
+use Rattle.history_keeper.specs.Keepers.{StillTold}
 use Rattle.update_log.specs.Crashes.{next_boot}
 use Rattle.update_log.specs.declared.event.BoardSeen.{BoardSeen}
 use Rattle.update_log.specs.declared.event.Found.{Found}
@@ -13,7 +14,7 @@ use Rattle.daemon_core.specs.declared.booting.BootStop.{BootStop}
 use Rattle.daemon_core.specs.Booting.{AllStarted}
 use Rattle.daemon_core.specs.Housed.{Housed, past}
 use Rattle.daemon_core.specs.Keeping.{HasRows}
-use Rattle.daemon_core.specs.Reading.{AreOthers, AreTold, CanBoot, place_told}
+use Rattle.daemon_core.specs.Reading.{AreOthers, AreTold, CanBoot, WasShown, place_told}
 
 -- The facts, the first images and the pool are as before.
 pub record SameGrounds {K : Type 0} (old new : Housed K) : Type 0 where
@@ -30,30 +31,32 @@ pub record BootNoted {K : Type 0} (plan : BootPlan) (found : Found) (listed : Li
 
 -- Nothing was put behind the log, and no board was started. While no boot took the rows, the keeper tells
 -- those that it told.
-pub record NoBoot {K : Type 0} (told : K → Option (List Row)) (old new : Housed K) : Type 0 where
+pub record NoBoot {K : Type 0} (told : K → List Row → Type 0) (old new : Housed K) : Type 0 where
   pub grounds : SameGrounds old new
   pub log : new.annals.core.log ≡ old.annals.core.log
   pub makers : new.annals.makers ≡ old.annals.makers
   pub loaded : new.annals.loaded ≡ old.annals.loaded
   pub places : new.places ≡ old.places
-  pub stays : old.annals.loaded ≡ false → told new.keeper ≡ told old.keeper
+  pub stays : old.annals.loaded ≡ false → StillTold (told old.keeper) (told new.keeper)
 
--- A boot that went well. The first one took the rows that the keeper has for those before the log, and
--- the keeper has the rows of the log, without a doubt: the boot says what became of a change in doubt.
-pub record WentWell {K : Type 0} (told : K → Option (List Row)) (doubted : K → Option Change) (plan : BootPlan) (found : Found) (listed : List BoardSeen) (old new : Housed K) : Type 0 where
+-- A boot that went well. The first one took the rows that the keeper told for those before the log, and the
+-- keeper has the rows of the log, without a doubt: a later one says what became of a change in doubt, as the
+-- reopened store showed it.
+pub record WentWell {K : Type 0} (told : K → List Row → Type 0) (doubted : K → Option Change) (settled : K → K → Type 0) (plan : BootPlan) (found : Found) (listed : List BoardSeen) (old new : Housed K) : Type 0 where
   pub noted : BootNoted plan found listed old new
   pub read : is_found_fault found ≡ false
   pub loaded : new.annals.loaded ≡ true
   pub reopened : new.annals.reopened ≡ false
-  pub opening : MatchBool old.annals.loaded (new.annals.opening ≡ old.annals.opening) (IsHistory new.annals.opening × AreTold (told old.keeper) new.annals.opening)
+  pub opening : MatchBool old.annals.loaded (new.annals.opening ≡ old.annals.opening) (IsHistory new.annals.opening × AreTold (told old.keeper) (told new.keeper) new.annals.opening)
+  pub shown : old.annals.loaded ≡ true → WasShown told settled new.annals.core.rows old.keeper new.keeper
   pub keeps : HasRows told doubted new.keeper new.annals.core.rows None
 
 -- A boot that couldn't read the history. While no boot took the rows, the keeper tells those that it told.
-pub record CouldntRead {K : Type 0} (told : K → Option (List Row)) (plan : BootPlan) (listed : List BoardSeen) (old new : Housed K) : Type 0 where
+pub record CouldntRead {K : Type 0} (told : K → List Row → Type 0) (plan : BootPlan) (listed : List BoardSeen) (old new : Housed K) : Type 0 where
   pub noted : BootNoted plan Found.Fault listed old new
   pub loaded : new.annals.loaded ≡ old.annals.loaded
   pub opening : new.annals.opening ≡ old.annals.opening
-  pub stays : old.annals.loaded ≡ false → told new.keeper ≡ told old.keeper
+  pub stays : old.annals.loaded ≡ false → StillTold (told old.keeper) (told new.keeper)
 
 -- The first row that breaks a rule has that place.
 pub record BreaksAt (entry : ℕ) (rows : List Row) : Type 0 where
@@ -61,24 +64,24 @@ pub record BreaksAt (entry : ℕ) (rows : List Row) : Type 0 where
   pub faulty : IsFirstFaulty rows at
   pub entry_is : entry ≡ place_told at
 
--- A boot that read no valid history, while none had gone well, or later other rows than the log's, from a
--- keeper that doesn't tell its rows.
-pub record ReadOthers {K : Type 0} (told : K → Option (List Row)) (entry : ℕ) (old new : Housed K) : Type 0 where
+-- A boot that read no valid history, while none had gone well, or later other rows than the log's: then the
+-- keeper tells none, since its store isn't to be trusted.
+pub record ReadOthers {K : Type 0} (told : K → List Row → Type 0) (entry : ℕ) (old new : Housed K) : Type 0 where
   pub none : NoBoot told old new
-  pub first : old.annals.loaded ≡ false → BreaksAt entry new.annals.opening × AreTold (told old.keeper) new.annals.opening
-  pub later : old.annals.loaded ≡ true → (new.annals.opening ≡ old.annals.opening) × (told new.keeper ≡ None)
+  pub first : old.annals.loaded ≡ false → BreaksAt entry new.annals.opening × AreTold (told old.keeper) (told new.keeper) new.annals.opening
+  pub later : old.annals.loaded ≡ true → (new.annals.opening ≡ old.annals.opening) × ((all : List Row) → told new.keeper all → ⊥)
       × ((loaded : List Row) × AreOthers entry loaded old.annals.core.rows old.annals.core.doubt)
 
 -- What a boot did, by its answer.
-abbrev pub BootTurned : {A K : Type 0} → (K → Option (List Row)) → (K → Option Change) → BootPlan → Result A BootStop → Housed K → Housed K → Type 0
-BootTurned told doubted plan (Ok _) old new = (found : Found) × (listed : List BoardSeen) × WentWell told doubted plan found listed old new
-BootTurned told doubted plan (Err BootStop.KeeperFault) old new = (listed : List BoardSeen) × CouldntRead told plan listed old new
-BootTurned told doubted plan (Err (BootStop.BadHistory entry)) old new = ReadOthers told entry old new
-BootTurned told doubted plan (Err BootStop.NoMemory) old new = NoBoot told old new × (new.annals.opening ≡ old.annals.opening)
+abbrev pub BootTurned : {A K : Type 0} → (K → List Row → Type 0) → (K → Option Change) → (K → K → Type 0) → BootPlan → Result A BootStop → Housed K → Housed K → Type 0
+BootTurned told doubted settled plan (Ok _) old new = (found : Found) × (listed : List BoardSeen) × WentWell told doubted settled plan found listed old new
+BootTurned told doubted settled plan (Err BootStop.KeeperFault) old new = (listed : List BoardSeen) × CouldntRead told plan listed old new
+BootTurned told doubted settled plan (Err (BootStop.BadHistory entry)) old new = ReadOthers told entry old new
+BootTurned told doubted settled plan (Err BootStop.NoMemory) old new = NoBoot told old new × (new.annals.opening ≡ old.annals.opening)
 
 -- A boot that found this can be put behind the log: no client has anything out, there is room for it and
 -- for its boards, and its time and number fit.
-pub record IsReady {K : Type 0} (told : K → Option (List Row)) (doubted : K → Option Change) (plan : BootPlan) (found : Found) (listed : List BoardSeen) (capacity : ℕ) (h : Housed K) : Type 0 where
+pub record IsReady {K : Type 0} (told : K → List Row → Type 0) (doubted : K → Option Change) (plan : BootPlan) (found : Found) (listed : List BoardSeen) (capacity : ℕ) (h : Housed K) : Type 0 where
   pub holds : holds (past h) ≡ []
   pub live : live (past h) ≡ []
   pub can : CanBoot told doubted found h

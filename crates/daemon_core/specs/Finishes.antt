@@ -30,7 +30,7 @@ abbrev pub AdvancesForFree : (Change → Type 0) → Type 0
 AdvancesForFree takes_none = (entry reason time : ℕ) (state : RowState) → takes_none (Change.Advance entry state reason time)
 
 -- What became of the row: nothing is stored where it stays begun, and else the change.
-abbrev pub ClosedAs : {K : Type 0} → (K → Option (List Row)) → (K → Option Change) → RowState → Change → Stored → K → K → Type 0
+abbrev pub ClosedAs : {K : Type 0} → (K → List Row → Type 0) → (K → Option Change) → RowState → Change → Stored → K → K → Type 0
 ClosedAs told doubted RowState.Begun change stored old new = (stored ≡ Stored.Unchanged) × (new ≡ old)
 ClosedAs told doubted RowState.Pending change stored old new = StoredAs change stored (told old) (told new) (doubted new)
 ClosedAs told doubted RowState.Success change stored old new = StoredAs change stored (told old) (told new) (doubted new)

@@ -17,7 +17,7 @@ use Rattle.daemon_core.specs.Keeping.{KeepsSo}
 -- What the type of a house keeps beside its annals: the boards at home fit the log; the keeper has its
 -- rows, once a boot took those that it loaded, or was opened again where the annals say so, and is in no
 -- doubt before; and the free blocks are those that nobody holds.
-pub record IsHouse {K : Type 0} (told : K → Option (List Row)) (doubted : K → Option Change) (h : Housed K) : Type 0 where
+pub record IsHouse {K : Type 0} (told : K → List Row → Type 0) (doubted : K → Option Change) (h : Housed K) : Type 0 where
   pub count : length h.places ≡ length h.annals.facts.sheets
   pub places : (number : ℕ) (place : Place) → slice_get h.places number ≡ Some place → PlaceStands h.annals.facts h.annals.first (rows_before h.annals) (past h) number place
   pub unloaded : h.annals.loaded ≡ false → doubted h.keeper ≡ None

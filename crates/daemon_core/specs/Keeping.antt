@@ -1,31 +1,30 @@
 -- How the keeper stands to the log.
-use Rattle.std.specs.Prelude.{◌≡◌, ◌⊎◌, ℕ, ◌+◌, Bool, true, false, List, [], ◌∷◌, Option, None, IfSome, if◌then◌else◌}
+use Rattle.std.specs.Prelude.{◌≡◌, ◌⊎◌, ℕ, ◌+◌, Bool, true, false, List, [], ◌∷◌, Option, None, if◌then◌else◌}
 use Rattle.history_keeper.specs.declared.row.Row.{Row}
 use Rattle.history_keeper.specs.declared.change.Change.{Change}
 use Rattle.history_keeper.specs.Keepers.{with_doubt}
-use Rattle.update_log.specs.declared.answer.ClaimAnswer.{ClaimAnswer}
 use Rattle.update_log.specs.declared.event.Event.{Event}
 use Rattle.update_log.specs.declared.event.Found.{Found}
-use Rattle.update_log.specs.Pasts.{is_boot, is_fault, is_found_fault, is_keeper_fault}
+use Rattle.update_log.specs.Pasts.{is_boot, is_found_fault, meets_fault}
 
--- The keeper has these rows, where it tells its rows, and this change is its doubt.
-pub record HasRows {K : Type 0} (told : K → Option (List Row)) (doubted : K → Option Change) (keeper : K) (rows : List Row) (doubt : Option Change) : Type 0 where
-  pub rows_are : IfSome (told keeper) (λ all. all ≡ rows)
+-- The keeper has these rows: it tells no others. This change is its doubt.
+pub record HasRows {K : Type 0} (told : K → List Row → Type 0) (doubted : K → Option Change) (keeper : K) (rows : List Row) (doubt : Option Change) : Type 0 where
+  pub rows_are : (all : List Row) → told keeper all → all ≡ rows
   pub doubt_is : doubted keeper ≡ doubt
 
 -- The keeper was opened again, and no boot has said yet what became of the change in doubt: it has these
 -- rows without or with that change, and no doubt.
-pub record WasReopened {K : Type 0} (told : K → Option (List Row)) (doubted : K → Option Change) (keeper : K) (rows : List Row) (doubt : Option Change) : Type 0 where
-  pub rows_are : IfSome (told keeper) (λ all. (all ≡ rows) ⊎ (all ≡ with_doubt doubt rows))
+pub record WasReopened {K : Type 0} (told : K → List Row → Type 0) (doubted : K → Option Change) (keeper : K) (rows : List Row) (doubt : Option Change) : Type 0 where
+  pub rows_are : (all : List Row) → told keeper all → (all ≡ rows) ⊎ (all ≡ with_doubt doubt rows)
   pub no_doubt : doubted keeper ≡ None
 
 -- The keeper has the rows of the log, and its doubt is the log's; or it was opened again.
-abbrev pub Keeps : {K : Type 0} → (K → Option (List Row)) → (K → Option Change) → K → List Row → Option Change → Type 0
+abbrev pub Keeps : {K : Type 0} → (K → List Row → Type 0) → (K → Option Change) → K → List Row → Option Change → Type 0
 Keeps told doubted keeper rows doubt = HasRows told doubted keeper rows doubt ⊎ WasReopened told doubted keeper rows doubt
 
 -- The same, told whether the keeper was opened again while no boot behind the log says yet what became of
 -- the change in doubt: where it wasn't, it has the rows of the log, and its doubt is the log's.
-abbrev pub KeepsSo : {K : Type 0} → Bool → (K → Option (List Row)) → (K → Option Change) → K → List Row → Option Change → Type 0
+abbrev pub KeepsSo : {K : Type 0} → Bool → (K → List Row → Type 0) → (K → Option Change) → K → List Row → Option Change → Type 0
 KeepsSo true told doubted keeper rows doubt = Keeps told doubted keeper rows doubt
 KeepsSo false told doubted keeper rows doubt = HasRows told doubted keeper rows doubt
 
@@ -34,24 +33,14 @@ KeepsSo false told doubted keeper rows doubt = HasRows told doubted keeper rows 
 abbrev pub still_reopened : Found → Bool → Bool
 still_reopened found reopened = if is_found_fault found then reopened else false
 
--- The event met a fault of the keeper.
-abbrev pub met_fault : Event → Bool
-met_fault (Event.Boot number time limit found boards) = is_found_fault found
-met_fault (Event.Claim client request fetched (ClaimAnswer.Refused refusal)) = is_keeper_fault refusal
-met_fault (Event.Schedule client request (ClaimAnswer.Refused refusal)) = is_keeper_fault refusal
-met_fault (Event.Resume client entry fetched answer stored) = is_fault stored
-met_fault (Event.Finish client entry state stored) = is_fault stored
-met_fault (Event.Judge client entry version state stored) = is_fault stored
-met_fault _ = false
-
--- How many events did.
+-- How many events met a fault of the keeper.
 abbrev pub keeper_faults : List Event → ℕ
 keeper_faults [] = 0
-keeper_faults (event ∷ past) = if met_fault event then keeper_faults past + 1 else keeper_faults past
+keeper_faults (event ∷ past) = if meets_fault event then keeper_faults past + 1 else keeper_faults past
 
 -- The last boot met one: it couldn't read the history.
 abbrev pub faulted_after : Event → Bool → Bool
-faulted_after event before = if is_boot event then met_fault event else before
+faulted_after event before = if is_boot event then meets_fault event else before
 
 abbrev pub last_faulted : List Event → Bool
 last_faulted [] = false

@@ -56,7 +56,7 @@ impl<K: Keeper> Model for House<K> {
 
     ghost view = { λ h. record { annals = h.annals; places = h.places.items; pool = h.pool; keeper = h.keeper } };
 
-    ghost invariant = { λ h. IsHouse K.rows K.doubt (record { annals = h.annals; places = h.places.items; pool = h.pool; keeper = h.keeper }) };
+    ghost invariant = { λ h. IsHouse K.tells K.doubt (record { annals = h.annals; places = h.places.items; pool = h.pool; keeper = h.keeper }) };
 }
 
 impl<K: Keeper> House<K> {

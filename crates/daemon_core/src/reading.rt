@@ -1,7 +1,7 @@
 //! Reading the history at a boot.
 ghost use Rattle.std.specs.Prelude.{◌≡◌, ◌≤◌, false, true, None, IfOk};
 ghost use Rattle.daemon_core.specs.Keeping.{Keeps};
-ghost use Rattle.daemon_core.specs.Reading.{Became, FirstRead, LaterRead, found_unchanged, place_told};
+ghost use Rattle.daemon_core.specs.Reading.{Became, FirstRead, LaterRead, WasRead, found_unchanged, place_told};
 
 use crate::annals::Annals;
 use crate::comparing::{first_difference, with_change};
@@ -29,9 +29,10 @@ pub(crate) fn read_history<K: Keeper>(
     keeper: &mut K,
 ) -> Result<Loaded, NoMemory>
     requires fresh { annals.old.loaded ≡ false → K.doubt keeper.old ≡ None }
-    requires kept { annals.old.loaded ≡ true → Keeps K.rows K.doubt keeper.old annals.old.core.rows annals.old.core.doubt }
-    ensures first { annals.old.loaded ≡ false → FirstRead K.rows K.doubt K.faults result annals.old annals.new keeper.old keeper.new }
-    ensures later { annals.old.loaded ≡ true → (annals.new ≡ record annals.old { reopened = true }) × LaterRead K.rows K.doubt K.faults result annals.old.core.rows annals.old.core.doubt keeper.old keeper.new }
+    requires kept { annals.old.loaded ≡ true → Keeps K.tells K.doubt keeper.old annals.old.core.rows annals.old.core.doubt }
+    ensures first { annals.old.loaded ≡ false → FirstRead K.tells K.doubt K.faults result annals.old annals.new keeper.old keeper.new }
+    ensures later { annals.old.loaded ≡ true → (annals.new ≡ record annals.old { reopened = true }) × LaterRead K.tells K.doubt K.faults K.settled result annals.old.core.rows annals.old.core.doubt keeper.old keeper.new }
+    ensures was_read { WasRead K.tells K.settled keeper.old keeper.new }
     ensures counts { K.faults keeper.old ≤ K.faults keeper.new }
 {
     if annals.is_loaded() {
@@ -50,7 +51,8 @@ fn first_history<K: Keeper>(
 ) -> Result<Loaded, NoMemory>
     requires unloaded { annals.old.loaded ≡ false }
     requires no_doubt { K.doubt keeper.old ≡ None }
-    ensures read { FirstRead K.rows K.doubt K.faults result annals.old annals.new keeper.old keeper.new }
+    ensures read { FirstRead K.tells K.doubt K.faults result annals.old annals.new keeper.old keeper.new }
+    ensures was_read { WasRead K.tells K.settled keeper.old keeper.new }
     ensures counts { K.faults keeper.old ≤ K.faults keeper.new }
 {
     let rows = match keeper.load(alloc) {
@@ -77,8 +79,9 @@ fn later_history<K: Keeper>(
     core: &CoreState,
     keeper: &mut K,
 ) -> Result<Loaded, NoMemory>
-    requires { Keeps K.rows K.doubt keeper.old core.now.rows core.now.doubt }
-    ensures read { LaterRead K.rows K.doubt K.faults result core.now.rows core.now.doubt keeper.old keeper.new }
+    requires { Keeps K.tells K.doubt keeper.old core.now.rows core.now.doubt }
+    ensures read { LaterRead K.tells K.doubt K.faults K.settled result core.now.rows core.now.doubt keeper.old keeper.new }
+    ensures was_read { WasRead K.tells K.settled keeper.old keeper.new }
     ensures counts { K.faults keeper.old ≤ K.faults keeper.new }
 {
     match keeper.reopen() {

@@ -21,6 +21,7 @@ use Rattle.daemon_core.specs.Annals.{Appended}
 use Rattle.daemon_core.specs.Holds.{back_of}
 use Rattle.daemon_core.specs.Housed.{Annalled, Housed, past, past_in, rows_before}
 use Rattle.daemon_core.specs.Resumes.{ResumeTurned, StoppedBy, note_in}
+use Rattle.daemon_core.specs.Turns.{Signs}
 use Rattle.client_plays.specs.declared.played.Played.{Played}
 use Rattle.client_plays.specs.Endings.{HouseWent, SoFar}
 use Rattle.client_plays.specs.Faults.{faults_in, faults_noted, is_noted_fault, tells_shelf_fault}
@@ -61,9 +62,9 @@ more-same noted a b c x y = omega arith
 none-more : (noted a b c : ℕ) → b ≡ a → c ≡ b → c ≤ a + noted
 none-more noted a b c x y = omega arith
 
-pub resumed-told : {K : Type 0} (faults : K → ℕ) (plugins : ℕ → PluginSteps) (entry : ℕ) (held : Option (Ticket × Fetched)) (taken : Taken) (played : Played) (old new last : Housed K) → ResumeTurned entry (note_in held) (Ok (Claimed.Taken taken)) old.annals new.annals → TakenPlayed faults plugins played 0 taken.entry taken.board new last
+pub resumed-told : {K : Type 0} (signs : Signs K) (plugins : ℕ → PluginSteps) (entry : ℕ) (held : Option (Ticket × Fetched)) (taken : Taken) (played : Played) (old new last : Housed K) → ResumeTurned entry (note_in held) (Ok (Claimed.Taken taken)) old.annals new.annals → TakenPlayed signs plugins played 0 taken.entry taken.board new last
     → faults_in (mine 0 (past last)) ≤ faults_in (mine 0 (past old)) + faults_noted (note_in held)
-resumed-told faults plugins entry held taken played old new last t p =
+resumed-told signs plugins entry held taken played old new last t p =
     more-same (faults_noted (note_in held)) (told_in (past old)) (told_in (past new)) (told_in (past last))
     (appended-noted (Event.Resume 0 entry (note_in held) ResumeAnswer.Begun Stored.Yes) (note_in held) old.annals new.annals (record { no_boot = refl; own = refl }) refl t.1)
     (faults-same p.ended.moments (mine 0 (past new)) (mine 0 (past last)) p.ended.did.own (quiet-ends played 0 (UpdatePlays new.annals.facts (rows_before new.annals) plugins 0 taken.entry (past new)) (past last) (quiet-update new.annals.facts (rows_before new.annals) plugins 0 taken.entry (past new)) p.ended.moments p.ended.ends))
@@ -96,13 +97,13 @@ judge-tells_none : (facts : Facts) (opening : List Row) (means : Means) (entries
 judge-tells_none facts opening means [] = tt
 judge-tells_none facts opening means (entry ∷ entries) = (quiet-judge facts opening means entry, judge-tells_none facts opening means entries)
 
-pub judged-told : {K : Type 0} (faults : K → ℕ) (wanting : Bool) (facts : Facts) (opening : List Row) (means : Means) (entries : List ℕ) (old new : Housed K) → SoFar faults wanting 0 (TaskPlays facts opening means) (map ToJudge entries) old new → faults_in (mine 0 (past new)) ≡ faults_in (mine 0 (past old))
-judged-told faults wanting facts opening means entries old new s =
+pub judged-told : {K : Type 0} (signs : Signs K) (wanting : Bool) (facts : Facts) (opening : List Row) (means : Means) (entries : List ℕ) (old new : Housed K) → SoFar signs wanting 0 (TaskPlays facts opening means) (map ToJudge entries) old new → faults_in (mine 0 (past new)) ≡ faults_in (mine 0 (past old))
+judged-told signs wanting facts opening means entries old new s =
     faults-same s.moments (mine 0 (past old)) (mine 0 (past new)) s.did.own
     (quiet-all wanting 0 (TaskPlays facts opening means) (map ToJudge entries) (judge-tells_none facts opening means entries) s.moments s.plays)
 
-pub judged-off : {K : Type 0} (faults : K → ℕ) (wanting : Bool) (facts : Facts) (opening : List Row) (means : Means) (entries : List ℕ) (old new : Housed K) → HouseWent faults wanting 0 (TaskPlays facts opening means) (map ToJudge entries ++ []) old new → faults_in (mine 0 (past new)) ≡ faults_in (mine 0 (past old))
-judged-off faults wanting facts opening means entries old new h =
+pub judged-off : {K : Type 0} (signs : Signs K) (wanting : Bool) (facts : Facts) (opening : List Row) (means : Means) (entries : List ℕ) (old new : Housed K) → HouseWent signs wanting 0 (TaskPlays facts opening means) (map ToJudge entries ++ []) old new → faults_in (mine 0 (past new)) ≡ faults_in (mine 0 (past old))
+judged-off signs wanting facts opening means entries old new h =
     faults-same h.went.moments (mine 0 (past old)) (mine 0 (past new)) h.went.did.own
     (quiet-so wanting 0 (TaskPlays facts opening means) (off (past new)) (map ToJudge entries ++ [])
     (subst (λ (tasks : List Task). AllByRecursion (λ task. TellsNone (TaskPlays facts opening means task)) tasks) (sym (append-nil (map ToJudge entries))) (judge-tells_none facts opening means entries))

@@ -27,7 +27,7 @@ use Rattle.daemon_core.specs.declared.stop.Stop.{Stop}
 use Rattle.daemon_core.specs.Annals.{Appended, IsAnnals, SameFacts, Unchanged}
 use Rattle.daemon_core.specs.Housed.{Annalled, Housed, past, past_in, rows_before}
 use Rattle.daemon_core.specs.Judging.{JudgeTurned, judged_by, judged_on, must_wait, standing, standing_of}
-use Rattle.daemon_core.specs.Turns.{FaultsCounted}
+use Rattle.daemon_core.specs.Turns.{KeeperFared, Signs}
 use Rattle.daemon_core.specs.Planned.{KeepsPlans}
 use Rattle.client_plays.specs.Endings.{IsIdle}
 use Rattle.client_plays.specs.Moments.{Moment, at}
@@ -151,13 +151,13 @@ pub all-nothing : (facts : Facts) (opening : List Row) (means : Means) (tasks : 
 all-nothing facts opening means [] = refl
 all-nothing facts opening means (t ∷ tasks) = record { first = []; rest = []; are = refl; first_is = inr (record { left = task-unplayed facts opening means 0 t; untaken = refl }); rest_is = all-nothing facts opening means tasks }
 
-module _ {K : Type 0} (faults : K → ℕ) (facts : Facts) (opening : List Row) (means : Means) (entry : ℕ) (row : Row) (wanting : Bool) (old new : Housed K)
+module _ {K : Type 0} (signs : Signs K) (facts : Facts) (opening : List Row) (means : Means) (entry : ℕ) (row : Row) (wanting : Bool) (old new : Housed K)
     (k : IsAnnals old.annals) (i : IsIdle (past old)) (r : row_of (rows_at old.annals) entry ≡ Some row)
-    (counted : FaultsCounted faults old new) (counts : faults old.keeper ≤ faults new.keeper) (keeps : KeepsPlans old.places new.places) where
+    (counted : KeeperFared signs old new) (counts : signs.faults old.keeper ≤ signs.faults new.keeper) (keeps : KeepsPlans old.places new.places) where
   tasks : List Task
   tasks = to_judge_in old.annals (entry ∷ [])
 
-  quiet : (stop : Stop) (told : Option Bool) → Halted stop old.annals new.annals → Tried facts opening means told wanting (to_judge_in old.annals (entry ∷ [])) (past new) [] → HouseTried faults facts opening means told wanting (to_judge_in old.annals (entry ∷ [])) old new
+  quiet : (stop : Stop) (told : Option Bool) → Halted stop old.annals new.annals → Tried facts opening means told wanting (to_judge_in old.annals (entry ∷ [])) (past new) [] → HouseTried signs facts opening means told wanting (to_judge_in old.annals (entry ∷ [])) old new
   quiet stop told h m =
       record {
         moments = [];
@@ -172,13 +172,13 @@ module _ {K : Type 0} (faults : K → ℕ) (facts : Facts) (opening : List Row) 
         };
       }
 
-  unjudged : (s : Standing) → standing_of old.annals entry ≡ Some s → IsUnjudged s → Unchanged old.annals new.annals → HouseTried faults facts opening means (Some wanting) wanting (to_judge_in old.annals (entry ∷ [])) old new
+  unjudged : (s : Standing) → standing_of old.annals entry ≡ Some s → IsUnjudged s → Unchanged old.annals new.annals → HouseTried signs facts opening means (Some wanting) wanting (to_judge_in old.annals (entry ∷ [])) old new
   unjudged s h n u =
       let none = one-not old.annals.facts (rows_before old.annals) (past old) entry (can-not old.annals entry row s k i.no_live r h n) in
       quiet Stop.NoMemory (Some wanting) (halted-memory old.annals new.annals u)
       (inr refl, subst (λ (ts : List Task). PlaysAll wanting 0 (TaskPlays facts opening means) ts []) (sym none) refl)
 
-  judged : (version : List ℕ) (state : RowState) (stored : Stored) → standing_of old.annals entry ≡ Some (Standing.Judged version state) → Appended 0 (Event.Judge 0 entry version state stored) old.annals new.annals → HouseTried faults facts opening means (Some wanting) wanting (to_judge_in old.annals (entry ∷ [])) old new
+  judged : (version : List ℕ) (state : RowState) (stored : Stored) → standing_of old.annals entry ≡ Some (Standing.Judged version state) → Appended 0 (Event.Judge 0 entry version state stored) old.annals new.annals → HouseTried signs facts opening means (Some wanting) wanting (to_judge_in old.annals (entry ∷ [])) old new
   judged version state stored h a =
       let event = Event.Judge 0 entry version state stored in
       let one = one-can old.annals.facts (rows_before old.annals) (past old) entry (can-so old.annals entry version state k h) in
@@ -199,7 +199,7 @@ module _ {K : Type 0} (faults : K → ℕ) (facts : Facts) (opening : List Row) 
         };
       }
 
-  pub tried : (outcome : Result Judged Stop) → JudgeTurned 0 entry outcome old.annals new.annals → HouseTried faults facts opening means (told_by outcome wanting) wanting (to_judge_in old.annals (entry ∷ [])) old new
+  pub tried : (outcome : Result Judged Stop) → JudgeTurned 0 entry outcome old.annals new.annals → HouseTried signs facts opening means (told_by outcome wanting) wanting (to_judge_in old.annals (entry ∷ [])) old new
   tried (Ok (Judged.Done state stored)) t = judged t.1.0 state stored t.1.1 t.1.2
   tried (Ok Judged.Absent) t = unjudged Standing.Absent t.1 tt t.2
   tried (Ok Judged.Waits) t = unjudged Standing.Waits t.1 tt t.2

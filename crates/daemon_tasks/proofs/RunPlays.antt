@@ -18,7 +18,7 @@ use Rattle.update_log.specs.Pasts.{client_of, is_boot, off}
 use Rattle.daemon_core.specs.Annals.{SameFacts}
 use Rattle.daemon_core.specs.declared.claimed.Taken.{Taken}
 use Rattle.daemon_core.specs.Housed.{Annalled, Housed, past, past_in, rows_before}
-use Rattle.daemon_core.specs.Turns.{FaultsCounted}
+use Rattle.daemon_core.specs.Turns.{KeeperFared, Signs}
 use Rattle.client_plays.specs.declared.played.Played.{Played}
 use Rattle.client_plays.specs.Moments.{Did, Moment, at}
 use Rattle.device_claims.specs.Claims.{StepGives}
@@ -224,13 +224,13 @@ with-room (Outcome.Finished finished) = λ e. cc
 with-room Outcome.Off = λ e. cc
 
 -- An entry that was taken runs: what its run did, where the plugin of its board made the steps.
-pub run-played : {K : Type 0} (faults : K → ℕ) (plugins : ℕ → PluginSteps) (client : ℕ) (taken : Taken) (outcome : Outcome) (told : Played) (old new : Housed K) → RunsIn old.annals client (parts_taken taken) None
+pub run-played : {K : Type 0} (signs : Signs K) (plugins : ℕ → PluginSteps) (client : ℕ) (taken : Taken) (outcome : Outcome) (told : Played) (old new : Housed K) → RunsIn old.annals client (parts_taken taken) None
     → IsOwnPlugin old.annals.facts (rows_before old.annals) (past old) taken.entry taken.plugin → told ≡ ended_by outcome → RunsAlone taken.entry (past old) → Ran (plugins taken.plugin) client taken.entry (parts_taken taken) outcome old.annals new.annals
-    → FaultsCounted faults old new → faults old.keeper ≤ faults new.keeper → BroughtHome taken.entry taken.board old new → TakenPlayed faults plugins told client taken.entry taken.board old new
-run-played faults plugins client taken outcome told old new runs own e r ran counted counts home =
+    → KeeperFared signs old new → signs.faults old.keeper ≤ signs.faults new.keeper → BroughtHome taken.entry taken.board old new → TakenPlayed signs plugins told client taken.entry taken.board old new
+run-played signs plugins client taken outcome told old new runs own e r ran counted counts home =
     let a = old.annals in
     let p = ran-so (plugins taken.plugin) client taken.entry (parts_taken taken) outcome a new.annals r ran in
-    subst (λ (x : Played). TakenPlayed faults plugins x client taken.entry taken.board old new) (sym e)
+    subst (λ (x : Played). TakenPlayed signs plugins x client taken.entry taken.board old new) (sym e)
     (record {
       ended = record {
         moments = p.moments;

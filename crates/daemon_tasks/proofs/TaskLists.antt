@@ -15,6 +15,7 @@ use Rattle.update_log.specs.Pasts.{off}
 use Rattle.daemon_core.proofs.BoardsQuiet.{kept-so}
 use Rattle.daemon_core.specs.Annals.{IsAnnals}
 use Rattle.daemon_core.specs.Housed.{Annalled, Housed, past, past_in, rows_before}
+use Rattle.daemon_core.specs.Turns.{Signs}
 use Rattle.offline_updates.specs.Waiting.{entries_where, is_pending, is_to_judge}
 use Rattle.client_plays.specs.Endings.{HouseMore, HouseWent, IsFresh, IsIdle, SoFar}
 use Rattle.client_plays.specs.Moments.{Moment, began}
@@ -222,21 +223,21 @@ all-wait_others entry old new (other ∷ waiting) s n w =
 -- ---- all tasks
 
 -- Those to judge were gone through, and then the others.
-pub went-both : {K : Type 0} (faults : K → ℕ) (Play : Task → List Moment → Type 0) (wanting told : Bool) (first others : List Task) (old mid new : Housed K) → SoFar faults wanting 0 Play first old mid → HouseMore faults told wanting 0 Play others mid new → HouseWent faults told 0 Play (first ++ others) old new
-went-both faults Play wanting told first others old mid new s m =
+pub went-both : {K : Type 0} (signs : Signs K) (Play : Task → List Moment → Type 0) (wanting told : Bool) (first others : List Task) (old mid new : Housed K) → SoFar signs wanting 0 Play first old mid → HouseMore signs told wanting 0 Play others mid new → HouseWent signs told 0 Play (first ++ others) old new
+went-both signs Play wanting told first others old mid new s m =
     record {
       went = record {
         moments = s.moments ++ m.went.moments;
         did = did-both 0 s.moments m.went.moments (past old) (past mid) (past new) s.did m.went.did;
         plays = so-after (off (past new)) wanting told 0 Play first others s.moments m.went.moments m.told s.plays m.went.plays;
       };
-      rest = rest-both faults old mid new s.rest m.rest;
+      rest = rest-both signs old mid new s.rest m.rest;
     }
 
 -- Memory was wanting before anything was done.
-pub went-nothing : {K : Type 0} (faults : K → ℕ) (facts : Facts) (opening : List Row) (means : Means) (list : List Task) (h : Housed K) → IsIdle (past h) → HouseWent faults true 0 (TaskPlays facts opening means) list h h
-went-nothing faults facts opening means list h i =
+pub went-nothing : {K : Type 0} (signs : Signs K) (facts : Facts) (opening : List Row) (means : Means) (list : List Task) (h : Housed K) → IsIdle (past h) → HouseWent signs true 0 (TaskPlays facts opening means) list h h
+went-nothing signs facts opening means list h i =
     record {
       went = record { moments = []; did = did-nothing 0 (past h); plays = so-all (off (past h)) true 0 (TaskPlays facts opening means) list [] (all-nothing facts opening means list) };
-      rest = rest-here faults h i;
+      rest = rest-here signs h i;
     }

@@ -5,13 +5,13 @@ use Rattle.std.specs.List.{list_any}
 use Rattle.update_log.specs.declared.event.Back.{Back}
 use Rattle.update_log.specs.declared.event.Event.{Event}
 use Rattle.update_log.specs.Holding.{holds, live}
-use Rattle.update_log.specs.Pasts.{boots, client_of, is_boot, off}
+use Rattle.update_log.specs.Pasts.{boots, client_of, is_boot, meets_fault, off}
 use Rattle.daemon_core.proofs.AnnalsKept.{appended-past}
 use Rattle.daemon_core.specs.declared.stop.Stop.{Stop}
 use Rattle.daemon_core.specs.Annals.{Appended, SameFacts, Unchanged}
 use Rattle.daemon_core.specs.Housed.{Annalled, Housed, past, past_in}
-use Rattle.daemon_core.specs.Keeping.{keeper_faults, met_fault}
-use Rattle.daemon_core.specs.Turns.{FaultsCounted, Turned, WentOff}
+use Rattle.daemon_core.specs.Keeping.{keeper_faults}
+use Rattle.daemon_core.specs.Turns.{KeeperFared, Signs, Turned, WentOff}
 use Rattle.daemon_core.specs.Planned.{KeepsPlans}
 use Rattle.daemon_core.proofs.Planned.{keeps-both, keeps-same}
 use Rattle.client_plays.specs.declared.played.Played.{Played}
@@ -20,9 +20,10 @@ use Rattle.client_plays.specs.Left.{is_taking}
 use Rattle.client_plays.specs.Plays.{Leaves}
 use Rattle.client_plays.specs.Endings.{EndsSo, HousePlayed, IsIdle}
 use Rattle.client_plays.proofs.MomentLaws.{did-both, did-nobody, did-nothing, did-one}
-use Rattle.client_plays.proofs.RestLaws.{counted-both, same-both}
-use Rattle.client_plays.proofs.TurnLaws.{counted-same, counts-same, unmoved}
+use Rattle.client_plays.proofs.RestLaws.{same-both}
+use Rattle.client_plays.proofs.TurnLaws.{counts-same, unmoved}
 use Rattle.daemon_tasks.specs.Ends.{stopped_by}
+use Rattle.daemon_core.proofs.Fared.{fared-both, fared-same}
 
 le-both : (a b c : ℕ) → a ≤ b → b ≤ c → a ≤ c
 le-both a b c x y = omega arith
@@ -38,7 +39,7 @@ did-appended client event old new o a =
     (did-one client (past_in old) event o.no_boot o.own)
 
 -- An event that met no fault of the keeper.
-pub faults-appended : (client : ℕ) (event : Event) (old new : Annalled) → met_fault event ≡ false → Appended client event old new → keeper_faults (past_in new) ≡ keeper_faults (past_in old)
+pub faults-appended : (client : ℕ) (event : Event) (old new : Annalled) → meets_fault event ≡ false → Appended client event old new → keeper_faults (past_in new) ≡ keeper_faults (past_in old)
 faults-appended client event old new q a = ap keeper_faults (appended-past client event old new a) ∙ rw q refl
 
 pub boots-appended : (client : ℕ) (event : Event) (old new : Annalled) → is_boot event ≡ false → Appended client event old new → 0 < boots (past_in old) → 0 < boots (past_in new)
@@ -66,10 +67,10 @@ ends-behind Played.NoMemory client Play Rest m new moments u f e =
     record { left = leaves-behind client Play Rest m moments f e.left; untaken = rw (u refl) e.untaken }
 
 -- An event, and behind it the rest of the play.
-pub played-behind : {K : Type 0} (faults : K → ℕ) (played : Played) (client : ℕ) (event : Event) (Play Rest : List Moment → Type 0) (old mid new : Housed K) → IsOwn client event → (played ≡ Played.NoMemory → is_taking event ≡ false)
-    → ((ms : List Moment) → Rest ms → Play (at (past old) event ∷ ms)) → Appended client event old.annals mid.annals → FaultsCounted faults old mid → faults old.keeper ≤ faults mid.keeper
-    → KeepsPlans old.places mid.places → HousePlayed faults played client Rest mid new → HousePlayed faults played client Play old new
-played-behind faults played client event Play Rest old mid new o u f a counted counts keeps p =
+pub played-behind : {K : Type 0} (signs : Signs K) (played : Played) (client : ℕ) (event : Event) (Play Rest : List Moment → Type 0) (old mid new : Housed K) → IsOwn client event → (played ≡ Played.NoMemory → is_taking event ≡ false)
+    → ((ms : List Moment) → Rest ms → Play (at (past old) event ∷ ms)) → Appended client event old.annals mid.annals → KeeperFared signs old mid → signs.faults old.keeper ≤ signs.faults mid.keeper
+    → KeepsPlans old.places mid.places → HousePlayed signs played client Rest mid new → HousePlayed signs played client Play old new
+played-behind signs played client event Play Rest old mid new o u f a counted counts keeps p =
     record {
       ended = record {
         moments = at (past old) event ∷ p.ended.moments;
@@ -79,17 +80,17 @@ played-behind faults played client event Play Rest old mid new o u f a counted c
       rest = record {
         idle = p.rest.idle;
         same = same-both old.annals mid.annals new.annals a.same p.rest.same;
-        counted = counted-both faults old mid new counted p.rest.counted p.rest.counts;
-        counts = le-both (faults old.keeper) (faults mid.keeper) (faults new.keeper) counts p.rest.counts;
+        counted = fared-both signs old mid new counted p.rest.counted p.rest.counts;
+        counts = le-both (signs.faults old.keeper) (signs.faults mid.keeper) (signs.faults new.keeper) counts p.rest.counts;
         plans = keeps-both old.places mid.places new.places keeps p.rest.plans;
       };
     }
 
 -- An event that ends the play.
-pub played-last : {K : Type 0} (faults : K → ℕ) (client : ℕ) (event : Event) (Play : List Moment → Type 0) (old new : Housed K) → IsOwn client event
-    → Play (at (past old) event ∷ []) → IsIdle (event ∷ past old) → Appended client event old.annals new.annals → FaultsCounted faults old new → faults old.keeper ≤ faults new.keeper
-    → KeepsPlans old.places new.places → HousePlayed faults Played.Done client Play old new
-played-last faults client event Play old new o p i a counted counts keeps =
+pub played-last : {K : Type 0} (signs : Signs K) (client : ℕ) (event : Event) (Play : List Moment → Type 0) (old new : Housed K) → IsOwn client event
+    → Play (at (past old) event ∷ []) → IsIdle (event ∷ past old) → Appended client event old.annals new.annals → KeeperFared signs old new → signs.faults old.keeper ≤ signs.faults new.keeper
+    → KeepsPlans old.places new.places → HousePlayed signs Played.Done client Play old new
+played-last signs client event Play old new o p i a counted counts keeps =
     record {
       ended = record { moments = at (past old) event ∷ []; did = did-appended client event old.annals new.annals o a; ends = p };
       rest = record { idle = subst IsIdle (sym (appended-past client event old.annals new.annals a)) i; same = a.same; counted = counted; counts = counts; plans = keeps };
@@ -169,9 +170,9 @@ ends-left Stop.Off client Play new moments o u l = (l, o refl)
 ends-left Stop.NoMemory client Play new moments o u l = record { left = l; untaken = u }
 
 -- The play was left before it began.
-pub played-stopped : {K : Type 0} (faults : K → ℕ) (stop : Stop) (client : ℕ) (Play : List Moment → Type 0) (old new : Housed K) → Leaves client Play [] → IsIdle (past old) → Halted stop old.annals new.annals → FaultsCounted faults old new → faults old.keeper ≤ faults new.keeper
-    → KeepsPlans old.places new.places → HousePlayed faults (stopped_by stop) client Play old new
-played-stopped faults stop client Play old new l i h counted counts keeps =
+pub played-stopped : {K : Type 0} (signs : Signs K) (stop : Stop) (client : ℕ) (Play : List Moment → Type 0) (old new : Housed K) → Leaves client Play [] → IsIdle (past old) → Halted stop old.annals new.annals → KeeperFared signs old new → signs.faults old.keeper ≤ signs.faults new.keeper
+    → KeepsPlans old.places new.places → HousePlayed signs (stopped_by stop) client Play old new
+played-stopped signs stop client Play old new l i h counted counts keeps =
     record {
       ended = record {
         moments = [];
@@ -188,17 +189,17 @@ played-stopped faults stop client Play old new l i h counted counts keeps =
     }
 
 -- The same of a call that left the keeper alone.
-pub stopped-alone : {K : Type 0} (faults : K → ℕ) (stop : Stop) (client : ℕ) (Play : List Moment → Type 0) (old new : Housed K) → Leaves client Play [] → IsIdle (past old) → Halted stop old.annals new.annals → new.keeper ≡ old.keeper → new.places ≡ old.places
-    → HousePlayed faults (stopped_by stop) client Play old new
-stopped-alone faults stop client Play old new l i h k s =
-    played-stopped faults stop client Play old new l i h
-    (counted-same faults old new (halted-faults stop old.annals new.annals h) k) (counts-same faults old new k) (keeps-same old.places new.places s)
+pub stopped-alone : {K : Type 0} (signs : Signs K) (stop : Stop) (client : ℕ) (Play : List Moment → Type 0) (old new : Housed K) → Leaves client Play [] → IsIdle (past old) → Halted stop old.annals new.annals → new.keeper ≡ old.keeper → new.places ≡ old.places
+    → HousePlayed signs (stopped_by stop) client Play old new
+stopped-alone signs stop client Play old new l i h k s =
+    played-stopped signs stop client Play old new l i h
+    (fared-same signs old new (halted-faults stop old.annals new.annals h) k) (counts-same signs old new k) (keeps-same old.places new.places s)
 
 -- The play was left, and what was out was given back.
-pub played-back : {K : Type 0} (faults : K → ℕ) (stop : Stop) (client : ℕ) (what : Back) (Play : List Moment → Type 0) (some : List Moment) (old mid new : Housed K) → Play some → Halted stop old.annals mid.annals
-    → Appended client (Event.GiveBack client what) mid.annals new.annals → IsIdle (Event.GiveBack client what ∷ past mid) → FaultsCounted faults old mid → faults old.keeper ≤ faults mid.keeper → new.keeper ≡ mid.keeper
-    → KeepsPlans old.places new.places → HousePlayed faults (stopped_by stop) client Play old new
-played-back faults stop client what Play some old mid new p h a i counted counts k keeps =
+pub played-back : {K : Type 0} (signs : Signs K) (stop : Stop) (client : ℕ) (what : Back) (Play : List Moment → Type 0) (some : List Moment) (old mid new : Housed K) → Play some → Halted stop old.annals mid.annals
+    → Appended client (Event.GiveBack client what) mid.annals new.annals → IsIdle (Event.GiveBack client what ∷ past mid) → KeeperFared signs old mid → signs.faults old.keeper ≤ signs.faults mid.keeper → new.keeper ≡ mid.keeper
+    → KeepsPlans old.places new.places → HousePlayed signs (stopped_by stop) client Play old new
+played-back signs stop client what Play some old mid new p h a i counted counts k keeps =
     let event = Event.GiveBack client what in
     let e : past new ≡ event ∷ past mid = appended-past client event mid.annals new.annals a in
     let own : IsOwn client event = record { no_boot = refl; own = refl } in
@@ -212,8 +213,8 @@ played-back faults stop client what Play some old mid new p h a i counted counts
       rest = record {
         idle = subst IsIdle (sym e) i;
         same = same-both old.annals mid.annals new.annals h.same a.same;
-        counted = counted-both faults old mid new counted (counted-same faults mid new (faults-appended client event mid.annals new.annals refl a) k) (counts-same faults mid new k);
-        counts = le-both (faults old.keeper) (faults mid.keeper) (faults new.keeper) counts (counts-same faults mid new k);
+        counted = fared-both signs old mid new counted (fared-same signs mid new (faults-appended client event mid.annals new.annals refl a) k) (counts-same signs mid new k);
+        counts = le-both (signs.faults old.keeper) (signs.faults mid.keeper) (signs.faults new.keeper) counts (counts-same signs mid new k);
         plans = keeps;
       };
     }

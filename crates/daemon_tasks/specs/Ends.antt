@@ -5,7 +5,7 @@ use Rattle.plugin_trait.specs.Steps.{PluginSteps}
 use Rattle.daemon_core.specs.declared.stop.Stop.{Stop}
 use Rattle.daemon_core.specs.Annals.{SameFacts}
 use Rattle.daemon_core.specs.Housed.{Housed, past, rows_before}
-use Rattle.daemon_core.specs.Turns.{FaultsCounted}
+use Rattle.daemon_core.specs.Turns.{KeeperFared, Signs}
 use Rattle.client_plays.specs.declared.played.Played.{Played}
 use Rattle.client_plays.specs.Endings.{Ended, IsIdle}
 use Rattle.client_plays.specs.Plays.{UpdatePlays}
@@ -26,11 +26,11 @@ stopped_by Stop.NoMemory = Played.NoMemory
 -- the plugin of its board among these, each at its place; nobody has anything out, what no event but a boot
 -- changes is as before, and each fault of the keeper that the log tells was counted; and the board came home,
 -- with the faults planned that its number has. There was room for all of it: no memory was wanting.
-pub record TakenPlayed {K : Type 0} (faults : K → ℕ) (plugins : ℕ → PluginSteps) (played : Played) (client entry : ℕ) (board : BoardState) (old new : Housed K) : Type 0 where
+pub record TakenPlayed {K : Type 0} (signs : Signs K) (plugins : ℕ → PluginSteps) (played : Played) (client entry : ℕ) (board : BoardState) (old new : Housed K) : Type 0 where
   pub ended : Ended played client (UpdatePlays old.annals.facts (rows_before old.annals) plugins client entry (past old)) (past old) (past new)
   pub idle : IsIdle (past new)
   pub same : SameFacts old.annals new.annals
-  pub counted : FaultsCounted faults old new
-  pub counts : faults old.keeper ≤ faults new.keeper
+  pub counted : KeeperFared signs old new
+  pub counts : signs.faults old.keeper ≤ signs.faults new.keeper
   pub home : BroughtHome entry board old new
   pub room : played ≢ Played.NoMemory

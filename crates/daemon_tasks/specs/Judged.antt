@@ -9,6 +9,7 @@ use Rattle.update_log.specs.Pasts.{finished, off}
 use Rattle.daemon_core.specs.declared.judged.Judged.{Judged}
 use Rattle.daemon_core.specs.declared.stop.Stop.{Stop}
 use Rattle.daemon_core.specs.Housed.{Annalled, Housed, past, past_in, rows_before}
+use Rattle.daemon_core.specs.Turns.{Signs}
 use Rattle.client_plays.specs.Endings.{AtRest, HouseWent, SoFar}
 use Rattle.client_plays.specs.Moments.{Did, Moment}
 use Rattle.client_plays.specs.Plays.{Task, TaskPlays, ToJudge}
@@ -52,19 +53,19 @@ abbrev pub Tried : Facts → List Row → Means → Option Bool → Bool → Lis
 Tried facts opening means (Some now) wanting tasks new moments = ((now ≡ true) ⊎ (now ≡ wanting)) × PlaysAll now 0 (TaskPlays facts opening means) tasks moments
 Tried facts opening means None wanting tasks new moments = (moments ≡ []) × (off new ≡ true)
 
-pub record HouseTried {K : Type 0} (faults : K → ℕ) (facts : Facts) (opening : List Row) (means : Means) (told : Option Bool) (wanting : Bool) (tasks : List Task) (old new : Housed K) : Type 0 where
+pub record HouseTried {K : Type 0} (signs : Signs K) (facts : Facts) (opening : List Row) (means : Means) (told : Option Bool) (wanting : Bool) (tasks : List Task) (old new : Housed K) : Type 0 where
   pub moments : List Moment
   pub did : Did 0 moments (past old) (past new)
   pub more : Tried facts opening means told wanting tasks (past new) moments
-  pub rest : AtRest faults old new
+  pub rest : AtRest signs old new
 
 -- All entries were gone through; or the boot is off, and then these and whatever else was to be done were
 -- played as far as they came.
-abbrev pub JudgedAll : {K : Type 0} → (K → ℕ) → Facts → List Row → Means → Went → List ℕ → Housed K → Housed K → Type 0
-JudgedAll faults facts opening means (Went.Through wanting) entries old new =
-    SoFar faults wanting 0 (TaskPlays facts opening means) (to_judge_in old.annals entries) old new × RowsStay entries old.annals new.annals
-JudgedAll faults facts opening means (Went.Off wanting) entries old new =
-    (more : List Task) → HouseWent faults wanting 0 (TaskPlays facts opening means) (to_judge_in old.annals entries ++ more) old new
+abbrev pub JudgedAll : {K : Type 0} → Signs K → Facts → List Row → Means → Went → List ℕ → Housed K → Housed K → Type 0
+JudgedAll signs facts opening means (Went.Through wanting) entries old new =
+    SoFar signs wanting 0 (TaskPlays facts opening means) (to_judge_in old.annals entries) old new × RowsStay entries old.annals new.annals
+JudgedAll signs facts opening means (Went.Off wanting) entries old new =
+    (more : List Task) → HouseWent signs wanting 0 (TaskPlays facts opening means) (to_judge_in old.annals entries ++ more) old new
 
 -- The entry's row is put off.
 pub record WaitsIn (a : Annalled) (entry : ℕ) : Type 0 where

@@ -1,6 +1,7 @@
 //! The run of an entry that was taken.
 ghost use Rattle.std.specs.Prelude.{◌≡◌, ◌≤◌, ◌<◌, [], None, length};
 ghost use Rattle.daemon_core.specs.Housed.{past, rows_before};
+ghost use Rattle.daemon_core.specs.Turns.{signs_of};
 ghost use Rattle.plugin_trait.specs.Steps.{steps_at};
 ghost use Rattle.client_plays.specs.Plays.{IsOwnPlugin};
 ghost use Rattle.install_engine.specs.RunsIn.{RunsIn, parts_taken};
@@ -26,7 +27,7 @@ pub(crate) fn run_taken<K: Keeper>(
     requires served { taken.plugin < length plugins.now }
     requires own { IsOwnPlugin house.old.annals.facts (rows_before house.old.annals) (past house.old) taken.entry taken.plugin }
     requires alone { RunsAlone taken.entry (past house.old) }
-    ensures played { TakenPlayed K.faults (steps_at (λ p. steps p) plugins.now) result client taken.entry taken.board house.old house.new }
+    ensures played { TakenPlayed (signs_of K.tells K.faults) (steps_at (λ p. steps p) plugins.now) result client taken.entry taken.board house.old house.new }
     ensures others { OthersStay taken.entry house.old.annals house.new.annals }
 {
     let outcome = run_claim(house, client, taken, plugins);

@@ -2,6 +2,7 @@
 use Rattle.std.proofs.Common.{◌⊎◌, ℕ, ◌≤◌, ◌+◌, ◌-◌, ◌^◌, refl, inl, inr, arith}
 use Rattle.daemon_core.specs.Housed.{Housed, past}
 use Rattle.daemon_core.specs.Keeping.{keeper_faults}
+use Rattle.daemon_core.specs.Turns.{Signs}
 use Rattle.shared_daemon.specs.Names.{KeepsName}
 use Rattle.daemon_core.proofs.Planned.{plans-picked}
 use Rattle.daemon_tests.specs.Begins.{CanBegin, name_of}
@@ -10,8 +11,8 @@ counted-first : (told counted end : ℕ) → (told ≤ counted) ⊎ (end ≤ cou
 counted-first told counted end (inl c) = inl (omega arith)
 counted-first told counted end (inr c) = inr c
 
-pub begins-named : {K : Type 0} (faults : K → ℕ) (h : Housed K) → CanBegin faults h → KeepsName faults (name_of faults h) h
-begins-named faults h b =
+pub begins-named : {K : Type 0} (signs : Signs K) (h : Housed K) → CanBegin signs h → KeepsName signs (name_of signs h) h
+begins-named signs h b =
     record {
       facts_are = refl;
       first_are = refl;
@@ -21,7 +22,9 @@ begins-named faults h b =
       booted = b.booted;
       boots_are = refl;
       planned = plans-picked h.places;
-      counted = counted-first (keeper_faults (past h)) (faults h.keeper) (2 ^ 64 - 1) b.counted;
+      counted = counted-first (keeper_faults (past h)) (signs.faults h.keeper) (2 ^ 64 - 1) b.counted;
       counts = omega arith;
-      told = tt;
+      grows = omega arith;
+      quiet = λ _. refl;
+      told = λ all t. (all, t);
     }

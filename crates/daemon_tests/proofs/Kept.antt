@@ -14,6 +14,7 @@ use Rattle.update_log.specs.declared.facts.Facts.{Facts}
 use Rattle.update_log.specs.declared.request.Request.{Request}
 use Rattle.daemon_core.specs.Annals.{IsAnnals, IsLegalSo}
 use Rattle.daemon_core.specs.Housed.{Housed}
+use Rattle.daemon_core.specs.Turns.{Signs}
 use Rattle.daemon_core.proofs.BoardsQuiet.{goes-so}
 use Rattle.turn_lock.specs.Lists.{beyond}
 use Rattle.turn_lock.specs.Shown.{LockId, PassView}
@@ -79,9 +80,9 @@ found-some : (o : Option Row) (state : RowState) → option_map (λ (r : Row). r
 found-some None state h = cc
 found-some (Some row) state h = refl
 
-module _ {K : Type 0} (faults : K → ℕ) (name : Name) (h : Housed K) (n : KeepsName faults name h) (k : IsAnnals h.annals) where
+module _ {K : Type 0} (signs : Signs K) (name : Name) (h : Housed K) (n : KeepsName signs name h) (k : IsAnnals h.annals) where
   pub put-off-in : (entry : ℕ) → option_map (λ (r : Row). r.state) (row_of h.annals.core.rows entry) ≡ Some RowState.Pending → IsPutOff name entry (chronicle h)
-  put-off-in entry s = found-pending name (chronicle h) h.annals.core.rows entry (row_of h.annals.core.rows entry) (rows-met faults name 0 h n k) refl s
+  put-off-in entry s = found-pending name (chronicle h) h.annals.core.rows entry (row_of h.annals.core.rows entry) (rows-met signs name 0 h n k) refl s
 
   pub row-in : (entry : ℕ) (state : RowState) → option_map (λ (r : Row). r.state) (row_of h.annals.core.rows entry) ≡ Some state → HasRow name entry (chronicle h)
-  row-in entry state s = subst (λ (x : List Row). IsSome (row_of x entry)) (rows-met faults name 0 h n k) (found-some (row_of h.annals.core.rows entry) state s)
+  row-in entry state s = subst (λ (x : List Row). IsSome (row_of x entry)) (rows-met signs name 0 h n k) (found-some (row_of h.annals.core.rows entry) state s)

@@ -9,6 +9,7 @@ ghost use Rattle.shared_daemon.specs.Entries.{chronicle};
 ghost use Rattle.shared_daemon.specs.Names.{HasNothing, IsPass, KeepsName};
 ghost use Rattle.daemon_tests.specs.Begins.{CanBegin};
 ghost use Rattle.daemon_tests.specs.Waits.{HasRow, IsPutOff};
+ghost use Rattle.daemon_core.specs.Turns.{signs_of};
 
 use crate::clients::run;
 use crate::own_turns::{ask_pending_held, judge, resume_taken};
@@ -117,7 +118,7 @@ fn day<R: Abort + Wait, K: Keeper, N: Naming, G: Gate>(
     shelf: &mut MemoryShelf,
     tasks: &Tasks<G>,
 ) -> Evening<K>
-    requires name { KeepsName K.faults N.name house }
+    requires name { KeepsName (signs_of K.tells K.faults) N.name house }
     requires start { chronicle house ≡ N.name.start }
     requires nothing { HasNothing (chronicle house) }
     requires put_off { IsPutOff N.name tasks.now.put_off N.name.start }
@@ -162,7 +163,7 @@ pub fn own_day<R: Abort + Wait, K: Keeper, G: Gate>(
     shelf: &mut MemoryShelf,
     tasks: &Tasks<G>,
 ) -> Evening<K>
-    requires { CanBegin K.faults house }
+    requires { CanBegin (signs_of K.tells K.faults) house }
 {
     let Some(RowState::Pending) = state_of(house.rows(), tasks.put_off) else {
         panic!(rt; "not put off")

@@ -3,6 +3,7 @@
 ghost use Rattle.std.specs.Prelude.{◌≡◌, ◌≤◌, [], ℕ, None, Some, IfOk, length, slice_get};
 ghost use Rattle.emulated_boards.specs.Boards.{BoardState};
 ghost use Rattle.daemon_core.specs.House.{IsNewBoard};
+ghost use Rattle.daemon_core.specs.Turns.{signs_of};
 ghost use Rattle.daemon_tests.specs.Begins.{CanBegin};
 
 use crate::days::{Asks, Plan, day};
@@ -202,7 +203,7 @@ pub fn booted<R: Abort, K: Keeper>(
     requires fresh { (number : ℕ) (b : BoardState) → slice_get boards.items number ≡ Some b → IsNewBoard b }
     requires no_doubt { K.doubt keeper ≡ None }
     requires pool { facts.pool ≤ 16384 }
-    ensures { CanBegin K.faults result }
+    ensures { CanBegin (signs_of K.tells K.faults) result }
 {
     let Ok(pool) = Pool::new(alloc, facts.pool) else {
         panic!(rt; "no memory")
@@ -230,7 +231,7 @@ fn named_day<R: Abort + Wait, K: Keeper + Drop, G: Gate>(
     shelf: &mut MemoryShelf,
     asks: &Asks<G>,
 ) -> Refusal
-    requires { CanBegin K.faults house }
+    requires { CanBegin (signs_of K.tells K.faults) house }
 {
     house.known();
     day::<R, K, Brand, G>(rt, alloc, house, shelf, asks)

@@ -3,7 +3,7 @@ use Rattle.std.proofs.Common.{◌≡◌, ℕ, ◌<◌, ◌≤◌, ◌++◌, ◌+
 use Rattle.std.proofs.lemmas.List.{append-nil, length-append}
 use Rattle.std.specs.Prelude.{◌-◌, ◌^◌, Option, Some, None, MatchOption, Result, Ok, Err}
 use Rattle.fw_facts.specs.declared.machine.MachineFacts.{MachineFacts}
-use Rattle.history_keeper.proofs.Prefixes.{history_front}
+use Rattle.history_keeper.proofs.Prefixes.{history_front, history_none}
 use Rattle.history_keeper.specs.declared.change.Change.{Change}
 use Rattle.history_keeper.specs.declared.row.Row.{Row}
 use Rattle.history_keeper.specs.Histories.{IsHistory}
@@ -91,15 +91,15 @@ arranged-well sheets (faults.Cycle shown) can (names, inr (order, s)) = can.bett
 arranged-well sheets faults.NoMemory can h = absurd h
 
 -- The rows before a log are a valid history where the keeper came with one.
-valid-opening : (came : Option (List Row)) (opening : List Row) (log : List Event) → MatchOption came (IsHistory opening) IsHistory → IsOpening came opening log → IsHistory opening
-valid-opening None opening log v o = v
-valid-opening (Some all) opening log v (inl e) = subst IsHistory (sym e) v
-valid-opening (Some all) opening log v (inr (e, none)) = subst IsHistory (sym e) (history_front all 0 v)
+valid-opening : (came now : List Row → Type 0) (opening : List Row) (log : List Event) → IsHistory opening ⊎ (((all : List Row) → came all → IsHistory all) × ((all : List Row) × now all)) → IsOpening came now opening log → IsHistory opening
+valid-opening came now opening log (inl v) o = v
+valid-opening came now opening log (inr (v, some)) (inl told) = v opening (told some.0 some.1)
+valid-opening came now opening log (inr (v, some)) (inr (e, none)) = subst IsHistory (sym e) history_none
 
 too-many : (asked asked' most shelves : ℕ) → asked ≡ asked' → asked' ≤ most → (shelves ≡ most) × (most < asked) → ⊥
 too-many asked asked' most shelves e w h = let m : most < asked = h.1 in omega (arith, e, w, m)
 
-module _ {K Q : Type 0} (told : K → Option (List Row)) (doubted : K → Option Change) (faults : K → ℕ) (words : PluginWords Q) where
+module _ {K Q : Type 0} (told : K → List Row → Type 0) (doubted : K → Option Change) (faults : K → ℕ) (words : PluginWords Q) where
   -- A run that stopped before its campaign had a cause that the input, the shelves or the plugins show.
   stopped : (Complete : Type 0) (shelves : ℕ) (sheets : List PluginSheet) (keeper : K) (old new : Option (List ℕ)) (site : Site) (stop : OpenStop)
       → HasStopped (limits.Shelves shelves) sheets stop old new → GivesSite shelves old site → CanBeArranged sheets → RunDone told keeper Complete (stop_status stop)
@@ -124,7 +124,7 @@ module _ {K Q : Type 0} (told : K → Option (List Row)) (doubted : K → Option
       let bad : true ≡ false = sym e.0 ∙ quiet in cc
   ended shelves sheets vetoes started site campaign left text before after (statuses.BadHistory entry) a s valid quiet e = bad e.bad
     where
-      bad : IsBadHistory told entry campaign.facts left.opening left.log left.keeper → told left.keeper ≡ None
+      bad : IsBadHistory told entry campaign.facts left.opening left.log left.keeper → (all : List Row) → told left.keeper all → ⊥
       bad (inl (all, b)) = absurd (b.faulty.breaks (history_front left.opening (b.at + 1) valid))
       bad (inr (v, silent, others)) = silent
   ended shelves sheets vetoes started site campaign left text before after statuses.SinkFault a s valid quiet e = tt
@@ -145,11 +145,11 @@ module _ {K Q : Type 0} (told : K → Option (List Row)) (doubted : K → Option
       Told started campaign = CampaignTold told doubted faults shelves now (work_of words started) status campaign keeper left (report campaign.facts left.opening left.log) before after
 
       valid : (started : List Q) (campaign : Campaign) → Told started campaign → IsHistory left.opening
-      valid started campaign w = valid-opening (told keeper) left.opening left.log held.valid w.keeper_stands.opening_is
+      valid started campaign w = valid-opening (told keeper) (told left.keeper) left.opening left.log held.valid w.keeper_stands.opening_is
 
       quiet : (started : List Q) (campaign : Campaign) → Told started campaign → any_fault left.log ≡ false
       quiet started campaign w =
-          no-fault-told (with_plans campaign.facts (map shown_by campaign.boards.items) campaign.boots) left.opening left.log w.true_log.legal
+          no-fault-told left.log
           (counted-none (2 ^ 64 - 1) (keeper_faults (past_of left.log)) (faults keeper) (faults left.keeper) w.keeper_stands.counted held.no_fault held.counting)
 
       went : (started : List Q) (campaign : Campaign) → AreStarted words sheets campaign.facts started → IsOpened (limits.Shelves (length shelves)) sheets vetoes old new campaign → Went told doubted faults shelves now (work_of words started) status campaign keeper left (report campaign.facts left.opening left.log) before after → RunDone told left.keeper Complete status
@@ -173,7 +173,7 @@ fault-status sheets Complete faults.NoMemory can h = tt
 module _ {K Q : Type 0} (boards clients : ℕ) (sheets : List PluginSheet) (vetoes : MachineFacts → List PluginVetoes) (words : PluginWords Q) where
   -- A generated campaign that was played came to no more than that.
   summed : (status : Status) (started : List Q) (campaign : Campaign) (left : Left K) (own : List Row) (before after : Option (List ℕ)) → AreStarted words sheets campaign.facts started → IsCampaignOf (made_site boards clients) sheets (vetoes (made_site boards clients).machine) campaign → BlamesNoHistory status
-      → CampaignEnds (λ (rows : List Row). Some rows) (means_for (work_of words started) (own_shelves clients)) status (with_plans campaign.facts (map shown_by campaign.boards.items) campaign.boots) left.opening campaign.scripts left.log own (summary boards clients left.log) before after
+      → CampaignEnds (λ (rows all : List Row). rows ≡ all) (means_for (work_of words started) (own_shelves clients)) status (with_plans campaign.facts (map shown_by campaign.boards.items) campaign.boots) left.opening campaign.scripts left.log own (summary boards clients left.log) before after
       → MakeDone (SiteWentWhole (own_shelves clients) sheets vetoes words (made_site boards clients) left (λ _. summary boards clients left.log) before after) status
   summed statuses.Done started campaign left own before after a s n e = record { campaign = campaign; settled = s; started = started; started_are = a; whole = e.1 }
   summed statuses.KeeperFault started campaign left own before after a s n e = absurd n

@@ -31,12 +31,12 @@ or_parts false b e = (refl, e)
 whole_front : (text : List ℕ) (before after : Option (List ℕ)) → Took text before after → TookFront text before after
 whole_front text before after took = record { front = text; rest = []; parts = sym (append-nil text); took = took }
 
-ends-within : {K : Type 0} (told : K → Option (List Row)) (ending : Ending) (c : Campaign) (opening : List Row) (log : List Event) (keeper : K) (count : ℕ) → EndsAt told ending c opening log keeper count → count ≤ length c.plans
+ends-within : {K : Type 0} (told : K → List Row → Type 0) (ending : Ending) (c : Campaign) (opening : List Row) (log : List Event) (keeper : K) (count : ℕ) → EndsAt told ending c opening log keeper count → count ≤ length c.plans
 ends-within told Ending.Whole c opening log keeper count e = omega arith
 ends-within told (Ending.BadHistory entry) c opening log keeper count e = let l : count < length c.plans = e.0 in omega arith
 ends-within told Ending.NoMemory c opening log keeper count e = let l : count < length c.plans = e in omega arith
 
-module _ {K : Type 0} (told : K → Option (List Row)) (doubted : K → Option Change) (faults : K → ℕ) (means : ℕ → Means) (c : Campaign) (scripts : List (List (List Item))) (opening : List Row) (log : List Event) (boards : List BoardState) (old new : K) (text : List ℕ) (before after : Option (List ℕ)) where
+module _ {K : Type 0} (told : K → List Row → Type 0) (doubted : K → Option Change) (faults : K → ℕ) (means : ℕ → Means) (c : Campaign) (scripts : List (List (List Item))) (opening : List Row) (log : List Event) (boards : List BoardState) (old new : K) (text : List ℕ) (before after : Option (List ℕ)) where
   abbrev Ends : Status → Type 0
   Ends status = CampaignEnds told means status c opening scripts log new text before after
 

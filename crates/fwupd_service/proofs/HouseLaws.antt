@@ -1,13 +1,13 @@
 -- What is true of a house whose campaign was run.
 use Rattle.std.proofs.Common.{◌≡◌, ◌⊎◌, ℕ, zero, suc, ◌≤◌, ◌+◌, Bool, true, false, List, [], ◌∷◌, map, Option, Some, None, refl, sym, ap, subst, ◌∙◌, inl, inr, arith}
-use Rattle.std.specs.Prelude.{slice_get, ◌-◌, ◌^◌, IfSome, MatchBool}
+use Rattle.std.specs.Prelude.{slice_get, ◌-◌, ◌^◌, MatchBool}
 use Rattle.std.proofs.lemmas.List.{length-map}
-use Rattle.std.proofs.lemmas.Option.{IfSome_then}
 use Rattle.emulated_boards.specs.Boards.{BoardState}
 use Rattle.fw_facts.specs.declared.seen.Seen.{Seen}
 use Rattle.history_keeper.specs.declared.change.Change.{Change}
 use Rattle.history_keeper.specs.declared.row.Row.{Row}
 use Rattle.history_keeper.specs.Histories.{IsHistory}
+use Rattle.history_keeper.specs.Keepers.{StillTold}
 use Rattle.update_log.specs.declared.event.Event.{Event}
 use Rattle.update_log.specs.declared.facts.BootPlan.{BootPlan}
 use Rattle.update_log.specs.declared.facts.Facts.{Facts}
@@ -27,7 +27,7 @@ use Rattle.daemon_core.specs.Housed.{Annalled, Housed, Place, past, rows_before,
 use Rattle.daemon_core.specs.Keeping.{HasRows, KeepsSo, WasReopened, keeper_faults, last_faulted}
 use Rattle.daemon_core.specs.Parts.{BoardsOf, IsBoardOf}
 use Rattle.daemon_core.specs.Reading.{AreOthers, AreTold}
-use Rattle.daemon_core.specs.Turns.{FaultsCounted}
+use Rattle.daemon_core.specs.Turns.{signs_of}
 use Rattle.daemon_core.proofs.BootOpenings.{legal-over, place-over, said-over}
 use Rattle.client_scripts.specs.declared.item.Item.{Item}
 use Rattle.client_plays.specs.Scripts.{BootPlayed, EarlierPlayed, scripts_in}
@@ -53,35 +53,27 @@ before-is a t = ap (λ (b : Bool). rows_taken b a.opening) t
 lift : (a : Annalled) (P : List Row → Type 0) → (a.loaded ≡ false → P a.opening) → P (rows_before a) → P a.opening
 lift a P unread p = by_test a.loaded (P a.opening) (λ t. subst P (before-is a t) p) unread
 
--- What holds of each value holds of one that may be missing.
-for-some : {X : Type 0} (o : Option X) (P : X → Type 0) → ((x : X) → P x) → IfSome o P
-for-some None P each = tt
-for-some (Some x) P each = each x
-
 -- The rows before the log, by what the keeper that came told.
-opening-told : {K : Type 0} (told : K → Option (List Row)) (came : Option (List Row)) (h : Housed K) → (h.annals.loaded ≡ false → AllFaults (past h)) → OpeningTold told came h → IsOpening came h.annals.opening h.annals.core.log
+opening-told : {K : Type 0} (told : K → List Row → Type 0) (came : List Row → Type 0) (h : Housed K) → (h.annals.loaded ≡ false → AllFaults (past h)) → OpeningTold told came h → IsOpening came (told h.keeper) h.annals.opening h.annals.core.log
 opening-told told came h none o =
-    by_test h.annals.loaded (IsOpening came opening h.annals.core.log)
-    (λ t. taken (subst O t o))
+    by_test h.annals.loaded (IsOpening came (told h.keeper) opening h.annals.core.log)
+    (λ t. inl (subst O t o))
     (λ f. untaken (none f) (subst O f o).1)
   where
     opening : List Row
     opening = h.annals.opening
 
     O : Bool → Type 0
-    O b = MatchBool b (AreTold came opening) ((told h.keeper ≡ came) × ((opening ≡ []) ⊎ AreTold came opening))
+    O b = MatchBool b (AreTold came (told h.keeper) opening) (StillTold came (told h.keeper) × ((opening ≡ []) ⊎ AreTold came (told h.keeper) opening))
 
-    taken : AreTold came opening → IsOpening came opening h.annals.core.log
-    taken a = IfSome_then came a (λ all e. inl e)
+    untaken : AllFaults (past h) → (opening ≡ []) ⊎ AreTold came (told h.keeper) opening → IsOpening came (told h.keeper) opening h.annals.core.log
+    untaken all (inl e) = inr (e, all)
+    untaken all (inr a) = inl a
 
-    untaken : AllFaults (past h) → (opening ≡ []) ⊎ AreTold came opening → IsOpening came opening h.annals.core.log
-    untaken all (inl e) = for-some came _ (λ rows. inr (e, all))
-    untaken all (inr a) = taken a
-
--- While no boot took them the keeper tells what it told.
-told-stays : {K : Type 0} (told : K → Option (List Row)) (came : Option (List Row)) (h : Housed K) → h.annals.loaded ≡ false → OpeningTold told came h → told h.keeper ≡ came
-told-stays told came h f o =
-    let O = λ (b : Bool). MatchBool b (AreTold came h.annals.opening) ((told h.keeper ≡ came) × ((h.annals.opening ≡ []) ⊎ AreTold came h.annals.opening)) in
+-- While no boot took them the keeper told before what it tells.
+still-told : {K : Type 0} (told : K → List Row → Type 0) (came : List Row → Type 0) (h : Housed K) → h.annals.loaded ≡ false → OpeningTold told came h → StillTold came (told h.keeper)
+still-told told came h f o =
+    let O = λ (b : Bool). MatchBool b (AreTold came (told h.keeper) h.annals.opening) (StillTold came (told h.keeper) × ((h.annals.opening ≡ []) ⊎ AreTold came (told h.keeper) h.annals.opening)) in
     (subst O f o).0
 
 -- The element of a list that was mapped.
@@ -95,8 +87,8 @@ map-get f [] n y e = cc
 map-get f (x ∷ xs) zero y e = record { x = x; there = refl; is = cc }
 map-get f (x ∷ xs) (suc n) y e = let m = map-get f xs n y e in record { x = m.x; there = m.there; is = m.is }
 
-module _ {K : Type 0} (told : K → Option (List Row)) (doubted : K → Option Change) (faults : K → ℕ) (means : ℕ → Means) (ran : Ran) (plans : List BootPlan) (scripts : List (List (List Item))) (old h : Housed K)
-    (r : CampaignRan told faults ran.ending ran.wanting means plans scripts old h)
+module _ {K : Type 0} (told : K → List Row → Type 0) (doubted : K → Option Change) (faults : K → ℕ) (means : ℕ → Means) (ran : Ran) (plans : List BootPlan) (scripts : List (List (List Item))) (old h : Housed K)
+    (r : CampaignRan (signs_of told faults) ran.ending ran.wanting means plans scripts old h)
     (a : IsAnnals h.annals) (k : IsHouse told doubted h) where
   abbrev facts : Facts
   facts = h.annals.facts
@@ -185,21 +177,25 @@ module _ {K : Type 0} (told : K → Option (List Row)) (doubted : K → Option C
       (subst (λ (x : List Row). KeepsSo so told doubted h.keeper (rows facts x (past h)) (doubt facts x (past h))) o
       (subst (λ (x : List Row). KeepsSo so told doubted h.keeper x (doubt facts (rows_before h.annals) (past h))) a.stands.rows
       (subst (λ (x : Option Change). KeepsSo so told doubted h.keeper h.annals.core.rows x) a.stands.doubt (k.kept t))))))
-      (λ f. inl (record { none = all-faults f; told_are = told-stays told (told old.keeper) h f r.ran.opening; no_doubt = k.unloaded f }))
+      (λ f. inl (record { none = all-faults f; told_are = still-told told (told old.keeper) h f r.ran.opening; no_doubt = k.unloaded f }))
 
-  counted-from : old.annals.core.log ≡ [] → FaultsCounted faults old h → (keeper_faults (past h) + faults old.keeper ≤ faults h.keeper) ⊎ (2 ^ 64 - 1 ≤ faults h.keeper)
-  counted-from n (inl l) =
-      let z : keeper_faults (past old) ≡ 0 = ap (λ (log : List Event). keeper_faults (past_of log)) n in
-      inl (omega (arith, z, l))
-  counted-from n (inr l) = inr l
+  -- the log was empty at first
+  module _ (n : old.annals.core.log ≡ []) where
+    none-before : keeper_faults (past old) ≡ 0
+    none-before = ap (λ (log : List Event). keeper_faults (past_of log)) n
 
-  keeper-stands : old.annals.core.log ≡ [] → KeeperStands told doubted faults c opening h.annals.core.log old.keeper h.keeper
-  keeper-stands n = record {
-    keeps = keeps-opening;
-    opening_is = opening-told told (told old.keeper) h all-faults r.ran.opening;
-    counted = counted-from n r.ran.counted;
-    counts = r.ran.counts;
-  }
+    counted-from : (keeper_faults (past h) + faults old.keeper ≤ keeper_faults (past old) + faults h.keeper) ⊎ (2 ^ 64 - 1 ≤ faults h.keeper) → (keeper_faults (past h) + faults old.keeper ≤ faults h.keeper) ⊎ (2 ^ 64 - 1 ≤ faults h.keeper)
+    counted-from (inl l) = let z = none-before in inl (omega (arith, z, l))
+    counted-from (inr l) = inr l
+
+    keeper-stands : KeeperStands told doubted faults c opening h.annals.core.log old.keeper h.keeper
+    keeper-stands = record {
+      keeps = keeps-opening;
+      opening_is = opening-told told (told old.keeper) h all-faults r.ran.opening;
+      counted = counted-from r.ran.counted.counted;
+      quiet = λ e. r.ran.counted.quiet (e ∙ sym none-before);
+      counts = r.ran.counts;
+    }
 
   -- ---- what was played
 

@@ -43,7 +43,7 @@ pub stay-same : (shelves : List ShelfTold) → ShelvesStay shelves shelves
 stay-same [] = tt
 stay-same (shelf ∷ shelves) = (record { files = refl; counts = omega arith }, stay-same shelves)
 
-module _ {K : Type 0} (told : K → Option (List Row)) (doubted : K → Option Change) (faults : K → ℕ) (shelves now : List ShelfTold) (plugins : ℕ → PluginSteps) (ran : Ran) (campaign : Campaign) (opening : List Row) (log : List Event) (boards : List BoardState) (old new : K) (text : List ℕ) (before after : Option (List ℕ)) where
+module _ {K : Type 0} (told : K → List Row → Type 0) (doubted : K → Option Change) (faults : K → ℕ) (shelves now : List ShelfTold) (plugins : ℕ → PluginSteps) (ran : Ran) (campaign : Campaign) (opening : List Row) (log : List Event) (boards : List BoardState) (old new : K) (text : List ℕ) (before after : Option (List ℕ)) where
   pub campaign-told : (status : Status) → ShelvesStand log shelves now → map (λ (b : BoardState). b.plan) boards ≡ map (λ (b : BoardState). b.plan) campaign.boards.items → WasPlayed told doubted faults (means_for plugins shelves) ran (with_plans campaign.facts (map shown_by campaign.boards.items) campaign.boots) campaign.scripts opening log boards old new
       → IsReported status ran.ending ran.wanting log text before after
       → CampaignTold told doubted faults shelves now plugins status campaign old (record { log = log; opening = opening; boards = Some boards; keeper = new }) text before after

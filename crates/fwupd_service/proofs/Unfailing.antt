@@ -26,9 +26,9 @@ use Rattle.fwupd_service.proofs.FaultsTold.{counted-none, no-fault-told}
 
 -- ---- its own keeper begins without rows, so there are none before the log
 
-none-opened : (opening : List Row) (log : List Event) → IsOpening (Some []) opening log → opening ≡ []
-none-opened opening log (inl e) = e
-none-opened opening log (inr (e, none)) = e
+none-opened : (own opening : List Row) (log : List Event) → IsOpening (λ all. [] ≡ all) (λ all. own ≡ all) opening log → opening ≡ []
+none-opened own opening log (inl told) = sym (told own refl)
+none-opened own opening log (inr (e, none)) = e
 
 -- No row breaks no rule.
 none-breaks : (entry : ℕ) (opening : List Row) → opening ≡ [] → BreaksAt entry opening → ⊥
@@ -40,12 +40,12 @@ none-breaks entry opening e b =
 -- ---- so its status blames no history
 
 -- Over a keeper that tells its rows, with no rows before the log, no boot read a bad history.
-none-bad : {K : Type 0} (told : K → Option (List Row)) (keeper : K) (all : List Row) (entry : ℕ) (c : Campaign) (opening : List Row) (log : List Event) → told keeper ≡ Some all → opening ≡ [] → IsBadHistory told entry c.facts opening log keeper → ⊥
+none-bad : {K : Type 0} (told : K → List Row → Type 0) (keeper : K) (all : List Row) (entry : ℕ) (c : Campaign) (opening : List Row) (log : List Event) → told keeper all → opening ≡ [] → IsBadHistory told entry c.facts opening log keeper → ⊥
 none-bad told keeper all entry c opening log t o (inl (faults, b)) = none-breaks entry opening o b
-none-bad told keeper all entry c opening log t o (inr (valid, silent, others)) = cc
+none-bad told keeper all entry c opening log t o (inr (valid, silent, others)) = absurd (silent all t)
 
-no-blame : {K : Type 0} (told : K → Option (List Row)) (keeper : K) (all : List Row) (means : ℕ → Means) (status : Status) (c : Campaign) (opening : List Row) (scripts : List (List (List Item))) (log : List Event) (text : List ℕ) (before after : Option (List ℕ))
-    → told keeper ≡ Some all → opening ≡ [] → any_fault log ≡ false → CampaignEnds told means status c opening scripts log keeper text before after → BlamesNoHistory status
+no-blame : {K : Type 0} (told : K → List Row → Type 0) (keeper : K) (all : List Row) (means : ℕ → Means) (status : Status) (c : Campaign) (opening : List Row) (scripts : List (List (List Item))) (log : List Event) (text : List ℕ) (before after : Option (List ℕ))
+    → told keeper all → opening ≡ [] → any_fault log ≡ false → CampaignEnds told means status c opening scripts log keeper text before after → BlamesNoHistory status
 no-blame told keeper all means statuses.KeeperFault c opening scripts log text before after t o f e = let bad : true ≡ false = sym e.0 ∙ f in cc
 no-blame told keeper all means (statuses.BadHistory entry) c opening scripts log text before after t o f e = none-bad told keeper all entry c opening log t o e.bad
 no-blame told keeper all means _ c opening scripts log text before after t o f e = tt
@@ -53,14 +53,14 @@ no-blame told keeper all means _ c opening scripts log text before after t o f e
 -- ---- the generated campaign
 
 pub made-went : {K : Type 0} (boards clients : ℕ) (plugins : ℕ → PluginSteps) (status : Status) (campaign : sites.Campaign) (keeper : K) (left : Left K) (own : List Row) (kept : List ShelfTold) (before after : Option (List ℕ)) → left.keeper ≡ keeper
-    → CampaignTold (λ (rows : List Row). Some rows) (λ _. None) (λ _. 0) (own_shelves clients) kept plugins status campaign []
+    → CampaignTold (λ (rows all : List Row). rows ≡ all) (λ _. None) (λ _. 0) (own_shelves clients) kept plugins status campaign []
     (record { log = left.log; opening = left.opening; boards = left.boards; keeper = own }) (summary boards clients left.log) before after
     → MadeWent boards clients plugins status campaign keeper left before after
 made-went boards clients plugins status campaign keeper left own kept before after k told =
     let c = with_plans campaign.facts (map shown_by campaign.boards.items) campaign.boots in
     let stands = told.keeper_stands in
-    let no_rows : left.opening ≡ [] = none-opened left.opening left.log stands.opening_is in
-    let no_fault : any_fault left.log ≡ false = no-fault-told c left.opening left.log told.true_log.legal (counted-none (2 ^ 64 - 1) (keeper_faults (past_of left.log)) 0 0 stands.counted refl (lit< tt)) in
+    let no_rows : left.opening ≡ [] = none-opened own left.opening left.log stands.opening_is in
+    let no_fault : any_fault left.log ≡ false = no-fault-told left.log (counted-none (2 ^ 64 - 1) (keeper_faults (past_of left.log)) 0 0 stands.counted refl (lit< tt)) in
     record {
       own = own;
       kept = kept;
@@ -68,6 +68,6 @@ made-went boards clients plugins status campaign keeper left own kept before aft
       no_rows = no_rows;
       no_fault = no_fault;
       no_blame =
-          no-blame (λ (rows : List Row). Some rows) own own (means_for plugins (own_shelves clients)) status c left.opening campaign.scripts left.log (summary boards clients left.log) before after refl no_rows no_fault told.ends;
+          no-blame (λ (rows all : List Row). rows ≡ all) own own (means_for plugins (own_shelves clients)) status c left.opening campaign.scripts left.log (summary boards clients left.log) before after refl no_rows no_fault told.ends;
       told = told;
     }

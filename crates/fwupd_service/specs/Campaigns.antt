@@ -1,10 +1,11 @@
 -- What is true of a campaign that was played, however it ended.
-use Rattle.std.specs.Prelude.{◌≡◌, ◌⊎◌, ◌≤◌, ◌<◌, ◌+◌, ◌-◌, ◌^◌, ℕ, true, List, [], length, map, Option, Some, None, IfSome, slice_get}
+use Rattle.std.specs.Prelude.{◌≡◌, ◌⊎◌, ◌≤◌, ◌<◌, ◌+◌, ◌-◌, ◌^◌, ℕ, true, List, [], length, map, Option, Some, None, slice_get}
 use Rattle.emulated_boards.specs.Boards.{BoardState}
 use Rattle.outer_traits.specs.Faults.{RoseBy}
 use Rattle.history_keeper.specs.declared.change.Change.{Change}
 use Rattle.history_keeper.specs.declared.row.Row.{Row}
 use Rattle.history_keeper.specs.Histories.{IsHistory}
+use Rattle.history_keeper.specs.Keepers.{StillTold}
 use Rattle.update_log.specs.declared.event.Event.{Event}
 use Rattle.update_log.specs.declared.facts.Facts.{Facts}
 use Rattle.update_log.specs.CoreFolds.{AllFaults}
@@ -16,7 +17,7 @@ use Rattle.update_log.specs.Shows.{Campaign}
 use Rattle.daemon_core.specs.Boards.{faulty_ends, journal_and_view}
 use Rattle.daemon_core.specs.Boots.{BreaksAt}
 use Rattle.daemon_core.specs.Keeping.{HasRows, WasReopened, keeper_faults, last_faulted}
-use Rattle.daemon_core.specs.Reading.{AreOthers}
+use Rattle.daemon_core.specs.Reading.{AreOthers, AreTold}
 use Rattle.client_scripts.specs.declared.item.Item.{Item}
 use Rattle.client_plays.specs.Faults.{shelf_faults}
 use Rattle.client_plays.specs.Tools.{Means, ShelfTold, ShelvesStay}
@@ -39,17 +40,17 @@ pub record IsTrueLog (c : Campaign) (opening : List Row) (log : List Event) (boa
   pub stays : IsHistory opening → IsHistory (rows c.facts opening (past_of log))
   pub board_faults : (number : ℕ) (b : BoardState) → slice_get boards number ≡ Some b → faulty_ends c.facts opening (past_of log) number ≤ b.faults
 
--- No boot could read the history: the keeper tells the rows that it told as it came, and has no doubt.
-pub record IsUntouched {K : Type 0} (told : K → Option (List Row)) (doubted : K → Option Change) (log : List Event) (old new : K) : Type 0 where
+-- No boot could read the history: what the keeper tells it told as it came, and it has no doubt.
+pub record IsUntouched {K : Type 0} (told : K → List Row → Type 0) (doubted : K → Option Change) (log : List Event) (old new : K) : Type 0 where
   pub none : AllFaults (past_of log)
-  pub told_are : told new ≡ told old
+  pub told_are : StillTold (told old) (told new)
   pub no_doubt : doubted new ≡ None
 
--- The rows before the log are those that the keeper told as it came, where it told any; or there are none,
+-- The rows before the log are those that the keeper told as it came, if it tells any still; or there are none,
 -- and no boot could read the history. So rows that a first boot refused are the keeper's own, since no row
 -- breaks no rule.
-abbrev pub IsOpening : Option (List Row) → List Row → List Event → Type 0
-IsOpening came opening log = IfSome came (λ all. (opening ≡ all) ⊎ ((opening ≡ []) × AllFaults (past_of log)))
+abbrev pub IsOpening : (List Row → Type 0) → (List Row → Type 0) → List Row → List Event → Type 0
+IsOpening came now opening log = AreTold came now opening ⊎ ((opening ≡ []) × AllFaults (past_of log))
 
 -- The last boot that was begun didn't read the history: it couldn't, or the campaign ended as it was to begin.
 abbrev pub IsUnread : Campaign → List Event → Type 0
@@ -58,13 +59,14 @@ IsUnread c log = (last_faulted (past_of log) ≡ true) ⊎ (boots (past_of log) 
 -- The keeper has the rows of the log, and its doubt is the log's; or it was opened again by a last boot that
 -- didn't read the history, and has the log's rows without or with the change in doubt; or no boot could read the
 -- history, and the keeper is untouched. The rows before the log are its own. Each fault of the keeper that the
--- log tells was counted by it.
-pub record KeeperStands {K : Type 0} (told : K → Option (List Row)) (doubted : K → Option Change) (faults : K → ℕ) (c : Campaign) (opening : List Row) (log : List Event) (old new : K) : Type 0 where
+-- log tells was counted by it, and where the log tells none it counted none.
+pub record KeeperStands {K : Type 0} (told : K → List Row → Type 0) (doubted : K → Option Change) (faults : K → ℕ) (c : Campaign) (opening : List Row) (log : List Event) (old new : K) : Type 0 where
   pub keeps : IsUntouched told doubted log old new
       ⊎ (HasRows told doubted new (rows c.facts opening (past_of log)) (doubt c.facts opening (past_of log))
       ⊎ (IsUnread c log × WasReopened told doubted new (rows c.facts opening (past_of log)) (doubt c.facts opening (past_of log))))
-  pub opening_is : IsOpening (told old) opening log
+  pub opening_is : IsOpening (told old) (told new) opening log
   pub counted : (keeper_faults (past_of log) + faults old ≤ faults new) ⊎ (2 ^ 64 - 1 ≤ faults new)
+  pub quiet : keeper_faults (past_of log) ≡ 0 → faults new ≡ faults old
   pub counts : faults old ≤ faults new
 
 -- The shelves are as many, each with its files, and each counted each of its faults that the log tells: its
@@ -73,22 +75,22 @@ pub record ShelvesStand (log : List Event) (old new : List ShelfTold) : Type 0 w
   pub stay : ShelvesStay old new
   pub counted : (place : ℕ) (was is : ShelfTold) → slice_get old place ≡ Some was → slice_get new place ≡ Some is → RoseBy (shelf_faults place (past_of log)) was.faults is.faults
 
--- The rows that a boot read are no valid history from this row on, and no boot before could read any; or,
--- with a keeper that doesn't tell its rows, a later boot read other rows.
-abbrev pub IsBadHistory : {K : Type 0} → (K → Option (List Row)) → ℕ → Facts → List Row → List Event → K → Type 0
+-- The rows that a boot read are no valid history from this row on, and no boot before could read any; or
+-- the keeper tells no rows, and a later boot read others than the log's.
+abbrev pub IsBadHistory : {K : Type 0} → (K → List Row → Type 0) → ℕ → Facts → List Row → List Event → K → Type 0
 IsBadHistory told entry facts opening log keeper =
     (AllFaults (past_of log) × BreaksAt entry opening)
-    ⊎ (IsHistory opening × (told keeper ≡ None) × ((loaded : List Row) × AreOthers entry loaded (rows facts opening (past_of log)) (doubt facts opening (past_of log))))
+    ⊎ (IsHistory opening × ((all : List Row) → told keeper all → ⊥) × ((loaded : List Row) × AreOthers entry loaded (rows facts opening (past_of log)) (doubt facts opening (past_of log))))
 
 -- How many of the boots were run, by how the campaign ended: all, or fewer.
-abbrev pub EndsAt : {K : Type 0} → (K → Option (List Row)) → Ending → Campaign → List Row → List Event → K → ℕ → Type 0
+abbrev pub EndsAt : {K : Type 0} → (K → List Row → Type 0) → Ending → Campaign → List Row → List Event → K → ℕ → Type 0
 EndsAt told Ending.Whole c opening log keeper count = count ≡ length c.plans
 EndsAt told (Ending.BadHistory entry) c opening log keeper count = (count < length c.plans) × IsBadHistory told entry c.facts opening log keeper
 EndsAt told Ending.NoMemory c opening log keeper count = count < length c.plans
 
 -- A campaign was played: so many of its boots, each by its plan, with the scripts. `means` has those of each
 -- client.
-pub record WasPlayed {K : Type 0} (told : K → Option (List Row)) (doubted : K → Option Change) (faults : K → ℕ) (means : ℕ → Means) (ran : Ran) (c : Campaign) (scripts : List (List (List Item))) (opening : List Row) (log : List Event) (boards : List BoardState) (old new : K) : Type 0 where
+pub record WasPlayed {K : Type 0} (told : K → List Row → Type 0) (doubted : K → Option Change) (faults : K → ℕ) (means : ℕ → Means) (ran : Ran) (c : Campaign) (scripts : List (List (List Item))) (opening : List Row) (log : List Event) (boards : List BoardState) (old new : K) : Type 0 where
   pub true_log : IsTrueLog c opening log boards
   pub keeper : KeeperStands told doubted faults c opening log old new
   pub count : ℕ

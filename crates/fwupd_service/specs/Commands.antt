@@ -112,7 +112,7 @@ CommandFits (commands.Explain port version) = Unit {0}
 CommandFits (commands.Ids texts) = Unit {0}
 
 -- The command ends so.
-abbrev pub CommandEnds : {K Q : Type 0} → (K → Option (List Row)) → (K → Option Change) → (K → ℕ) → List ShelfTold → List ShelfTold → List PluginSheet → (MachineFacts → List PluginVetoes) → PluginWords Q → Command → Status → K → Left K → Option (List ℕ) → Option (List ℕ) → Option (List ℕ) → Option (List ℕ) → Type 0
+abbrev pub CommandEnds : {K Q : Type 0} → (K → List Row → Type 0) → (K → Option Change) → (K → ℕ) → List ShelfTold → List ShelfTold → List PluginSheet → (MachineFacts → List PluginVetoes) → PluginWords Q → Command → Status → K → Left K → Option (List ℕ) → Option (List ℕ) → Option (List ℕ) → Option (List ℕ) → Type 0
 CommandEnds told doubted faults shelves now sheets vetoes words commands.Run status keeper left old new before after =
     RunEnds told doubted faults shelves now sheets vetoes words status keeper left old new before after
 CommandEnds told doubted faults shelves now sheets vetoes words (commands.Make boards clients) status keeper left old new before after =
@@ -128,7 +128,7 @@ CommandEnds told doubted faults shelves now sheets vetoes words (commands.Ids te
 
 -- Words that are no command do nothing; those that are one do what it does, unless there was no memory to
 -- read them.
-abbrev pub WordsEnd : {K Q : Type 0} → (K → Option (List Row)) → (K → Option Change) → (K → ℕ) → List ShelfTold → List ShelfTold → List PluginSheet → (MachineFacts → List PluginVetoes) → PluginWords Q → Option Command → Status → K → Left K → Option (List ℕ) → Option (List ℕ) → Option (List ℕ) → Option (List ℕ) → Type 0
+abbrev pub WordsEnd : {K Q : Type 0} → (K → List Row → Type 0) → (K → Option Change) → (K → ℕ) → List ShelfTold → List ShelfTold → List PluginSheet → (MachineFacts → List PluginVetoes) → PluginWords Q → Option Command → Status → K → Left K → Option (List ℕ) → Option (List ℕ) → Option (List ℕ) → Option (List ℕ) → Type 0
 WordsEnd told doubted faults shelves now sheets vetoes words None status keeper left old new before after =
     (status ≡ statuses.Usage) × NothingDone keeper left old new before after
 WordsEnd told doubted faults shelves now sheets vetoes words (Some command) status keeper left old new before after =

@@ -1,5 +1,5 @@
 -- When `run` and `make` do all that they are for: nothing but what is named here keeps them from it.
-use Rattle.std.specs.Prelude.{◌≡◌, ◌≤◌, ◌<◌, ◌-◌, ◌^◌, ℕ, List, length, map, Option, Some, None, MatchOption, Ok}
+use Rattle.std.specs.Prelude.{◌≡◌, ◌⊎◌, ◌≤◌, ◌<◌, ◌-◌, ◌^◌, ℕ, List, length, map, Option, Some, Ok}
 use Rattle.fw_facts.specs.declared.machine.MachineFacts.{MachineFacts}
 use Rattle.history_keeper.specs.declared.change.Change.{Change}
 use Rattle.history_keeper.specs.declared.row.Row.{Row}
@@ -35,10 +35,10 @@ pub record GivesSite (shelves : ℕ) (input : Option (List ℕ)) (site : Site) :
   pub states : stated bytes ≡ Ok site
   pub clients : asked_for site ≤ shelves
 
--- The history held: the rows that the keeper told as it came are a valid one, or, where it told none, those
--- before the log are; and it failed at nothing: its count of faults, which isn't at its end, is as it was.
-pub record HistoryHeld {K : Type 0} (told : K → Option (List Row)) (faults : K → ℕ) (keeper : K) (left : Left K) : Type 0 where
-  pub valid : MatchOption (told keeper) (IsHistory left.opening) IsHistory
+-- The history held: the rows that the keeper told as it came are a valid one, and it tells rows still, or else
+-- those before the log are; and it failed at nothing: its count of faults, which isn't at its end, is as it was.
+pub record HistoryHeld {K : Type 0} (told : K → List Row → Type 0) (faults : K → ℕ) (keeper : K) (left : Left K) : Type 0 where
+  pub valid : IsHistory left.opening ⊎ (((all : List Row) → told keeper all → IsHistory all) × ((all : List Row) × told left.keeper all))
   pub no_fault : faults left.keeper ≡ faults keeper
   pub counting : faults keeper < 2 ^ 64 - 1
 
@@ -51,19 +51,19 @@ pub record SiteWentWhole {K Q : Type 0} (shelves : List ShelfTold) (sheets : Lis
   pub started_are : AreStarted words sheets campaign.facts started
   pub whole : WentWhole (means_for (work_of words started) shelves) (with_plans campaign.facts (map shown_by campaign.boards.items) campaign.boots) left.opening campaign.scripts left.log (text campaign) before after
 
--- All was done, or else memory was wanting, or the input or the output failed; or, where the keeper doesn't
--- tell its rows, a later boot read other rows than the log's.
-abbrev pub RunDone : {K : Type 0} → (K → Option (List Row)) → K → Type 0 → Status → Type 0
+-- All was done, or else memory was wanting, or the input or the output failed; or, where the keeper tells
+-- no rows, a later boot read others than the log's.
+abbrev pub RunDone : {K : Type 0} → (K → List Row → Type 0) → K → Type 0 → Status → Type 0
 RunDone told keeper Complete statuses.Done = Complete
 RunDone told keeper Complete statuses.NoMemory = Unit {0}
 RunDone told keeper Complete statuses.SourceFault = Unit {0}
 RunDone told keeper Complete statuses.SinkFault = Unit {0}
-RunDone told keeper Complete (statuses.BadHistory entry) = told keeper ≡ None
+RunDone told keeper Complete (statuses.BadHistory entry) = (all : List Row) → told keeper all → ⊥
 RunDone told keeper Complete _ = ⊥
 
 -- `run` is complete: whatever it came to, where the input gives a site, the plugins can be arranged and the
 -- history held, the campaign of that site was played whole and its report was written, but for those causes.
-abbrev pub RunCompletes : {K Q : Type 0} → (K → Option (List Row)) → (K → Option Change) → (K → ℕ) → PluginWords Q → Type 0
+abbrev pub RunCompletes : {K Q : Type 0} → (K → List Row → Type 0) → (K → Option Change) → (K → ℕ) → PluginWords Q → Type 0
 RunCompletes {K = K} told doubted faults words =
     (shelves now : List ShelfTold) (sheets : List PluginSheet) (vetoes : MachineFacts → List PluginVetoes) (status : Status) (keeper : K) (left : Left K) (old new before after : Option (List ℕ)) (site : Site)
     → RunEnds told doubted faults shelves now sheets vetoes words status keeper left old new before after

@@ -62,7 +62,7 @@ pub record WentWhole (means : ℕ → Means) (c : Campaign) (opening : List Row)
 
 -- A boot read no history that could be the log's. The boots before were played so, and the output was
 -- written whole.
-pub record WentBad {K : Type 0} (told : K → Option (List Row)) (means : ℕ → Means) (entry : ℕ) (c : Campaign) (opening : List Row) (scripts : List (List (List Item))) (log : List Event) (keeper : K) (text : List ℕ) (before after : Option (List ℕ)) : Type 0 where
+pub record WentBad {K : Type 0} (told : K → List Row → Type 0) (means : ℕ → Means) (entry : ℕ) (c : Campaign) (opening : List Row) (scripts : List (List (List Item))) (log : List Event) (keeper : K) (text : List ℕ) (before after : Option (List ℕ)) : Type 0 where
   pub count : ℕ
   pub fewer : count < length c.plans
   pub played : PlayedBoots false c opening means scripts count log
@@ -80,7 +80,7 @@ pub record WentSome (means : ℕ → Means) (c : Campaign) (opening : List Row) 
   pub took : TookFront text before after
 
 -- What a status says of a campaign with this log, and of what the sink took of its output.
-abbrev pub CampaignEnds : {K : Type 0} → (K → Option (List Row)) → (ℕ → Means) → Status → Campaign → List Row → List (List (List Item)) → List Event → K → List ℕ → Option (List ℕ) → Option (List ℕ) → Type 0
+abbrev pub CampaignEnds : {K : Type 0} → (K → List Row → Type 0) → (ℕ → Means) → Status → Campaign → List Row → List (List (List Item)) → List Event → K → List ℕ → Option (List ℕ) → Option (List ℕ) → Type 0
 CampaignEnds told means statuses.Done c opening scripts log keeper text before after =
     (any_fault log ≡ false) × WentWhole means c opening scripts log text before after
 CampaignEnds told means statuses.KeeperFault c opening scripts log keeper text before after =

@@ -57,7 +57,7 @@ pub record MadeWent {K : Type 0} (boards clients : ℕ) (plugins : ℕ → Plugi
   pub no_rows : left.opening ≡ []
   pub no_fault : any_fault left.log ≡ false
   pub no_blame : BlamesNoHistory status
-  pub told : CampaignTold (λ (rows : List Row). Some rows) (λ _. None) (λ _. 0) (own_shelves clients) kept plugins status campaign []
+  pub told : CampaignTold (λ (rows all : List Row). rows ≡ all) (λ _. None) (λ _. 0) (own_shelves clients) kept plugins status campaign []
       (record { log = left.log; opening = left.opening; boards = left.boards; keeper = own }) (summary boards clients left.log) before after
 
 abbrev pub MadeOrNothing : {K : Type 0} → ℕ → ℕ → (ℕ → PluginSteps) → Status → Campaign → K → Left K → Option (List ℕ) → Option (List ℕ) → Type 0

@@ -52,7 +52,7 @@ stop_status stops.NoMemory = statuses.NoMemory
 -- and what the status says of how it ended and of what was written of it. Each board has the faults planned
 -- that the campaign's board of its number has. The shelves are as they came, and as they are now; the plugins, by
 -- what their steps give, made the steps of the entries, each those of its own boards.
-pub record CampaignTold {K : Type 0} (told : K → Option (List Row)) (doubted : K → Option Change) (faults : K → ℕ) (shelves now : List ShelfTold) (plugins : ℕ → PluginSteps) (status : Status) (campaign : Campaign) (keeper : K) (left : Left K) (text : List ℕ) (before after : Option (List ℕ)) : Type 0 where
+pub record CampaignTold {K : Type 0} (told : K → List Row → Type 0) (doubted : K → Option Change) (faults : K → ℕ) (shelves now : List ShelfTold) (plugins : ℕ → PluginSteps) (status : Status) (campaign : Campaign) (keeper : K) (left : Left K) (text : List ℕ) (before after : Option (List ℕ)) : Type 0 where
   pub boards : List BoardState
   pub boards_are : left.boards ≡ Some boards
   pub true_log : IsTrueLog (with_plans campaign.facts (map shown_by campaign.boards.items) campaign.boots) left.opening left.log boards
@@ -62,7 +62,7 @@ pub record CampaignTold {K : Type 0} (told : K → Option (List Row)) (doubted :
   pub ends : CampaignEnds told (means_for plugins shelves) status (with_plans campaign.facts (map shown_by campaign.boards.items) campaign.boots) left.opening campaign.scripts left.log left.keeper text before after
 
 -- A campaign could begin: it was played, unless there was no memory for its house.
-abbrev pub Went : {K : Type 0} → (K → Option (List Row)) → (K → Option Change) → (K → ℕ) → List ShelfTold → List ShelfTold → (ℕ → PluginSteps) → Status → Campaign → K → Left K → List ℕ → Option (List ℕ) → Option (List ℕ) → Type 0
+abbrev pub Went : {K : Type 0} → (K → List Row → Type 0) → (K → Option Change) → (K → ℕ) → List ShelfTold → List ShelfTold → (ℕ → PluginSteps) → Status → Campaign → K → Left K → List ℕ → Option (List ℕ) → Option (List ℕ) → Type 0
 Went told doubted faults shelves now plugins status campaign keeper left text before after =
     CampaignTold told doubted faults shelves now plugins status campaign keeper left text before after
     ⊎ ((status ≡ statuses.NoMemory) × NothingBegan keeper left before after)
@@ -76,14 +76,14 @@ pub record RunStopped {K : Type 0} (shelves : ℕ) (sheets : List PluginSheet) (
   pub stopped : HasStopped (limits.Shelves shelves) sheets stop old new
   pub nothing : NothingBegan keeper left before after
 
-pub record RunWent {K Q : Type 0} (told : K → Option (List Row)) (doubted : K → Option Change) (faults : K → ℕ) (shelves now : List ShelfTold) (sheets : List PluginSheet) (vetoes : MachineFacts → List PluginVetoes) (words : PluginWords Q) (status : Status) (keeper : K) (left : Left K) (old new before after : Option (List ℕ)) : Type 0 where
+pub record RunWent {K Q : Type 0} (told : K → List Row → Type 0) (doubted : K → Option Change) (faults : K → ℕ) (shelves now : List ShelfTold) (sheets : List PluginSheet) (vetoes : MachineFacts → List PluginVetoes) (words : PluginWords Q) (status : Status) (keeper : K) (left : Left K) (old new before after : Option (List ℕ)) : Type 0 where
   pub campaign : Campaign
   pub opened : IsOpened (limits.Shelves (length shelves)) sheets vetoes old new campaign
   pub started : List Q
   pub started_are : AreStarted words sheets campaign.facts started
   pub went : Went told doubted faults shelves now (work_of words started) status campaign keeper left (report campaign.facts left.opening left.log) before after
 
-abbrev pub RunEnds : {K Q : Type 0} → (K → Option (List Row)) → (K → Option Change) → (K → ℕ) → List ShelfTold → List ShelfTold → List PluginSheet → (MachineFacts → List PluginVetoes) → PluginWords Q → Status → K → Left K → Option (List ℕ) → Option (List ℕ) → Option (List ℕ) → Option (List ℕ) → Type 0
+abbrev pub RunEnds : {K Q : Type 0} → (K → List Row → Type 0) → (K → Option Change) → (K → ℕ) → List ShelfTold → List ShelfTold → List PluginSheet → (MachineFacts → List PluginVetoes) → PluginWords Q → Status → K → Left K → Option (List ℕ) → Option (List ℕ) → Option (List ℕ) → Option (List ℕ) → Type 0
 RunEnds told doubted faults shelves now sheets vetoes words status keeper left old new before after =
     RunStopped (length shelves) sheets status keeper left old new before after
     ⊎ RunWent told doubted faults shelves now sheets vetoes words status keeper left old new before after

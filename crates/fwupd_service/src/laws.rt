@@ -9,7 +9,7 @@ use plugin_trait::Plugin;
 /// campaign of that site and writes its report, but for want of memory, a fault of the input or the output, or
 /// rows of another's in a history that doesn't tell its rows. The plugins may be of any kind.
 pub fn run_completes<K: Keeper, Q: Plugin>()
-    ensures { RunCompletes K.rows K.doubt K.faults (plugin_words Q.own_sheet Q.own_vetoes Q.steps) }
+    ensures { RunCompletes K.tells K.doubt K.faults (plugin_words Q.own_sheet Q.own_vetoes Q.steps) }
 {}
 
 /// Where the plugins can be arranged, `make` plays the whole campaign of the generated site and writes its

@@ -1,6 +1,8 @@
 //! The keeper of `make`.
-ghost use Rattle.std.specs.Prelude.{◌≡◌, ◌≢◌, [], IfOk, OnOk, OnErr};
+ghost use Rattle.std.specs.Prelude.{◌≡◌, ◌≢◌, List, [], None, IfOk, OnOk, OnErr};
+ghost use Rattle.history_keeper.specs.declared.row.Row.{Row};
 ghost use Rattle.history_keeper.specs.Changes.{AddsNone, changed};
+ghost use Rattle.history_keeper.specs.Keepers.{Committed, Reopened, StillTold};
 
 use history_keeper::{Change, Keeper, KeeperRefusal, MemoryKeeper, Row};
 use std::alloc::Global;
@@ -36,10 +38,12 @@ impl OwnKeeper {
 }
 
 impl Keeper for OwnKeeper {
-    ghost use Rattle.std.specs.Prelude.{None, Some};
+    ghost use Rattle.std.specs.Prelude.{◌≡◌, None};
     ghost use Rattle.history_keeper.specs.Changes.{AddsNone};
 
-    ghost rows = { λ rows. Some rows };
+    ghost tells = { λ rows all. rows ≡ all };
+
+    ghost settled = { λ first now. now ≡ first };
 
     ghost doubt = { λ _. None };
 
@@ -49,7 +53,9 @@ impl Keeper for OwnKeeper {
 
     fn load(&mut self, alloc: Global) -> Result<Vec<Row>, KeeperRefusal>
         ensures loaded { IfOk result (λ loaded. loaded.items ≡ self.old) }
+        ensures answer { IfOk result (λ loaded. (all : List Row) → self.new ≡ all → loaded.items ≡ all) }
         ensures unchanged { self.new ≡ self.old }
+        ensures told { StillTold (λ all. self.old ≡ all) (λ all. self.new ≡ all) }
         ensures no_fault { result ≢ Err KeeperRefusal.Fault }
     {
         self.memory.load(alloc)
@@ -58,6 +64,7 @@ impl Keeper for OwnKeeper {
     fn commit(&mut self, change: &Change) -> Result<(), KeeperRefusal>
         ensures made { OnOk result (self.new ≡ changed change.now self.old) }
         ensures refused { OnErr result (self.new ≡ self.old) }
+        ensures committed { Committed change.now result (λ all. self.old ≡ all) (λ all. self.new ≡ all) None }
         ensures no_fault { result ≢ Err KeeperRefusal.Fault }
         ensures takes_none { AddsNone change.now → result ≢ Err KeeperRefusal.NoMemory }
     {
@@ -66,6 +73,7 @@ impl Keeper for OwnKeeper {
 
     fn reopen(&mut self) -> Result<(), KeeperRefusal>
         ensures unchanged { self.new ≡ self.old }
+        ensures reopened { Reopened result (λ all. self.old ≡ all) None (λ all. self.new ≡ all) None }
         ensures no_fault { result ≢ Err KeeperRefusal.Fault }
     {
         self.memory.reopen()

@@ -42,7 +42,7 @@ pub(crate) fn run<
 ) -> Ran<P, K>
     requires few_plugins { length plugins.items ≤ 64 }
     requires no_doubt { K.doubt keeper ≡ None }
-    ensures ends { RunEnds K.rows K.doubt K.faults (shelves_told P.files P.faults shelves.items) (shelves_told P.files P.faults result.shelves.items) (map (λ p. own_sheet p) plugins.items)
+    ensures ends { RunEnds K.tells K.doubt K.faults (shelves_told P.files P.faults shelves.items) (shelves_told P.files P.faults result.shelves.items) (map (λ p. own_sheet p) plugins.items)
         (λ machine. map (λ p. vetoes_of (own_sheet p) (vetoes_on p machine)) plugins.items)
         (plugin_words (λ p. own_sheet p) (λ p. own_vetoes p) (λ p. steps p)) result.status keeper
         (record { log = result.log; opening = result.opening; boards = result.boards; keeper = result.keeper })
@@ -89,7 +89,7 @@ fn run_ready<R: Threads + Wait + Sync, P: Shelf + Send, K: Keeper + Send, T: Sin
     requires ready { CanBePlayed ready.campaign }
     requires shelves { IsReadyFor (length shelves.items) (length ready.plugins.items) ready.campaign }
     requires no_doubt { K.doubt keeper ≡ None }
-    ensures went { Went K.rows K.doubt K.faults (shelves_told P.files P.faults shelves.items) (shelves_told P.files P.faults result.shelves.items) (steps_at (λ p. steps p) ready.plugins.items) result.status ready.campaign keeper
+    ensures went { Went K.tells K.doubt K.faults (shelves_told P.files P.faults shelves.items) (shelves_told P.files P.faults result.shelves.items) (steps_at (λ p. steps p) ready.plugins.items) result.status ready.campaign keeper
         (record { log = result.log; opening = result.opening; boards = result.boards; keeper = result.keeper })
         (report ready.campaign.facts result.opening result.log) (T.taken out.old) (T.taken out.new) }
     ensures sink_fault { result.status ≡ Status.SinkFault → Rose (T.faults out.old) (T.faults out.new) }

@@ -50,7 +50,7 @@ pub fn run_campaign<
     requires no_doubt { K.doubt keeper ≡ None }
     // What the words make of it: the status, and under each what came, what is true of the log and the boards
     // that are returned, how the keeper and the shelves stand to them, and what was written.
-    ensures ends { WordsEnd K.rows K.doubt K.faults (shelves_told P.files P.faults shelves.items) (shelves_told P.files P.faults result.shelves.items) (map (λ p. own_sheet p) plugins.items)
+    ensures ends { WordsEnd K.tells K.doubt K.faults (shelves_told P.files P.faults shelves.items) (shelves_told P.files P.faults result.shelves.items) (map (λ p. own_sheet p) plugins.items)
         (λ machine. map (λ p. vetoes_of (own_sheet p) (vetoes_on p machine)) plugins.items)
         (plugin_words (λ p. own_sheet p) (λ p. own_vetoes p) (λ p. steps p))
         (command_of (map (λ word. word.now) words.now)) result.status keeper
@@ -97,7 +97,7 @@ fn obey<
     requires fits { CommandFits command.now }
     requires few_plugins { length plugins.items ≤ 64 }
     requires no_doubt { K.doubt keeper ≡ None }
-    ensures ends { CommandEnds K.rows K.doubt K.faults (shelves_told P.files P.faults shelves.items) (shelves_told P.files P.faults result.shelves.items) (map (λ p. own_sheet p) plugins.items)
+    ensures ends { CommandEnds K.tells K.doubt K.faults (shelves_told P.files P.faults shelves.items) (shelves_told P.files P.faults result.shelves.items) (map (λ p. own_sheet p) plugins.items)
         (λ machine. map (λ p. vetoes_of (own_sheet p) (vetoes_on p machine)) plugins.items)
         (plugin_words (λ p. own_sheet p) (λ p. own_vetoes p) (λ p. steps p))
         command.now result.status keeper

@@ -10,6 +10,7 @@ use history_keeper::{Keeper, KeeperRefusal, MemoryKeeper};
 use history_sqlite::FileKeeper;
 use host_service::run_over_folder;
 use outer_traits::{ReadSource, WriteSink};
+use sqlite::{Start, Unknown};
 use std::io::{BufWriter, IsTerminal, Write};
 use std::process::ExitCode;
 use std::rt::{HostRuntime, Runtime};
@@ -49,21 +50,23 @@ fn run<R: Runtime + AllocGlobal + Threads + Wait + Sync>(
         texts.push(word.as_bytes())?;
     }
     if keeps_history(alloc, &texts)? {
-        run_over_history(rt, host, &texts)
+        run_over_history(rt, host, &texts, Unknown)
     } else {
         run_over_nothing(rt, host, &texts)
     }
 }
 
-/// Opens the history in its file, and runs over it.
-fn run_over_history<R: Runtime + AllocGlobal + Threads + Wait + Sync>(
+/// Opens the history in its file, and runs over it. `start` stands for what the file held: whatever it held,
+/// the keeper's contract is that of a file which held it.
+fn run_over_history<R: Runtime + AllocGlobal + Threads + Wait + Sync, S: Start + Send>(
     rt: &R,
     host: &HostRuntime,
     words: &[&[u8]],
+    start: S,
 ) -> Result<Status, NoMemory> {
-    match FileKeeper::open(host, HISTORY) {
+    match FileKeeper::open(host, HISTORY, start) {
         Ok(history) => {
-            FileKeeper::crosses();
+            FileKeeper::<S>::crosses();
             run_over(rt, host, words, history)
         }
         Err(KeeperRefusal::Fault) => Ok(Status::KeeperFault),

@@ -2,3 +2,4 @@ pub mod Numbered
 pub mod Prefixes
 pub mod Following
 pub mod Failures
+pub mod Memories

@@ -1,5 +1,5 @@
 -- A keeper in memory.
-use Rattle.std.specs.Prelude.{◌==◌, ℕ, Bool, true, false, List, Option, Some, None, find, option_map}
+use Rattle.std.specs.Prelude.{◌≡◌, ◌==◌, ℕ, Bool, true, false, List, Option, Some, None, find, option_map}
 use Rattle.outer_traits.specs.Plans.{one_more}
 use Rattle.history_keeper.specs.declared.row.Row.{Row}
 use Rattle.history_keeper.specs.declared.change.Change.{Change}
@@ -43,3 +43,12 @@ after_call memory = record memory { calls = one_more memory.calls }
 -- After a call that failed.
 abbrev pub after_fault : Memory → Memory
 after_fault memory = record memory { calls = one_more memory.calls; faults = one_more memory.faults }
+
+-- It has these rows.
+abbrev pub has_rows : Memory → List Row → Type 0
+has_rows memory all = memory.rows ≡ all
+
+-- It is what a reopening made of the first: the doubtful change is there where the plan keeps it, and
+-- nothing is in doubt.
+abbrev pub is_settled : Memory → Memory → Type 0
+is_settled first memory = (memory.rows ≡ kept first.doubt first.rows) × (doubtful memory ≡ None)

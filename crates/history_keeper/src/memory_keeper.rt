@@ -1,8 +1,9 @@
 //! A keeper in memory.
-ghost use Rattle.std.specs.Prelude.{◌≡◌, ◌≢◌, ◌≤◌, ◌↔◌, ◌==◌, map, find, option_copied, IsSome, IsOk, IfSome, OnOk, OnErr, IfOk};
+ghost use Rattle.std.specs.Prelude.{◌≡◌, ◌≢◌, ◌≤◌, ◌⊎◌, ◌↔◌, ◌==◌, List, map, find, option_copied, IsSome, IsOk, IfSome, OnOk, OnErr, IfOk};
+ghost use Rattle.history_keeper.specs.declared.row.Row.{Row};
 ghost use Rattle.history_keeper.specs.Changes.{changed, with_state, AddsNone};
-ghost use Rattle.history_keeper.specs.Keepers.{Committed, Reopened};
-ghost use Rattle.history_keeper.specs.Memories.{unused, planned, kept, doubtful, after_call, after_fault};
+ghost use Rattle.history_keeper.specs.Keepers.{Committed, Reopened, StillSettled, StillTold};
+ghost use Rattle.history_keeper.specs.Memories.{unused, planned, kept, doubtful, after_call, after_fault, has_rows, is_settled};
 
 use crate::change::Change;
 use crate::keeper::Keeper;
@@ -14,7 +15,7 @@ use fw_base::NoMemory;
 use std::alloc::Global;
 use std::marker::Model;
 
-/// Rows in memory. It tells them, and it fails at the calls that were planned.
+/// Rows in memory. It always tells them, and it fails at the calls that were planned.
 #[derive(Drop)]
 pub struct MemoryKeeper {
     rows: MemoryRows,
@@ -83,17 +84,18 @@ impl MemoryKeeper {
 }
 
 impl Keeper for MemoryKeeper {
-    ghost use Rattle.std.specs.Prelude.{Some};
     ghost use Rattle.history_keeper.specs.Changes.{AddsNone};
-    ghost use Rattle.history_keeper.specs.Memories.{doubtful};
+    ghost use Rattle.history_keeper.specs.Memories.{doubtful, has_rows, is_settled};
 
-    ghost rows = { λ s. Some s.rows };
+    ghost tells = { has_rows };
 
     ghost doubt = { doubtful };
 
     ghost faults = { λ s. s.faults };
 
     ghost takes_none = { AddsNone };
+
+    ghost settled = { is_settled };
 
     fn load(&mut self, alloc: Global) -> Result<Vec<Row>, KeeperRefusal>
         requires { doubtful self.old ≡ None }
@@ -102,8 +104,12 @@ impl Keeper for MemoryKeeper {
         ensures no_memory { result ≡ Err KeeperRefusal.NoMemory → self.new ≡ self.old }
         ensures loaded { IfOk result (λ rows. (rows.items ≡ self.old.rows) × (self.new ≡ after_call self.old)) }
 
+        ensures answer { IfOk result (λ loaded. (all : List Row) → has_rows self.new all → loaded.items ≡ all) }
         ensures unchanged { self.new.rows ≡ self.old.rows }
+        ensures told { StillTold (has_rows self.old) (has_rows self.new) }
         ensures no_doubt { doubtful self.new ≡ None }
+        ensures settled { StillSettled is_settled self.old self.new }
+        ensures quiet { (result ≡ Err KeeperRefusal.Fault) ⊎ (self.new.faults ≡ self.old.faults) }
         ensures counts { self.old.faults ≤ self.new.faults }
     {
         if self.planned().is_some() {
@@ -122,8 +128,9 @@ impl Keeper for MemoryKeeper {
         ensures no_memory { result ≡ Err KeeperRefusal.NoMemory → self.new ≡ self.old }
         ensures made { OnOk result (self.new ≡ record (after_call self.old) { rows = changed change.now self.old.rows }) }
 
-        ensures committed { Committed change.now result (Some self.old.rows) (Some self.new.rows) (doubtful self.new) }
+        ensures committed { Committed change.now result (has_rows self.old) (has_rows self.new) (doubtful self.new) }
         ensures takes_none { AddsNone change.now → result ≢ Err KeeperRefusal.NoMemory }
+        ensures quiet { (result ≡ Err KeeperRefusal.Fault) ⊎ (self.new.faults ≡ self.old.faults) }
         ensures counts { self.old.faults ≤ self.new.faults }
     {
         if let Some(plan) = self.planned() {
@@ -145,7 +152,10 @@ impl Keeper for MemoryKeeper {
         ensures no_memory { result ≡ Err KeeperRefusal.NoMemory → self.new ≡ self.old }
         ensures settled { OnOk result (self.new ≡ record (after_call self.old) { rows = kept self.old.doubt self.old.rows; doubt = None }) }
 
-        ensures reopened { Reopened result (Some self.old.rows) (doubtful self.old) (Some self.new.rows) (doubtful self.new) }
+        ensures reopened { Reopened result (has_rows self.old) (doubtful self.old) (has_rows self.new) (doubtful self.new) }
+        ensures settles { OnOk result (is_settled self.old self.new) }
+        ensures still { OnErr result (StillSettled is_settled self.old self.new) }
+        ensures quiet { (result ≡ Err KeeperRefusal.Fault) ⊎ (self.new.faults ≡ self.old.faults) }
         ensures counts { self.old.faults ≤ self.new.faults }
     {
         if self.planned().is_some() {

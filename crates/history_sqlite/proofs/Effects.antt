@@ -1,5 +1,5 @@
 -- What a statement leaves that is refused or that only asks, and the tables as they are made.
-use Rattle.std.proofs.Common.{◌≡◌, ◌⊎◌, inl, inr, ℕ, List, codes, Bool, true, false, cond, ◌≢◌, Some, Ok, Err, Result, IsTrue, refl, sym, ap, subst, ◌∙◌}
+use Rattle.std.proofs.Common.{◌≡◌, ◌⊎◌, inl, inr, ℕ, List, [], codes, Bool, true, false, cond, ◌≢◌, Option, Some, None, Ok, Err, Result, IsTrue, Any, refl, sym, ap, subst, ◌∙◌}
 use Rattle.std.specs.Prelude.{slice_get}
 use Rattle.std.proofs.lemmas.Bool.{cases_Bool}
 use Rattle.std.specs.List.{AllByRecursion}
@@ -14,10 +14,15 @@ use Rattle.sqlite.specs.declared.error.Error.{Error}
 use Rattle.sqlite.specs.declared.run.Mode.{Mode}
 use Rattle.sqlite.specs.Listing.{understood}
 use Rattle.sqlite.specs.Effect.{Database}
-use Rattle.sqlite.specs.State.{State, Executes, ExecutesIn, IsNotRun, IsUnchanged, IsRolledBack, RunsCommand, shows_rows, Shown, ShowsRows, FailsToQuery, FailsToShow}
+use Rattle.sqlite_resolve.specs.declared.compiled.Compiled.{Compiled}
+use Rattle.sqlite_schema.specs.declared.command.Command.{Command}
+use Rattle.sqlite_schema.specs.declared.command.Returning.{Returning}
+use Rattle.sqlite.specs.State.{State, Executes, ExecutesIn, IsNotRun, IsUnchanged, IsRolledBack, Runs, RunsCommand, shows_rows, Shown, ShowsRows, FailsToQuery, FailsToShow}
 use Rattle.sqlite.specs.Clock.{timed}
 use Rattle.sqlite.proofs.Callers.{IsPlain}
+use Rattle.history_keeper.specs.declared.refusal.KeeperRefusal.{KeeperRefusal}
 use Rattle.history_keeper.specs.declared.row.Row.{Row}
+use Rattle.history_sqlite.specs.Causes.{FailsToRead, IsUnanswered}
 use Rattle.history_sqlite.specs.Tables.{create_schema_text, create_history_text, schema_table, history_table, older_table, rows_tree, HoldsRows, HoldsOlderRows}
 
 -- ---- a statement that is refused
@@ -135,3 +140,71 @@ query_stays sql params old new e plain (inr ran) =
 
 pub plain_at : (schema : _) (sql : List ℕ) (s : State) → s.now.schema ≡ schema → IsPlain (understood schema sql) → IsPlain (understood s.now.schema sql)
 plain_at schema sql s is plain = subst (λ k. IsPlain (understood k sql)) (sym is) plain
+
+-- ---- a connection that is open was open before
+
+pub open_before : (old new : State) → Stays old new → IsTrue new.is_open → IsTrue old.is_open
+open_before old new (inl same) is_open = same.0.was_open
+open_before old new (inr back) is_open = back.was_open is_open
+
+ran_open : (old new : State) (returning : Option Returning) (command : Command) (text : List ℕ) (params : Values) (count : ℕ) → Runs old new returning command text params count → IsTrue new.is_open → IsTrue old.is_open
+ran_open old new returning (Command.Select q names) text params count h is_open = absurd h
+ran_open old new returning (Command.Insert at from) text params count h is_open = h.shown.was_open
+ran_open old new returning (Command.InsertOr at how from clauses) text params count h is_open = h.shown.was_open
+ran_open old new returning (Command.Update at q) text params count h is_open = h.shown.was_open
+ran_open old new returning (Command.Delete at q) text params count h is_open = h.shown.was_open
+ran_open old new returning Command.CreateTable text params count h is_open = h.shown.was_open
+ran_open old new returning (Command.CreateIndex at) text params count h is_open = h.shown.was_open
+ran_open old new returning (Command.DropTable at) text params count h is_open = h.shown.was_open
+ran_open old new returning (Command.DropIndex at) text params count h is_open = h.shown.was_open
+ran_open old new returning Command.Begin text params count h is_open = h.1.was_open
+ran_open old new returning Command.Commit text params count h is_open = h.1.was_open
+ran_open old new returning Command.Rollback text params count h is_open = h.1.was_open is_open
+ran_open old new returning (Command.Savepoint name) text params count h is_open = h.0.0.was_open
+ran_open old new returning (Command.Release name) text params count h is_open = elim h.2 [
+  | inl commits ↦ commits.1.0.was_open
+  | inr drops ↦ drops.1.0.was_open
+]
+ran_open old new returning (Command.RollbackTo name) text params count h is_open = h.2.2.was_open
+ran_open old new returning (Command.Rows values width names) text params count h is_open = h.0.0.was_open
+ran_open old new returning Command.Nothing text params count h is_open = h.0.0.was_open
+ran_open old new returning Command.CreateView text params count h is_open = h.shown.was_open
+ran_open old new returning (Command.DropView at) text params count h is_open = h.shown.was_open
+
+pub executed_open : (sql : List ℕ) (params : Values) (old new : State) (r : Result ℕ Error) → Executes sql params old new r → IsTrue new.is_open → IsTrue old.is_open
+unfolding ExecutesIn
+executed_open sql params old new (Ok count) h is_open = elim (cases_Bool (shows_rows false h.0)) [
+  | inl shows ↦ (rw shows at h.2).1.0.was_open
+  | inr runs ↦ ran_open old new h.0.returning h.0.command _ _ count (rw runs at h.2) is_open
+]
+executed_open sql params old new (Err e) h is_open = open_before old new (refused_stays sql params old new e h) is_open
+
+showed_open : (old new : State) (sql : List ℕ) (c : Compiled) (params : Values) (shown : List Values) (returning : Option Returning) → ShowsRows old new sql c params shown returning → IsTrue old.is_open
+showed_open old new sql c params shown None h = h.3.0.was_open
+showed_open old new sql c params shown (Some what) h = h.1.shown.was_open
+
+pub shown_open : (sql : List ℕ) (params : Values) (old new : State) (shown : List Values) → Shown sql params old new shown → IsTrue old.is_open
+unfolding Shown
+shown_open sql params old new shown h = showed_open old new sql h.0 (timed params h.0.formats h.1.now) shown h.0.returning h.2
+
+failed_open : (old new : State) (sql : List ℕ) (c : Compiled) (params : Values) (e : Error) (returning : Option Returning) → FailsToShow old new sql c params e returning → IsTrue new.is_open → IsTrue old.is_open
+failed_open old new sql c params e None h is_open = h.3.0.was_open
+failed_open old new sql c params e (Some what) (inl refused) is_open = refused.1.0.was_open
+failed_open old new sql c params e (Some what) (inr failed) is_open = failed.3.was_open is_open
+
+pub unanswered_open : (sql : List ℕ) (params : Values) (old new : State) (e : Error) → FailsToQuery sql params old new e → IsTrue new.is_open → IsTrue old.is_open
+unfolding FailsToQuery IsNotRun
+unanswered_open sql params old new e (inl (inl none)) is_open = none.1.0.was_open
+unanswered_open sql params old new e (inl (inr failed)) is_open = failed.3.was_open is_open
+unanswered_open sql params old new e (inr ran) is_open = failed_open old new sql ran.0 (timed params ran.0.formats ran.1.now) e ran.0.returning ran.2 is_open
+
+-- ---- why a select of rows is refused
+
+pub unanswered_fails : (why : KeeperRefusal) (sql : List ℕ) (read : Values → Option Row) (old new : State) → IsUnanswered why sql old new → FailsToRead why sql read old new
+unanswered_fails KeeperRefusal.Fault sql read old new h = inl h
+unanswered_fails KeeperRefusal.NoMemory sql read old new h = inl h
+
+-- the rows that it showed couldn't be read: one of them is none, or memory was wanting
+pub unread_fails : (why : KeeperRefusal) (sql : List ℕ) (read : Values → Option Row) (old new : State) (shown : List Values) → Shown sql [] old new shown → (why ≡ KeeperRefusal.Fault → Any (λ columns. read columns ≡ None) shown) → FailsToRead why sql read old new
+unread_fails KeeperRefusal.Fault sql read old new shown h strange = inr (shown, h, strange refl)
+unread_fails KeeperRefusal.NoMemory sql read old new shown h strange = inr (shown, h)

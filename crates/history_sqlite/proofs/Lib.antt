@@ -1,4 +1,5 @@
 pub mod Effects
+pub mod Found
 pub mod Inserting
 pub mod Layouts
 pub mod Making

@@ -1,5 +1,5 @@
 -- What is found where a database is opened.
-use Rattle.std.proofs.Common.{◌≡◌, inl, ℕ, List, [], true, false, None, Result, Ok, Err, OnOk, IsTrue, Bool, not, is_some, refl, sym, ap, subst, ◌∙◌}
+use Rattle.std.proofs.Common.{◌≡◌, inl, inr, ℕ, List, [], true, false, None, Result, Ok, Err, IfErr, IfOk, OnErr, OnOk, IsTrue, Bool, not, is_some, refl, sym, ap, subst, ◌∙◌}
 use Rattle.std.specs.Result.{is_ok}
 use Rattle.sqlite.specs.Order.{Row as Values}
 use Rattle.sqlite.specs.declared.error.Error.{Error}
@@ -12,9 +12,11 @@ use Rattle.sqlite.specs.State.{State, Executes, ExecutesIn, Shown, FailsToQuery}
 use Rattle.sqlite.proofs.Callers.{IsPlain}
 use Rattle.sqlite_tied.specs.Compute.{everything}
 use Rattle.history_sqlite.specs.declared.finding.Found.TheVariants.{Ours, Older}
+use Rattle.history_keeper.specs.declared.refusal.KeeperRefusal.{KeeperRefusal}
+use Rattle.history_sqlite.specs.Causes.{FailsToOpen, IsUnopened}
 use Rattle.history_sqlite.specs.Finding.{number_text, HasBoth, HasOlder, IsFound}
 use Rattle.history_keeper.specs.declared.row.Row.{Row}
-use Rattle.history_sqlite.specs.Tables.{Layout, create_schema_text, history_schema, older_schema, HoldsRows, HoldsOlderRows, KeepsAny, KeepsOlder, LeavesTables, Opens, TakesOver}
+use Rattle.history_sqlite.specs.Tables.{Layout, create_schema_text, history_schema, older_schema, HoldsRows, HoldsOlderRows, Keeps, KeepsAny, KeepsOlder, LeavesTables, Loads, Opens, TakesOver}
 use Rattle.history_sqlite.proofs.Effects.{stays, older_stays, show_changes_nothing, query_stays, plain_at}
 
 number_plain : (layout : Layout) → IsPlain (understood (history_schema layout) number_text)
@@ -114,6 +116,24 @@ pub in_one : (mode told : Bool) → told ≡ false → told ≡ not mode → IsT
 in_one true told denied is = refl
 in_one false told denied is = absurd (let e : false ≡ true = sym denied ∙ is in cc)
 
+-- what holds of each refusal that it may be holds of the one that it is
+pub if_err : {T E : Type 0} (r : Result T E) (P : E → Type 0) → ((e : E) → r ≡ Err e → P e) → IfErr r P
+if_err (Ok x) P each = tt
+if_err (Err e) P each = each e refl
+
+pub on_err : {T E P : Type 0} (r : Result T E) → ((e : E) → r ≡ Err e → P) → OnErr r P
+on_err (Ok x) each = tt
+on_err (Err e) each = each e refl
+
+pub if_ok : {T E : Type 0} (r : Result T E) (P : T → Type 0) → ((x : T) → r ≡ Ok x → P x) → IfOk r P
+if_ok (Ok x) P each = each x refl
+if_ok (Err e) P each = tt
+
+-- a load leaves the rows, whatever it answers
+pub kept_read : {T E : Type 0} (old new : State) (r : Result T E) (items : T → List Row) → IfOk r (λ loaded. Loads old new (items loaded)) → OnErr r (Keeps old new) → Keeps old new
+kept_read old new (Ok loaded) items loads keeps = λ rows h. (loads rows h).1
+kept_read old new (Err e) items loads keeps = keeps
+
 pub where_ok : {T E P : Type 0} (r : Result T E) → P → OnOk r P
 where_ok (Ok x) p = p
 where_ok (Err e) p = tt
@@ -127,3 +147,8 @@ unlimited g old new is = subst (λ h. LeavesTables (state g old) (state g h)) (s
   ),
   λ blank. record { is_open = blank.is_open; schema = blank.schema; autocommit = blank.autocommit; unlimited = refl },
 )
+
+-- what the database refused as it was opened is a cause, for either refusal
+pub unopened_fails : {D : Type 0} (g : Ghosts D) (why : KeeperRefusal) (old new : Held D) → IsUnopened g why old new → FailsToOpen g why old new
+unopened_fails g KeeperRefusal.Fault old new h = inr (inr h)
+unopened_fails g KeeperRefusal.NoMemory old new h = h

@@ -1,20 +1,60 @@
 -- What a keeper tells after each statement.
-use Rattle.std.proofs.Common.{◌≡◌, ℕ, pos, Bool, true, false, List, [], ◌∷◌, map, Option, Some, None, Result, Ok, Err, IfOk, IfSome, OnErr, IsTrue, option_map, unwrap_or, refl, sym, ap, subst, ◌∙◌}
-use Rattle.std.specs.Option.{ForSome}
+use Rattle.std.proofs.Common.{◌≡◌, ◌⊎◌, inl, inr, ℕ, pos, Bool, true, false, List, [], map, codes, Option, Some, None, Result, Ok, Err, OnErr, OnOk, IsTrue, option_map, unwrap_or, refl, sym, ap, subst, ◌∙◌}
+use Rattle.sqlite.specs.declared.types.Value.{Value}
 use Rattle.sqlite.specs.declared.types.Value.TheVariants.{Int, Text}
+use Rattle.sqlite.specs.Order.{column}
+use Rattle.sqlite.specs.Schema.{Schema}
+use Rattle.sqlite.specs.Store.{Ghosts}
 use Rattle.sqlite.specs.Values.{or_null}
 use Rattle.sqlite.specs.State.{State, HasCleanDisk}
 use Rattle.sqlite_schema.specs.Names.{same_name}
+use Rattle.sqlite_value.specs.Order.{bytes}
 use Rattle.history_keeper.specs.declared.row.Row.{Row}
 use Rattle.history_keeper.specs.declared.row.RowState.{RowState}
 use Rattle.history_keeper.specs.declared.row.RowState.TheVariants.{Pending, Success, Failed, NeedsReboot, Begun}
 use Rattle.history_keeper.specs.declared.change.Change.{Change}
 use Rattle.history_keeper.specs.declared.plan.Doubt.{Doubt}
 use Rattle.history_keeper.specs.Changes.{Suits, changed}
+use Rattle.history_keeper.specs.declared.refusal.KeeperRefusal.{KeeperRefusal}
+use Rattle.history_keeper.specs.Keepers.{Reopened, StillTold, ToldWith, with_doubt}
 use Rattle.history_keeper.specs.Memories.{kept}
-use Rattle.history_sqlite.specs.Columns.{state_in, state_number, text_in, integer_in}
-use Rattle.history_sqlite.specs.Tables.{Layout, history_schema, rows_tree, stored, HoldsRows, Keeps, Loads, Makes}
-use Rattle.history_sqlite.specs.Telling.{row_in, tree_of_rows, rows_in, told, Knows, SuitsDoubt, Settles}
+use Rattle.history_sqlite.specs.Columns.{state_in, state_number, taken_over, text_in, integer_in}
+use Rattle.history_sqlite.specs.Finding.{table_with}
+use Rattle.history_sqlite.specs.Keeping.{Keeping, doubtful}
+use Rattle.history_sqlite.specs.Tables.{Layout, HasAny, HoldsRows, Keeps, Loads, Makes, Opens, history_schema, rows_tree, stored}
+use Rattle.history_sqlite.specs.Telling.{Knows, SettledSo, Settles, SuitsDoubt, TellsRows, database}
+
+-- ---- a table holds one list of rows: each is read back from what is stored
+
+whole : Value → ℕ
+whole (Int (pos n)) = n
+whole _ = 0
+
+row_in : List Value → Row
+row_in r = record {
+  entry = whole (column r 0);
+  tag = bytes (column r 2);
+  client = whole (column r 3);
+  device = bytes (column r 4);
+  component = bytes (column r 5);
+  version_old = bytes (column r 6);
+  version_new = bytes (column r 7);
+  digest = bytes (column r 8);
+  flags = whole (column r 9);
+  state = unwrap_or (state_in (column r 10)) Begun;
+  reason = whole (column r 11);
+  time_added = whole (column r 12);
+  time_changed = whole (column r 13);
+  duration = whole (column r 14);
+  protocol = text_in (column r 15);
+  retry_of = integer_in (column r 16);
+}
+
+tree_of_rows : Schema → ℕ
+tree_of_rows schema = unwrap_or (option_map (λ t. t.tree) (table_with (codes "history2") schema.tables)) 0
+
+rows_in : State → List Row
+rows_in s = map row_in (s.now.trees (tree_of_rows s.now.schema))
 
 state_again : (s : RowState) → unwrap_or (state_in (Int (pos (state_number s)))) Begun ≡ s
 state_again Pending = refl
@@ -46,20 +86,82 @@ unfolding same_name
 tree_is Layout.Anew = refl
 tree_is Layout.TakenOver = refl
 
--- the table that holds these rows is read as them
-pub told_rows : (s : State) (rows : List Row) → HoldsRows s rows → rows_in s ≡ rows
+told_rows : (s : State) (rows : List Row) → HoldsRows s rows → rows_in s ≡ rows
 told_rows s rows h = ap (λ (tree : ℕ). map row_in (s.now.trees tree)) (ap tree_of_rows h.schema ∙ tree_is h.layout) ∙ ap (map row_in) h.table ∙ rows_again rows
 
-pub knows : (s : State) (rows : List Row) → HoldsRows s rows → HoldsRows s (rows_in s)
-knows s rows h = subst (HoldsRows s) (sym (told_rows s rows h)) h
+pub same_rows : (s : State) (a b : List Row) → HoldsRows s a → HoldsRows s b → a ≡ b
+same_rows s a b h k = sym (told_rows s a h) ∙ told_rows s b k
 
-module _ (lasts : Bool) (old new : State) (lasting : IsTrue lasts → HasCleanDisk new × IsTrue new.is_open) where
-  pub after_change : (tells : Bool) (change : Change) (doubt : Option Doubt) → Knows tells lasts old doubt → ForSome (told tells old) (λ all. Suits change all) → (HasCleanDisk new → Makes old new change)
-      → (told tells new ≡ option_map (changed change) (told tells old)) × Knows tells lasts new None
-  after_change true change doubt k suits makes =
-      let r = makes (lasting k.0).0 (rows_in old) k.1 (suits (rows_in old) refl) in
-      let same = told_rows new (changed change (rows_in old)) r in (ap Some same, (k.0, knows new (changed change (rows_in old)) r, tt))
-  after_change false change doubt k suits makes = (refl, tt)
+-- ---- over a call
+
+module _ {D : Type 0} (store : Ghosts D) (supposed : Type 0) (old new : Keeping D) (may : new.tells ≡ old.tells) (knows : Knows old.tells supposed (database store old) old.doubt)
+    (clean : HasCleanDisk (database store new) → HasCleanDisk (database store old)) (was_open : HasCleanDisk (database store new) → IsTrue (database store new).is_open → IsTrue (database store old).is_open) where
+  -- a keeper that tells rows now told rows before, which the doubtful change suited
+  rows_before : (all : List Row) → TellsRows store supposed new all → (rows : List Row) × TellsRows store supposed old rows × SuitsDoubt old.doubt rows
+  rows_before all t =
+      let told : old.tells ≡ true = sym may ∙ t.may in
+      let k = subst (λ (b : Bool). Knows b supposed (database store old) old.doubt) told knows in
+      let was = clean t.clean in
+      let r = k t.store_is was (was_open t.clean t.holds.is_open) in
+      (r.0, record { may = told; store_is = t.store_is; clean = was; holds = r.1 }, r.2)
+
+  -- the rows were left
+  pub still_told : (HasCleanDisk (database store new) → IsTrue (database store new).is_open → Keeps (database store old) (database store new)) → StillTold (TellsRows store supposed old) (TellsRows store supposed new)
+  still_told keeps all t =
+      let r = rows_before all t in
+      subst (TellsRows store supposed old) (same_rows (database store new) r.0 all (keeps t.clean t.holds.is_open r.0 r.1.holds) t.holds) r.1
+
+  -- they were given
+  pub given : (loaded : List Row) → (HasCleanDisk (database store new) → Loads (database store old) (database store new) loaded) → (all : List Row) → TellsRows store supposed new all → loaded ≡ all
+  given loaded loads all t =
+      let r = rows_before all t in
+      let l = loads t.clean r.0 r.1.holds in
+      l.0 ∙ same_rows (database store new) r.0 all l.1 t.holds
+
+  -- the change was made
+  pub told_made : (change : Change) → ((all : List Row) → TellsRows store supposed old all → Suits change all) → (HasCleanDisk (database store new) → Makes (database store old) (database store new) change) → ToldWith change (TellsRows store supposed old) (TellsRows store supposed new)
+  told_made change suits makes all t =
+      let r = rows_before all t in
+      let made = makes t.clean r.0 r.1.holds (suits r.0 r.1) in
+      (r.0, r.1, same_rows (database store new) all (changed change r.0) t.holds made)
+
+-- ---- what a keeper knows, over a call of its connection
+
+module _ (supposed : Type 0) (old new : State) (clean : HasCleanDisk new → HasCleanDisk old) (was_open : HasCleanDisk new → IsTrue new.is_open → IsTrue old.is_open) where
+  pub knows_left : (tells : Bool) (doubt : Option Doubt) → (HasCleanDisk new → IsTrue new.is_open → Keeps old new) → Knows tells supposed old doubt → Knows tells supposed new doubt
+  knows_left false doubt keeps k = tt
+  knows_left true doubt keeps k = λ so c o. let r = k so (clean c) (was_open c o) in (r.0, keeps c o r.0 r.1, r.2)
+
+  -- the change suits the rows that are told, so it suits those that are known
+  pub knows_made : (tells : Bool) (change : Change) (doubt : Option Doubt) → (tells ≡ true → supposed → HasCleanDisk old → (all : List Row) → HoldsRows old all → Suits change all) → (HasCleanDisk new → Makes old new change) → Knows tells supposed old doubt → Knows tells supposed new None
+  knows_made false change doubt suits makes k = tt
+  knows_made true change doubt suits makes k = λ so c o. let r = k so (clean c) (was_open c o) in (changed change r.0, makes c r.0 r.1 (suits refl so (clean c) r.0 r.1), tt)
+
+-- it may be in doubt of a change that suits them
+pub knows_doubted : (supposed : Type 0) (s : State) (tells : Bool) (doubt : Option Doubt) (it : Doubt) → (tells ≡ true → supposed → HasCleanDisk s → (all : List Row) → HoldsRows s all → Suits it.change all) → Knows tells supposed s doubt → Knows tells supposed s (Some it)
+knows_doubted supposed s false doubt it suits k = tt
+knows_doubted supposed s true doubt it suits k = λ so c o. let r = k so c o in (r.0, r.1, suits refl so c r.0 r.1)
+
+pub knows_clear : (supposed : Type 0) (s : State) (tells : Bool) (doubt : Option Doubt) → Knows tells supposed s doubt → Knows tells supposed s None
+knows_clear supposed s false doubt k = tt
+knows_clear supposed s true doubt k = λ so c o. let r = k so c o in (r.0, r.1, tt)
+
+-- as it was opened: the table of this schema, that of schema 1, or none
+pub knows_opened : (supposed : Type 0) (tells : Bool) (old mid new : State) (loaded : List Row) → (HasCleanDisk new → HasCleanDisk mid) → (HasCleanDisk mid → Opens old mid) → (HasCleanDisk new → Loads mid new loaded) → (tells ≡ true → supposed → HasCleanDisk old → HasAny old) → (HasCleanDisk mid → HasCleanDisk old) → Knows tells supposed new None
+knows_opened supposed false old mid new loaded late opens loads any before = tt
+knows_opened supposed true old mid new loaded late opens loads any before = λ so c o. at (opens (late c)) (loads c) (any refl so (before (late c)))
+  where
+    at : Opens old mid → Loads mid new loaded → HasAny old → (all : List Row) × HoldsRows new all × Unit {0}
+    at o l (inl h) = (h.0, (l h.0 (o.0 h.0 h.1)).1, tt)
+    at o l (inr (inl h)) = (map taken_over h.0, (l (map taken_over h.0) (o.1.0 h.0 h.1)).1, tt)
+    at o l (inr (inr blank)) = ([], (l [] (o.1.1 blank)).1, tt)
+
+-- ---- what a reopening settles
+
+-- it stays settled over a call that leaves the rows
+pub still_settled : (first old new : State) (doubt left : Option Doubt) → (HasCleanDisk new → HasCleanDisk old) → (HasCleanDisk new → IsTrue new.is_open → IsTrue old.is_open) → (HasCleanDisk new → IsTrue new.is_open → Keeps old new) → SettledSo first old doubt left → SettledSo first new doubt left
+still_settled first old new doubt left clean was_open keeps s =
+    record { no_doubt = s.no_doubt; settles = λ c o rows holds suits. keeps c o (kept doubt rows) (s.settles (clean c) (was_open c o) rows holds suits) }
 
   -- a call that leaves the rows leaves what is told
   pub after_keeping : (tells : Bool) (doubt : Option Doubt) → Knows tells lasts old doubt → (HasCleanDisk new → IsTrue new.is_open → Keeps old new)
@@ -90,3 +192,18 @@ pub settled : (old mid new : State) (doubt : Option Doubt) (it : Doubt) (loaded 
 settled old mid new doubt it loaded is keep loads makes rows holds suits =
     let made = makes rows (loads rows holds).1 (subst (λ d. SuitsDoubt d rows) is suits) in
     subst (λ d. HoldsRows new (kept d rows)) (sym is) (subst (HoldsRows new) (sym (kept_is it.change it.keep rows keep)) made)
+
+-- a reopening that read the rows and then wrote the doubtful change
+pub reopened_written : {D : Type 0} (tells : Keeping D → List Row → Type 0) (old mid new : Keeping D) (r : Result (Unit {0}) KeeperRefusal) (it : Doubt) → old.doubt ≡ Some it → mid.doubt ≡ old.doubt
+    → StillTold (tells old) (tells mid) → OnOk r (ToldWith it.change (tells mid) (tells new)) → OnOk r (new ≡ record mid { connection = new.connection; doubt = None }) → OnErr r (StillTold (tells mid) (tells new)) → OnErr r (new ≡ record mid { connection = new.connection })
+    → Reopened r (tells old) (doubtful old) (tells new) (doubtful new)
+reopened_written tells old mid new (Ok unit) it is same read made none left kept = (
+  λ all t.
+      let b = made all t in
+      (b.0, read b.0 b.1, inr (b.2 ∙ ap (λ (d : Option Doubt). with_doubt (option_map (λ (x : Doubt). x.change) d) b.0) (sym is))),
+  ap (λ k. doubtful k) none,
+)
+reopened_written tells old mid new (Err KeeperRefusal.Fault) it is same read made none left kept =
+    (λ all t. read all (left all t), ap (λ k. doubtful k) kept ∙ ap (λ (d : Option Doubt). option_map (λ (x : Doubt). x.change) d) same)
+reopened_written tells old mid new (Err KeeperRefusal.NoMemory) it is same read made none left kept =
+    (λ all t. read all (left all t), ap (λ k. doubtful k) kept ∙ ap (λ (d : Option Doubt). option_map (λ (x : Doubt). x.change) d) same)

@@ -1,4 +1,5 @@
--- The statements on the rows, and why a call that runs them is a fault.
+-- The statements on the rows, and why a call that runs them is refused: what the database refused is told as it
+-- was, a fault as a fault and want of memory as that.
 use Rattle.std.specs.Prelude.{◌≡◌, ◌⊎◌, ℕ, List, [], codes, Option, Some, None, Err, map, Any, IsTrue}
 use Rattle.sqlite.specs.declared.types.Value.{Value}
 use Rattle.sqlite.specs.declared.error.Error.{Error}
@@ -7,7 +8,8 @@ use Rattle.sqlite.specs.Held.{Held, state}
 use Rattle.sqlite.specs.State.{State, HasCleanDisk, Executes, ExecutesInside, FailsToQuery, Shown}
 use Rattle.sqlite.specs.Steps.{FailsToCommit}
 use Rattle.history_keeper.specs.declared.row.Row.{Row}
-use Rattle.history_keeper.specs.declared.refusal.KeeperRefusal.TheVariants.{Fault}
+use Rattle.history_keeper.specs.declared.refusal.KeeperRefusal.{KeeperRefusal}
+use Rattle.history_keeper.specs.declared.refusal.KeeperRefusal.TheVariants.{Fault, NoMemory}
 use Rattle.history_keeper.specs.declared.change.Change.{Change}
 use Rattle.history_keeper.specs.declared.change.Change.TheVariants.{Add, Advance}
 use Rattle.history_keeper.specs.declared.plan.Doubt.{Doubt}
@@ -33,13 +35,17 @@ older_select_text = codes "SELECT entry, tag, client, device, component, version
 abbrev pub renumber_text : List ℕ
 renumber_text = codes "UPDATE schema SET number = 2"
 
--- The database refused the statement with these values, and not for want of memory.
-abbrev pub IsRefused : List ℕ → List Value → State → State → Type 0
-IsRefused sql values old new = (e : Error) × (refusal_of e ≡ Fault) × Executes sql values old new (Err e)
+-- The database refused the statement with these values, for that reason.
+abbrev pub IsRefused : KeeperRefusal → List ℕ → List Value → State → State → Type 0
+IsRefused why sql values old new = (e : Error) × (refusal_of e ≡ why) × Executes sql values old new (Err e)
 
--- It refused the question, and not for want of memory.
-abbrev pub IsUnanswered : List ℕ → State → State → Type 0
-IsUnanswered sql old new = (e : Error) × (refusal_of e ≡ Fault) × FailsToQuery sql [] old new e
+-- It refused the question, for that reason.
+abbrev pub IsUnanswered : KeeperRefusal → List ℕ → State → State → Type 0
+IsUnanswered why sql old new = (e : Error) × (refusal_of e ≡ why) × FailsToQuery sql [] old new e
+
+-- It answered the question.
+abbrev pub IsAnswered : List ℕ → State → State → Type 0
+IsAnswered sql old new = (shown : List (List Value)) × Shown sql [] old new shown
 
 -- It gave columns that no row has.
 abbrev pub IsStrange : List ℕ → (List Value → Option Row) → State → State → Type 0
@@ -53,24 +59,30 @@ IsRead old new rows = (shown : List (List Value)) × Shown select_text [] old ne
 abbrev pub IsReadAgain : {D : Type 0} → Ghosts D → Held D → Type 0
 IsReadAgain {D} store old = (mid : Held D) × (rows : List Row) × IsRead (state store old) (state store mid) rows
 
--- Why a load is a fault.
-abbrev pub FailsToLoad : State → State → Type 0
-FailsToLoad old new = IsUnanswered select_text old new ⊎ IsStrange select_text row_read old new
+-- Why a select of rows is refused: the database refused it, or it is a fault where a row of the table stands for
+-- none. Memory may also be wanting for rows that it gave.
+abbrev pub FailsToRead : KeeperRefusal → List ℕ → (List Value → Option Row) → State → State → Type 0
+FailsToRead Fault sql read old new = IsUnanswered Fault sql old new ⊎ IsStrange sql read old new
+FailsToRead NoMemory sql read old new = IsUnanswered NoMemory sql old new ⊎ IsAnswered sql old new
+
+-- Why a load is refused.
+abbrev pub FailsToLoad : KeeperRefusal → State → State → Type 0
+FailsToLoad why old new = FailsToRead why select_text row_read old new
 
 -- Why the rows of schema 1 can't be read.
-abbrev pub FailsToLoadOlder : State → State → Type 0
-FailsToLoadOlder old new = IsUnanswered older_select_text old new ⊎ IsStrange older_select_text older_row_read old new
+abbrev pub FailsToLoadOlder : KeeperRefusal → State → State → Type 0
+FailsToLoadOlder why old new = FailsToRead why older_select_text older_row_read old new
 
--- Why a change is a fault.
-abbrev pub FailsToMake : Change → State → State → Type 0
-FailsToMake (Add row) old new = IsRefused insert_text (columns_of row) old new
-FailsToMake (Advance entry state reason time) old new = IsRefused update_text (values_of entry state reason time) old new
+-- Why a change is refused.
+abbrev pub FailsToMake : KeeperRefusal → Change → State → State → Type 0
+FailsToMake why (Add row) old new = IsRefused why insert_text (columns_of row) old new
+FailsToMake why (Advance entry state reason time) old new = IsRefused why update_text (values_of entry state reason time) old new
 
--- Why a reopening is a fault: the rows could not be read, or the doubtful change that is to be kept
+-- Why a reopening is refused: the rows could not be read, or the doubtful change that is to be kept
 -- could not be made after that.
-abbrev pub FailsToSettle : {D : Type 0} → Ghosts D → Held D → Held D → Option Doubt → Type 0
-FailsToSettle {D} store old new doubt =
-    FailsToLoad (state store old) (state store new) ⊎ ((it : Doubt) × (doubt ≡ Some it) × (mid : Held D) × FailsToMake it.change (state store mid) (state store new))
+abbrev pub FailsToSettle : {D : Type 0} → Ghosts D → KeeperRefusal → Held D → Held D → Option Doubt → Type 0
+FailsToSettle {D} store why old new doubt =
+    FailsToLoad why (state store old) (state store new) ⊎ ((it : Doubt) × (doubt ≡ Some it) × (mid : Held D) × FailsToMake why it.change (state store mid) (state store new))
 
 -- A statement by which rows are taken over, with its values: the making of the table, the insert of a row, or the new number.
 abbrev pub IsTakingStatement : List ℕ → List Value → Type 0
@@ -86,22 +98,24 @@ module _ {D : Type 0} (store : Ghosts D) where
   abbrev pub IsNotCopied : Held D → Error → Type 0
   IsNotCopied old e = IsTrue old.in_transaction ⊎ (IsNotWritten e ⊎ ((before : Held D) × (after : Held D) × FailsToCommit (state store before) (state store after) e))
 
-  -- Why the taking over is a fault: the rows can't be read, or can't be written to the new table.
-  abbrev pub FailsToTakeOver : Held D → Type 0
-  FailsToTakeOver old = (mid : Held D) × (FailsToLoadOlder (state store old) (state store mid) ⊎ ((e : Error) × (refusal_of e ≡ Fault) × IsNotCopied mid e))
+  -- Why the taking over is refused: the rows can't be read, or can't be written to the new table.
+  abbrev pub FailsToTakeOver : KeeperRefusal → Held D → Type 0
+  FailsToTakeOver why old = (mid : Held D) × (FailsToLoadOlder why (state store old) (state store mid) ⊎ ((e : Error) × (refusal_of e ≡ why) × IsNotCopied mid e))
 
-  -- Why an opening is a fault: a transaction is open, the tables are other ones, or the database refused to show the number, to make the
-  -- tables, or to have the rows of schema 1 taken over.
-  abbrev pub FailsToOpen : Held D → Held D → Type 0
-  FailsToOpen old new =
-      IsTrue old.in_transaction
-      ⊎ (IsFound (state store old) (state store new) Other
-      ⊎ (IsNumberless (state store old) (state store new) ⊎ (((e : Error) × (refusal_of e ≡ Fault) × IsNotMade store old e) ⊎ ((mid : Held D) × FailsToTakeOver mid))))
+  -- The database refused to show the number, to make the tables, or to have the rows of schema 1 taken over.
+  abbrev pub IsUnopened : KeeperRefusal → Held D → Held D → Type 0
+  IsUnopened why old new =
+      IsNumberless why (state store old) (state store new) ⊎ (((e : Error) × (refusal_of e ≡ why) × IsNotMade store old e) ⊎ ((mid : Held D) × FailsToTakeOver why mid))
 
-  -- Why the adopting of a connection is a fault: its tables could not be opened, or its rows could not be read.
-  abbrev pub FailsToAdopt : Held D → Held D → Type 0
-  FailsToAdopt old new = FailsToOpen old new ⊎ ((mid : Held D) × FailsToLoad (state store mid) (state store new))
+  -- Why an opening is refused: by the database, or as a fault where a transaction is open or the tables are other ones.
+  abbrev pub FailsToOpen : KeeperRefusal → Held D → Held D → Type 0
+  FailsToOpen Fault old new = IsTrue old.in_transaction ⊎ (IsFound (state store old) (state store new) Other ⊎ IsUnopened Fault old new)
+  FailsToOpen NoMemory old new = IsUnopened NoMemory old new
+
+  -- Why the adopting of a connection is refused: its tables could not be opened, or its rows could not be read.
+  abbrev pub FailsToAdopt : KeeperRefusal → Held D → Held D → Type 0
+  FailsToAdopt why old new = FailsToOpen why old new ⊎ ((mid : Held D) × FailsToLoad why (state store mid) (state store new))
 
   -- The connection that a refused adopting let go of, and why it was refused.
-  abbrev pub IsUnadopted : Held D → Type 0
-  IsUnadopted old = (last : Held D) × (HasCleanDisk (state store last) → FailsToAdopt old last)
+  abbrev pub IsUnadopted : KeeperRefusal → Held D → Type 0
+  IsUnadopted why old = (last : Held D) × (HasCleanDisk (state store last) → FailsToAdopt why old last)

@@ -13,7 +13,7 @@ use Rattle.sqlite.specs.Store.{Ghosts}
 use Rattle.sqlite.specs.Held.{Held, state}
 use Rattle.sqlite.specs.State.{State, ExecutesInside, FailsToQuery, Shown}
 use Rattle.sqlite.specs.Steps.{FailsToCommit}
-use Rattle.history_keeper.specs.declared.refusal.KeeperRefusal.TheVariants.{Fault}
+use Rattle.history_keeper.specs.declared.refusal.KeeperRefusal.{KeeperRefusal}
 use Rattle.history_sqlite.specs.declared.finding.WantedColumn.{WantedColumn}
 use Rattle.history_sqlite.specs.declared.finding.Found.{Found}
 use Rattle.history_sqlite.specs.declared.finding.Found.TheVariants.{Empty, Ours, Older, Other}
@@ -66,9 +66,9 @@ number_shown _ = None
 abbrev pub ShowsNumber : State → State → Option ℕ → Type 0
 ShowsNumber old new number = (shown : List (List Value)) × Shown number_text [] old new shown × (number ≡ number_shown shown)
 
--- The database refused to show the number, and not for want of memory.
-abbrev pub IsNumberless : State → State → Type 0
-IsNumberless old new = (e : Error) × (refusal_of e ≡ Fault) × FailsToQuery number_text [] old new e
+-- The database refused to show the number, for that reason.
+abbrev pub IsNumberless : KeeperRefusal → State → State → Type 0
+IsNumberless why old new = (e : Error) × (refusal_of e ≡ why) × FailsToQuery number_text [] old new e
 
 -- The select of the number shows another one than is wanted, or none.
 abbrev pub IsMisnumbered : State → State → ℕ → Type 0

@@ -1,5 +1,5 @@
 -- The tables, and what the database holds where they have rows.
-use Rattle.std.specs.Prelude.{◌≡◌, ℕ, ℤ, ◌+◌, pos, true, false, List, [], ◌∷◌, ◌++◌, map, length, codes, Some, None, IsTrue}
+use Rattle.std.specs.Prelude.{◌≡◌, ◌⊎◌, ℕ, ℤ, ◌+◌, pos, true, false, List, [], ◌∷◌, ◌++◌, map, length, codes, Some, None, IsTrue}
 use Rattle.sqlite.specs.declared.types.Value.{Value}
 use Rattle.sqlite.specs.declared.types.Value.TheVariants.{Null, Int, Text, Blob}
 use Rattle.sqlite.specs.Kind.TheVariants.{Integer, Text as Words, Blob as Bytes}
@@ -157,6 +157,10 @@ pub record IsBlank (s : State) : Type 0 where
   pub schema : s.now.schema ≡ no_schema
   pub autocommit : s.in_transaction ≡ false
   pub unlimited : s.step_limit ≡ None
+
+-- The database has the rows of a history, in a table of this schema or of schema 1, or it has no table.
+abbrev pub HasAny : State → Type 0
+HasAny s = ((rows : List Row) × HoldsRows s rows) ⊎ (((older : List Row) × HoldsOlderRows s older) ⊎ IsBlank s)
 
 -- What a crash may leave of a database without tables in which both are made: them, the number and no rows.
 abbrev pub MakesBoth : State → Trees → Type 0

@@ -1,13 +1,16 @@
 //! How files become a connection.
-ghost use Rattle.std.specs.Prelude.{◌≡◌, ◌↔◌, IsTrue, IfOk};
+ghost use Rattle.std.specs.Prelude.{◌≡◌, ◌↔◌, IsTrue, IfErr, IfOk};
 ghost use Rattle.sqlite.specs.Files.{file_state, IsOpened, Finds};
 ghost use Rattle.sqlite.specs.Held.{IsNew};
+ghost use Rattle.sqlite.specs.Start.{FindsIn};
 ghost use Rattle.sqlite.specs.State.{HasCleanDisk};
+ghost use Rattle.sqlite_wal.specs.Files.{image_at};
 ghost use Rattle.history_sqlite.specs.Opened.{IsLoneByte};
+ghost use Rattle.history_sqlite.specs.Refusals.{refusal_of};
 
 use crate::refusal::refusal_of_error;
 use history_keeper::KeeperRefusal;
-use sqlite::{Connection, File, FileStore, Files, Options, Unknown};
+use sqlite::{Connection, FileFrom, FileStore, Files, Options, Start};
 use sqlite_disk::Disk;
 use sqlite_std_file::OpenError;
 use std::alloc::Global;
@@ -20,15 +23,21 @@ use std::rt::HostRuntime;
 pub const CACHED_PAGES: usize = 64;
 
 /// Opens the file at the path and its log, or makes them. It is a fault where they can't be opened, where
-/// another process has them, or where the file is no database. Such a file is left as it was.
-pub fn open_path(
+/// another process has them, or where the file is no database. Such a file is left as it was. `S` stands for
+/// what the two held: where it is told `Ok`, that is what was found, while the disk returns what was written.
+pub fn open_path<S: Start>(
     rt: &HostRuntime,
     path: &str,
-) -> Result<Connection<FileStore<File>>, KeeperRefusal> {
+    start: S,
+) -> Result<Connection<FileStore<FileFrom<S>>>, KeeperRefusal>
+    ensures opened { IfOk result (λ connection. HasCleanDisk (file_state connection) → IsOpened connection) }
+    ensures found { IfOk result (λ connection. HasCleanDisk (file_state connection) → FindsIn (image_at S.Start) (file_state connection)) }
+    ensures fresh { IfOk result IsNew }
+{
     if path == ":memory:" || path.starts_with("file:") {
         return Err(KeeperRefusal::Fault);
     }
-    let files = match sqlite_std_file::open(rt, path, Unknown) {
+    let files = match sqlite_std_file::open(rt, path, start) {
         Ok(files) => files,
         Err(error) => return Err(refusal_of_open(error)),
     };

@@ -1,5 +1,5 @@
 //! What a database has of the history's tables, before anything is written.
-ghost use Rattle.std.specs.Prelude.{◌≡◌, ◌↔◌, ◌⊎◌, ◌∷◌, [], map, find, false, IsTrue, IfOk, IsErr, Some};
+ghost use Rattle.std.specs.Prelude.{◌≡◌, ◌↔◌, ◌⊎◌, ◌∷◌, [], map, find, false, IsTrue, IfOk, IfErr, IsErr, Some};
 ghost use Rattle.std.specs.Option.{option_copied};
 ghost use Rattle.sqlite.specs.Held.{state};
 ghost use Rattle.sqlite.specs.State.{HasCleanDisk};
@@ -49,7 +49,7 @@ pub fn find_tables<D: Alter>(connection: &mut Connection<D>) -> Result<Found, Ke
     ensures keeps { HasCleanDisk (state D.Store connection.new) → IsTrue (state D.Store connection.new).is_open → KeepsAny (state D.Store connection.old) (state D.Store connection.new) }
     ensures empty { result ≡ Ok Found.Empty → connection.new ≡ connection.old }
     ensures asked { IsErr result → HasBoth connection.old.schema ⊎ HasOlder connection.old.schema }
-    ensures cause { HasCleanDisk (state D.Store connection.new) → result ≡ Err KeeperRefusal.Fault → IsNumberless (state D.Store connection.old) (state D.Store connection.new) }
+    ensures cause { HasCleanDisk (state D.Store connection.new) → IfErr result (λ why. IsNumberless why (state D.Store connection.old) (state D.Store connection.new)) }
     ensures mode { connection.old.in_transaction ≡ false → connection.new.in_transaction ≡ false }
     ensures clean { HasCleanDisk (state D.Store connection.new) → HasCleanDisk (state D.Store connection.old) }
 {
@@ -74,7 +74,7 @@ fn find_by_number<D: Alter>(
     ensures found { HasCleanDisk (state D.Store connection.new) → IfOk result (λ found. ((found ≡ wanted) × ShowsNumber (state D.Store connection.old) (state D.Store connection.new) (Some number)) ⊎ ((found ≡ Found.Other) × IsMisnumbered (state D.Store connection.old) (state D.Store connection.new) number)) }
     ensures either { IfOk result (λ found. (found ≡ wanted) ⊎ (found ≡ Found.Other)) }
     ensures keeps { HasCleanDisk (state D.Store connection.new) → IsTrue (state D.Store connection.new).is_open → KeepsAny (state D.Store connection.old) (state D.Store connection.new) }
-    ensures cause { HasCleanDisk (state D.Store connection.new) → result ≡ Err KeeperRefusal.Fault → IsNumberless (state D.Store connection.old) (state D.Store connection.new) }
+    ensures cause { HasCleanDisk (state D.Store connection.new) → IfErr result (λ why. IsNumberless why (state D.Store connection.old) (state D.Store connection.new)) }
     ensures mode { connection.old.in_transaction ≡ false → connection.new.in_transaction ≡ false }
     ensures clean { HasCleanDisk (state D.Store connection.new) → HasCleanDisk (state D.Store connection.old) }
 {
@@ -88,7 +88,7 @@ fn find_by_number<D: Alter>(
 fn read_number<D: Alter>(connection: &mut Connection<D>) -> Result<Option<u64>, KeeperRefusal>
     ensures shown { HasCleanDisk (state D.Store connection.new) → IfOk result (ShowsNumber (state D.Store connection.old) (state D.Store connection.new)) }
     ensures keeps { HasCleanDisk (state D.Store connection.new) → IsTrue (state D.Store connection.new).is_open → KeepsAny (state D.Store connection.old) (state D.Store connection.new) }
-    ensures cause { HasCleanDisk (state D.Store connection.new) → result ≡ Err KeeperRefusal.Fault → IsNumberless (state D.Store connection.old) (state D.Store connection.new) }
+    ensures cause { HasCleanDisk (state D.Store connection.new) → IfErr result (λ why. IsNumberless why (state D.Store connection.old) (state D.Store connection.new)) }
     ensures mode { connection.old.in_transaction ≡ false → connection.new.in_transaction ≡ false }
     ensures clean { HasCleanDisk (state D.Store connection.new) → HasCleanDisk (state D.Store connection.old) }
 {

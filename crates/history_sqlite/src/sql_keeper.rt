@@ -1,19 +1,22 @@
 //! A keeper over a table.
-ghost use Rattle.std.specs.Prelude.{◌≡◌, ◌≢◌, ◌≤◌, ◌==◌, ◌⊎◌, option_map, Some, None, [], IsTrue, IsSome, IfSome, IfOk, OnOk, OnErr, find};
-ghost use Rattle.std.specs.Option.{option_copied, ForSome};
+ghost use Rattle.std.specs.Prelude.{◌≡◌, ◌≢◌, ◌≤◌, ◌==◌, ◌⊎◌, List, Some, None, [], true, false, IsTrue, IsSome, IfSome, IfOk, IfErr, OnOk, OnErr, find};
+ghost use Rattle.std.specs.Option.{option_copied};
 ghost use Rattle.sqlite.specs.Held.{state};
 ghost use Rattle.sqlite.specs.State.{HasCleanDisk};
 ghost use Rattle.sqlite.specs.Files.{over_files};
+ghost use Rattle.sqlite_wal.specs.Files.{image_at};
 ghost use Rattle.sqlite.specs.Steps.{over_memory};
-ghost use Rattle.history_keeper.specs.Changes.{IsTimely, Suits, changed};
-ghost use Rattle.history_keeper.specs.Keepers.{Committed, Reopened};
+ghost use Rattle.history_keeper.specs.declared.row.Row.{Row};
+ghost use Rattle.history_keeper.specs.Changes.{IsTimely, Suits};
+ghost use Rattle.history_keeper.specs.Keepers.{Committed, Reopened, StillSettled, StillTold, ToldWith};
 ghost use Rattle.outer_traits.specs.Faults.{Rose};
 ghost use Rattle.outer_traits.specs.Plans.{one_more};
 ghost use Rattle.history_sqlite.specs.Causes.{IsRead, IsReadAgain, FailsToLoad, FailsToMake, FailsToSettle, IsUnadopted};
 ghost use Rattle.history_sqlite.specs.Finding.{IsAdopted};
 ghost use Rattle.history_sqlite.specs.Keeping.{planned, doubtful, after_fault};
-ghost use Rattle.history_sqlite.specs.Tables.{Keeps, Loads, Makes, Opens};
-ghost use Rattle.history_sqlite.specs.Telling.{database, told_by, Settles, IsUnused};
+ghost use Rattle.history_sqlite.specs.Opened.{FilesHold};
+ghost use Rattle.history_sqlite.specs.Tables.{HasAny, Keeps, Loads, Makes, Opens};
+ghost use Rattle.history_sqlite.specs.Telling.{database, IsSettled, IsUnused, Settles, TellsRows};
 
 use crate::database_files::open_path;
 use crate::lasting::Lasting;
@@ -21,7 +24,7 @@ use crate::refusal::refusal_of_error;
 use crate::statements::{load_rows, make};
 use crate::tables::{make_tables, open_tables};
 use history_keeper::{Change, Doubt, Keeper, KeeperPlan, KeeperRefusal, Row};
-use sqlite::{Connection, File, FileStore, MemStore};
+use sqlite::{Connection, FileFrom, FileStore, MemStore, Start};
 use std::alloc::Global;
 use std::marker::Model;
 use std::rt::HostRuntime;
@@ -49,13 +52,15 @@ impl<D: Lasting> Model for SqlKeeper<D> {
 
     ghost view = { λ s. record { connection = s.connection; doubt = s.doubt; plan = s.plan.items; calls = s.calls; faults = s.faults; tells = s.tells } };
 
-    ghost invariant = { λ s. IsTimelyDoubt s.doubt × Knows s.tells D.Lasting.lasts (state D.Store s.connection) s.doubt };
+    ghost invariant = { λ s. IsTimelyDoubt s.doubt × Knows s.tells D.Lasting.supposed (state D.Store s.connection) s.doubt };
 }
 
 impl SqlKeeper<MemStore> {
     /// A keeper without rows, over a database in memory. It tells its rows.
     pub fn memory(alloc: Global) -> Result<SqlKeeper<MemStore>, KeeperRefusal>
-        ensures { IfOk result (λ keeper. IsUnused over_memory (Some []) [] keeper) }
+        ensures unused { IfOk result (λ keeper. IsUnused true [] keeper) }
+        ensures tells { IfOk result (λ keeper. TellsRows over_memory (Unit {0}) keeper []) }
+        ensures no_others { IfOk result (λ keeper. (all : List Row) → TellsRows over_memory (Unit {0}) keeper all → all ≡ []) }
     {
         SqlKeeper::planned(alloc, Vec::new(alloc))
     }
@@ -66,7 +71,9 @@ impl SqlKeeper<MemStore> {
         alloc: Global,
         plan: Vec<KeeperPlan>,
     ) -> Result<SqlKeeper<MemStore>, KeeperRefusal>
-        ensures { IfOk result (λ keeper. IsUnused over_memory (Some []) plan.items keeper) }
+        ensures unused { IfOk result (λ keeper. IsUnused true plan.items keeper) }
+        ensures tells { IfOk result (λ keeper. TellsRows over_memory (Unit {0}) keeper []) }
+        ensures no_others { IfOk result (λ keeper. (all : List Row) → TellsRows over_memory (Unit {0}) keeper all → all ≡ []) }
     {
         let mut connection = match Connection::open_in_memory(alloc) {
             Ok(connection) => connection,
@@ -87,15 +94,23 @@ impl SqlKeeper<MemStore> {
     }
 }
 
-impl SqlKeeper<FileStore<File>> {
+impl<S: Start> SqlKeeper<FileStore<FileFrom<S>>> {
     /// A keeper over the file at the path, which is made where it isn't there. A file of schema 1 is taken
     /// over, as `adopt` says. It is a fault where the file can't be opened, is no database, has another
     /// schema number, or has a row that stands for none. Such a file is left as it was.
-    pub fn file(rt: &HostRuntime, path: &str) -> Result<SqlKeeper<FileStore<File>>, KeeperRefusal>
-        ensures { IfOk result (λ keeper. IsUnused over_files None [] keeper) }
+    ///
+    /// `S` stands for what the file and its log held, which no code can read. Where they held the rows of a
+    /// history, the keeper tells these rows, while the disk returns what was written.
+    pub fn file(
+        rt: &HostRuntime,
+        path: &str,
+        start: S,
+    ) -> Result<SqlKeeper<FileStore<FileFrom<S>>>, KeeperRefusal>
+        ensures unused { IfOk result (λ keeper. IsUnused true [] keeper) }
+        ensures tells { IfOk result (λ keeper. (rows : List Row) → FilesHold (image_at S.Start) rows → HasCleanDisk (database over_files keeper) → TellsRows over_files ((all : List Row) × FilesHold (image_at S.Start) all) keeper rows) }
     {
-        let connection = open_path(rt, path)?;
-        SqlKeeper::adopt(rt.alloc(), connection)
+        let connection = open_path(rt, path, start)?;
+        SqlKeeper::adopt_so(rt.alloc(), connection, Vec::new(rt.alloc()), true)
     }
 }
 
@@ -108,10 +123,10 @@ impl<D: Lasting + Drop> SqlKeeper<D> {
     /// none, or the database refuses a statement. A refusal lets go of the connection, and leaves a database
     /// of schema 1 as it was.
     pub fn adopt(alloc: Global, connection: Connection<D>) -> Result<SqlKeeper<D>, KeeperRefusal>
-        ensures unused { IfOk result (λ keeper. IsUnused D.Store None [] keeper) }
+        ensures unused { IfOk result (λ keeper. IsUnused false [] keeper) }
         ensures opens { IfOk result (λ keeper. HasCleanDisk (database D.Store keeper) → Opens (state D.Store connection) (database D.Store keeper)) }
         ensures adopted { IfOk result (λ keeper. HasCleanDisk (database D.Store keeper) → IsAdopted D.Store (record connection { step_limit = None })) }
-        ensures cause { result ≡ Err KeeperRefusal.Fault → IsUnadopted D.Store (record connection { step_limit = None }) }
+        ensures cause { IfErr result (λ why. IsUnadopted D.Store why (record connection { step_limit = None })) }
     {
         SqlKeeper::adopt_planned(alloc, connection, Vec::new(alloc))
     }
@@ -122,10 +137,28 @@ impl<D: Lasting + Drop> SqlKeeper<D> {
         connection: Connection<D>,
         plan: Vec<KeeperPlan>,
     ) -> Result<SqlKeeper<D>, KeeperRefusal>
-        ensures unused { IfOk result (λ keeper. IsUnused D.Store None plan.items keeper) }
+        ensures unused { IfOk result (λ keeper. IsUnused false plan.items keeper) }
         ensures opens { IfOk result (λ keeper. HasCleanDisk (database D.Store keeper) → Opens (state D.Store connection) (database D.Store keeper)) }
         ensures adopted { IfOk result (λ keeper. HasCleanDisk (database D.Store keeper) → IsAdopted D.Store (record connection { step_limit = None })) }
-        ensures cause { result ≡ Err KeeperRefusal.Fault → IsUnadopted D.Store (record connection { step_limit = None }) }
+        ensures cause { IfErr result (λ why. IsUnadopted D.Store why (record connection { step_limit = None })) }
+    {
+        SqlKeeper::adopt_so(alloc, connection, plan, false)
+    }
+
+    // The same, and the keeper may tell its rows. Then what is supposed of its store says that the database
+    // has a history, or no table.
+    fn adopt_so(
+        alloc: Global,
+        connection: Connection<D>,
+        plan: Vec<KeeperPlan>,
+        tells: bool,
+    ) -> Result<SqlKeeper<D>, KeeperRefusal>
+        requires { tells ≡ true → D.Lasting.supposed → HasCleanDisk (state D.Store connection) → HasAny (state D.Store (record connection { step_limit = None })) }
+        ensures unused { IfOk result (λ keeper. IsUnused tells plan.items keeper) }
+        ensures opens { IfOk result (λ keeper. HasCleanDisk (database D.Store keeper) → Opens (state D.Store connection) (database D.Store keeper)) }
+        ensures clean { IfOk result (λ keeper. HasCleanDisk (database D.Store keeper) → HasCleanDisk (state D.Store connection)) }
+        ensures adopted { IfOk result (λ keeper. HasCleanDisk (database D.Store keeper) → IsAdopted D.Store (record connection { step_limit = None })) }
+        ensures cause { IfErr result (λ why. IsUnadopted D.Store why (record connection { step_limit = None })) }
     {
         let mut connection = connection;
         connection.set_step_limit(None);
@@ -137,7 +170,7 @@ impl<D: Lasting + Drop> SqlKeeper<D> {
             plan,
             calls: 0,
             faults: 0,
-            tells: false,
+            tells,
             alloc,
         })
     }
@@ -192,6 +225,7 @@ impl<D: Lasting> SqlKeeper<D> {
     fn count_refusal(&mut self, refusal: KeeperRefusal)
         ensures same { self.new ≡ record self.old { calls = self.new.calls; faults = self.new.faults } }
         ensures rose { refusal ≡ KeeperRefusal.Fault → Rose self.old.faults self.new.faults }
+        ensures quiet { (refusal ≡ KeeperRefusal.Fault) ⊎ (self.new ≡ self.old) }
         ensures numbered { refusal ≢ KeeperRefusal.NoMemory → self.new.calls ≡ one_more self.old.calls }
         ensures no_fall { self.old.faults ≤ self.new.faults }
     {
@@ -206,29 +240,32 @@ impl<D: Lasting> SqlKeeper<D> {
     // Reads the rows.
     fn read(&mut self, alloc: Global) -> Result<Vec<Row>, KeeperRefusal>
         ensures same { self.new ≡ record self.old { connection = self.new.connection } }
-        ensures answer { IfOk result (λ loaded. IfSome (told_by D.Store self.old) (λ all. loaded.items ≡ all)) }
-        ensures unchanged { told_by D.Store self.new ≡ told_by D.Store self.old }
+        ensures answer { IfOk result (λ loaded. (all : List Row) → TellsRows D.Store D.Lasting.supposed self.new all → loaded.items ≡ all) }
+        ensures unchanged { StillTold (TellsRows D.Store D.Lasting.supposed self.old) (TellsRows D.Store D.Lasting.supposed self.new) }
+        ensures settled { StillSettled (IsSettled D.Store) self.old self.new }
         ensures loads { HasCleanDisk (database D.Store self.new) → IfOk result (λ loaded. Loads (database D.Store self.old) (database D.Store self.new) loaded.items) }
         ensures refused { HasCleanDisk (database D.Store self.new) → IsTrue (database D.Store self.new).is_open → OnErr result (Keeps (database D.Store self.old) (database D.Store self.new)) }
         ensures read { HasCleanDisk (database D.Store self.new) → IfOk result (λ loaded. IsRead (database D.Store self.old) (database D.Store self.new) loaded.items) }
-        ensures failed { HasCleanDisk (database D.Store self.new) → result ≡ Err KeeperRefusal.Fault → FailsToLoad (database D.Store self.old) (database D.Store self.new) }
+        ensures failed { HasCleanDisk (database D.Store self.new) → IfErr result (λ why. FailsToLoad why (database D.Store self.old) (database D.Store self.new)) }
         ensures clean { HasCleanDisk (database D.Store self.new) → HasCleanDisk (database D.Store self.old) }
+        ensures was_open { HasCleanDisk (database D.Store self.new) → IsTrue (database D.Store self.new).is_open → IsTrue (database D.Store self.old).is_open }
     {
         load_rows(&mut self.connection, alloc)
     }
 
     // Makes the change. Where it was made there is no doubt left.
     fn write(&mut self, change: &Change) -> Result<(), KeeperRefusal>
-        requires suits { ForSome (told_by D.Store self.old) (λ all. Suits change.now all) }
+        requires suits { (all : List Row) → TellsRows D.Store D.Lasting.supposed self.old all → Suits change.now all }
         requires timely { IsTimely change.now }
-        ensures made { OnOk result (told_by D.Store self.new ≡ option_map (changed change.now) (told_by D.Store self.old)) }
+        ensures made { OnOk result (ToldWith change.now (TellsRows D.Store D.Lasting.supposed self.old) (TellsRows D.Store D.Lasting.supposed self.new)) }
         ensures no_doubt { OnOk result (self.new ≡ record self.old { connection = self.new.connection; doubt = None }) }
-        ensures unchanged { OnErr result (told_by D.Store self.new ≡ told_by D.Store self.old) }
+        ensures unchanged { OnErr result (StillTold (TellsRows D.Store D.Lasting.supposed self.old) (TellsRows D.Store D.Lasting.supposed self.new)) }
         ensures same { OnErr result (self.new ≡ record self.old { connection = self.new.connection }) }
         ensures makes { HasCleanDisk (database D.Store self.new) → OnOk result (Makes (database D.Store self.old) (database D.Store self.new) change.now) }
         ensures refused { HasCleanDisk (database D.Store self.new) → IsTrue (database D.Store self.new).is_open → OnErr result (Keeps (database D.Store self.old) (database D.Store self.new)) }
-        ensures failed { HasCleanDisk (database D.Store self.new) → result ≡ Err KeeperRefusal.Fault → FailsToMake change.now (database D.Store self.old) (database D.Store self.new) }
+        ensures failed { HasCleanDisk (database D.Store self.new) → IfErr result (λ why. FailsToMake why change.now (database D.Store self.old) (database D.Store self.new)) }
         ensures clean { HasCleanDisk (database D.Store self.new) → HasCleanDisk (database D.Store self.old) }
+        ensures was_open { HasCleanDisk (database D.Store self.new) → IsTrue (database D.Store self.new).is_open → IsTrue (database D.Store self.old).is_open }
     {
         match make(&mut self.connection, change) {
             Ok(()) => {
@@ -241,12 +278,16 @@ impl<D: Lasting> SqlKeeper<D> {
 
     // Reads the rows once more, and then makes the doubtful change where it is to be kept.
     fn settle(&mut self) -> Result<(), KeeperRefusal>
-        ensures reopened { Reopened result (told_by D.Store self.old) (doubtful self.old) (told_by D.Store self.new) (doubtful self.new) }
+        ensures reopened { Reopened result (TellsRows D.Store D.Lasting.supposed self.old) (doubtful self.old) (TellsRows D.Store D.Lasting.supposed self.new) (doubtful self.new) }
+        ensures clear { OnOk result (self.new.doubt ≡ None) }
+        ensures still { OnErr result (StillSettled (IsSettled D.Store) self.old self.new) }
         ensures same { self.new ≡ record self.old { connection = self.new.connection; doubt = self.new.doubt } }
         ensures settles { HasCleanDisk (database D.Store self.new) → OnOk result (Settles (database D.Store self.old) (database D.Store self.new) self.old.doubt) }
         ensures reads { HasCleanDisk (database D.Store self.new) → OnOk result (IsReadAgain D.Store self.old.connection) }
         ensures refused { HasCleanDisk (database D.Store self.new) → IsTrue (database D.Store self.new).is_open → OnErr result (Keeps (database D.Store self.old) (database D.Store self.new)) }
-        ensures failed { HasCleanDisk (database D.Store self.new) → result ≡ Err KeeperRefusal.Fault → FailsToSettle D.Store self.old.connection self.new.connection self.old.doubt }
+        ensures failed { HasCleanDisk (database D.Store self.new) → IfErr result (λ why. FailsToSettle D.Store why self.old.connection self.new.connection self.old.doubt) }
+        ensures clean { HasCleanDisk (database D.Store self.new) → HasCleanDisk (database D.Store self.old) }
+        ensures was_open { HasCleanDisk (database D.Store self.new) → IsTrue (database D.Store self.new).is_open → IsTrue (database D.Store self.old).is_open }
     {
         let alloc = self.alloc;
         let _rows = self.read(alloc)?;
@@ -262,9 +303,9 @@ impl<D: Lasting> SqlKeeper<D> {
 
 impl<D: Lasting> Keeper for SqlKeeper<D> {
     ghost use Rattle.history_sqlite.specs.Keeping.{doubtful};
-    ghost use Rattle.history_sqlite.specs.Telling.{told_by};
+    ghost use Rattle.history_sqlite.specs.Telling.{IsSettled, TellsRows};
 
-    ghost rows = { told_by D.Store };
+    ghost tells = { TellsRows D.Store D.Lasting.supposed };
 
     ghost doubt = { doubtful };
 
@@ -273,21 +314,28 @@ impl<D: Lasting> Keeper for SqlKeeper<D> {
     // Each statement may want for memory.
     ghost takes_none = { λ _. ⊥ };
 
+    ghost settled = { IsSettled D.Store };
+
     fn load(&mut self, alloc: Global) -> Result<Vec<Row>, KeeperRefusal>
         requires { doubtful self.old ≡ None }
         ensures loads { HasCleanDisk (database D.Store self.new) → IfOk result (λ loaded. Loads (database D.Store self.old) (database D.Store self.new) loaded.items) }
         ensures read { HasCleanDisk (database D.Store self.new) → IfOk result (λ loaded. IsRead (database D.Store self.old) (database D.Store self.new) loaded.items) }
         ensures refused { HasCleanDisk (database D.Store self.new) → IsTrue (database D.Store self.new).is_open → OnErr result (Keeps (database D.Store self.old) (database D.Store self.new)) }
-        ensures failed { HasCleanDisk (database D.Store self.new) → result ≡ Err KeeperRefusal.Fault → IsSome (planned self.old) ⊎ FailsToLoad (database D.Store self.old) (database D.Store self.new) }
+        ensures failed { HasCleanDisk (database D.Store self.new) → IfErr result (λ why. IsSome (planned self.old) ⊎ FailsToLoad why (database D.Store self.old) (database D.Store self.new)) }
         ensures planned { IsSome (planned self.old) → result ≡ Err KeeperRefusal.Fault }
         ensures idle { IsSome (planned self.old) → self.new ≡ after_fault self.old }
         ensures numbered { result ≢ Err KeeperRefusal.NoMemory → self.new.calls ≡ one_more self.old.calls }
+        ensures uncounted { result ≡ Err KeeperRefusal.NoMemory → self.new.calls ≡ self.old.calls }
         ensures plan { self.new.plan ≡ self.old.plan }
+        ensures may { self.new.tells ≡ self.old.tells }
+        ensures clean { HasCleanDisk (database D.Store self.new) → HasCleanDisk (database D.Store self.old) }
 
-        ensures answer { IfOk result (λ loaded. IfSome (told_by D.Store self.old) (λ all. loaded.items ≡ all)) }
-        ensures unchanged { told_by D.Store self.new ≡ told_by D.Store self.old }
+        ensures answer { IfOk result (λ loaded. (all : List Row) → TellsRows D.Store D.Lasting.supposed self.new all → loaded.items ≡ all) }
+        ensures unchanged { StillTold (TellsRows D.Store D.Lasting.supposed self.old) (TellsRows D.Store D.Lasting.supposed self.new) }
         ensures no_doubt { doubtful self.new ≡ None }
+        ensures settled { StillSettled (IsSettled D.Store) self.old self.new }
         ensures cause { result ≡ Err KeeperRefusal.Fault → Rose self.old.faults self.new.faults }
+        ensures quiet { (result ≡ Err KeeperRefusal.Fault) ⊎ (self.new.faults ≡ self.old.faults) }
         ensures counts { self.old.faults ≤ self.new.faults }
     {
         if self.next_plan().is_some() {
@@ -308,18 +356,23 @@ impl<D: Lasting> Keeper for SqlKeeper<D> {
 
     fn commit(&mut self, change: &Change) -> Result<(), KeeperRefusal>
         requires no_doubt { doubtful self.old ≡ None }
-        requires suits { ForSome (told_by D.Store self.old) (λ all. Suits change.now all) }
+        requires suits { (all : List Row) → TellsRows D.Store D.Lasting.supposed self.old all → Suits change.now all }
         requires timely { IsTimely change.now }
         ensures makes { HasCleanDisk (database D.Store self.new) → OnOk result (Makes (database D.Store self.old) (database D.Store self.new) change.now) }
         ensures refused { HasCleanDisk (database D.Store self.new) → IsTrue (database D.Store self.new).is_open → OnErr result (Keeps (database D.Store self.old) (database D.Store self.new)) }
-        ensures failed { HasCleanDisk (database D.Store self.new) → result ≡ Err KeeperRefusal.Fault → IsSome (planned self.old) ⊎ FailsToMake change.now (database D.Store self.old) (database D.Store self.new) }
+        ensures failed { HasCleanDisk (database D.Store self.new) → IfErr result (λ why. IsSome (planned self.old) ⊎ FailsToMake why change.now (database D.Store self.old) (database D.Store self.new)) }
         ensures planned { IsSome (planned self.old) → result ≡ Err KeeperRefusal.Fault }
         ensures idle { IfSome (planned self.old) (λ plan. self.new ≡ record (after_fault self.old) { doubt = Some (record { change = change.now; keep = plan.keep }) }) }
+        ensures unplanned { result ≡ Err KeeperRefusal.Fault → planned self.old ≡ None → self.new.doubt ≡ Some (record { change = change.now; keep = false }) }
         ensures numbered { result ≢ Err KeeperRefusal.NoMemory → self.new.calls ≡ one_more self.old.calls }
+        ensures uncounted { result ≡ Err KeeperRefusal.NoMemory → self.new.calls ≡ self.old.calls }
         ensures plan { self.new.plan ≡ self.old.plan }
+        ensures may { self.new.tells ≡ self.old.tells }
+        ensures clean { HasCleanDisk (database D.Store self.new) → HasCleanDisk (database D.Store self.old) }
 
-        ensures committed { Committed change.now result (told_by D.Store self.old) (told_by D.Store self.new) (doubtful self.new) }
+        ensures committed { Committed change.now result (TellsRows D.Store D.Lasting.supposed self.old) (TellsRows D.Store D.Lasting.supposed self.new) (doubtful self.new) }
         ensures cause { result ≡ Err KeeperRefusal.Fault → Rose self.old.faults self.new.faults }
+        ensures quiet { (result ≡ Err KeeperRefusal.Fault) ⊎ (self.new.faults ≡ self.old.faults) }
         ensures counts { self.old.faults ≤ self.new.faults }
     {
         if let Some(plan) = self.next_plan() {
@@ -351,14 +404,20 @@ impl<D: Lasting> Keeper for SqlKeeper<D> {
         ensures settles { HasCleanDisk (database D.Store self.new) → OnOk result (Settles (database D.Store self.old) (database D.Store self.new) self.old.doubt) }
         ensures reads { HasCleanDisk (database D.Store self.new) → OnOk result (IsReadAgain D.Store self.old.connection) }
         ensures refused { HasCleanDisk (database D.Store self.new) → IsTrue (database D.Store self.new).is_open → OnErr result (Keeps (database D.Store self.old) (database D.Store self.new)) }
-        ensures failed { HasCleanDisk (database D.Store self.new) → result ≡ Err KeeperRefusal.Fault → IsSome (planned self.old) ⊎ FailsToSettle D.Store self.old.connection self.new.connection self.old.doubt }
+        ensures failed { HasCleanDisk (database D.Store self.new) → IfErr result (λ why. IsSome (planned self.old) ⊎ FailsToSettle D.Store why self.old.connection self.new.connection self.old.doubt) }
         ensures planned { IsSome (planned self.old) → result ≡ Err KeeperRefusal.Fault }
         ensures idle { IsSome (planned self.old) → self.new ≡ after_fault self.old }
         ensures numbered { result ≢ Err KeeperRefusal.NoMemory → self.new.calls ≡ one_more self.old.calls }
+        ensures uncounted { result ≡ Err KeeperRefusal.NoMemory → self.new.calls ≡ self.old.calls }
         ensures plan { self.new.plan ≡ self.old.plan }
+        ensures may { self.new.tells ≡ self.old.tells }
+        ensures clean { HasCleanDisk (database D.Store self.new) → HasCleanDisk (database D.Store self.old) }
 
-        ensures reopened { Reopened result (told_by D.Store self.old) (doubtful self.old) (told_by D.Store self.new) (doubtful self.new) }
+        ensures reopened { Reopened result (TellsRows D.Store D.Lasting.supposed self.old) (doubtful self.old) (TellsRows D.Store D.Lasting.supposed self.new) (doubtful self.new) }
+        ensures settled { OnOk result (IsSettled D.Store self.old self.new) }
+        ensures still { OnErr result (StillSettled (IsSettled D.Store) self.old self.new) }
         ensures cause { result ≡ Err KeeperRefusal.Fault → Rose self.old.faults self.new.faults }
+        ensures quiet { (result ≡ Err KeeperRefusal.Fault) ⊎ (self.new.faults ≡ self.old.faults) }
         ensures counts { self.old.faults ≤ self.new.faults }
     {
         if self.next_plan().is_some() {

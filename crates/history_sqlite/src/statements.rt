@@ -1,5 +1,5 @@
 //! The three statements on the table. Each is one call, outside any transaction.
-ghost use Rattle.std.specs.Prelude.{pos, ◌≡◌, ◌≢◌, ◌≤◌, ◌^◌, ◌-◌, ◌++◌, ◌∷◌, None, [], IsTrue, map, Any, IfOk, OnOk, OnErr};
+ghost use Rattle.std.specs.Prelude.{pos, ◌≡◌, ◌≢◌, ◌≤◌, ◌^◌, ◌-◌, ◌++◌, ◌∷◌, None, [], IsTrue, map, Any, IfOk, IfErr, OnOk, OnErr};
 ghost use Rattle.sqlite.specs.Held.{state};
 ghost use Rattle.sqlite.specs.State.{HasCleanDisk, Shown};
 ghost use Rattle.sqlite.specs.declared.types.Value.TheVariants.{Int, Text};
@@ -24,8 +24,9 @@ pub fn make<D: Alter>(connection: &mut Connection<D>, change: &Change) -> Result
     requires { IsTimely change.now }
     ensures makes { HasCleanDisk (state D.Store connection.new) → OnOk result (Makes (state D.Store connection.old) (state D.Store connection.new) change.now) }
     ensures refused { HasCleanDisk (state D.Store connection.new) → IsTrue (state D.Store connection.new).is_open → OnErr result (Keeps (state D.Store connection.old) (state D.Store connection.new)) }
-    ensures cause { HasCleanDisk (state D.Store connection.new) → result ≡ Err KeeperRefusal.Fault → FailsToMake change.now (state D.Store connection.old) (state D.Store connection.new) }
+    ensures cause { HasCleanDisk (state D.Store connection.new) → IfErr result (λ why. FailsToMake why change.now (state D.Store connection.old) (state D.Store connection.new)) }
     ensures clean { HasCleanDisk (state D.Store connection.new) → HasCleanDisk (state D.Store connection.old) }
+    ensures was_open { HasCleanDisk (state D.Store connection.new) → IsTrue (state D.Store connection.new).is_open → IsTrue (state D.Store connection.old).is_open }
 {
     match change {
         Change::Add(row) => insert(connection, row),
@@ -46,8 +47,9 @@ pub fn insert<D: Alter>(connection: &mut Connection<D>, row: &Row) -> Result<(),
     requires changed { row.now.time_changed ≤ 2 ^ 63 - 1 }
     ensures adds { HasCleanDisk (state D.Store connection.new) → OnOk result (Adds (state D.Store connection.old) (state D.Store connection.new) row.now) }
     ensures refused { HasCleanDisk (state D.Store connection.new) → IsTrue (state D.Store connection.new).is_open → OnErr result (Keeps (state D.Store connection.old) (state D.Store connection.new)) }
-    ensures cause { HasCleanDisk (state D.Store connection.new) → result ≡ Err KeeperRefusal.Fault → IsRefused insert_text (columns_of row.now) (state D.Store connection.old) (state D.Store connection.new) }
+    ensures cause { HasCleanDisk (state D.Store connection.new) → IfErr result (λ why. IsRefused why insert_text (columns_of row.now) (state D.Store connection.old) (state D.Store connection.new)) }
     ensures clean { HasCleanDisk (state D.Store connection.new) → HasCleanDisk (state D.Store connection.old) }
+    ensures was_open { HasCleanDisk (state D.Store connection.new) → IsTrue (state D.Store connection.new).is_open → IsTrue (state D.Store connection.old).is_open }
 {
     let columns = columns_of_row(row);
     match connection.execute(
@@ -117,8 +119,9 @@ pub fn update<D: Alter>(
     requires { time ≤ 2 ^ 63 - 1 }
     ensures advances { HasCleanDisk (state D.Store connection.new) → OnOk result (Advances (state D.Store connection.old) (state D.Store connection.new) entry reached reason time) }
     ensures refused { HasCleanDisk (state D.Store connection.new) → IsTrue (state D.Store connection.new).is_open → OnErr result (Keeps (state D.Store connection.old) (state D.Store connection.new)) }
-    ensures cause { HasCleanDisk (state D.Store connection.new) → result ≡ Err KeeperRefusal.Fault → IsRefused update_text (values_of entry reached reason time) (state D.Store connection.old) (state D.Store connection.new) }
+    ensures cause { HasCleanDisk (state D.Store connection.new) → IfErr result (λ why. IsRefused why update_text (values_of entry reached reason time) (state D.Store connection.old) (state D.Store connection.new)) }
     ensures clean { HasCleanDisk (state D.Store connection.new) → HasCleanDisk (state D.Store connection.old) }
+    ensures was_open { HasCleanDisk (state D.Store connection.new) → IsTrue (state D.Store connection.new).is_open → IsTrue (state D.Store connection.old).is_open }
 {
     let values = values_of_state(entry, reached, reason, time);
     match connection.execute(
@@ -153,9 +156,10 @@ pub fn values_of_state(
 pub fn select<D: Alter>(connection: &mut Connection<D>) -> Result<Vec<sqlite::Row>, KeeperRefusal>
     ensures gives { HasCleanDisk (state D.Store connection.new) → IfOk result (λ shown. Gives (state D.Store connection.old) (state D.Store connection.new) shown.items) }
     ensures refused { HasCleanDisk (state D.Store connection.new) → IsTrue (state D.Store connection.new).is_open → OnErr result (Keeps (state D.Store connection.old) (state D.Store connection.new)) }
-    ensures cause { HasCleanDisk (state D.Store connection.new) → result ≡ Err KeeperRefusal.Fault → IsUnanswered select_text (state D.Store connection.old) (state D.Store connection.new) }
+    ensures cause { HasCleanDisk (state D.Store connection.new) → IfErr result (λ why. IsUnanswered why select_text (state D.Store connection.old) (state D.Store connection.new)) }
     ensures shown { HasCleanDisk (state D.Store connection.new) → IfOk result (λ shown. Shown select_text [] (state D.Store connection.old) (state D.Store connection.new) shown.items) }
     ensures clean { HasCleanDisk (state D.Store connection.new) → HasCleanDisk (state D.Store connection.old) }
+    ensures was_open { HasCleanDisk (state D.Store connection.new) → IsTrue (state D.Store connection.new).is_open → IsTrue (state D.Store connection.old).is_open }
 {
     match connection.query_all(
         "SELECT entry, tag, client, device, component, version_old, version_new, digest, flags, state, reason, time_added, time_changed, duration, protocol, retry_of FROM history2 ORDER BY entry",
@@ -175,8 +179,9 @@ pub fn load_rows<D: Alter>(
     ensures loads { HasCleanDisk (state D.Store connection.new) → IfOk result (λ loaded. Loads (state D.Store connection.old) (state D.Store connection.new) loaded.items) }
     ensures read { HasCleanDisk (state D.Store connection.new) → IfOk result (λ loaded. IsRead (state D.Store connection.old) (state D.Store connection.new) loaded.items) }
     ensures refused { HasCleanDisk (state D.Store connection.new) → IsTrue (state D.Store connection.new).is_open → OnErr result (Keeps (state D.Store connection.old) (state D.Store connection.new)) }
-    ensures cause { HasCleanDisk (state D.Store connection.new) → result ≡ Err KeeperRefusal.Fault → FailsToLoad (state D.Store connection.old) (state D.Store connection.new) }
+    ensures cause { HasCleanDisk (state D.Store connection.new) → IfErr result (λ why. FailsToLoad why (state D.Store connection.old) (state D.Store connection.new)) }
     ensures clean { HasCleanDisk (state D.Store connection.new) → HasCleanDisk (state D.Store connection.old) }
+    ensures was_open { HasCleanDisk (state D.Store connection.new) → IsTrue (state D.Store connection.new).is_open → IsTrue (state D.Store connection.old).is_open }
 {
     let table = select(connection)?;
     read_rows(alloc, &table)

@@ -25,7 +25,7 @@ pub fn open_tables<D: Alter>(
     ensures opens { HasCleanDisk (state D.Store connection.new) → OnOk result (Opens (state D.Store connection.old) (state D.Store connection.new)) }
     ensures adopted { HasCleanDisk (state D.Store connection.new) → OnOk result (IsAdopted D.Store connection.old) }
     ensures refused { HasCleanDisk (state D.Store connection.new) → IsTrue (state D.Store connection.new).is_open → OnErr result (LeavesTables (state D.Store connection.old) (state D.Store connection.new)) }
-    ensures cause { HasCleanDisk (state D.Store connection.new) → result ≡ Err KeeperRefusal.Fault → FailsToOpen D.Store connection.old connection.new }
+    ensures cause { HasCleanDisk (state D.Store connection.new) → IfErr result (λ why. FailsToOpen D.Store why connection.old connection.new) }
     ensures clean { HasCleanDisk (state D.Store connection.new) → HasCleanDisk (state D.Store connection.old) }
 {
     if !connection.is_autocommit() {

@@ -27,7 +27,7 @@ pub fn take_over<D: Alter>(
     ensures takes { HasCleanDisk (state D.Store connection.new) → OnOk result (TakesOver (state D.Store connection.old) (state D.Store connection.new)) }
     ensures refused { HasCleanDisk (state D.Store connection.new) → IsTrue (state D.Store connection.new).is_open → OnErr result (KeepsOlder (state D.Store connection.old) (state D.Store connection.new)) }
     ensures whole { Survives (state D.Store connection.old) (state D.Store connection.new) (TakesAll (state D.Store connection.old)) }
-    ensures cause { HasCleanDisk (state D.Store connection.new) → result ≡ Err KeeperRefusal.Fault → FailsToTakeOver D.Store connection.old }
+    ensures cause { HasCleanDisk (state D.Store connection.new) → IfErr result (λ why. FailsToTakeOver D.Store why connection.old) }
 {
     let rows = load_older_rows(connection, alloc)?;
     match copy_over(connection, &rows) {
@@ -44,7 +44,7 @@ fn load_older_rows<D: Alter>(
     ensures loads { HasCleanDisk (state D.Store connection.new) → IfOk result (λ loaded. LoadsOlder (state D.Store connection.old) (state D.Store connection.new) loaded.items) }
     ensures timely { IfOk result (λ loaded. AllByRecursion IsTimelyRow loaded.items) }
     ensures refused { HasCleanDisk (state D.Store connection.new) → IsTrue (state D.Store connection.new).is_open → OnErr result (KeepsOlder (state D.Store connection.old) (state D.Store connection.new)) }
-    ensures cause { HasCleanDisk (state D.Store connection.new) → result ≡ Err KeeperRefusal.Fault → FailsToLoadOlder (state D.Store connection.old) (state D.Store connection.new) }
+    ensures cause { HasCleanDisk (state D.Store connection.new) → IfErr result (λ why. FailsToLoadOlder why (state D.Store connection.old) (state D.Store connection.new)) }
     ensures survives { Survives (state D.Store connection.old) (state D.Store connection.new) (TakesAll (state D.Store connection.old)) }
 {
     let table = select_older(connection)?;
@@ -55,7 +55,7 @@ fn load_older_rows<D: Alter>(
 fn select_older<D: Alter>(connection: &mut Connection<D>) -> Result<Vec<sqlite::Row>, KeeperRefusal>
     ensures gives { HasCleanDisk (state D.Store connection.new) → IfOk result (λ shown. GivesOlder (state D.Store connection.old) (state D.Store connection.new) shown.items) }
     ensures refused { HasCleanDisk (state D.Store connection.new) → IsTrue (state D.Store connection.new).is_open → OnErr result (KeepsOlder (state D.Store connection.old) (state D.Store connection.new)) }
-    ensures cause { HasCleanDisk (state D.Store connection.new) → result ≡ Err KeeperRefusal.Fault → IsUnanswered older_select_text (state D.Store connection.old) (state D.Store connection.new) }
+    ensures cause { HasCleanDisk (state D.Store connection.new) → IfErr result (λ why. IsUnanswered why older_select_text (state D.Store connection.old) (state D.Store connection.new)) }
     ensures shown { HasCleanDisk (state D.Store connection.new) → IfOk result (λ shown. Shown older_select_text [] (state D.Store connection.old) (state D.Store connection.new) shown.items) }
     ensures survives { Survives (state D.Store connection.old) (state D.Store connection.new) (TakesAll (state D.Store connection.old)) }
 {

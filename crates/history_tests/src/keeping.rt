@@ -1,14 +1,16 @@
 //! What no clause says: that calls succeed, and that the tables are the ones that were meant.
-ghost use Rattle.std.specs.Prelude.{◌≡◌, IfOk, Some, None, []};
+ghost use Rattle.std.specs.Prelude.{◌≡◌, IfOk, List, None, [], false};
 ghost use Rattle.sqlite.specs.Steps.{over_memory};
+ghost use Rattle.history_keeper.specs.declared.row.Row.{Row};
 ghost use Rattle.history_sqlite.specs.Keeping.{doubtful};
-ghost use Rattle.history_sqlite.specs.Telling.{told_by};
+ghost use Rattle.history_sqlite.specs.Telling.{TellsRows};
 
 use fw_base::Name;
 use guid_ids::{DeviceId, device_id};
 use history_keeper::{Change, Keeper, KeeperPlan, KeeperRefusal, Row, RowState};
+use history_sqlite::database_files::open_path;
 use history_sqlite::{FileKeeper, SqlKeeper};
-use sqlite::{Connection, MemStore};
+use sqlite::{Connection, MemStore, Unknown};
 use std::alloc::Global;
 use std::fs;
 use std::rt::HostRuntime;
@@ -72,7 +74,7 @@ fn is_same(a: &Row, b: &Row) -> bool {
 
 // A keeper over memory that tells no rows.
 fn silent(alloc: Global) -> Result<SqlKeeper<MemStore>, Fail>
-    ensures rows { IfOk result (λ keeper. told_by over_memory keeper ≡ None) }
+    ensures silent { IfOk result (λ keeper. keeper.tells ≡ false) }
     ensures no_doubt { IfOk result (λ keeper. doubtful keeper ≡ None) }
 {
     let connection = Connection::open_in_memory(alloc)?;
@@ -81,7 +83,7 @@ fn silent(alloc: Global) -> Result<SqlKeeper<MemStore>, Fail>
 
 // A keeper over memory that tells its rows, and fails at one call.
 fn failing(alloc: Global, call: u32, keep: bool) -> Result<SqlKeeper<MemStore>, Fail>
-    ensures rows { IfOk result (λ keeper. told_by over_memory keeper ≡ Some []) }
+    ensures rows { IfOk result (λ keeper. (all : List Row) → TellsRows over_memory (Unit {0}) keeper all → all ≡ []) }
     ensures no_doubt { IfOk result (λ keeper. doubtful keeper ≡ None) }
 {
     let mut plan = Vec::new(alloc);
@@ -411,9 +413,12 @@ fn tables_that_are_not_taken_over(rt: HostRuntime) -> Result<(), Fail> {
     Ok(())
 }
 
-// Opens the keeper of a file, loads, and adds one row more.
+// Opens the keeper of a file, which tells no rows, loads, and adds one row more.
 fn one_more(rt: &HostRuntime, path: &str) -> Result<usize, Fail> {
-    let mut keeper = FileKeeper::open(rt, path)?;
+    let connection = open_path(rt, path, Unknown)?;
+    let mut keeper = FileKeeper {
+        keeper: SqlKeeper::adopt(rt.alloc(), connection)?,
+    };
     let rows = keeper.load(rt.alloc())?;
     let entry = (rows.len() % 25) as u32 + 1;
     let tag = [b'a' + entry as u8];
@@ -429,6 +434,9 @@ fn a_file_keeps_its_rows(rt: HostRuntime) -> Result<(), Fail> {
         let found = one_more(&rt, "history_tests_kept/history.db")?;
         assert_eq!(rt; found, count);
     }
+    let mut keeper = FileKeeper::open(&rt, "history_tests_kept/history.db", Unknown)?;
+    let rows = keeper.load(rt.alloc())?;
+    assert_eq!(rt; rows.len(), 3);
     fs::remove_dir_all(&rt, "history_tests_kept")?;
     Ok(())
 }
@@ -444,7 +452,7 @@ fn make_file(rt: &HostRuntime, path: &str, tables: &str, rows: &str) -> Result<(
 // Whether a keeper of the file is a fault that leaves the file as it was.
 fn is_left(rt: &HostRuntime, path: &str) -> Result<bool, Fail> {
     let before = fs::read(rt, path)?;
-    let refusal = SqlKeeper::file(rt, path).err();
+    let refusal = SqlKeeper::file(rt, path, Unknown).err();
     let after = fs::read(rt, path)?;
     Ok(refusal == Some(KeeperRefusal::Fault) && before.as_slice() == after.as_slice())
 }
@@ -492,7 +500,8 @@ fn another_file_is_left_as_it_was(rt: HostRuntime) -> Result<(), Fail> {
     fs::write(&rt, "history_tests_left/byte.db", b"x")?;
     assert!(rt; is_left(&rt, "history_tests_left/byte.db")?);
     assert!(rt;
-        SqlKeeper::file(&rt, "history_tests_left/none/no.db").err() == Some(KeeperRefusal::Fault)
+        SqlKeeper::file(&rt, "history_tests_left/none/no.db", Unknown).err()
+            == Some(KeeperRefusal::Fault)
     );
     fs::remove_dir_all(&rt, "history_tests_left")?;
     Ok(())

@@ -39,7 +39,7 @@ pub fn run_over_folder<
 ) -> Result<Ran<FolderShelf<HostRuntime>, K>, NoMemory>
     requires no_plugins { plugins.items ≡ [] }
     requires no_doubt { K.doubt keeper ≡ None }
-    ensures ends { IfOk result (λ ran. WordsEnd K.rows K.doubt K.faults folder_shelves
+    ensures ends { IfOk result (λ ran. WordsEnd K.tells K.doubt K.faults folder_shelves
         (shelves_told (⟦<FolderShelf<HostRuntime> as Shelf>⟧).files (⟦<FolderShelf<HostRuntime> as Shelf>⟧).faults ran.shelves.items)
         program_sheets program_vetoes (plugin_words (λ p. own_sheet p) (λ p. own_vetoes p) (λ p. steps p))
         (command_of (map (λ word. word.now) words.now)) ran.status keeper

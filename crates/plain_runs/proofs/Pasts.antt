@@ -6,13 +6,14 @@ use Rattle.update_log.proofs.Pasts.{past-push}
 use Rattle.update_log.specs.declared.event.Back.{Back}
 use Rattle.update_log.specs.declared.event.Event.{Event}
 use Rattle.update_log.specs.declared.event.Op.{Op}
-use Rattle.update_log.specs.Pasts.{past_of}
+use Rattle.update_log.specs.Pasts.{meets_fault, past_of}
 use Rattle.daemon_core.specs.Housed.{Annalled, Housed, past, past_in}
-use Rattle.daemon_core.specs.Keeping.{keeper_faults, met_fault}
-use Rattle.daemon_core.specs.Turns.{FaultsCounted}
+use Rattle.daemon_core.specs.Keeping.{keeper_faults}
+use Rattle.daemon_core.specs.Turns.{KeeperFared, Signs}
 use Rattle.device_claims.specs.declared.claim.Parts.{Parts}
 use Rattle.plugin_trait.specs.Steps.{PluginSteps}
 use Rattle.plain_runs.specs.Ran.{CameBack, Gained, GaveBack, MadeSteps, StepMade, cut_events, start_events, step_events}
+use Rattle.daemon_core.proofs.Fared.{fared-both, fared-same}
 
 -- The past behind these events.
 abbrev pub grown : List Event → List Event → List Event
@@ -37,7 +38,7 @@ past-gained events old new g = ap past_of g.log ∙ past-of_grown old.core.log e
 -- None of these events met a fault of the keeper.
 abbrev pub MetNone : List Event → Type 0
 MetNone [] = Unit {0}
-MetNone (event ∷ events) = (met_fault event ≡ false) × MetNone events
+MetNone (event ∷ events) = (meets_fault event ≡ false) × MetNone events
 
 met-none : (past events : List Event) → MetNone events → keeper_faults (grown past events) ≡ keeper_faults past
 met-none past [] m = refl
@@ -80,30 +81,20 @@ back-faults by client entry was old new k =
 
 -- ---- over a house
 
-counted-same : {K : Type 0} (faults : K → ℕ) (old new : Housed K) → keeper_faults (past new) ≡ keeper_faults (past old) → new.keeper ≡ old.keeper → FaultsCounted faults old new
-counted-same faults old new e k = let same : faults new.keeper ≡ faults old.keeper = ap faults k in inl (omega arith)
-
-pub counts-same : {K : Type 0} (faults : K → ℕ) (old new : Housed K) → new.keeper ≡ old.keeper → faults old.keeper ≤ faults new.keeper
-counts-same faults old new k = let same : faults new.keeper ≡ faults old.keeper = ap faults k in omega arith
-
-counted-both : {K : Type 0} (faults : K → ℕ) (old mid new : Housed K) → FaultsCounted faults old mid → FaultsCounted faults mid new → faults mid.keeper ≤ faults new.keeper → FaultsCounted faults old new
-counted-both faults old mid new a b c =
-    elim a [
-      | inl x ↦ elim b [ inl y ↦ inl (omega arith) | inr y ↦ inr y ]
-      | inr x ↦ inr (omega arith)
-    ]
+pub counts-same : {K : Type 0} (signs : Signs K) (old new : Housed K) → new.keeper ≡ old.keeper → signs.faults old.keeper ≤ signs.faults new.keeper
+counts-same signs old new k = let same : signs.faults new.keeper ≡ signs.faults old.keeper = ap signs.faults k in omega arith
 
 -- A claim that was given back.
-pub came-counted : {K : Type 0} (faults : K → ℕ) (client entry : ℕ) (old new : Housed K) → CameBack client entry old.annals new.annals → new.keeper ≡ old.keeper → FaultsCounted faults old new
-came-counted faults client entry old new g k = counted-same faults old new (came-faults client entry old.annals new.annals g) k
+pub came-counted : {K : Type 0} (signs : Signs K) (client entry : ℕ) (old new : Housed K) → CameBack client entry old.annals new.annals → new.keeper ≡ old.keeper → KeeperFared signs old new
+came-counted signs client entry old new g k = fared-same signs old new (came-faults client entry old.annals new.annals g) k
 
-pub back-counted : {K : Type 0} (faults : K → ℕ) (by : PluginSteps) (client entry : ℕ) (was : Parts) (old new : Housed K) → GaveBack by client entry was old.annals new.annals → new.keeper ≡ old.keeper → FaultsCounted faults old new
-back-counted faults by client entry was old new g k = counted-same faults old new (back-faults by client entry was old.annals new.annals g) k
+pub back-counted : {K : Type 0} (signs : Signs K) (by : PluginSteps) (client entry : ℕ) (was : Parts) (old new : Housed K) → GaveBack by client entry was old.annals new.annals → new.keeper ≡ old.keeper → KeeperFared signs old new
+back-counted signs by client entry was old new g k = fared-same signs old new (back-faults by client entry was old.annals new.annals g) k
 
 -- A finish behind steps.
-pub ran-counted : {K : Type 0} (faults : K → ℕ) (by : PluginSteps) (client entry : ℕ) (was is : Parts) (old mid new : Housed K) → MadeSteps by client entry was is old.annals mid.annals → mid.keeper ≡ old.keeper → FaultsCounted faults mid new → faults mid.keeper ≤ faults new.keeper → FaultsCounted faults old new
-ran-counted faults by client entry was is old mid new m k c l =
-    counted-both faults old mid new (counted-same faults old mid (made-faults by client entry was is old.annals mid.annals m) k) c l
+pub ran-counted : {K : Type 0} (signs : Signs K) (by : PluginSteps) (client entry : ℕ) (was is : Parts) (old mid new : Housed K) → MadeSteps by client entry was is old.annals mid.annals → mid.keeper ≡ old.keeper → KeeperFared signs mid new → signs.faults mid.keeper ≤ signs.faults new.keeper → KeeperFared signs old new
+ran-counted signs by client entry was is old mid new m k c l =
+    fared-both signs old mid new (fared-same signs old mid (made-faults by client entry was is old.annals mid.annals m) k) c l
 
-pub ran-counts : {K : Type 0} (faults : K → ℕ) (old mid new : Housed K) → mid.keeper ≡ old.keeper → faults mid.keeper ≤ faults new.keeper → faults old.keeper ≤ faults new.keeper
-ran-counts faults old mid new k l = let same : faults mid.keeper ≡ faults old.keeper = ap faults k in omega arith
+pub ran-counts : {K : Type 0} (signs : Signs K) (old mid new : Housed K) → mid.keeper ≡ old.keeper → signs.faults mid.keeper ≤ signs.faults new.keeper → signs.faults old.keeper ≤ signs.faults new.keeper
+ran-counts signs old mid new k l = let same : signs.faults mid.keeper ≡ signs.faults old.keeper = ap signs.faults k in omega arith

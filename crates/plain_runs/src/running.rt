@@ -3,7 +3,7 @@ ghost use Rattle.std.specs.Prelude.{◌≡◌, ◌≤◌, ◌<◌, length, None,
 ghost use Rattle.plugin_trait.specs.Steps.{steps_at};
 ghost use Rattle.update_log.specs.Steps.{next_step};
 ghost use Rattle.update_log.specs.declared.event.Op.{Op};
-ghost use Rattle.daemon_core.specs.Turns.{FaultsCounted};
+ghost use Rattle.daemon_core.specs.Turns.{KeeperFared, signs_of};
 ghost use Rattle.device_claims.specs.States.{IsNext};
 ghost use Rattle.install_engine.specs.RunsIn.{RunsIn, parts_taken};
 ghost use Rattle.plain_runs.specs.Ran.{BroughtHome, Closes, GaveBack, KeepsOut, MadeSteps, Ran};
@@ -216,7 +216,7 @@ fn finish<K: Keeper>(house: &mut House<K>, client: u32, entry: u32, claim: Close
     requires done { next_step claim.trace ≡ None }
     ensures closed { Closes client entry result house.old.annals house.new.annals }
     ensures home { BroughtHome entry claim.board house.old house.new }
-    ensures faults { FaultsCounted K.faults house.old house.new }
+    ensures fared { KeeperFared (signs_of K.tells K.faults) house.old house.new }
     ensures counts { K.faults house.old.keeper ≤ K.faults house.new.keeper }
 {
     let (board, payload) = claim.into_parts();
@@ -245,7 +245,7 @@ pub fn run_claim<K: Keeper>(
     requires served { taken.plugin < length plugins.now }
     ensures ran { Ran (steps_at (λ p. steps p) plugins.now taken.plugin) client taken.entry (parts_taken taken) result house.old.annals house.new.annals }
     ensures home { BroughtHome taken.entry taken.board house.old house.new }
-    ensures faults { FaultsCounted K.faults house.old house.new }
+    ensures fared { KeeperFared (signs_of K.tells K.faults) house.old house.new }
     ensures counts { K.faults house.old.keeper ≤ K.faults house.new.keeper }
 {
     let Taken {

@@ -20,6 +20,7 @@ use Rattle.daemon_core.specs.Finishes.{FinishedSo}
 use Rattle.daemon_core.specs.Housed.{Annalled, Housed, past, past_in, rows_before}
 use Rattle.daemon_core.specs.Judging.{JudgeTurned, standing, standing_of}
 use Rattle.daemon_core.specs.Settling.{SettleTurned, device_row, row_to_settle}
+use Rattle.daemon_core.specs.Turns.{Signs}
 use Rattle.turn_lock.specs.Lists.{AddsAtMostOne}
 use Rattle.shared_daemon.specs.declared.entry.Entry.{Entry}
 use Rattle.shared_daemon.specs.Calls.{AddsNone, AddsOn, FinishedIn, JudgedIn, SettledIn, device_in, standing_in}
@@ -51,31 +52,31 @@ finished-adds client entry board payload (Ok finished) met log f = adds-on clien
 finished-adds client entry board payload (Err stop) met log f = adds-off client met log f.0
 
 -- Judgements.
-module _ {K : Type 0} (faults : K → ℕ) (name : Name) (h : Housed K) where
-  pub standing-met : (entry : ℕ) → KeepsName faults name h → IsAnnals h.annals → standing_of h.annals entry ≡ standing_in name (chronicle h) entry
+module _ {K : Type 0} (signs : Signs K) (name : Name) (h : Housed K) where
+  pub standing-met : (entry : ℕ) → KeepsName signs name h → IsAnnals h.annals → standing_of h.annals entry ≡ standing_in name (chronicle h) entry
   standing-met entry n k =
-      to-name faults name h n k (λ f s o p. standing_of h.annals entry ≡ option_map (standing p (views f o p) entry) (row_of (rows f o p) entry))
+      to-name signs name h n k (λ f s o p. standing_of h.annals entry ≡ option_map (standing p (views f o p) entry) (row_of (rows f o p) entry))
       (ap (λ (v : List DeviceView). option_map (standing (past h) v entry) (row_of h.annals.core.rows entry)) k.stands.views
       ∙ ap (λ (r : List Row). option_map (standing (past h) (views h.annals.facts (rows_before h.annals) (past h)) entry) (row_of r entry)) k.stands.rows)
 
-  pub device-met : (device : Selector) → KeepsName faults name h → IsAnnals h.annals → row_to_settle h.annals device ≡ device_in name (chronicle h) device
+  pub device-met : (device : Selector) → KeepsName signs name h → IsAnnals h.annals → row_to_settle h.annals device ≡ device_in name (chronicle h) device
   device-met device n k =
-      to-name faults name h n k (λ f s o p. row_to_settle h.annals device ≡ device_row (views f o p) (rows f o p) device)
+      to-name signs name h n k (λ f s o p. row_to_settle h.annals device ≡ device_row (views f o p) (rows f o p) device)
       (ap (λ (v : List DeviceView). device_row v h.annals.core.rows device) k.stands.views
       ∙ ap (λ (r : List Row). device_row (views h.annals.facts (rows_before h.annals) (past h)) r device) k.stands.rows)
 
-pub judged-in : {K : Type 0} (faults : K → ℕ) (name : Name) (client entry : ℕ) (result : Result Judged Stop) (old new : Housed K) → KeepsName faults name old → IsAnnals old.annals → JudgeTurned client entry result old.annals new.annals
+pub judged-in : {K : Type 0} (signs : Signs K) (name : Name) (client entry : ℕ) (result : Result Judged Stop) (old new : Housed K) → KeepsName signs name old → IsAnnals old.annals → JudgeTurned client entry result old.annals new.annals
     → JudgedIn name client entry result (chronicle old) (chronicle new)
-judged-in faults name client entry (Ok (Judged.Done state stored)) old new n k j = (
+judged-in signs name client entry (Ok (Judged.Done state stored)) old new n k j = (
   j.1.0,
-  sym (standing-met faults name old entry n k) ∙ j.1.1,
+  sym (standing-met signs name old entry n k) ∙ j.1.1,
   on-in client (Event.Judge client entry j.1.0 state stored) old.annals new.annals k j.0 j.1.2,
 )
-judged-in faults name client entry (Ok Judged.Absent) old new n k j = (sym (standing-met faults name old entry n k) ∙ j.1, none-in old.annals new.annals k j.0 j.2)
-judged-in faults name client entry (Ok Judged.Waits) old new n k j = (sym (standing-met faults name old entry n k) ∙ j.1, none-in old.annals new.annals k j.0 j.2)
-judged-in faults name client entry (Ok Judged.Settled) old new n k j = (sym (standing-met faults name old entry n k) ∙ j.1, none-in old.annals new.annals k j.0 j.2)
-judged-in faults name client entry (Err Stop.Off) old new n k j = found-off client old.annals new.annals k j
-judged-in faults name client entry (Err Stop.NoMemory) old new n k j = none-in old.annals new.annals k j.0 j.1
+judged-in signs name client entry (Ok Judged.Absent) old new n k j = (sym (standing-met signs name old entry n k) ∙ j.1, none-in old.annals new.annals k j.0 j.2)
+judged-in signs name client entry (Ok Judged.Waits) old new n k j = (sym (standing-met signs name old entry n k) ∙ j.1, none-in old.annals new.annals k j.0 j.2)
+judged-in signs name client entry (Ok Judged.Settled) old new n k j = (sym (standing-met signs name old entry n k) ∙ j.1, none-in old.annals new.annals k j.0 j.2)
+judged-in signs name client entry (Err Stop.Off) old new n k j = found-off client old.annals new.annals k j
+judged-in signs name client entry (Err Stop.NoMemory) old new n k j = none-in old.annals new.annals k j.0 j.1
 
 pub judged-grew : (client entry : ℕ) (result : Result Judged Stop) (old new : Annalled) → JudgeTurned client entry result old new → Grew client old new
 judged-grew client entry (Ok (Judged.Done state stored)) old new j = inr (Event.Judge client entry j.1.0 state stored, refl, j.1.2)
@@ -94,27 +95,27 @@ judged-adds name client entry (Err Stop.Off) met log j = adds-off client met log
 judged-adds name client entry (Err Stop.NoMemory) met log j = adds-none client met log j
 
 -- Devices that are settled.
-pub settled-in : {K : Type 0} (faults : K → ℕ) (name : Name) (client : ℕ) (device : Selector) (result : Result Settling Stop) (old new : Housed K) → KeepsName faults name old → IsAnnals old.annals → SettleTurned client device result old.annals new.annals
+pub settled-in : {K : Type 0} (signs : Signs K) (name : Name) (client : ℕ) (device : Selector) (result : Result Settling Stop) (old new : Housed K) → KeepsName signs name old → IsAnnals old.annals → SettleTurned client device result old.annals new.annals
     → SettledIn name client device result (chronicle old) (chronicle new)
-settled-in faults name client device (Ok (Settling.Judged entry state stored)) old new n k j = (
-  sym (device-met faults name old device n k) ∙ j.1,
-  (j.2.0, sym (standing-met faults name old entry n k) ∙ j.2.1, on-in client (Event.Judge client entry j.2.0 state stored) old.annals new.annals k j.0 j.2.2),
+settled-in signs name client device (Ok (Settling.Judged entry state stored)) old new n k j = (
+  sym (device-met signs name old device n k) ∙ j.1,
+  (j.2.0, sym (standing-met signs name old entry n k) ∙ j.2.1, on-in client (Event.Judge client entry j.2.0 state stored) old.annals new.annals k j.0 j.2.2),
 )
-settled-in faults name client device (Ok Settling.NoDevice) old new n k j = (
-  sym (device-met faults name old device n k) ∙ j.1,
+settled-in signs name client device (Ok Settling.NoDevice) old new n k j = (
+  sym (device-met signs name old device n k) ∙ j.1,
   on-in client (Event.Query client (Query.Settle device)) old.annals new.annals k j.0 j.2,
 )
-settled-in faults name client device (Ok (Settling.Waits entry)) old new n k j = (
-  sym (device-met faults name old device n k) ∙ j.1,
-  sym (standing-met faults name old entry n k) ∙ j.2,
+settled-in signs name client device (Ok (Settling.Waits entry)) old new n k j = (
+  sym (device-met signs name old device n k) ∙ j.1,
+  sym (standing-met signs name old entry n k) ∙ j.2,
   on-in client (Event.Query client (Query.Settle device)) old.annals new.annals k j.0 j.3,
 )
-settled-in faults name client device (Ok Settling.Nothing) old new n k j = (
-  sym (device-met faults name old device n k) ∙ j.1,
+settled-in signs name client device (Ok Settling.Nothing) old new n k j = (
+  sym (device-met signs name old device n k) ∙ j.1,
   on-in client (Event.Query client (Query.Settle device)) old.annals new.annals k j.0 j.2,
 )
-settled-in faults name client device (Err Stop.Off) old new n k j = found-off client old.annals new.annals k j
-settled-in faults name client device (Err Stop.NoMemory) old new n k j = none-in old.annals new.annals k j.0 j.1
+settled-in signs name client device (Err Stop.Off) old new n k j = found-off client old.annals new.annals k j
+settled-in signs name client device (Err Stop.NoMemory) old new n k j = none-in old.annals new.annals k j.0 j.1
 
 pub settled-grew : (client : ℕ) (device : Selector) (result : Result Settling Stop) (old new : Annalled) → SettleTurned client device result old new → Grew client old new
 settled-grew client device (Ok (Settling.Judged entry state stored)) old new j = inr (Event.Judge client entry j.2.0 state stored, refl, j.2.2)

@@ -15,6 +15,7 @@ use Rattle.daemon_core.specs.Annals.{IsAnnals}
 use Rattle.daemon_core.specs.House.{IsHouse}
 use Rattle.daemon_core.specs.Housed.{Housed, past}
 use Rattle.daemon_core.specs.Parts.{AllHome}
+use Rattle.daemon_core.specs.Turns.{Signs}
 use Rattle.daemon_core.proofs.PartsKept.{house-home}
 use Rattle.turn_lock.specs.Lists.{BeginsWith, beyond, made_by}
 use Rattle.turn_lock.specs.Shown.{HasItsEntries, IsFresh, IsReady, LockId, PassView, new_pass}
@@ -29,10 +30,10 @@ use Rattle.shared_daemon.proofs.Others.{free-stays}
 use Rattle.shared_daemon.proofs.Seeing.{log-named, others-since, stays}
 
 -- A house whose log is that of its name as the daemon begins.
-pub start-named : {K : Type 0} (faults : K → ℕ) (name : Name) (h : Housed K) → KeepsName faults name h → IsAnnals h.annals → chronicle h ≡ name.start → IsLogOf name name.start
-start-named faults name h n k e =
+pub start-named : {K : Type 0} (signs : Signs K) (name : Name) (h : Housed K) → KeepsName signs name h → IsAnnals h.annals → chronicle h ≡ name.start → IsLogOf name name.start
+start-named signs name h n k e =
     subst (λ (l : List Entry). IsLogOf name l) e
-    (log-named faults name h n k ([], e ∙ sym (append-nil name.start)))
+    (log-named signs name h n k ([], e ∙ sym (append-nil name.start)))
 
 beyond-own : (list : List Entry) → beyond list list ≡ []
 beyond-own list = ap (λ (l : List Entry). beyond list l) (sym (append-nil list)) ∙ beyond_append list []
@@ -115,7 +116,7 @@ module _ (name : Name) (log : List Entry) where
       )
 
 -- Where nothing is out, all boards are at home and all blocks are free.
-pub home-left : {K : Type 0} (told : K → Option (List Row)) (doubted : K → Option Change) (h : Housed K) → IsAnnals h.annals → IsHouse told doubted h → HasNothing (chronicle h) → AllHome h.places
+pub home-left : {K : Type 0} (told : K → List Row → Type 0) (doubted : K → Option Change) (h : Housed K) → IsAnnals h.annals → IsHouse told doubted h → HasNothing (chronicle h) → AllHome h.places
 home-left told doubted h k w n =
     house-home told doubted h w (ap live (sym (past-entries h.annals k)) ∙ n.1)
 
@@ -125,7 +126,7 @@ nothing-held h k n =
     ∙ ap (λ (hs : List Held). blocks_out hs (live (past_seen (chronicle h)))) n.0
     ∙ ap (λ (ls : List LiveEntry). blocks_out [] ls) n.1
 
-pub free-left : {K : Type 0} (told : K → Option (List Row)) (doubted : K → Option Change) (h : Housed K) → IsAnnals h.annals → IsHouse told doubted h → HasNothing (chronicle h) → h.pool.free ≡ h.annals.facts.pool
+pub free-left : {K : Type 0} (told : K → List Row → Type 0) (doubted : K → Option Change) (h : Housed K) → IsAnnals h.annals → IsHouse told doubted h → HasNothing (chronicle h) → h.pool.free ≡ h.annals.facts.pool
 free-left told doubted h k w n =
     let none : held (past h) ≡ 0 = nothing-held h k n in
     let all : h.pool.free + held (past h) ≡ h.annals.facts.pool = w.free in

@@ -27,6 +27,7 @@ use Rattle.shared_daemon.specs.declared.entry.Entry.{Entry}
 use Rattle.shared_daemon.specs.Calls.{WasSeen}
 use Rattle.shared_daemon.specs.Entries.{chronicle, entries_in, maker_of, past_seen}
 use Rattle.daemon_core.specs.Planned.{HavePlans}
+use Rattle.daemon_core.specs.Turns.{Signs}
 use Rattle.shared_daemon.specs.Names.{KeepsName, Name}
 use Rattle.shared_daemon.specs.Resumed.{MayResumeRow, ResumedGave, ResumedIn, StoppedIn}
 use Rattle.shared_daemon.proofs.Keeping.{Grew, calm-grew, off-calm}
@@ -71,37 +72,37 @@ resumed-adds entry fetched (Ok (Claimed.Kept kept state)) met log t = absurd t
 resumed-adds entry fetched (Ok (Claimed.Refused refusal)) met log t = adds-on 0 (Event.Resume 0 entry fetched (ResumeAnswer.Refused refusal) t.0) met log t.2
 resumed-adds entry fetched (Err stopped) met log t = stopped-adds stopped.stop met log t
 
-pub resumed-gave : {K : Type 0} (faults : K → ℕ) (name : Name) (entry : ℕ) (held : Option (Ticket × Fetched)) (result : Result Claimed ResumeStop) (old new : Housed K) → KeepsName faults name new → IsAnnals new.annals → HavePlans name.plans old.places → ResumeGave entry held result old new
+pub resumed-gave : {K : Type 0} (signs : Signs K) (name : Name) (entry : ℕ) (held : Option (Ticket × Fetched)) (result : Result Claimed ResumeStop) (old new : Housed K) → KeepsName signs name new → IsAnnals new.annals → HavePlans name.plans old.places → ResumeGave entry held result old new
     → ResumedGave name entry held result (chronicle new)
-resumed-gave faults name entry held (Ok (Claimed.Taken taken)) old new n k p g = (
+resumed-gave signs name entry held (Ok (Claimed.Taken taken)) old new n k p g = (
   g.0,
   g.1,
   record {
     number = g.3.0;
-    is = to-name faults name new n k (λ f s o es. IsTaken f s o es 0 taken g.3.0) g.3.1;
+    is = to-name signs name new n k (λ f s o es. IsTaken f s o es 0 taken g.3.0) g.3.1;
     planned = taken-planned name.plans old.places g.3.0 taken p g.3.3;
   },
 )
-resumed-gave faults name entry held (Ok (Claimed.Kept kept state)) old new n k p g = absurd g
-resumed-gave faults name entry held (Ok (Claimed.Refused refusal)) old new n k p g = tt
-resumed-gave faults name entry held (Err stopped) old new n k p g = g.2
+resumed-gave signs name entry held (Ok (Claimed.Kept kept state)) old new n k p g = absurd g
+resumed-gave signs name entry held (Ok (Claimed.Refused refusal)) old new n k p g = tt
+resumed-gave signs name entry held (Err stopped) old new n k p g = g.2
 
-module _ {K : Type 0} (faults : K → ℕ) (name : Name) (h : Housed K) (entry : ℕ) where
-  pub put_off-met : (held : Option (Ticket × Fetched)) → KeepsName faults name h → IsAnnals h.annals → WasSeen name 0 (MayResumeRow name entry held) (chronicle h) → IsPutOff h.annals entry
+module _ {K : Type 0} (signs : Signs K) (name : Name) (h : Housed K) (entry : ℕ) where
+  pub put_off-met : (held : Option (Ticket × Fetched)) → KeepsName signs name h → IsAnnals h.annals → WasSeen name 0 (MayResumeRow name entry held) (chronicle h) → IsPutOff h.annals entry
   put_off-met held n k w =
       let m = w.holds in
       record {
         row = m.row;
-        row_is = subst (λ (all : List Row). row_of all entry ≡ Some m.row) (sym (rows-met faults name 0 h n k)) (pending-met name 0 w.seen (chronicle h) entry m.row w.log w.meets refl m.row_is m.pending);
+        row_is = subst (λ (all : List Row). row_of all entry ≡ Some m.row) (sym (rows-met signs name 0 h n k)) (pending-met name 0 w.seen (chronicle h) entry m.row w.log w.meets refl m.row_is m.pending);
         pending = m.pending;
       }
 
-  pub comes-in-met : (held : Option (Ticket × Fetched)) → KeepsName faults name h → IsAnnals h.annals → WasSeen name 0 (MayResumeRow name entry held) (chronicle h) → ComesIn h.annals entry held
+  pub comes-in-met : (held : Option (Ticket × Fetched)) → KeepsName signs name h → IsAnnals h.annals → WasSeen name 0 (MayResumeRow name entry held) (chronicle h) → ComesIn h.annals entry held
   comes-in-met (Some held) n k w =
       let m = w.holds.has in
       record {
         held_is =
-            from-name faults name h n k (λ f s o p. hold p 0 ≡ Some (held_by held.0 (block_count held.1)))
+            from-name signs name h n k (λ f s o p. hold p 0 ≡ Some (held_by held.0 (block_count held.1)))
             (others.hold-stays name.facts name.first name.opening 0 (past_seen w.seen) (past_seen (chronicle h)) (stays name 0 w.seen (chronicle h) w.log w.meets) ∙ m.held_is);
         pending_is = m.pending_is;
         whole = subst (λ (f : Facts). IsFetchOf f held.0.release held.1) (sym n.facts_are) m.whole;
@@ -111,11 +112,11 @@ module _ {K : Type 0} (faults : K → ℕ) (name : Name) (h : Housed K) (entry :
         m.refusal,
         record {
           free =
-              from-name faults name h n k (λ f s o p. IsFree p 0)
+              from-name signs name h n k (λ f s o p. IsFree p 0)
               (others.free-stays name.facts name.first name.opening 0 (past_seen w.seen) (past_seen (chronicle h)) (stays name 0 w.seen (chronicle h) w.log w.meets) m.free);
           event = m.event;
           last =
-              from-name faults name h n k (λ f s o p. last_of 0 p ≡ Some m.event)
+              from-name signs name h n k (λ f s o p. last_of 0 p ≡ Some m.event)
               (others.last-stays name.facts name.first name.opening 0 (past_seen w.seen) (past_seen (chronicle h)) (stays name 0 w.seen (chronicle h) w.log w.meets) ∙ m.last);
           refused = m.refused;
         },

@@ -10,21 +10,22 @@ use Rattle.daemon_core.specs.Claims.{ClaimGave, IsTaken}
 use Rattle.daemon_core.specs.Housed.{Housed}
 use Rattle.shared_daemon.specs.Entries.{chronicle}
 use Rattle.daemon_core.specs.Planned.{HavePlans}
+use Rattle.daemon_core.specs.Turns.{Signs}
 use Rattle.shared_daemon.specs.Names.{KeepsName, Name}
 use Rattle.shared_daemon.specs.Taking.{Gave}
 use Rattle.daemon_core.proofs.Planned.{taken-planned}
 use Rattle.shared_daemon.proofs.Seeing.{to-name}
 
-pub gave-named : {K : Type 0} (faults : K → ℕ) (name : Name) (client : ℕ) (ticket : Ticket) (fetched : Fetched) (result : Result Claimed ClaimStop) (old new : Housed K) → KeepsName faults name new → IsAnnals new.annals → HavePlans name.plans old.places → ClaimGave client ticket fetched result old new
+pub gave-named : {K : Type 0} (signs : Signs K) (name : Name) (client : ℕ) (ticket : Ticket) (fetched : Fetched) (result : Result Claimed ClaimStop) (old new : Housed K) → KeepsName signs name new → IsAnnals new.annals → HavePlans name.plans old.places → ClaimGave client ticket fetched result old new
     → Gave name client ticket fetched result (chronicle new)
-gave-named faults name client ticket fetched (Ok (Claimed.Taken taken)) old new n k p g = (
+gave-named signs name client ticket fetched (Ok (Claimed.Taken taken)) old new n k p g = (
   g.0,
   record {
     number = g.2.0;
-    is = to-name faults name new n k (λ f s o es. IsTaken f s o es client taken g.2.0) g.2.1;
+    is = to-name signs name new n k (λ f s o es. IsTaken f s o es client taken g.2.0) g.2.1;
     planned = taken-planned name.plans old.places g.2.0 taken p g.2.3;
   },
 )
-gave-named faults name client ticket fetched (Ok (Claimed.Kept entry state)) old new n k p g = tt
-gave-named faults name client ticket fetched (Ok (Claimed.Refused refusal)) old new n k p g = tt
-gave-named faults name client ticket fetched (Err stopped) old new n k p g = (g.2, g.3)
+gave-named signs name client ticket fetched (Ok (Claimed.Kept entry state)) old new n k p g = tt
+gave-named signs name client ticket fetched (Ok (Claimed.Refused refusal)) old new n k p g = tt
+gave-named signs name client ticket fetched (Err stopped) old new n k p g = (g.2, g.3)

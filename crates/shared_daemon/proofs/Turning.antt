@@ -8,7 +8,7 @@ use Rattle.daemon_core.specs.declared.stop.Stop.{Stop}
 use Rattle.daemon_core.specs.Annals.{Appended, IsAnnals, Unchanged}
 use Rattle.daemon_core.specs.Goes.{Went}
 use Rattle.daemon_core.specs.Housed.{Annalled, Housed, past_in}
-use Rattle.daemon_core.specs.Turns.{Turned, WentOff}
+use Rattle.daemon_core.specs.Turns.{Signs, Turned, WentOff}
 use Rattle.turn_lock.specs.Lists.{AddsAtMostOne, BeginsWith, beyond, made_by}
 use Rattle.turn_lock.specs.Shown.{LockId, PassView, TurnView, IsReady}
 use Rattle.turn_lock.proofs.Counting.{beyond_append, made_by-own}
@@ -85,14 +85,14 @@ added-own n met log a =
 
 module _ {X : Type 0} (name : Name) (old : PassView Entry) (turn : TurnView X Entry) where
   -- As a turn begins.
-  pub begun : {K : Type 0} (faults : K → ℕ) (h : Housed K) (lock : LockId) → IsPass lock name old → KeepsName faults name h → IsAnnals h.annals → turn.number ≡ old.number → turn.base ≡ old.base → turn.mine ≡ old.mine → turn.seen ≡ chronicle h
+  pub begun : {K : Type 0} (signs : Signs K) (h : Housed K) (lock : LockId) → IsPass lock name old → KeepsName signs name h → IsAnnals h.annals → turn.number ≡ old.number → turn.base ≡ old.base → turn.mine ≡ old.mine → turn.seen ≡ chronicle h
       → BeginsWith turn.seen old.seen → turn.mine ≡ made_by maker_of turn.number (drop turn.base turn.seen) → Begins name old turn
-  begun faults h lock p n k number base mine list begins own =
+  begun signs h lock p n k number base mine list begins own =
       let at : turn.base ≡ length name.start = base ∙ p.base in
       let owns : turn.mine ≡ made_by maker_of turn.number (beyond name.start turn.seen) = own ∙ ap (λ (b : ℕ). made_by maker_of turn.number (drop b turn.seen)) at in
       let same : made_by maker_of old.number (beyond name.start old.seen) ≡ made_by maker_of old.number (beyond name.start turn.seen) =
       sym p.mine ∙ sym mine ∙ owns ∙ ap (λ (i : ℕ). made_by maker_of i (beyond name.start turn.seen)) number in
-      let whole : IsLogOf name (chronicle h) = log-named faults name h n k (subst (λ (l : List Entry). BeginsWith l name.start) list (begins-trans turn.seen old.seen name.start begins p.log.begins)) in
+      let whole : IsLogOf name (chronicle h) = log-named signs name h n k (subst (λ (l : List Entry). BeginsWith l name.start) list (begins-trans turn.seen old.seen name.start begins p.log.begins)) in
       record {
         number = number;
         base = at;

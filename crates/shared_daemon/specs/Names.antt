@@ -1,5 +1,5 @@
 -- What no turn changes, and what is always true of a log, of a house and of a pass that have a name.
-use Rattle.std.specs.Prelude.{◌≡◌, ◌⊎◌, ◌<◌, ◌≤◌, ◌+◌, ◌-◌, ◌^◌, ℕ, true, false, List, [], length, Option, None, IfSome}
+use Rattle.std.specs.Prelude.{◌≡◌, ◌⊎◌, ◌<◌, ◌≤◌, ◌+◌, ◌-◌, ◌^◌, ℕ, true, false, List, [], length}
 use Rattle.emulated_boards.specs.declared.fault.PlannedFault.{PlannedFault}
 use Rattle.fw_facts.specs.declared.seen.Seen.{Seen}
 use Rattle.history_keeper.specs.Histories.{IsHistory}
@@ -11,6 +11,7 @@ use Rattle.daemon_core.specs.Annals.{IsLegalSo}
 use Rattle.daemon_core.specs.Housed.{Housed, past}
 use Rattle.daemon_core.specs.Keeping.{keeper_faults}
 use Rattle.daemon_core.specs.Planned.{HavePlans}
+use Rattle.daemon_core.specs.Turns.{Signs}
 use Rattle.turn_lock.specs.Lists.{BeginsWith, beyond, made_by}
 use Rattle.turn_lock.specs.Shown.{LockId, LockView, PassView, IsReady}
 use Rattle.shared_daemon.specs.declared.entry.Entry.{Entry}
@@ -18,9 +19,9 @@ use Rattle.shared_daemon.specs.Entries.{AllMade, maker_of, past_seen}
 
 -- What no turn changes: the facts, what each first image shows, the faults that are planned for each board,
 -- by its number, the rows before the log, how many boots there were, and the log as the daemon began; of the
--- keeper, how many faults it had counted then; and, as the first house met it, how many it had counted, and
--- the rows that it told, if it told them.
-pub record Name : Type 0 where
+-- keeper, how many faults it had counted then, and how many the log told; how many it had counted as the first
+-- house met it; and what was so of it as the daemon began, if it still tells rows.
+pub record Name : Type 1 where
   pub facts : Facts
   pub first : List Seen
   pub plans : List (List PlannedFault)
@@ -28,8 +29,9 @@ pub record Name : Type 0 where
   pub boots : ℕ
   pub start : List Entry
   pub start_faults : ℕ
+  pub start_told : ℕ
   pub first_faults : ℕ
-  pub told : Option (List Row)
+  pub came : Type 0
 
 -- A name of nothing.
 abbrev pub no_facts : Facts
@@ -53,8 +55,9 @@ no_name =
       boots = 0;
       start = [];
       start_faults = 0;
+      start_told = 0;
       first_faults = 0;
-      told = None;
+      came = Unit {0};
     }
 
 -- A log of this name: it begins with the log as the daemon began, and had no boot since; it is legal, over
@@ -69,8 +72,8 @@ pub record IsLogOf (name : Name) (log : List Entry) : Type 0 where
 -- A house of this name, which was booted: its last boot read the history, and nobody opened the keeper again
 -- since. Each board at home has the faults planned that its number has. Each fault of the keeper that the log
 -- tells was counted by the keeper, or its count stands at its end; that count has not fallen since the daemon
--- began; and the rows that it told at first are those before the log.
-pub record KeepsName {K : Type 0} (faults : K → ℕ) (name : Name) (h : Housed K) : Type 0 where
+-- began, and is as it was then while the log tells no more faults; and if the keeper tells rows, it came so.
+pub record KeepsName {K : Type 0} (signs : Signs K) (name : Name) (h : Housed K) : Type 0 where
   pub facts_are : h.annals.facts ≡ name.facts
   pub first_are : h.annals.first ≡ name.first
   pub opening_is : h.annals.opening ≡ name.opening
@@ -79,9 +82,11 @@ pub record KeepsName {K : Type 0} (faults : K → ℕ) (name : Name) (h : Housed
   pub booted : 0 < name.boots
   pub boots_are : boots (past h) ≡ name.boots
   pub planned : HavePlans name.plans h.places
-  pub counted : (keeper_faults (past h) + name.first_faults ≤ faults h.keeper) ⊎ (2 ^ 64 - 1 ≤ faults h.keeper)
-  pub counts : name.start_faults ≤ faults h.keeper
-  pub told : IfSome name.told (λ rows. rows ≡ name.opening)
+  pub counted : (keeper_faults (past h) + name.first_faults ≤ signs.faults h.keeper) ⊎ (2 ^ 64 - 1 ≤ signs.faults h.keeper)
+  pub counts : name.start_faults ≤ signs.faults h.keeper
+  pub grows : name.start_told ≤ keeper_faults (past h)
+  pub quiet : keeper_faults (past h) ≡ name.start_told → signs.faults h.keeper ≡ name.start_faults
+  pub told : (all : List Row) → signs.tells h.keeper all → name.came
 
 -- A pass of this lock that has no turn: what it saw is a log of the name, and its own entries are those
 -- that it made since the daemon began.

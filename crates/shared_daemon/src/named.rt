@@ -2,6 +2,7 @@
 ghost use Rattle.std.specs.Prelude.{◌≡◌};
 ghost use Rattle.daemon_core.specs.Annals.{IsAnnals};
 ghost use Rattle.daemon_core.specs.House.{IsHouse};
+ghost use Rattle.daemon_core.specs.Turns.{signs_of};
 ghost use Rattle.shared_daemon.specs.Entries.{chronicle, maker_of};
 ghost use Rattle.shared_daemon.specs.Names.{KeepsName};
 
@@ -20,13 +21,14 @@ pub struct Named<K: Keeper, N: Naming> {
 
 impl<K: Keeper, N: Naming> Model for Named<K, N> {
     ghost use Rattle.daemon_core.specs.Housed.{Housed};
+    ghost use Rattle.daemon_core.specs.Turns.{signs_of};
     ghost use Rattle.shared_daemon.specs.Names.{KeepsName};
 
     ghost Value = { Housed K };
 
     ghost view = { λ n. n.house };
 
-    ghost invariant = { λ n. KeepsName K.faults N.name n.house };
+    ghost invariant = { λ n. KeepsName (signs_of K.tells K.faults) N.name n.house };
 }
 
 impl<K: Keeper, N: Naming> Chronicle for Named<K, N> {
@@ -39,7 +41,7 @@ impl<K: Keeper, N: Naming> Chronicle for Named<K, N> {
 
 impl<K: Keeper, N: Naming> Named<K, N> {
     pub(crate) fn of(house: House<K>) -> Named<K, N>
-        requires { KeepsName K.faults N.name house }
+        requires { KeepsName (signs_of K.tells K.faults) N.name house }
         ensures { result ≡ house }
     {
         Named {
@@ -50,7 +52,7 @@ impl<K: Keeper, N: Naming> Named<K, N> {
 
     pub(crate) fn into_house(self) -> House<K>
         ensures same { result ≡ self }
-        ensures name { KeepsName K.faults N.name result }
+        ensures name { KeepsName (signs_of K.tells K.faults) N.name result }
     {
         let Named { house, of: _ } = self;
         house
@@ -59,8 +61,8 @@ impl<K: Keeper, N: Naming> Named<K, N> {
     // What is always true of it.
     pub(crate) fn known(&self)
         ensures annals { IsAnnals self.now.annals }
-        ensures name { KeepsName K.faults N.name self.now }
-        ensures house { IsHouse K.rows K.doubt self.now }
+        ensures name { KeepsName (signs_of K.tells K.faults) N.name self.now }
+        ensures house { IsHouse K.tells K.doubt self.now }
     {
         self.house.known();
     }

@@ -3,6 +3,7 @@ use crate::campaigns::{Asked, Left, document, run};
 use crate::files::{Failing, plan};
 use history_sqlite::database_files::open_path;
 use history_sqlite::{FileKeeper, SqlKeeper};
+use sqlite::Unknown;
 use std::fs;
 use std::rt::HostRuntime;
 use std::sync::Wait;
@@ -17,9 +18,9 @@ fn run_at<R: Threads + Wait + Sync>(
     failing: Failing,
 ) -> Result<Left, Fail> {
     let alloc = host.alloc();
-    let connection = open_path(host, path)?;
+    let connection = open_path(host, path, Unknown)?;
     let keeper = SqlKeeper::adopt_planned(alloc, connection, plan(alloc, failing)?)?;
-    FileKeeper::crosses();
+    FileKeeper::<Unknown>::crosses();
     let text = document(alloc, Asked::Again)?;
     let (left, _keeper) = run(rt, alloc, &text, FileKeeper { keeper })?;
     Ok(left)

@@ -49,15 +49,18 @@ fn part_crosses<T: Send>()
 impl Keeper for StoppingKeeper {
     ghost use Rattle.sqlite.specs.Files.{over_files};
     ghost use Rattle.history_sqlite.specs.Keeping.{doubtful};
-    ghost use Rattle.history_sqlite.specs.Telling.{told_by};
+    ghost use Rattle.history_sqlite.specs.Telling.{IsSettled, TellsRows};
 
-    ghost rows = { λ s. told_by over_files s.keeper };
+    // Nothing is known of what such files held as they were opened.
+    ghost tells = { λ s. TellsRows over_files ⊥ s.keeper };
 
     ghost doubt = { λ s. doubtful s.keeper };
 
     ghost faults = { λ s. s.keeper.faults };
 
     ghost takes_none = { λ _. ⊥ };
+
+    ghost settled = { λ first s. IsSettled over_files first.keeper s.keeper };
 
     fn load(&mut self, alloc: Global) -> Result<Vec<Row>, KeeperRefusal> {
         self.keeper.load(alloc)

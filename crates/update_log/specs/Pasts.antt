@@ -74,17 +74,25 @@ abbrev pub is_found_fault : Found → Bool
 is_found_fault Found.Fault = true
 is_found_fault _ = false
 
--- The event puts its boot off: the power is cut, or the history couldn't be read or written.
+-- The event met a fault of the keeper: the history couldn't be read or written.
+abbrev pub meets_fault : Event → Bool
+meets_fault (Event.Boot number time limit found boards) = is_found_fault found
+meets_fault (Event.Claim client request fetched (ClaimAnswer.Refused refusal)) = is_keeper_fault refusal
+meets_fault (Event.Schedule client request (ClaimAnswer.Refused refusal)) = is_keeper_fault refusal
+meets_fault (Event.Resume client entry fetched (ResumeAnswer.Refused refusal) stored) = is_keeper_fault refusal || is_fault stored
+meets_fault (Event.Resume client entry fetched ResumeAnswer.Begun stored) = is_fault stored
+meets_fault (Event.Finish client entry state stored) = is_fault stored
+meets_fault (Event.Judge client entry version state stored) = is_fault stored
+meets_fault _ = false
+
+-- The event is that the power is cut.
+abbrev pub is_cut : Event → Bool
+is_cut Event.Cut = true
+is_cut _ = false
+
+-- The event puts its boot off: the power is cut, or it met a fault of the keeper.
 abbrev pub puts_off : Event → Bool
-puts_off (Event.Boot number time limit found boards) = is_found_fault found
-puts_off (Event.Claim client request fetched (ClaimAnswer.Refused refusal)) = is_keeper_fault refusal
-puts_off (Event.Schedule client request (ClaimAnswer.Refused refusal)) = is_keeper_fault refusal
-puts_off (Event.Resume client entry fetched (ResumeAnswer.Refused refusal) stored) = is_keeper_fault refusal || is_fault stored
-puts_off (Event.Resume client entry fetched ResumeAnswer.Begun stored) = is_fault stored
-puts_off (Event.Finish client entry state stored) = is_fault stored
-puts_off (Event.Judge client entry version state stored) = is_fault stored
-puts_off Event.Cut = true
-puts_off _ = false
+puts_off event = is_cut event || meets_fault event
 
 -- The boot that runs is off.
 abbrev pub off_after : Event → Bool → Bool

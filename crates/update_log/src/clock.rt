@@ -1,6 +1,6 @@
 //! How far the boot that runs has come.
 ghost use Rattle.std.specs.Prelude.{◌≡◌, ◌<◌, ◌+◌, ◌^◌, None, false};
-ghost use Rattle.update_log.specs.Pasts.{boots_after, counted_after, is_boot, is_counted, is_fault, is_found_fault, is_keeper_fault, limit_after, off_after, puts_off, time_after};
+ghost use Rattle.update_log.specs.Pasts.{boots_after, counted_after, is_boot, is_counted, is_cut, is_fault, is_found_fault, is_keeper_fault, limit_after, meets_fault, off_after, puts_off, time_after};
 ghost use Rattle.update_log.specs.CoreFolds.{is_refused_by_keeper, stops_resuming};
 
 use crate::answer::{ClaimAnswer, ResumeAnswer};
@@ -167,19 +167,47 @@ fn is_counted(event: &Event) -> bool
 fn puts_off(event: &Event) -> bool
     ensures { result ≡ puts_off event.now }
 {
+    is_cut(event) || meets_fault(event)
+}
+
+fn is_cut(event: &Event) -> bool
+    ensures { result ≡ is_cut event.now }
+{
+    match event {
+        Event::Cut => true,
+        Event::Boot { .. }
+        | Event::Query { .. }
+        | Event::Ask { .. }
+        | Event::Claim { .. }
+        | Event::Schedule { .. }
+        | Event::Resume { .. }
+        | Event::Start { .. }
+        | Event::End { .. }
+        | Event::Finish { .. }
+        | Event::Judge { .. }
+        | Event::Unplug { .. }
+        | Event::Plug { .. }
+        | Event::GiveBack { .. } => false,
+    }
+}
+
+/// Whether the event met a fault of the keeper.
+pub fn meets_fault(event: &Event) -> bool
+    ensures { result ≡ meets_fault event.now }
+{
     match event {
         Event::Boot { found, .. } => is_found_fault(*found),
         Event::Claim { answer, .. } | Event::Schedule { answer, .. } => refuses_by_keeper(*answer),
         Event::Resume { answer, stored, .. } => stops_resuming(*answer, *stored),
         Event::Finish { stored, .. } | Event::Judge { stored, .. } => is_fault(*stored),
-        Event::Cut => true,
         Event::Query { .. }
         | Event::Ask { .. }
         | Event::Start { .. }
         | Event::End { .. }
         | Event::Unplug { .. }
         | Event::Plug { .. }
-        | Event::GiveBack { .. } => false,
+        | Event::GiveBack { .. }
+        | Event::Cut => false,
     }
 }
 

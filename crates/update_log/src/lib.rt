@@ -42,6 +42,7 @@ pub mod trace;
 mod tracing;
 
 pub use answer::{AskAnswer, ClaimAnswer, PlugAnswer, ResumeAnswer};
+pub use clock::meets_fault;
 pub use deciding::verdict;
 pub use decision::{Decision, Stage};
 pub use event::{Back, BoardSeen, Event, Found, Log, Op, Query, Stored};

@@ -19,8 +19,8 @@ impl<K: Keeper> House<K> {
     ghost use Rattle.daemon_core.specs.Boots.{BootTurned, IsReady};
     ghost use Rattle.daemon_core.specs.House.{SameElsewhere};
     ghost use Rattle.daemon_core.specs.Housed.{past};
-    ghost use Rattle.daemon_core.specs.Reading.{CanBootAfter, FirstRead, LaterRead};
-    ghost use Rattle.daemon_core.specs.Turns.{FaultsCounted};
+    ghost use Rattle.daemon_core.specs.Reading.{CanBootAfter, FirstRead, IsUngiven, LaterRead, WasRead};
+    ghost use Rattle.daemon_core.specs.Turns.{KeeperFared, signs_of};
 
     /// Starts the machine by that plan: loads the keeper's rows, reopening it first where an earlier boot
     /// went well, starts each board, and puts the boot behind the log. No client has a hold or a live entry,
@@ -35,8 +35,9 @@ impl<K: Keeper> House<K> {
         requires live { live (past self.old) ≡ [] }
         requires few { boots (past self.old) + 1 < 2 ^ 32 }
         requires timely { plan.now.time ≤ 2 ^ 63 - 1 }
-        ensures turn { BootTurned K.rows K.doubt plan.now result self.old self.new }
-        ensures faults { FaultsCounted K.faults self.old self.new }
+        ensures turn { BootTurned K.tells K.doubt K.settled plan.now result self.old self.new }
+        ensures ungiven { IsUngiven K.settled self.old.keeper self.new.keeper }
+        ensures fared { KeeperFared (signs_of K.tells K.faults) self.old self.new }
         ensures counts { K.faults self.old.keeper ≤ K.faults self.new.keeper }
     {
         let Ok(listed) = self.make_room(alloc) else {
@@ -76,9 +77,10 @@ impl<K: Keeper> House<K> {
     // Reads the history.
     fn read(&mut self, alloc: Global) -> Result<Loaded, NoMemory>
         requires { 1 ≤ self.old.annals.core.row_room }
-        ensures ready { CanBootAfter K.rows K.doubt result self.new }
-        ensures first { self.old.annals.loaded ≡ false → FirstRead K.rows K.doubt K.faults result self.old.annals self.new.annals self.old.keeper self.new.keeper }
-        ensures later { self.old.annals.loaded ≡ true → (self.new.annals ≡ record self.old.annals { reopened = true }) × LaterRead K.rows K.doubt K.faults result self.old.annals.core.rows self.old.annals.core.doubt self.old.keeper self.new.keeper }
+        ensures ready { CanBootAfter K.tells K.doubt result self.new }
+        ensures first { self.old.annals.loaded ≡ false → FirstRead K.tells K.doubt K.faults result self.old.annals self.new.annals self.old.keeper self.new.keeper }
+        ensures later { self.old.annals.loaded ≡ true → (self.new.annals ≡ record self.old.annals { reopened = true }) × LaterRead K.tells K.doubt K.faults K.settled result self.old.annals.core.rows self.old.annals.core.doubt self.old.keeper self.new.keeper }
+        ensures was_read { WasRead K.tells K.settled self.old.keeper self.new.keeper }
         ensures places { self.new.places ≡ self.old.places }
         ensures pool { self.new.pool ≡ self.old.pool }
         ensures counts { K.faults self.old.keeper ≤ K.faults self.new.keeper }
@@ -89,7 +91,7 @@ impl<K: Keeper> House<K> {
 
     // Starts the boards, and puts the boot behind the log.
     fn start_boards(&mut self, plan: &BootPlan, found: Found, listed: Vec<BoardSeen>)
-        requires { IsReady K.rows K.doubt plan.now found listed.items (vec_capacity listed) self.old }
+        requires { IsReady K.tells K.doubt plan.now found listed.items (vec_capacity listed) self.old }
         ensures started { BoardsStarted plan.now found self.old.annals self.new.annals self.old.places self.new.places }
         ensures rows { self.new.annals.core.rows ≡ rows_found found self.old.annals.core.doubt self.old.annals.core.rows }
         ensures keeper { self.new.keeper ≡ self.old.keeper }

@@ -31,7 +31,7 @@ use update_log::{ClaimAnswer, Decision, Event, FetchNote, Refusal, Stage};
 impl<K: Keeper> House<K> {
     ghost use Rattle.daemon_core.specs.Annals.{Appended};
     ghost use Rattle.daemon_core.specs.Housed.{past};
-    ghost use Rattle.daemon_core.specs.Turns.{FaultsCounted, Turned};
+    ghost use Rattle.daemon_core.specs.Turns.{KeeperFared, Turned, signs_of};
 
     /// Claims what was asked for. The ticket is of the client's open hold, which no row that was put off
     /// made; the blocks of the fetch are the hold's, and a whole payload is that of the ticket's release. A
@@ -48,7 +48,7 @@ impl<K: Keeper> House<K> {
         requires whole { IsFetchOf self.old.annals.facts ticket.release fetched }
         ensures turn { Turned client (claim_event client ticket.request fetched) (stopped_by result) self.old.annals self.new.annals }
         ensures gave { ClaimGave client ticket fetched result self.old self.new }
-        ensures faults { FaultsCounted K.faults self.old self.new }
+        ensures fared { KeeperFared (signs_of K.tells K.faults) self.old self.new }
         ensures counts { K.faults self.old.keeper ≤ K.faults self.new.keeper }
     {
         match self.enter(client, 16) {
@@ -72,7 +72,7 @@ impl<K: Keeper> House<K> {
         requires whole { IsFetchOf self.old.annals.facts ticket.release fetched }
         ensures turn { Turned client (claim_event client ticket.request fetched) (stopped_by result) self.old.annals self.new.annals }
         ensures gave { ClaimGave client ticket fetched result self.old self.new }
-        ensures faults { FaultsCounted K.faults self.old self.new }
+        ensures fared { KeeperFared (signs_of K.tells K.faults) self.old self.new }
         ensures counts { K.faults self.old.keeper ≤ K.faults self.new.keeper }
     {
         let decision = self.decided_claim(client, &ticket);
@@ -112,7 +112,7 @@ impl<K: Keeper> House<K> {
         requires whole { IsFetchOf self.old.annals.facts ticket.release fetched }
         ensures turn { Turned client (claim_event client ticket.request fetched) (stopped_by result) self.old.annals self.new.annals }
         ensures gave { ClaimGave client ticket fetched result self.old self.new }
-        ensures faults { FaultsCounted K.faults self.old self.new }
+        ensures fared { KeeperFared (signs_of K.tells K.faults) self.old self.new }
         ensures counts { K.faults self.old.keeper ≤ K.faults self.new.keeper }
     {
         match fetched.into_payload() {
@@ -128,7 +128,7 @@ impl<K: Keeper> House<K> {
         requires broken { is_payload fetched ≡ false }
         ensures appended { Appended client (claim_event client ticket.request fetched result) self.old.annals self.new.annals }
         ensures gave { ClaimGave client ticket fetched (Ok result) self.old self.new }
-        ensures faults { FaultsCounted K.faults self.old self.new }
+        ensures fared { KeeperFared (signs_of K.tells K.faults) self.old self.new }
         ensures counts { K.faults self.old.keeper ≤ K.faults self.new.keeper }
     {
         let refusal = Refusal::Payload(fetched.note());
@@ -160,7 +160,7 @@ impl<K: Keeper> House<K> {
         requires whole { IsPayloadOf self.old.annals.facts ticket.release payload }
         ensures turn { Turned client (claim_event client ticket.request (Fetched.Whole payload)) (stopped_by result) self.old.annals self.new.annals }
         ensures gave { ClaimGave client ticket (Fetched.Whole payload) result self.old self.new }
-        ensures faults { FaultsCounted K.faults self.old self.new }
+        ensures fared { KeeperFared (signs_of K.tells K.faults) self.old self.new }
         ensures counts { K.faults self.old.keeper ≤ K.faults self.new.keeper }
     {
         self.annals.known();
@@ -209,7 +209,7 @@ impl<K: Keeper> House<K> {
         requires marks { IfSome (place_at self.old.places number).board (λ b. 8 ≤ b.room) }
         ensures turn { Turned client (claim_event client ticket.request (Fetched.Whole payload)) (stopped_by result) self.old.annals self.new.annals }
         ensures gave { ClaimGave client ticket (Fetched.Whole payload) result self.old self.new }
-        ensures faults { FaultsCounted K.faults self.old self.new }
+        ensures fared { KeeperFared (signs_of K.tells K.faults) self.old self.new }
         ensures counts { K.faults self.old.keeper ≤ K.faults self.new.keeper }
     {
         self.annals.known();

@@ -1,8 +1,8 @@
 //! The finish of a live entry.
-ghost use Rattle.std.specs.Prelude.{◌≡◌, ◌≢◌, ◌≤◌, ◌<◌, ◌+◌, ◌-◌, ◌^◌, ◌∷◌, [], ℕ, true, None, Any, IfOk, length};
-ghost use Rattle.std.specs.Option.{ForSome};
+ghost use Rattle.std.specs.Prelude.{◌≡◌, ◌≢◌, ◌≤◌, ◌<◌, ◌+◌, ◌-◌, ◌^◌, ◌∷◌, [], ◌⊎◌, ℕ, List, true, None, Any, IfOk, length};
 ghost use Rattle.outer_traits.specs.Faults.{Rose};
 ghost use Rattle.history_keeper.specs.declared.change.Change.{Change};
+ghost use Rattle.history_keeper.specs.declared.row.Row.{Row};
 ghost use Rattle.history_keeper.specs.declared.row.RowState.{RowState};
 ghost use Rattle.update_log.specs.declared.event.Event.{Event};
 ghost use Rattle.update_log.specs.declared.event.Stored.{Stored};
@@ -28,7 +28,7 @@ use update_log::{Event, Stored};
 impl<K: Keeper> House<K> {
     ghost use Rattle.daemon_core.specs.Annals.{Appended, Runs};
     ghost use Rattle.daemon_core.specs.Housed.{past, rows_before};
-    ghost use Rattle.daemon_core.specs.Turns.{FaultsCounted};
+    ghost use Rattle.daemon_core.specs.Turns.{KeeperFared, signs_of};
 
     /// Finishes a live entry that has no next step: its row gets the state in which the entry ends, its
     /// board comes home, and its blocks go to the pool. Of want of memory the row stays begun. It takes no
@@ -45,7 +45,7 @@ impl<K: Keeper> House<K> {
         requires done { (closed : RowState) × IsDone self.old.annals.facts (rows_before self.old.annals) (past self.old) entry closed }
         ensures turn { FinishedSo client entry (number_of self.old.annals.facts (rows_before self.old.annals) (past self.old) entry) board payload result self.old self.new }
         ensures memory { AdvancesForFree K.takes_none → IfOk result (λ finished. finished.stored ≢ Stored.NoMemory) }
-        ensures faults { FaultsCounted K.faults self.old self.new }
+        ensures fared { KeeperFared (signs_of K.tells K.faults) self.old self.new }
         ensures counts { K.faults self.old.keeper ≤ K.faults self.new.keeper }
     {
         match self.go_on(client) {
@@ -65,7 +65,7 @@ impl<K: Keeper> House<K> {
         ensures places { self.new.places ≡ places_with self.old.places (number_of self.old.annals.facts (rows_before self.old.annals) (past self.old) entry) board }
         ensures pool { self.new.pool.free ≡ self.old.pool.free + payload.count }
         ensures memory { AdvancesForFree K.takes_none → result.stored ≢ Stored.NoMemory }
-        ensures faults { FaultsCounted K.faults self.old self.new }
+        ensures fared { KeeperFared (signs_of K.tells K.faults) self.old self.new }
         ensures counts { K.faults self.old.keeper ≤ K.faults self.new.keeper }
     {
         self.annals.known();
@@ -91,11 +91,12 @@ impl<K: Keeper> House<K> {
 // Stores in which state an entry ends. Nothing is stored where its row stays begun.
 fn store<K: Keeper>(annals: &Annals, keeper: &mut K, entry: u32, closed: RowState) -> Stored
     requires no_doubt { K.doubt keeper.old ≡ None }
-    requires suits { ForSome (K.rows keeper.old) (λ all. Any (λ row. row.entry ≡ entry) all) }
+    requires suits { (all : List Row) → K.tells keeper.old all → Any (λ row. row.entry ≡ entry) all }
     requires timely { time_of (past_in annals.now) ≤ 2 ^ 63 - 1 }
-    ensures stored { ClosedAs K.rows K.doubt closed (Change.Advance entry closed (reason_of annals.now.core.rows entry) (time_of (past_in annals.now))) result keeper.old keeper.new }
+    ensures stored { ClosedAs K.tells K.doubt closed (Change.Advance entry closed (reason_of annals.now.core.rows entry) (time_of (past_in annals.now))) result keeper.old keeper.new }
     ensures memory { AdvancesForFree K.takes_none → result ≢ Stored.NoMemory }
     ensures cause { result ≡ Stored.Fault → Rose (K.faults keeper.old) (K.faults keeper.new) }
+    ensures quiet { (result ≡ Stored.Fault) ⊎ (K.faults keeper.new ≡ K.faults keeper.old) }
     ensures counts { K.faults keeper.old ≤ K.faults keeper.new }
 {
     match closed {

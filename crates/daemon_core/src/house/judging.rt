@@ -21,7 +21,7 @@ impl<K: Keeper> House<K> {
     ghost use Rattle.daemon_core.specs.Housed.{past};
     ghost use Rattle.daemon_core.specs.Judging.{JudgeTurned, standing_of};
     ghost use Rattle.daemon_core.specs.Owed.{owed};
-    ghost use Rattle.daemon_core.specs.Turns.{FaultsCounted, Turned};
+    ghost use Rattle.daemon_core.specs.Turns.{KeeperFared, Turned, signs_of};
 
     // Lets the keeper store a judgement, and puts it behind the log.
     pub(crate) fn judge_so(
@@ -39,7 +39,7 @@ impl<K: Keeper> House<K> {
         ensures turn { Turned client (λ stored. Event.Judge client entry version state stored) result self.old.annals self.new.annals }
         ensures places { self.new.places ≡ self.old.places }
         ensures pool { self.new.pool ≡ self.old.pool }
-        ensures faults { FaultsCounted K.faults self.old self.new }
+        ensures fared { KeeperFared (signs_of K.tells K.faults) self.old self.new }
         ensures counts { K.faults self.old.keeper ≤ K.faults self.new.keeper }
     {
         self.annals.known();
@@ -74,7 +74,7 @@ impl<K: Keeper> House<K> {
         ensures turn { JudgeTurned client entry result self.old.annals self.new.annals }
         ensures places { self.new.places ≡ self.old.places }
         ensures pool { self.new.pool ≡ self.old.pool }
-        ensures faults { FaultsCounted K.faults self.old self.new }
+        ensures fared { KeeperFared (signs_of K.tells K.faults) self.old self.new }
         ensures counts { K.faults self.old.keeper ≤ K.faults self.new.keeper }
     {
         self.enter(client, 1)?;
@@ -99,7 +99,7 @@ impl<K: Keeper> House<K> {
         ensures turn { JudgeTurned client entry result self.old.annals self.new.annals }
         ensures places { self.new.places ≡ self.old.places }
         ensures pool { self.new.pool ≡ self.old.pool }
-        ensures faults { FaultsCounted K.faults self.old self.new }
+        ensures fared { KeeperFared (signs_of K.tells K.faults) self.old self.new }
         ensures counts { K.faults self.old.keeper ≤ K.faults self.new.keeper }
     {
         match standing_of(self.annals.core(), entry) {
@@ -119,7 +119,7 @@ impl<K: Keeper> House<K> {
         ensures turn { JudgeTurned client entry result self.old.annals self.new.annals }
         ensures places { self.new.places ≡ self.old.places }
         ensures pool { self.new.pool ≡ self.old.pool }
-        ensures faults { FaultsCounted K.faults self.old self.new }
+        ensures fared { KeeperFared (signs_of K.tells K.faults) self.old self.new }
         ensures counts { K.faults self.old.keeper ≤ K.faults self.new.keeper }
     {
         if self.is_off() {

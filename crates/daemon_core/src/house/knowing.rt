@@ -12,7 +12,7 @@ impl<K: Keeper> House<K> {
     /// What is always true of it, for a caller that needs it.
     pub fn known(&self)
         ensures annals { IsAnnals self.now.annals }
-        ensures house { IsHouse K.rows K.doubt self.now }
+        ensures house { IsHouse K.tells K.doubt self.now }
     {
         self.annals.known();
     }

@@ -24,7 +24,7 @@ use update_log::{Decision, Event, FetchNote, Refusal, ResumeAnswer, Stage, Store
 
 impl<K: Keeper> House<K> {
     ghost use Rattle.daemon_core.specs.Housed.{past};
-    ghost use Rattle.daemon_core.specs.Turns.{FaultsCounted};
+    ghost use Rattle.daemon_core.specs.Turns.{KeeperFared, signs_of};
 
     /// Resumes the install of a row that was put off, which is the daemon's own. What comes in is the open
     /// hold that this row made, with a fetch of its blocks, whose payload, if it is whole, is that of the
@@ -41,7 +41,7 @@ impl<K: Keeper> House<K> {
         requires held { ComesIn self.old.annals entry held }
         ensures turn { ResumeTurned entry (note_in held) result self.old.annals self.new.annals }
         ensures gave { ResumeGave entry held result self.old self.new }
-        ensures faults { FaultsCounted K.faults self.old self.new }
+        ensures fared { KeeperFared (signs_of K.tells K.faults) self.old self.new }
         ensures counts { K.faults self.old.keeper ≤ K.faults self.new.keeper }
     {
         match self.enter(0, 16) {
@@ -60,7 +60,7 @@ impl<K: Keeper> House<K> {
         requires held { ComesIn self.old.annals entry held }
         ensures turn { ResumeTurned entry (note_in held) result self.old.annals self.new.annals }
         ensures gave { ResumeGave entry held result self.old self.new }
-        ensures faults { FaultsCounted K.faults self.old self.new }
+        ensures fared { KeeperFared (signs_of K.tells K.faults) self.old self.new }
         ensures counts { K.faults self.old.keeper ≤ K.faults self.new.keeper }
     {
         match held {
@@ -75,7 +75,7 @@ impl<K: Keeper> House<K> {
         requires refused { (refusal : Refusal) × WasRefused self.old.annals entry refusal }
         ensures turn { ResumeTurned entry None result self.old.annals self.new.annals }
         ensures gave { ResumeGave entry None result self.old self.new }
-        ensures faults { FaultsCounted K.faults self.old self.new }
+        ensures fared { KeeperFared (signs_of K.tells K.faults) self.old self.new }
         ensures counts { K.faults self.old.keeper ≤ K.faults self.new.keeper }
     {
         self.annals.known();
@@ -96,7 +96,7 @@ impl<K: Keeper> House<K> {
         requires held { IsOpenHold self.old.annals entry ticket fetched }
         ensures turn { ResumeTurned entry (Some (note_of fetched)) result self.old.annals self.new.annals }
         ensures gave { ResumeGave entry (Some (ticket, fetched)) result self.old self.new }
-        ensures faults { FaultsCounted K.faults self.old self.new }
+        ensures fared { KeeperFared (signs_of K.tells K.faults) self.old self.new }
         ensures counts { K.faults self.old.keeper ≤ K.faults self.new.keeper }
     {
         let decision = self.decided_resume(entry, &ticket);
@@ -130,7 +130,7 @@ impl<K: Keeper> House<K> {
         requires accepted { IsAccept (resume_verdict self.old.annals entry ticket) }
         ensures turn { ResumeTurned entry (Some (note_of fetched)) result self.old.annals self.new.annals }
         ensures gave { ResumeGave entry (Some (ticket, fetched)) result self.old self.new }
-        ensures faults { FaultsCounted K.faults self.old self.new }
+        ensures fared { KeeperFared (signs_of K.tells K.faults) self.old self.new }
         ensures counts { K.faults self.old.keeper ≤ K.faults self.new.keeper }
     {
         match fetched.into_payload() {
@@ -154,7 +154,7 @@ impl<K: Keeper> House<K> {
         requires accepted { IsAccept (resume_verdict self.old.annals entry ticket) }
         ensures turn { ResumeTurned entry (Some (note_of (Fetched.Whole payload))) result self.old.annals self.new.annals }
         ensures gave { ResumeGave entry (Some (ticket, Fetched.Whole payload)) result self.old self.new }
-        ensures faults { FaultsCounted K.faults self.old self.new }
+        ensures fared { KeeperFared (signs_of K.tells K.faults) self.old self.new }
         ensures counts { K.faults self.old.keeper ≤ K.faults self.new.keeper }
     {
         self.annals.known();
@@ -180,7 +180,7 @@ impl<K: Keeper> House<K> {
         requires marks { IfSome (place_at self.old.places number).board (λ b. 8 ≤ b.room) }
         ensures turn { ResumeTurned entry (Some (note_of (Fetched.Whole payload))) result self.old.annals self.new.annals }
         ensures gave { ResumeGave entry (Some (ticket, Fetched.Whole payload)) result self.old self.new }
-        ensures faults { FaultsCounted K.faults self.old self.new }
+        ensures fared { KeeperFared (signs_of K.tells K.faults) self.old self.new }
         ensures counts { K.faults self.old.keeper ≤ K.faults self.new.keeper }
     {
         self.annals.known();
@@ -217,7 +217,7 @@ impl<K: Keeper> House<K> {
         requires fails { MayFail self.old.annals entry held refusal }
         ensures turn { ResumeTurned entry (note_in held) result self.old.annals self.new.annals }
         ensures gave { ResumeGave entry held result self.old self.new }
-        ensures faults { FaultsCounted K.faults self.old self.new }
+        ensures fared { KeeperFared (signs_of K.tells K.faults) self.old self.new }
         ensures counts { K.faults self.old.keeper ≤ K.faults self.new.keeper }
     {
         self.annals.known();

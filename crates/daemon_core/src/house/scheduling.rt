@@ -16,7 +16,7 @@ impl<K: Keeper> House<K> {
     ghost use Rattle.daemon_core.specs.Housed.{past, rows_before};
     ghost use Rattle.daemon_core.specs.Owed.{owed};
     ghost use Rattle.daemon_core.specs.PutOff.{IsAccept, PutOff};
-    ghost use Rattle.daemon_core.specs.Turns.{FaultsCounted, Turned};
+    ghost use Rattle.daemon_core.specs.Turns.{KeeperFared, Turned, signs_of};
 
     /// Puts an install off to the next boot; the client must have nothing out. Where it is accepted, its
     /// row is stored as pending.
@@ -24,7 +24,7 @@ impl<K: Keeper> House<K> {
         requires booted { 0 < boots (past self.old) }
         requires free { IsFree (past self.old) client }
         ensures turn { Turned client (λ answer. Event.Schedule client request.now answer) result self.old.annals self.new.annals }
-        ensures faults { FaultsCounted K.faults self.old self.new }
+        ensures fared { KeeperFared (signs_of K.tells K.faults) self.old self.new }
         ensures counts { K.faults self.old.keeper ≤ K.faults self.new.keeper }
         ensures places { self.new.places ≡ self.old.places }
         ensures pool { self.new.pool ≡ self.old.pool }
@@ -56,7 +56,7 @@ impl<K: Keeper> House<K> {
         requires room { owed (past self.old) + 1 ≤ self.old.annals.room }
         requires row_room { 1 ≤ self.old.annals.core.row_room }
         ensures done { PutOff client request.now result self.old.annals self.new.annals }
-        ensures faults { FaultsCounted K.faults self.old self.new }
+        ensures fared { KeeperFared (signs_of K.tells K.faults) self.old self.new }
         ensures counts { K.faults self.old.keeper ≤ K.faults self.new.keeper }
         ensures places { self.new.places ≡ self.old.places }
         ensures pool { self.new.pool ≡ self.old.pool }

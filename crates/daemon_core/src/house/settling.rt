@@ -19,7 +19,7 @@ impl<K: Keeper> House<K> {
     ghost use Rattle.daemon_core.specs.Housed.{past};
     ghost use Rattle.daemon_core.specs.Owed.{owed};
     ghost use Rattle.daemon_core.specs.Settling.{SettleTurned, row_to_settle};
-    ghost use Rattle.daemon_core.specs.Turns.{FaultsCounted};
+    ghost use Rattle.daemon_core.specs.Turns.{KeeperFared, signs_of};
 
     // Settles the row of a device that isn't settled.
     fn settle_row(&mut self, client: u32, device: &Selector, entry: u32) -> Result<Settling, Stop>
@@ -31,7 +31,7 @@ impl<K: Keeper> House<K> {
         ensures turn { SettleTurned client device.now result self.old.annals self.new.annals }
         ensures places { self.new.places ≡ self.old.places }
         ensures pool { self.new.pool ≡ self.old.pool }
-        ensures faults { FaultsCounted K.faults self.old self.new }
+        ensures fared { KeeperFared (signs_of K.tells K.faults) self.old self.new }
         ensures counts { K.faults self.old.keeper ≤ K.faults self.new.keeper }
     {
         self.annals.known();
@@ -59,7 +59,7 @@ impl<K: Keeper> House<K> {
         ensures turn { SettleTurned client device.now result self.old.annals self.new.annals }
         ensures places { self.new.places ≡ self.old.places }
         ensures pool { self.new.pool ≡ self.old.pool }
-        ensures faults { FaultsCounted K.faults self.old self.new }
+        ensures fared { KeeperFared (signs_of K.tells K.faults) self.old self.new }
         ensures counts { K.faults self.old.keeper ≤ K.faults self.new.keeper }
     {
         self.enter(client, 1)?;

@@ -10,12 +10,13 @@ use Rattle.client_threads.proofs.Boots.{boot-off, boot-played, no-clients_yet, s
 use Rattle.client_threads.proofs.Pasts.{on-unread}
 use Rattle.client_threads.proofs.Shelves.{enough-stay}
 use Rattle.daemon_core.specs.Housed.{past, rows_before}
+use Rattle.daemon_core.specs.Turns.{signs_of}
 use Rattle.client_plays.proofs.ShelfCounts.{shelves-count_both, shelves-count_here}
 use Rattle.client_threads.proofs.boot.play_boot.Goals as goal
 
 pub returns-then-is_off-clause-played : goal.returns-then-is_off-clause-played
 returns-then-is_off-clause-played g c =
-    boot-off g.K.Keeper.faults (means_for (steps_at (λ b. (goal.Plugin-dyn g (b.vtable, b.value)).steps b.value) c.args.plugins.now) (shelves_told g.P.Shelf.files g.P.Shelf.faults c.args.shelves.now.items)) c.args.of_boot.now c.args.house c.requires.idle c.requires.fresh (sym c.is_off-is_off.ensures ∙ c.if-is_off.true)
+    boot-off (signs_of g.K.Keeper.tells g.K.Keeper.faults) (means_for (steps_at (λ b. (goal.Plugin-dyn g (b.vtable, b.value)).steps b.value) c.args.plugins.now) (shelves_told g.P.Shelf.files g.P.Shelf.faults c.args.shelves.now.items)) c.args.of_boot.now c.args.house c.requires.idle c.requires.fresh (sym c.is_off-is_off.ensures ∙ c.if-is_off.true)
 
 pub returns-then-is_off-clause-kept : goal.returns-then-is_off-clause-kept
 returns-then-is_off-clause-kept g c = shelves-here (shelves_told g.P.Shelf.files g.P.Shelf.faults c.args.shelves.now.items)
@@ -30,22 +31,22 @@ returns-clause-unread g c = λ u.
 pub play_clients-house-requires-clause-booted : goal.play_clients-house-requires-clause-booted
 play_clients-house-requires-clause-booted g c κs within =
     let told = means_for (steps_at (λ b. (goal.Plugin-dyn g (b.vtable, b.value)).steps b.value) c.args.plugins.now) (shelves_told g.P.Shelf.files g.P.Shelf.faults c.args.shelves.now.items) in
-    still-booted g.K.Keeper.faults c.do_tasks_first-now.result (told 0) c.args.house c.do_tasks_first-now.new.house c.do_tasks_first-now.ensures.went c.requires.booted
+    still-booted (signs_of g.K.Keeper.tells g.K.Keeper.faults) c.do_tasks_first-now.result (told 0) c.args.house c.do_tasks_first-now.new.house c.do_tasks_first-now.ensures.went c.requires.booted
 
 pub play_clients-house-requires-clause-counted : goal.play_clients-house-requires-clause-counted
 play_clients-house-requires-clause-counted g c κs within =
     let told = means_for (steps_at (λ b. (goal.Plugin-dyn g (b.vtable, b.value)).steps b.value) c.args.plugins.now) (shelves_told g.P.Shelf.files g.P.Shelf.faults c.args.shelves.now.items) in
-    still-counted g.K.Keeper.faults c.do_tasks_first-now.result (told 0) c.args.house c.do_tasks_first-now.new.house c.do_tasks_first-now.ensures.went c.requires.counted
+    still-counted (signs_of g.K.Keeper.tells g.K.Keeper.faults) c.do_tasks_first-now.result (told 0) c.args.house c.do_tasks_first-now.new.house c.do_tasks_first-now.ensures.went c.requires.counted
 
 pub play_clients-house-requires-clause-read : goal.play_clients-house-requires-clause-read
 play_clients-house-requires-clause-read g c κs within =
     let told = means_for (steps_at (λ b. (goal.Plugin-dyn g (b.vtable, b.value)).steps b.value) c.args.plugins.now) (shelves_told g.P.Shelf.files g.P.Shelf.faults c.args.shelves.now.items) in
-    still-read g.K.Keeper.faults c.do_tasks_first-now.result (told 0) c.args.house c.do_tasks_first-now.new.house c.do_tasks_first-now.ensures.went c.requires.read
+    still-read (signs_of g.K.Keeper.tells g.K.Keeper.faults) c.do_tasks_first-now.result (told 0) c.args.house c.do_tasks_first-now.new.house c.do_tasks_first-now.ensures.went c.requires.read
 
 pub play_clients-house-requires-clause-none : goal.play_clients-house-requires-clause-none
 play_clients-house-requires-clause-none g c κs within =
     let told = means_for (steps_at (λ b. (goal.Plugin-dyn g (b.vtable, b.value)).steps b.value) c.args.plugins.now) (shelves_told g.P.Shelf.files g.P.Shelf.faults c.args.shelves.now.items) in
-    no-clients_yet g.K.Keeper.faults c.do_tasks_first-now.result (told 0) c.args.house c.do_tasks_first-now.new.house c.do_tasks_first-now.ensures.went c.requires.fresh
+    no-clients_yet (signs_of g.K.Keeper.tells g.K.Keeper.faults) c.do_tasks_first-now.result (told 0) c.args.house c.do_tasks_first-now.new.house c.do_tasks_first-now.ensures.went c.requires.fresh
 
 pub play_clients-house-requires-clause-shelves : goal.play_clients-house-requires-clause-shelves
 play_clients-house-requires-clause-shelves g c κs within =
@@ -55,8 +56,8 @@ pub returns-clause-played : goal.returns-clause-played
 returns-clause-played g c =
     let told = means_for (steps_at (λ b. (goal.Plugin-dyn g (b.vtable, b.value)).steps b.value) c.args.plugins.now) (shelves_told g.P.Shelf.files g.P.Shelf.faults c.args.shelves.now.items) in
     let then = means_for (steps_at (λ b. (goal.Plugin-dyn g (b.vtable, b.value)).steps b.value) c.args.plugins.now) (shelves_told g.P.Shelf.files g.P.Shelf.faults c.do_tasks_first-now.new.shelves.items) in
-    subst (λ (w : Bool). HouseBootPlayed g.K.Keeper.faults w told c.args.of_boot.now c.args.house c.play_clients-house.result.0) (sym c.either.ensures)
-    (boot-played g.K.Keeper.faults c.do_tasks_first-now.result (told 0) c.args.house c.do_tasks_first-now.new.house c.do_tasks_first-now.ensures.went c.play_clients-house.result.1 told then c.args.of_boot.now c.play_clients-house.result.0 c.requires.fresh refl
+    subst (λ (w : Bool). HouseBootPlayed (signs_of g.K.Keeper.tells g.K.Keeper.faults) w told c.args.of_boot.now c.args.house c.play_clients-house.result.0) (sym c.either.ensures)
+    (boot-played (signs_of g.K.Keeper.tells g.K.Keeper.faults) c.do_tasks_first-now.result (told 0) c.args.house c.do_tasks_first-now.new.house c.do_tasks_first-now.ensures.went c.play_clients-house.result.1 told then c.args.of_boot.now c.play_clients-house.result.0 c.requires.fresh refl
     (λ client. ap (λ (f : Files). means_of f (steps_at (λ b. (goal.Plugin-dyn g (b.vtable, b.value)).steps b.value) c.args.plugins.now)) (files-stay (shelves_told g.P.Shelf.files g.P.Shelf.faults c.args.shelves.now.items) (shelves_told g.P.Shelf.files g.P.Shelf.faults c.do_tasks_first-now.new.shelves.items) c.do_tasks_first-now.ensures.kept client))
     c.play_clients-house.ensures.played c.known-2.ensures.annals.legal.0 (rows_before c.play_clients-house.result.0.annals) c.known-2.ensures.annals.legal.3)
 

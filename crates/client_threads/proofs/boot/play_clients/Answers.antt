@@ -6,12 +6,13 @@ use Rattle.client_plays.proofs.ToolLaws.{shelves-here}
 use Rattle.client_threads.proofs.Plays.{empty-list}
 use Rattle.client_threads.proofs.Rest.{can-begin, clients-off, no-clients}
 use Rattle.daemon_core.specs.Housed.{past}
+use Rattle.daemon_core.specs.Turns.{signs_of}
 use Rattle.client_plays.proofs.ShelfCounts.{shelves-count_here}
 use Rattle.client_threads.proofs.boot.play_clients.Goals as goal
 
 pub returns-then-is_empty-clause-played : goal.returns-then-is_empty-clause-played
 returns-then-is_empty-clause-played g c =
-    no-clients g.K.Keeper.faults (means_for (steps_at (λ b. (goal.Plugin-dyn g (b.vtable, b.value)).steps b.value) c.args.plugins.now) (shelves_told g.P.Shelf.files g.P.Shelf.faults c.args.shelves.now.items)) c.args.of_boot.now c.args.house c.requires.idle c.requires.none false
+    no-clients (signs_of g.K.Keeper.tells g.K.Keeper.faults) (means_for (steps_at (λ b. (goal.Plugin-dyn g (b.vtable, b.value)).steps b.value) c.args.plugins.now) (shelves_told g.P.Shelf.files g.P.Shelf.faults c.args.shelves.now.items)) c.args.of_boot.now c.args.house c.requires.idle c.requires.none false
     (empty-list c.args.of_boot.now (sym c.is_empty.ensures ∙ c.if-is_empty.true))
 
 pub returns-then-is_empty-clause-kept : goal.returns-then-is_empty-clause-kept
@@ -19,14 +20,14 @@ returns-then-is_empty-clause-kept g c = shelves-here (shelves_told g.P.Shelf.fil
 
 pub returns-then-is_off-clause-played : goal.returns-then-is_off-clause-played
 returns-then-is_off-clause-played g c =
-    clients-off g.K.Keeper.faults (means_for (steps_at (λ b. (goal.Plugin-dyn g (b.vtable, b.value)).steps b.value) c.args.plugins.now) (shelves_told g.P.Shelf.files g.P.Shelf.faults c.args.shelves.now.items)) c.args.of_boot.now c.args.house c.requires.idle c.requires.none false (sym c.is_off.ensures ∙ c.if-is_off.true)
+    clients-off (signs_of g.K.Keeper.tells g.K.Keeper.faults) (means_for (steps_at (λ b. (goal.Plugin-dyn g (b.vtable, b.value)).steps b.value) c.args.plugins.now) (shelves_told g.P.Shelf.files g.P.Shelf.faults c.args.shelves.now.items)) c.args.of_boot.now c.args.house c.requires.idle c.requires.none false (sym c.is_off.ensures ∙ c.if-is_off.true)
 
 pub returns-then-is_off-clause-kept : goal.returns-then-is_off-clause-kept
 returns-then-is_off-clause-kept g c = shelves-here (shelves_told g.P.Shelf.files g.P.Shelf.faults c.args.shelves.now.items)
 
 pub play_named-requires-clause-begins : goal.play_named-requires-clause-begins
 play_named-requires-clause-begins g c κs within =
-    can-begin g.K.Keeper.faults c.args.house c.known.ensures.annals c.requires.booted (sym c.is_off.ensures ∙ c.if-is_off.false) c.requires.counted c.requires.idle c.requires.read
+    can-begin (signs_of g.K.Keeper.tells g.K.Keeper.faults) c.args.house c.known.ensures.annals c.requires.booted (sym c.is_off.ensures ∙ c.if-is_off.false) c.requires.counted c.requires.idle c.requires.read
 
 pub returns-then-is_empty-clause-told : goal.returns-then-is_empty-clause-told
 returns-then-is_empty-clause-told g c = shelves-count_here (past c.args.house) (shelves_told g.P.Shelf.files g.P.Shelf.faults c.args.shelves.now.items)

@@ -1,5 +1,6 @@
 use Rattle.std.proofs.Common.{true, subst, sym}
 use Rattle.daemon_core.specs.Housed.{Housed, past}
+use Rattle.daemon_core.specs.Turns.{signs_of}
 use Rattle.daemon_core.proofs.PartsKept.{house-home}
 use Rattle.client_plays.specs.Faults.{ShelvesCount}
 use Rattle.client_plays.specs.Has.{shelves_told}
@@ -13,27 +14,27 @@ use Rattle.client_threads.proofs.boot.play_named.Goals as goal
 
 pub returns-in_default-clause-played : goal.returns-in_default-clause-played
 returns-in_default-clause-played g c =
-    clients-left g.K.Keeper.faults (means_for (steps_at (λ b. (goal.Plugin-dyn g (b.vtable, b.value)).steps b.value) c.args.plugins.now) (shelves_told g.P.Shelf.files g.P.Shelf.faults c.args.shelves.now.items)) c.args.of_boot.now c.args.house c.requires.begins.idle c.requires.none
+    clients-left (signs_of g.K.Keeper.tells g.K.Keeper.faults) (means_for (steps_at (λ b. (goal.Plugin-dyn g (b.vtable, b.value)).steps b.value) c.args.plugins.now) (shelves_told g.P.Shelf.files g.P.Shelf.faults c.args.shelves.now.items)) c.args.of_boot.now c.args.house c.requires.begins.idle c.requires.none
 
 pub returns-in_default-clause-kept : goal.returns-in_default-clause-kept
 returns-in_default-clause-kept g c = shelves-here (shelves_told g.P.Shelf.files g.P.Shelf.faults c.args.shelves.now.items)
 
 pub begin-requires-clause-name : goal.begin-requires-clause-name
-begin-requires-clause-name g c = begins-named g.K.Keeper.faults g.N.Naming.name c.args.house c.requires.name c.requires.begins
+begin-requires-clause-name g c = begins-named (signs_of g.K.Keeper.tells g.K.Keeper.faults) g.N.Naming.name c.args.house c.requires.name c.requires.begins
 
 pub begin-requires-clause-nothing : goal.begin-requires-clause-nothing
-begin-requires-clause-nothing g c = nothing-out g.K.Keeper.faults c.args.house c.known.ensures.annals c.requires.begins.idle
+begin-requires-clause-nothing g c = nothing-out (signs_of g.K.Keeper.tells g.K.Keeper.faults) c.args.house c.known.ensures.annals c.requires.begins.idle
 
 pub returns-in-Ok-begin-clause-played : goal.returns-in-Ok-begin-clause-played
 returns-in-Ok-begin-clause-played g c =
-    clients-played g.K.Keeper.faults g.N.Naming.name c.args.house c.play_behind.result.0 c.requires.name c.requires.begins c.known.ensures.annals c.play_behind.ensures.annals c.play_behind.ensures.name
-    (house-home g.K.Keeper.rows g.K.Keeper.doubt c.args.house c.known.ensures.house c.requires.begins.idle.no_live) c.play_behind.result.1 (means_for (steps_at (λ b. (goal.Plugin-dyn g (b.vtable, b.value)).steps b.value) c.args.plugins.now) (shelves_told g.P.Shelf.files g.P.Shelf.faults c.args.shelves.now.items)) c.args.of_boot.now c.play_behind.ensures.start c.play_behind.ensures.log c.play_behind.ensures.nothing c.requires.none c.play_behind.ensures.played
+    clients-played (signs_of g.K.Keeper.tells g.K.Keeper.faults) g.N.Naming.name c.args.house c.play_behind.result.0 c.requires.name c.requires.begins c.known.ensures.annals c.play_behind.ensures.annals c.play_behind.ensures.name
+    (house-home g.K.Keeper.tells g.K.Keeper.doubt c.args.house c.known.ensures.house c.requires.begins.idle.no_live) c.play_behind.result.1 (means_for (steps_at (λ b. (goal.Plugin-dyn g (b.vtable, b.value)).steps b.value) c.args.plugins.now) (shelves_told g.P.Shelf.files g.P.Shelf.faults c.args.shelves.now.items)) c.args.of_boot.now c.play_behind.ensures.start c.play_behind.ensures.log c.play_behind.ensures.nothing c.requires.none c.play_behind.ensures.played
 
 pub returns-in-Err-clause-played : goal.returns-in-Err-clause-played
 returns-in-Err-clause-played g c =
     let told = means_for (steps_at (λ b. (goal.Plugin-dyn g (b.vtable, b.value)).steps b.value) c.args.plugins.now) (shelves_told g.P.Shelf.files g.P.Shelf.faults c.args.shelves.now.items) in
-    subst (λ (h : Housed g.row.K.Denot). ClientsPlayed g.K.Keeper.faults true told c.args.of_boot.now c.args.house h) (sym c.in-Err.ensures.refused)
-    (clients-left g.K.Keeper.faults told c.args.of_boot.now c.args.house c.requires.begins.idle c.requires.none)
+    subst (λ (h : Housed g.row.K.Denot). ClientsPlayed (signs_of g.K.Keeper.tells g.K.Keeper.faults) true told c.args.of_boot.now c.args.house h) (sym c.in-Err.ensures.refused)
+    (clients-left (signs_of g.K.Keeper.tells g.K.Keeper.faults) told c.args.of_boot.now c.args.house c.requires.begins.idle c.requires.none)
 
 pub returns-in-Err-clause-kept : goal.returns-in-Err-clause-kept
 returns-in-Err-clause-kept g c = shelves-here (shelves_told g.P.Shelf.files g.P.Shelf.faults c.args.shelves.now.items)
@@ -43,7 +44,7 @@ returns-in_default-clause-told g c = shelves-count_here (past c.args.house) (she
 
 pub returns-in-Ok-begin-clause-told : goal.returns-in-Ok-begin-clause-told
 returns-in-Ok-begin-clause-told g c =
-    shelves-counted g.K.Keeper.faults g.N.Naming.name c.args.house c.play_behind.result.0 c.requires.name c.requires.begins c.known.ensures.annals c.play_behind.ensures.annals c.play_behind.ensures.name
+    shelves-counted (signs_of g.K.Keeper.tells g.K.Keeper.faults) g.N.Naming.name c.args.house c.play_behind.result.0 c.requires.name c.requires.begins c.known.ensures.annals c.play_behind.ensures.annals c.play_behind.ensures.name
     (shelves_told g.P.Shelf.files g.P.Shelf.faults c.args.shelves.now.items) (shelves_told g.P.Shelf.files g.P.Shelf.faults c.play_behind.new.shelves.items) c.play_behind.ensures.told
 
 pub returns-in-Err-clause-told : goal.returns-in-Err-clause-told

@@ -1,5 +1,6 @@
 use Rattle.std.proofs.Common.{subst, sym}
 use Rattle.daemon_core.specs.Housed.{past, rows_before}
+use Rattle.daemon_core.specs.Turns.{signs_of}
 use Rattle.client_plays.specs.Endings.{HouseWent}
 use Rattle.client_plays.specs.Moments.{began}
 use Rattle.client_plays.specs.Plays.{TaskPlays}
@@ -13,7 +14,7 @@ use Rattle.client_threads.proofs.tasks.do_tasks_first.Goals as goal
 pub returns-clause-went : goal.returns-clause-went
 returns-clause-went g c =
     let house = c.args.house.now in
-    subst (λ (f : Files). HouseWent g.K.Keeper.faults c.do_tasks.result 0 (TaskPlays house.annals.facts (rows_before house.annals) (means_of f (steps_at (λ b. (goal.Plugin-dyn g (b.vtable, b.value)).steps b.value) c.args.plugins.now))) (tasks house.annals.facts (rows_before house.annals) (began (past house))) house c.do_tasks.new.house)
+    subst (λ (f : Files). HouseWent (signs_of g.K.Keeper.tells g.K.Keeper.faults) c.do_tasks.result 0 (TaskPlays house.annals.facts (rows_before house.annals) (means_of f (steps_at (λ b. (goal.Plugin-dyn g (b.vtable, b.value)).steps b.value) c.args.plugins.now))) (tasks house.annals.facts (rows_before house.annals) (began (past house))) house c.do_tasks.new.house)
     (sym (files-first g.P.Shelf.files g.P.Shelf.faults c.args.shelves.now.items c.index_mut.result.now c.requires.shelf c.index_mut.ensures.value)) c.do_tasks.ensures.went
 
 pub returns-clause-kept : goal.returns-clause-kept

@@ -12,6 +12,7 @@ use Rattle.daemon_tasks.specs.Judged.{to_judge_in, can_judge}
 use Rattle.daemon_tasks.proofs.TaskLists.{all-apart, all-known, all-wait, all-wait_still, none-both, tasks-are, went-both}
 use Rattle.std.specs.Prelude.{filter}
 use Rattle.daemon_core.specs.Housed.{past, past_in, rows_before}
+use Rattle.daemon_core.specs.Turns.{signs_of}
 use Rattle.client_plays.specs.Moments.{mine}
 use Rattle.client_plays.proofs.FaultLaws.{told-behind, told-same}
 use Rattle.daemon_tasks.proofs.FaultPlays.{judged-off, judged-told}
@@ -28,7 +29,7 @@ pub resume_all-requires-clause-booted : goal.resume_all-requires-clause-booted
 resume_all-requires-clause-booted g c =
     let a = c.args.house.now.annals in
     let files = g.P.Shelf.files c.args.shelf.now in
-    still-booted g.K.Keeper.faults c.in-Through.wanting 0 (TaskPlays a.facts (rows_before a) (files_alone files)) (to_judge_in a c.args.judged.now) c.args.house.now c.judge_all.new.house (c.in-Through.ensures a.facts (rows_before a) files).0 c.requires.booted
+    still-booted (signs_of g.K.Keeper.tells g.K.Keeper.faults) c.in-Through.wanting 0 (TaskPlays a.facts (rows_before a) (files_alone files)) (to_judge_in a c.args.judged.now) c.args.house.now c.judge_all.new.house (c.in-Through.ensures a.facts (rows_before a) files).0 c.requires.booted
 
 pub resume_all-requires-clause-idle : goal.resume_all-requires-clause-idle
 resume_all-requires-clause-idle g c =
@@ -57,12 +58,12 @@ returns-in-Through-clause-went g c =
     let judged = c.in-Through.ensures a.facts (rows_before a) files in
     let same = judged.0.rest.same in
     let later = c.judge_all.new.house.annals in
-    subst (λ (ts : List Task). HouseWent g.K.Keeper.faults c.resume_all.result 0 (TaskPlays a.facts (rows_before a) means) ts c.args.house.now c.resume_all.new.house)
+    subst (λ (ts : List Task). HouseWent (signs_of g.K.Keeper.tells g.K.Keeper.faults) c.resume_all.result 0 (TaskPlays a.facts (rows_before a) means) ts c.args.house.now c.resume_all.new.house)
     (sym (tasks-are a c.known.ensures.annals c.args.judged.now c.args.waiting.now c.requires.fresh c.requires.judged c.requires.waiting))
-    (went-both g.K.Keeper.faults (TaskPlays a.facts (rows_before a) means) c.in-Through.wanting c.resume_all.result (to_judge_in a c.args.judged.now) (map ToResume c.args.waiting.now) c.args.house.now c.judge_all.new.house c.resume_all.new.house
-    (so_far-wider c.in-Through.wanting 0 (TaskPlays a.facts (rows_before a) means) (TaskPlays a.facts (rows_before a) (files_alone files)) (task-wider a.facts (rows_before a) means) g.K.Keeper.faults (to_judge_in a c.args.judged.now) c.args.house.now c.judge_all.new.house judged.0)
-    (subst (λ (o : List Row). HouseMore g.K.Keeper.faults c.resume_all.result c.in-Through.wanting 0 (TaskPlays a.facts o means) (map ToResume c.args.waiting.now) c.judge_all.new.house c.resume_all.new.house) (before-same a later same)
-    (subst (λ (f : Facts). HouseMore g.K.Keeper.faults c.resume_all.result c.in-Through.wanting 0 (TaskPlays f (rows_before later) means) (map ToResume c.args.waiting.now) c.judge_all.new.house c.resume_all.new.house) same.facts c.resume_all.ensures.more)))
+    (went-both (signs_of g.K.Keeper.tells g.K.Keeper.faults) (TaskPlays a.facts (rows_before a) means) c.in-Through.wanting c.resume_all.result (to_judge_in a c.args.judged.now) (map ToResume c.args.waiting.now) c.args.house.now c.judge_all.new.house c.resume_all.new.house
+    (so_far-wider c.in-Through.wanting 0 (TaskPlays a.facts (rows_before a) means) (TaskPlays a.facts (rows_before a) (files_alone files)) (task-wider a.facts (rows_before a) means) (signs_of g.K.Keeper.tells g.K.Keeper.faults) (to_judge_in a c.args.judged.now) c.args.house.now c.judge_all.new.house judged.0)
+    (subst (λ (o : List Row). HouseMore (signs_of g.K.Keeper.tells g.K.Keeper.faults) c.resume_all.result c.in-Through.wanting 0 (TaskPlays a.facts o means) (map ToResume c.args.waiting.now) c.judge_all.new.house c.resume_all.new.house) (before-same a later same)
+    (subst (λ (f : Facts). HouseMore (signs_of g.K.Keeper.tells g.K.Keeper.faults) c.resume_all.result c.in-Through.wanting 0 (TaskPlays f (rows_before later) means) (map ToResume c.args.waiting.now) c.judge_all.new.house c.resume_all.new.house) same.facts c.resume_all.ensures.more)))
 
 pub returns-in-Off-clause-went : goal.returns-in-Off-clause-went
 returns-in-Off-clause-went g c =
@@ -70,9 +71,9 @@ returns-in-Off-clause-went g c =
     let files = g.P.Shelf.files c.args.shelf.now in
     let means = means_of files (steps_at (λ b. (goal.Plugin-dyn g (b.vtable, b.value)).steps b.value) c.args.plugins.now) in
     let all = to_judge_in a c.args.judged.now ++ map ToResume c.args.waiting.now in
-    subst (λ (ts : List Task). HouseWent g.K.Keeper.faults c.in-Off.wanting 0 (TaskPlays a.facts (rows_before a) means) ts c.args.house.now c.judge_all.new.house)
+    subst (λ (ts : List Task). HouseWent (signs_of g.K.Keeper.tells g.K.Keeper.faults) c.in-Off.wanting 0 (TaskPlays a.facts (rows_before a) means) ts c.args.house.now c.judge_all.new.house)
     (sym (tasks-are a c.known.ensures.annals c.args.judged.now c.args.waiting.now c.requires.fresh c.requires.judged c.requires.waiting))
-    (went-wider c.in-Off.wanting 0 (TaskPlays a.facts (rows_before a) means) (TaskPlays a.facts (rows_before a) (files_alone files)) (task-wider a.facts (rows_before a) means) g.K.Keeper.faults all c.args.house.now c.judge_all.new.house
+    (went-wider c.in-Off.wanting 0 (TaskPlays a.facts (rows_before a) means) (TaskPlays a.facts (rows_before a) (files_alone files)) (task-wider a.facts (rows_before a) means) (signs_of g.K.Keeper.tells g.K.Keeper.faults) all c.args.house.now c.judge_all.new.house
     (c.in-Off.ensures a.facts (rows_before a) files (map ToResume c.args.waiting.now)))
 
 pub returns-in-Through-clause-told : goal.returns-in-Through-clause-told
@@ -80,7 +81,7 @@ returns-in-Through-clause-told g c =
     let a = c.args.house.now.annals in
     let files = g.P.Shelf.files c.args.shelf.now in
     told-behind (mine 0 (past c.args.house.now)) (mine 0 (past c.judge_all.new.house)) (mine 0 (past c.resume_all.new.house)) (g.P.Shelf.faults c.args.shelf.now) (g.P.Shelf.faults c.resume_all.new.shelf)
-    (judged-told g.K.Keeper.faults c.in-Through.wanting a.facts (rows_before a) (files_alone files) (filter (can_judge a.facts (rows_before a) (past_in a)) c.args.judged.now) c.args.house.now c.judge_all.new.house (c.in-Through.ensures a.facts (rows_before a) files).0)
+    (judged-told (signs_of g.K.Keeper.tells g.K.Keeper.faults) c.in-Through.wanting a.facts (rows_before a) (files_alone files) (filter (can_judge a.facts (rows_before a) (past_in a)) c.args.judged.now) c.args.house.now c.judge_all.new.house (c.in-Through.ensures a.facts (rows_before a) files).0)
     c.resume_all.ensures.told c.resume_all.ensures.counts
 
 pub returns-in-Off-clause-told : goal.returns-in-Off-clause-told
@@ -88,4 +89,4 @@ returns-in-Off-clause-told g c =
     let a = c.args.house.now.annals in
     let files = g.P.Shelf.files c.args.shelf.now in
     told-same (mine 0 (past c.args.house.now)) (mine 0 (past c.judge_all.new.house)) (g.P.Shelf.faults c.args.shelf.now)
-    (judged-off g.K.Keeper.faults c.in-Off.wanting a.facts (rows_before a) (files_alone files) (filter (can_judge a.facts (rows_before a) (past_in a)) c.args.judged.now) c.args.house.now c.judge_all.new.house (c.in-Off.ensures a.facts (rows_before a) files []))
+    (judged-off (signs_of g.K.Keeper.tells g.K.Keeper.faults) c.in-Off.wanting a.facts (rows_before a) (files_alone files) (filter (can_judge a.facts (rows_before a) (past_in a)) c.args.judged.now) c.args.house.now c.judge_all.new.house (c.in-Off.ensures a.facts (rows_before a) files []))

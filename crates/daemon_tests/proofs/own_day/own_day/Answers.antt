@@ -10,9 +10,10 @@ use Rattle.daemon_tests.specs.Begins.{name_of}
 use Rattle.daemon_tests.proofs.Begun.{begins-named}
 use Rattle.daemon_tests.proofs.Kept.{put-off-in, row-in}
 use Rattle.daemon_tests.proofs.own_day.own_day.Goals as goal
+use Rattle.daemon_core.specs.Turns.{signs_of}
 
 pub day-requires-clause-name : goal.day-requires-clause-name
-day-requires-clause-name g c = begins-named g.K.Keeper.faults c.args.house c.requires
+day-requires-clause-name g c = begins-named (signs_of g.K.Keeper.tells g.K.Keeper.faults) c.args.house c.requires
 
 pub day-requires-clause-nothing : goal.day-requires-clause-nothing
 day-requires-clause-nothing g c =
@@ -21,7 +22,7 @@ day-requires-clause-nothing g c =
 
 pub day-requires-clause-put_off : goal.day-requires-clause-put_off
 day-requires-clause-put_off g c =
-    let f = g.K.Keeper.faults in
+    let f = (signs_of g.K.Keeper.tells g.K.Keeper.faults) in
     let h = c.args.house in
     let is : c.state_of.result ≡ Some RowState.Pending = search rules in
     put-off-in f (name_of f h) h (begins-named f h c.requires) c.known.ensures.annals c.args.tasks.now.put_off
@@ -29,7 +30,7 @@ day-requires-clause-put_off g c =
 
 pub day-requires-clause-begun : goal.day-requires-clause-begun
 day-requires-clause-begun g c =
-    let f = g.K.Keeper.faults in
+    let f = (signs_of g.K.Keeper.tells g.K.Keeper.faults) in
     let h = c.args.house in
     let is : c.state_of-2.result ≡ Some RowState.Begun = search rules in
     row-in f (name_of f h) h (begins-named f h c.requires) c.known.ensures.annals c.args.tasks.now.begun RowState.Begun

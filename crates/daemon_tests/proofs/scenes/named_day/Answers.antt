@@ -4,9 +4,10 @@ use Rattle.update_log.specs.Holding.{holds, live}
 use Rattle.shared_daemon.proofs.Logs.{past-entries}
 use Rattle.daemon_tests.proofs.Begun.{begins-named}
 use Rattle.daemon_tests.proofs.scenes.named_day.Goals as goal
+use Rattle.daemon_core.specs.Turns.{signs_of}
 
 pub day-requires-clause-name : goal.day-requires-clause-name
-day-requires-clause-name g c = begins-named g.K.Keeper.faults c.args.house c.requires
+day-requires-clause-name g c = begins-named (signs_of g.K.Keeper.tells g.K.Keeper.faults) c.args.house c.requires
 
 pub day-requires-clause-nothing : goal.day-requires-clause-nothing
 day-requires-clause-nothing g c =

@@ -1,5 +1,4 @@
-use Rattle.std.proofs.Common.{◌≡◌, ◌∙◌, sym}
-use Rattle.history_keeper.specs.declared.refusal.KeeperRefusal.TheVariants.{Fault}
+use Rattle.std.proofs.Common.{sym}
 use Rattle.sqlite.specs.Held.{state}
 use Rattle.history_sqlite.proofs.Opening.{number_keeps, numberless_keeps}
 use Rattle.history_sqlite.proofs.finding.read_number.Goals as goal
@@ -13,6 +12,4 @@ returns-in-Err-clause-keeps g c clean is_open =
     numberless_keeps (state g.D.Store c.args.connection.now) (state g.D.Store c.query_all.new.self) c.in-Err.error c.query_all.ensures.survives.limit is_open (c.in-Err.ensures.err clean)
 
 pub returns-in-Err-clause-cause : goal.returns-in-Err-clause-cause
-returns-in-Err-clause-cause g c clean is =
-    let refused : c.refusal_of_error.result ≡ Fault = cc in
-    (c.in-Err.error, sym c.refusal_of_error.ensures ∙ refused, c.in-Err.ensures.err clean)
+returns-in-Err-clause-cause g c clean = (c.in-Err.error, sym c.refusal_of_error.ensures, c.in-Err.ensures.err clean)

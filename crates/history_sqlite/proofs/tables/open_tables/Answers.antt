@@ -2,8 +2,8 @@ use Rattle.std.proofs.Common.{inr, inl, subst, arith}
 use Rattle.sqlite.specs.Held.{state}
 use Rattle.sqlite.specs.State.{HasCleanDisk}
 use Rattle.history_sqlite.specs.Finding.{IsFound}
-use Rattle.history_sqlite.proofs.Opening.{ours_opens, older_opens, older_refused, where_ok}
-use Rattle.std.proofs.lemmas.Result.{on_ok_weaker, on_err_weaker}
+use Rattle.history_sqlite.proofs.Opening.{ours_opens, older_opens, older_refused, unopened_fails, where_ok}
+use Rattle.std.proofs.lemmas.Result.{IfErr-weaker, err_from_is_err_and, on_ok_weaker, on_err_weaker}
 use Rattle.history_sqlite.proofs.tables.open_tables.Goals as goal
 
 pub returns-in-Ours-clause-opens : goal.returns-in-Ours-clause-opens
@@ -45,4 +45,10 @@ returns-in-Older-clause-refused g c clean is_open =
     on_err_weaker c.take_over.result (older_refused old mid found (λ at. c.find_tables.ensures.keeps before at) new) (c.take_over.ensures.refused clean is_open)
 
 pub returns-in-Older-clause-cause : goal.returns-in-Older-clause-cause
-returns-in-Older-clause-cause g c clean is = inr (inr (inr (inr (c.find_tables.new.connection, c.take_over.ensures.cause clean is))))
+returns-in-Older-clause-cause g c clean =
+    IfErr-weaker c.take_over.result _ _ (λ why cause. unopened_fails g.D.Store why c.args.connection.now c.take_over.new.connection (inr (inr (c.find_tables.new.connection, cause)))) (c.take_over.ensures.cause clean)
+
+pub returns-in_err-find_tables-clause-cause : goal.returns-in_err-find_tables-clause-cause
+returns-in_err-find_tables-clause-cause g c clean =
+    let p = err_from_is_err_and c.from_residual.result c.from_residual.ensures.1 in
+    rw (p.1, p.2) (unopened_fails g.D.Store c.in_err-find_tables.field-0.0 c.args.connection.now c.find_tables.new.connection (inl (c.in_err-find_tables.ensures.cause clean)))

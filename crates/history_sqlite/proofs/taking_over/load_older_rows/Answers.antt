@@ -1,6 +1,10 @@
-use Rattle.std.proofs.Common.{ap, ◌∙◌, map, inr}
-use Rattle.std.proofs.lemmas.Result.{IfOk-weaker}
+use Rattle.std.proofs.Common.{ap, ◌∙◌, map, Err}
+use Rattle.std.proofs.lemmas.Result.{IfOk-weaker, err_from_is_err_and}
+use Rattle.sqlite.specs.Held.{state}
+use Rattle.history_sqlite.specs.Causes.{older_select_text}
 use Rattle.history_sqlite.specs.Columns.{older_row_read}
+use Rattle.history_sqlite.proofs.Effects.{unanswered_fails, unread_fails}
+use Rattle.history_sqlite.proofs.Opening.{if_err}
 use Rattle.history_sqlite.proofs.ReadBack.{older_all_back}
 use Rattle.history_sqlite.proofs.taking_over.load_older_rows.Goals as goal
 
@@ -11,4 +15,11 @@ returns-clause-loads g c clean =
     c.read_older_rows.ensures.read
 
 pub returns-clause-cause : goal.returns-clause-cause
-returns-clause-cause g c clean is = inr (c.in_ok-table.table.items, c.in_ok-table.ensures.shown clean, rw c.deref.ensures.value at (c.read_older_rows.ensures.cause is))
+returns-clause-cause g c clean =
+    if_err c.read_older_rows.result _ (λ why is. unread_fails why older_select_text older_row_read (state g.D.Store c.args.connection.now) (state g.D.Store c.select_older.new.connection) c.in_ok-table.table.items (c.in_ok-table.ensures.shown clean)
+    (λ fault. rw c.deref.ensures.value at (c.read_older_rows.ensures.cause (is ∙ ap Err fault))))
+
+pub returns-in_err-table-clause-cause : goal.returns-in_err-table-clause-cause
+returns-in_err-table-clause-cause g c clean =
+    let p = err_from_is_err_and c.from_residual.result c.from_residual.ensures.1 in
+    rw (p.1, p.2) (unanswered_fails c.in_err-table.field-0.0 older_select_text older_row_read (state g.D.Store c.args.connection.now) (state g.D.Store c.select_older.new.connection) (c.in_err-table.ensures.cause clean))

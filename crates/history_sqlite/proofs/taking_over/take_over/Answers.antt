@@ -1,6 +1,5 @@
-use Rattle.std.proofs.Common.{◌≡◌, Err, inl, inr, sym, arith, ◌∙◌}
+use Rattle.std.proofs.Common.{inl, inr, sym, arith}
 use Rattle.std.proofs.lemmas.Result.{err_from_is_err_and}
-use Rattle.history_keeper.specs.declared.refusal.KeeperRefusal.TheVariants.{Fault}
 use Rattle.sqlite.specs.Held.{state}
 use Rattle.sqlite.specs.State.{HasCleanDisk}
 use Rattle.sqlite.proofs.StateLemmas.{survives_then}
@@ -18,18 +17,12 @@ returns-in-Ok-clause-takes g c clean =
     takes old mid new c.in_ok-rows.rows.items (c.in_ok-rows.ensures.loads before) (rw c.deref.ensures.value at (c.in-Ok.ensures.writes clean))
 
 pub returns-in_err-rows-clause-cause : goal.returns-in_err-rows-clause-cause
-returns-in_err-rows-clause-cause g c clean is =
+returns-in_err-rows-clause-cause g c clean =
     let p = err_from_is_err_and c.from_residual.result c.from_residual.ensures.1 in
-    let told : c.from_residual.result ≡ Err p.0 = p.1 in
-    let same = p.2 in
-    let was : c.load_older_rows.result ≡ Err c.in_err-rows.field-0.0 = c.in_err-rows.was in
-    let fault : c.load_older_rows.result ≡ Err Fault = cc in
-    (c.load_older_rows.new.connection, inl (c.load_older_rows.ensures.cause clean fault))
+    rw (p.1, p.2) (c.load_older_rows.new.connection, inl (c.in_err-rows.ensures.cause clean))
 
 pub returns-clause-cause : goal.returns-clause-cause
-returns-clause-cause g c clean is =
-    let refused : c.refusal_of_error.result ≡ Fault = cc in
-    (c.load_older_rows.new.connection, inr (c.in-Err.error, sym c.refusal_of_error.ensures ∙ refused, c.in-Err.ensures.cause clean))
+returns-clause-cause g c clean = (c.load_older_rows.new.connection, inr (c.in-Err.error, sym c.refusal_of_error.ensures, c.in-Err.ensures.cause clean))
 
 pub returns-in-Ok-clause-whole : goal.returns-in-Ok-clause-whole
 returns-in-Ok-clause-whole g c =

@@ -6,6 +6,7 @@ use Rattle.plain_runs.proofs.Logs.{came-back, gained-one}
 use Rattle.plain_runs.proofs.Pasts.{came-counted, counts-same}
 use Rattle.plain_runs.proofs.Planned.{boards-same, home-off, home-with}
 use Rattle.plain_runs.proofs.running.finish.Goals as goal
+use Rattle.daemon_core.specs.Turns.{signs_of}
 
 pub finish-requires-clause-booted : goal.finish-requires-clause-booted
 finish-requires-clause-booted g c = c.requires.runs.booted
@@ -37,15 +38,15 @@ pub returns-in-Err-clause-closed : goal.returns-in-Err-clause-closed
 returns-in-Err-clause-closed g c =
     came-back c.args.client c.args.entry c.args.house.now.annals c.finish.new.self.annals c.give_back.new.self.annals c.in-Err.ensures.turn.0 c.give_back.ensures.appended
 
-pub returns-in-Err-clause-faults : goal.returns-in-Err-clause-faults
-returns-in-Err-clause-faults g c =
-    came-counted g.K.Keeper.faults c.args.client c.args.entry c.args.house.now c.give_back.new.self
+pub returns-in-Err-clause-fared : goal.returns-in-Err-clause-fared
+returns-in-Err-clause-fared g c =
+    came-counted (signs_of g.K.Keeper.tells g.K.Keeper.faults) c.args.client c.args.entry c.args.house.now c.give_back.new.self
     (came-back c.args.client c.args.entry c.args.house.now.annals c.finish.new.self.annals c.give_back.new.self.annals c.in-Err.ensures.turn.0 c.give_back.ensures.appended)
     (c.give_back.ensures.keeper ∙ c.in-Err.ensures.turn.1.keeper)
 
 pub returns-in-Err-clause-counts : goal.returns-in-Err-clause-counts
 returns-in-Err-clause-counts g c =
-    counts-same g.K.Keeper.faults c.args.house.now c.give_back.new.self (c.give_back.ensures.keeper ∙ c.in-Err.ensures.turn.1.keeper)
+    counts-same (signs_of g.K.Keeper.tells g.K.Keeper.faults) c.args.house.now c.give_back.new.self (c.give_back.ensures.keeper ∙ c.in-Err.ensures.turn.1.keeper)
 
 pub returns-in-Ok-clause-home : goal.returns-in-Ok-clause-home
 returns-in-Ok-clause-home g c =

@@ -7,6 +7,7 @@ use Rattle.std.proofs.Common.{ap, sym, ◌∙◌}
 use Rattle.device_claims.specs.declared.claim.Parts.{Parts}
 use Rattle.plain_runs.proofs.Planned.{home-behind, home-of}
 use Rattle.plain_runs.proofs.running.run_claim.Goals as goal
+use Rattle.daemon_core.specs.Turns.{signs_of}
 
 pub returns-in-Ok-clause-ran : goal.returns-in-Ok-clause-ran
 returns-in-Ok-clause-ran g c =
@@ -22,20 +23,20 @@ returns-in-Err-clause-ran g c =
     (steps-at (λ d. (goal.Plugin-dyn g (d.vtable, d.value)).steps d.value) c.args.plugins.now c.args.taken.plugin b c.requires.served c.index-plugins-plugin.is ∙ sym (ap (λ v. (goal.Plugin-dyn g v).steps v.1) c.deref_box-1.ensures.1)) c.new-claim.ensures.parts
     c.in-Err.ensures.gone
 
-pub returns-in-Ok-clause-faults : goal.returns-in-Ok-clause-faults
-returns-in-Ok-clause-faults g c =
-    ran-counted g.K.Keeper.faults _ c.args.client c.args.taken.entry c.new-claim.result c.in-Ok.claim c.args.house.now c.make_steps.new.house c.finish.new.house c.in-Ok.ensures.made c.in-Ok.ensures.keeper c.finish.ensures.faults c.finish.ensures.counts
+pub returns-in-Ok-clause-fared : goal.returns-in-Ok-clause-fared
+returns-in-Ok-clause-fared g c =
+    ran-counted (signs_of g.K.Keeper.tells g.K.Keeper.faults) _ c.args.client c.args.taken.entry c.new-claim.result c.in-Ok.claim c.args.house.now c.make_steps.new.house c.finish.new.house c.in-Ok.ensures.made c.in-Ok.ensures.keeper c.finish.ensures.fared c.finish.ensures.counts
 
 pub returns-in-Ok-clause-counts : goal.returns-in-Ok-clause-counts
 returns-in-Ok-clause-counts g c =
-    ran-counts g.K.Keeper.faults c.args.house.now c.make_steps.new.house c.finish.new.house c.in-Ok.ensures.keeper c.finish.ensures.counts
+    ran-counts (signs_of g.K.Keeper.tells g.K.Keeper.faults) c.args.house.now c.make_steps.new.house c.finish.new.house c.in-Ok.ensures.keeper c.finish.ensures.counts
 
-pub returns-in-Err-clause-faults : goal.returns-in-Err-clause-faults
-returns-in-Err-clause-faults g c =
-    back-counted g.K.Keeper.faults _ c.args.client c.args.taken.entry c.new-claim.result c.args.house.now c.make_steps.new.house c.in-Err.ensures.gone c.in-Err.ensures.keeper
+pub returns-in-Err-clause-fared : goal.returns-in-Err-clause-fared
+returns-in-Err-clause-fared g c =
+    back-counted (signs_of g.K.Keeper.tells g.K.Keeper.faults) _ c.args.client c.args.taken.entry c.new-claim.result c.args.house.now c.make_steps.new.house c.in-Err.ensures.gone c.in-Err.ensures.keeper
 
 pub returns-in-Err-clause-counts : goal.returns-in-Err-clause-counts
-returns-in-Err-clause-counts g c = counts-same g.K.Keeper.faults c.args.house.now c.make_steps.new.house c.in-Err.ensures.keeper
+returns-in-Err-clause-counts g c = counts-same (signs_of g.K.Keeper.tells g.K.Keeper.faults) c.args.house.now c.make_steps.new.house c.in-Err.ensures.keeper
 
 pub returns-in-Ok-clause-home : goal.returns-in-Ok-clause-home
 returns-in-Ok-clause-home g c =

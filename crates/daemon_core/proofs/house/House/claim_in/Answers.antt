@@ -3,6 +3,7 @@ use Rattle.update_log.specs.declared.answer.ClaimAnswer.{ClaimAnswer}
 use Rattle.update_log.specs.declared.event.Event.{Event}
 use Rattle.daemon_core.specs.Annals.{Appended}
 use Rattle.daemon_core.specs.Fetches.{note_of}
+use Rattle.daemon_core.specs.Turns.{signs_of}
 use Rattle.daemon_core.proofs.ClaimExits.{faults-unclaimed, refused-answers, refused-none, same-faults}
 use Rattle.daemon_core.proofs.ClaimRoom.{places-same}
 use Rattle.daemon_core.proofs.ClaimTurns.{answers-kept}
@@ -32,9 +33,9 @@ pub returns-in-Kept-clause-gave : goal.returns-in-Kept-clause-gave
 returns-in-Kept-clause-gave g c =
     (c.end_claim.ensures.pool, places-same c.args.self.now.places c.end_claim.new.self.places c.end_claim.ensures.places)
 
-pub returns-in-Kept-clause-faults : goal.returns-in-Kept-clause-faults
-returns-in-Kept-clause-faults g c =
-    faults-unclaimed g.K.Keeper.faults c.args.client c.args.ticket (note_of c.args.fetched) (ClaimAnswer.Kept c.in-Kept.entry c.in-Kept.state) c.args.self.now c.end_claim.new.self c.end_claim.ensures.appended refl c.end_claim.ensures.keeper
+pub returns-in-Kept-clause-fared : goal.returns-in-Kept-clause-fared
+returns-in-Kept-clause-fared g c =
+    faults-unclaimed (signs_of g.K.Keeper.tells g.K.Keeper.faults) c.args.client c.args.ticket (note_of c.args.fetched) (ClaimAnswer.Kept c.in-Kept.entry c.in-Kept.state) c.args.self.now c.end_claim.new.self c.end_claim.ensures.appended refl c.end_claim.ensures.keeper
 
 pub returns-in-Kept-clause-counts : goal.returns-in-Kept-clause-counts
 returns-in-Kept-clause-counts g c =
@@ -48,9 +49,9 @@ pub returns-in-Refused-clause-gave : goal.returns-in-Refused-clause-gave
 returns-in-Refused-clause-gave g c =
     (c.end_claim-in-Refused.ensures.pool, places-same c.args.self.now.places c.end_claim-in-Refused.new.self.places c.end_claim-in-Refused.ensures.places)
 
-pub returns-in-Refused-clause-faults : goal.returns-in-Refused-clause-faults
-returns-in-Refused-clause-faults g c =
-    faults-unclaimed g.K.Keeper.faults c.args.client c.args.ticket (note_of c.args.fetched) c.refused.result c.args.self.now c.end_claim-in-Refused.new.self c.end_claim-in-Refused.ensures.appended (refused-none c.args.self.now.annals c.args.client c.args.ticket c.in-Refused.refusal c.refused.result c.refused.ensures (sym c.in-Refused.ensures)) c.end_claim-in-Refused.ensures.keeper
+pub returns-in-Refused-clause-fared : goal.returns-in-Refused-clause-fared
+returns-in-Refused-clause-fared g c =
+    faults-unclaimed (signs_of g.K.Keeper.tells g.K.Keeper.faults) c.args.client c.args.ticket (note_of c.args.fetched) c.refused.result c.args.self.now c.end_claim-in-Refused.new.self c.end_claim-in-Refused.ensures.appended (refused-none c.args.self.now.annals c.args.client c.args.ticket c.in-Refused.refusal c.refused.result c.refused.ensures (sym c.in-Refused.ensures)) c.end_claim-in-Refused.ensures.keeper
 
 pub returns-in-Refused-clause-counts : goal.returns-in-Refused-clause-counts
 returns-in-Refused-clause-counts g c =

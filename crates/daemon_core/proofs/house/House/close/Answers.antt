@@ -9,10 +9,10 @@ use Rattle.update_log.specs.Pasts.{boots}
 use Rattle.daemon_core.specs.Annals.{Appended, Runs}
 use Rattle.daemon_core.specs.House.{IsHouse}
 use Rattle.daemon_core.specs.Housed.{Annalled, Housed, Place, past, past_in, rows_before}
-use Rattle.daemon_core.specs.Keeping.{keeper_faults}
 use Rattle.daemon_core.specs.Returns.{number_of, places_with}
+use Rattle.daemon_core.specs.Turns.{KeeperFared, signs_of}
 use Rattle.daemon_core.proofs.AnnalsKept.{appended-past}
-use Rattle.daemon_core.proofs.ClaimFinish.{DoneIn, close-suits, closed-unchanged, closing_change, finish-counted, finish-fits, finish-ready, house-finished}
+use Rattle.daemon_core.proofs.ClaimFinish.{DoneIn, close-suits, closed-unchanged, closing_change, finish-fared, finish-fits, finish-ready, house-finished}
 use Rattle.daemon_core.proofs.ClaimHome.{HomePlan, HomeTo, home-plan}
 use Rattle.daemon_core.proofs.ClaimHouse.{IsReady}
 use Rattle.daemon_core.proofs.CommitKept.{house-clear}
@@ -110,7 +110,7 @@ invariant_of-self g c =
     (c.give.ensures.conserved ∙ ap (λ (n : ℕ). c.self.inside.pool.free + n) c.into_blocks.ensures.count) in
     let e : c.put.new.places.items ≡ places_with c.self.inside.places.items c.requires.comes.0 c.args.board =
     c.put.ensures ∙ ap (λ (n : ℕ). places_with c.self.inside.places.items n c.args.board) p.home.number_is in
-    subst (λ (ps : List Place). IsHouse g.K.Keeper.rows g.K.Keeper.doubt (record { annals = c.note.new.self; places = ps; pool = c.give.new.self; keeper = c.store-stored.new.keeper })) (sym e) house
+    subst (λ (ps : List Place). IsHouse g.K.Keeper.tells g.K.Keeper.doubt (record { annals = c.note.new.self; places = ps; pool = c.give.new.self; keeper = c.store-stored.new.keeper })) (sym e) house
 
 pub returns-clause-places : goal.returns-clause-places
 returns-clause-places g c =
@@ -120,9 +120,10 @@ returns-clause-places g c =
     ∙ ap (λ (m : ℕ). places_with c.self.inside.places.items m c.args.board) n
     ∙ ap (λ (h : Housed g.row.K.Denot). places_with h.places (number_of h.annals.facts (rows_before h.annals) (past h) c.args.entry) c.args.board) c.self.view_is
 
-pub returns-clause-faults : goal.returns-clause-faults
-returns-clause-faults g c =
+pub returns-clause-fared : goal.returns-clause-fared
+returns-clause-fared g c =
     let q = appended-past c.args.client (Event.Finish c.args.client c.args.entry c.closing_stored-state.result c.store-stored.result) c.self.inside.annals c.note.new.self c.note.ensures.appended in
-    let counted = finish-counted c.args.client c.args.entry c.closing_stored-state.result c.store-stored.result (past_in c.self.inside.annals) (g.K.Keeper.faults c.self.inside.keeper) (g.K.Keeper.faults c.store-stored.new.keeper) c.store-stored.ensures.cause c.store-stored.ensures.counts in
-    subst (λ (h : Housed g.row.K.Denot). (keeper_faults (past_in c.note.new.self) + g.K.Keeper.faults h.keeper ≤ keeper_faults (past h) + g.K.Keeper.faults c.store-stored.new.keeper) ⊎ (2 ^ 64 - 1 ≤ g.K.Keeper.faults c.store-stored.new.keeper)) c.self.view_is
-    (subst (λ (es : List Event). (keeper_faults es + g.K.Keeper.faults c.self.inside.keeper ≤ keeper_faults (past_in c.self.inside.annals) + g.K.Keeper.faults c.store-stored.new.keeper) ⊎ (2 ^ 64 - 1 ≤ g.K.Keeper.faults c.store-stored.new.keeper)) (sym q) counted)
+    let new : Housed g.row.K.Denot = record { annals = c.note.new.self; places = c.put.new.places.items; pool = c.give.new.self; keeper = c.store-stored.new.keeper } in
+    subst (λ (h : Housed g.row.K.Denot). KeeperFared (signs_of g.K.Keeper.tells g.K.Keeper.faults) h new) c.self.view_is
+    (finish-fared (signs_of g.K.Keeper.tells g.K.Keeper.faults) g.K.Keeper.doubt c.args.client c.args.entry c.unwrap_or-closed.result c.closing_stored-state.result _ c.store-stored.result (record { annals = c.self.inside.annals; places = c.self.inside.places.items; pool = c.self.inside.pool; keeper = c.self.inside.keeper }) new q
+    c.store-stored.ensures.stored c.store-stored.ensures.cause c.store-stored.ensures.quiet)

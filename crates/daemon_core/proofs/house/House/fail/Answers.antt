@@ -1,27 +1,27 @@
 use Rattle.std.proofs.Common.{◌≤◌, ap, sym, subst, refl}
 use Rattle.std.specs.Prelude.{Ok}
-use Rattle.update_log.specs.Pasts.{is_boot}
+use Rattle.update_log.specs.Pasts.{is_boot, is_fault}
 use Rattle.update_log.specs.declared.answer.ResumeAnswer.{ResumeAnswer}
 use Rattle.update_log.specs.declared.event.Event.{Event}
 use Rattle.daemon_core.specs.declared.claimed.Claimed.{Claimed}
 use Rattle.daemon_core.specs.Annals.{IsMadeBy}
-use Rattle.daemon_core.specs.Housed.{Housed, past}
-use Rattle.daemon_core.specs.Keeping.{keeper_faults}
+use Rattle.daemon_core.specs.Housed.{Housed}
 use Rattle.daemon_core.specs.Resumes.{ResumeGave, note_in}
-use Rattle.daemon_core.specs.Turns.{FaultsCounted}
+use Rattle.daemon_core.specs.Turns.{KeeperFared, signs_of}
 use Rattle.daemon_core.proofs.ClaimRoom.{places-same, places-themselves}
+use Rattle.daemon_core.proofs.CommitKept.{stored-before}
 use Rattle.daemon_core.proofs.JudgeKept.{done-stored}
-use Rattle.daemon_core.proofs.PuttingOff.{counted-same}
-use Rattle.daemon_core.proofs.ResumeExits.{fail-clear, fail-fits, fail-ready, fail-suits, failing, faults-resumed, house-failed, house-left, left-as, turn-failed, turn-left}
+use Rattle.daemon_core.proofs.ResumeExits.{fail-clear, fail-fits, fail-ready, fail-suits, failing, faults-resumed, house-failed, house-left, left-as, other-met, turn-failed, turn-left}
 use Rattle.daemon_core.proofs.house.House.fail.Goals as goal
+use Rattle.daemon_core.proofs.Fared.{calm-stored, fared-quiet}
 
 pub commit-stored-requires-clause-no_doubt : goal.commit-stored-requires-clause-no_doubt
 commit-stored-requires-clause-no_doubt g c =
-    fail-clear g.K.Keeper.rows g.K.Keeper.doubt c.args.entry (record { annals = c.self.inside.annals; places = c.self.inside.places.items; pool = c.self.inside.pool; keeper = c.self.inside.keeper }) c.self.invariant c.known.ensures (failing c.self.inside.annals c.args.self.now.annals c.args.entry c.args.held c.args.refusal (ap (λ (h : Housed g.row.K.Denot). h.annals) c.self.view_is) c.requires.may c.requires.fails).may
+    fail-clear g.K.Keeper.tells g.K.Keeper.doubt c.args.entry (record { annals = c.self.inside.annals; places = c.self.inside.places.items; pool = c.self.inside.pool; keeper = c.self.inside.keeper }) c.self.invariant c.known.ensures (failing c.self.inside.annals c.args.self.now.annals c.args.entry c.args.held c.args.refusal (ap (λ (h : Housed g.row.K.Denot). h.annals) c.self.view_is) c.requires.may c.requires.fails).may
 
 pub commit-stored-requires-clause-suits : goal.commit-stored-requires-clause-suits
 commit-stored-requires-clause-suits g c =
-    fail-suits g.K.Keeper.rows g.K.Keeper.doubt c.args.entry (ResumeAnswer.Refused c.args.refusal) c.resumption-change.result (record { annals = c.self.inside.annals; places = c.self.inside.places.items; pool = c.self.inside.pool; keeper = c.self.inside.keeper }) c.self.invariant c.known.ensures (failing c.self.inside.annals c.args.self.now.annals c.args.entry c.args.held c.args.refusal (ap (λ (h : Housed g.row.K.Denot). h.annals) c.self.view_is) c.requires.may c.requires.fails).may c.resumption-change.ensures.is
+    fail-suits g.K.Keeper.tells g.K.Keeper.doubt c.args.entry (ResumeAnswer.Refused c.args.refusal) c.resumption-change.result (record { annals = c.self.inside.annals; places = c.self.inside.places.items; pool = c.self.inside.pool; keeper = c.self.inside.keeper }) c.self.invariant c.known.ensures (failing c.self.inside.annals c.args.self.now.annals c.args.entry c.args.held c.args.refusal (ap (λ (h : Housed g.row.K.Denot). h.annals) c.self.view_is) c.requires.may c.requires.fails).may c.resumption-change.ensures.is
 
 pub note-requires-clause-takes : goal.note-requires-clause-takes
 note-requires-clause-takes g c =
@@ -53,15 +53,15 @@ note-requires-clause-made g c =
 
 pub give_in-requires : goal.give_in-requires
 give_in-requires g c =
-    fail-fits g.K.Keeper.rows g.K.Keeper.doubt c.args.entry c.args.held c.args.refusal (record { annals = c.self.inside.annals; places = c.self.inside.places.items; pool = c.self.inside.pool; keeper = c.self.inside.keeper }) c.self.invariant c.known.ensures (failing c.self.inside.annals c.args.self.now.annals c.args.entry c.args.held c.args.refusal (ap (λ (h : Housed g.row.K.Denot). h.annals) c.self.view_is) c.requires.may c.requires.fails)
+    fail-fits g.K.Keeper.tells g.K.Keeper.doubt c.args.entry c.args.held c.args.refusal (record { annals = c.self.inside.annals; places = c.self.inside.places.items; pool = c.self.inside.pool; keeper = c.self.inside.keeper }) c.self.invariant c.known.ensures (failing c.self.inside.annals c.args.self.now.annals c.args.entry c.args.held c.args.refusal (ap (λ (h : Housed g.row.K.Denot). h.annals) c.self.view_is) c.requires.may c.requires.fails)
 
 pub invariant_of-self : goal.invariant_of-self
 invariant_of-self g c =
-    house-left g.K.Keeper.rows g.K.Keeper.doubt c.args.entry (record { annals = c.self.inside.annals; places = c.self.inside.places.items; pool = c.self.inside.pool; keeper = c.self.inside.keeper }) c.commit-stored.new.keeper c.self.invariant c.known.ensures (failing c.self.inside.annals c.args.self.now.annals c.args.entry c.args.held c.args.refusal (ap (λ (h : Housed g.row.K.Denot). h.annals) c.self.view_is) c.requires.may c.requires.fails).may (left-as c.resumption-change.result c.commit-stored.result _ _ _ c.in-NoMemory.is c.commit-stored.ensures.stored)
+    house-left g.K.Keeper.tells g.K.Keeper.doubt c.args.entry (record { annals = c.self.inside.annals; places = c.self.inside.places.items; pool = c.self.inside.pool; keeper = c.self.inside.keeper }) c.commit-stored.new.keeper c.self.invariant c.known.ensures (failing c.self.inside.annals c.args.self.now.annals c.args.entry c.args.held c.args.refusal (ap (λ (h : Housed g.row.K.Denot). h.annals) c.self.view_is) c.requires.may c.requires.fails).may (left-as c.resumption-change.result c.commit-stored.result _ _ _ c.in-NoMemory.is c.commit-stored.ensures.stored)
 
 pub invariant_of-self-2 : goal.invariant_of-self-2
 invariant_of-self-2 g c =
-    house-failed g.K.Keeper.rows g.K.Keeper.doubt c.args.entry c.args.held c.note_in-note.result c.args.refusal c.commit-stored.result c.resumption-change.result c.failed.result (record { annals = c.self.inside.annals; places = c.self.inside.places.items; pool = c.self.inside.pool; keeper = c.self.inside.keeper }) c.note.new.self c.give_in.new.pool c.commit-stored.new.keeper c.self.invariant c.known.ensures c.note.ensures.known (failing c.self.inside.annals c.args.self.now.annals c.args.entry c.args.held c.args.refusal (ap (λ (h : Housed g.row.K.Denot). h.annals) c.self.view_is) c.requires.may c.requires.fails)
+    house-failed g.K.Keeper.tells g.K.Keeper.doubt c.args.entry c.args.held c.note_in-note.result c.args.refusal c.commit-stored.result c.resumption-change.result c.failed.result (record { annals = c.self.inside.annals; places = c.self.inside.places.items; pool = c.self.inside.pool; keeper = c.self.inside.keeper }) c.note.new.self c.give_in.new.pool c.commit-stored.new.keeper c.self.invariant c.known.ensures c.note.ensures.known (failing c.self.inside.annals c.args.self.now.annals c.args.entry c.args.held c.args.refusal (ap (λ (h : Housed g.row.K.Denot). h.annals) c.self.view_is) c.requires.may c.requires.fails)
     c.note_in-note.ensures c.failed.ensures c.note.ensures.appended c.resumption-change.ensures.is c.commit-stored.ensures.stored c.give_in.ensures.capacity c.give_in.ensures.free
 
 pub returns-clause-turn : goal.returns-clause-turn
@@ -73,10 +73,11 @@ returns-clause-gave g c =
     subst (λ (h : Housed g.row.K.Denot). ResumeGave c.args.entry c.args.held (Ok (Claimed.Refused c.args.refusal)) h (record { annals = c.note.new.self; places = c.self.inside.places.items; pool = c.give_in.new.pool; keeper = c.commit-stored.new.keeper })) c.self.view_is
     (c.give_in.ensures.free, places-themselves c.self.inside.places.items)
 
-pub returns-clause-faults : goal.returns-clause-faults
-returns-clause-faults g c =
-    subst (λ (h : Housed g.row.K.Denot). FaultsCounted g.K.Keeper.faults h (record { annals = c.note.new.self; places = c.self.inside.places.items; pool = c.give_in.new.pool; keeper = c.commit-stored.new.keeper })) c.self.view_is
-    (faults-resumed g.K.Keeper.faults c.args.entry c.note_in-note.result (ResumeAnswer.Refused c.args.refusal) c.commit-stored.result c.failed.result (record { annals = c.self.inside.annals; places = c.self.inside.places.items; pool = c.self.inside.pool; keeper = c.self.inside.keeper }) (record { annals = c.note.new.self; places = c.self.inside.places.items; pool = c.give_in.new.pool; keeper = c.commit-stored.new.keeper }) c.failed.ensures c.note.ensures.appended c.commit-stored.ensures.counts c.commit-stored.ensures.cause)
+pub returns-clause-fared : goal.returns-clause-fared
+returns-clause-fared g c =
+    subst (λ (h : Housed g.row.K.Denot). KeeperFared (signs_of g.K.Keeper.tells g.K.Keeper.faults) h (record { annals = c.note.new.self; places = c.self.inside.places.items; pool = c.give_in.new.pool; keeper = c.commit-stored.new.keeper })) c.self.view_is
+    (faults-resumed (signs_of g.K.Keeper.tells g.K.Keeper.faults) c.args.entry c.note_in-note.result (ResumeAnswer.Refused c.args.refusal) c.commit-stored.result c.failed.result (record { annals = c.self.inside.annals; places = c.self.inside.places.items; pool = c.self.inside.pool; keeper = c.self.inside.keeper }) (record { annals = c.note.new.self; places = c.self.inside.places.items; pool = c.give_in.new.pool; keeper = c.commit-stored.new.keeper }) c.failed.ensures (other-met c.args.refusal c.commit-stored.result c.requires.fails.other) c.note.ensures.appended c.commit-stored.ensures.cause c.commit-stored.ensures.quiet
+    (stored-before g.K.Keeper.tells c.self.inside.keeper c.commit-stored.new.keeper c.resumption-change.result c.commit-stored.result _ c.commit-stored.ensures.stored))
 
 pub returns-clause-counts : goal.returns-clause-counts
 returns-clause-counts g c =
@@ -90,9 +91,12 @@ pub returns-in-NoMemory-clause-gave : goal.returns-in-NoMemory-clause-gave
 returns-in-NoMemory-clause-gave g c =
     (ap (λ (h : Housed g.row.K.Denot). h.pool) c.self.view_is, places-same c.args.self.now.places c.self.inside.places.items (ap (λ (h : Housed g.row.K.Denot). h.places) c.self.view_is), refl)
 
-pub returns-in-NoMemory-clause-faults : goal.returns-in-NoMemory-clause-faults
-returns-in-NoMemory-clause-faults g c =
-    counted-same g.K.Keeper.faults c.args.self.now (record { annals = c.self.inside.annals; places = c.self.inside.places.items; pool = c.self.inside.pool; keeper = c.commit-stored.new.keeper }) (ap (λ (h : Housed g.row.K.Denot). keeper_faults (past h)) c.self.view_is) (subst (λ (h : Housed g.row.K.Denot). g.K.Keeper.faults h.keeper ≤ g.K.Keeper.faults c.commit-stored.new.keeper) c.self.view_is c.commit-stored.ensures.counts)
+pub returns-in-NoMemory-clause-fared : goal.returns-in-NoMemory-clause-fared
+returns-in-NoMemory-clause-fared g c =
+    subst (λ (h : Housed g.row.K.Denot). KeeperFared (signs_of g.K.Keeper.tells g.K.Keeper.faults) h (record { annals = c.self.inside.annals; places = c.self.inside.places.items; pool = c.self.inside.pool; keeper = c.commit-stored.new.keeper })) c.self.view_is
+    (fared-quiet (signs_of g.K.Keeper.tells g.K.Keeper.faults) (record { annals = c.self.inside.annals; places = c.self.inside.places.items; pool = c.self.inside.pool; keeper = c.self.inside.keeper }) (record { annals = c.self.inside.annals; places = c.self.inside.places.items; pool = c.self.inside.pool; keeper = c.commit-stored.new.keeper }) refl
+    (calm-stored c.commit-stored.result (ap is_fault c.in-NoMemory.is) c.commit-stored.ensures.quiet)
+    (stored-before g.K.Keeper.tells c.self.inside.keeper c.commit-stored.new.keeper c.resumption-change.result c.commit-stored.result _ c.commit-stored.ensures.stored))
 
 pub returns-in-NoMemory-clause-counts : goal.returns-in-NoMemory-clause-counts
 returns-in-NoMemory-clause-counts g c =

@@ -91,7 +91,7 @@ invariant_of-self g c =
     c.note.new.self c.self.invariant c.known.ensures c.note.ensures.known
     (subst (λ (e : Event). Appended c.args.client e c.self.inside.annals c.note.new.self) t.event c.note.ensures.appended)
     t.loaded t.runs t.ends in
-    subst (λ (ps : List Place). IsHouse g.K.Keeper.rows g.K.Keeper.doubt (record { annals = c.note.new.self; places = ps; pool = c.self.inside.pool; keeper = c.self.inside.keeper })) (sym t.places) house
+    subst (λ (ps : List Place). IsHouse g.K.Keeper.tells g.K.Keeper.doubt (record { annals = c.note.new.self; places = ps; pool = c.self.inside.pool; keeper = c.self.inside.keeper })) (sym t.places) house
 
 pub returns-clause-appended : goal.returns-clause-appended
 returns-clause-appended g c =

@@ -75,7 +75,7 @@ invariant_of-self g c =
     (c.give.ensures.conserved ∙ ap (λ (n : ℕ). c.self.inside.pool.free + n) c.into_blocks.ensures.count) in
     let e : c.put.new.places.items ≡ places_with c.self.inside.places.items c.requires.comes.0 c.args.board =
     c.put.ensures ∙ ap (λ (n : ℕ). places_with c.self.inside.places.items n c.args.board) p.home.number_is in
-    subst (λ (ps : List Place). IsHouse g.K.Keeper.rows g.K.Keeper.doubt (record { annals = c.note.new.self; places = ps; pool = c.give.new.self; keeper = c.self.inside.keeper })) (sym e) house
+    subst (λ (ps : List Place). IsHouse g.K.Keeper.tells g.K.Keeper.doubt (record { annals = c.note.new.self; places = ps; pool = c.give.new.self; keeper = c.self.inside.keeper })) (sym e) house
 
 pub returns-clause-places : goal.returns-clause-places
 returns-clause-places g c =

@@ -1,12 +1,15 @@
-use Rattle.std.proofs.Common.{ap, ◌∙◌}
+use Rattle.std.proofs.Common.{ap, refl, subst, ◌∙◌}
 use Rattle.update_log.specs.Core.{Core}
 use Rattle.update_log.specs.CoreSteps.{advance_on}
-use Rattle.update_log.specs.Pasts.{past_of, time_of}
+use Rattle.update_log.specs.Pasts.{is_fault, past_of, time_of}
 use Rattle.update_log.specs.declared.event.Event.{Event}
 use Rattle.daemon_core.specs.Housed.{Housed}
+use Rattle.daemon_core.specs.Turns.{KeeperFared, signs_of}
+use Rattle.daemon_core.proofs.AnnalsKept.{appended-past}
+use Rattle.daemon_core.proofs.Fared.{calm-stored, fared-quiet}
 use Rattle.daemon_core.proofs.ClaimHouse.{IsReady}
-use Rattle.daemon_core.proofs.CommitKept.{house-unstored}
-use Rattle.daemon_core.proofs.JudgeKept.{clear-over, done-stored, house-judged, ready-over, suits-over}
+use Rattle.daemon_core.proofs.CommitKept.{house-unstored, stored-before}
+use Rattle.daemon_core.proofs.JudgeKept.{clear-over, done-stored, house-judged, judge-fared, ready-over, suits-over}
 use Rattle.daemon_core.proofs.house.House.judge_so.Goals as goal
 use Rattle.daemon_core.proofs.house.House.judge_so.Given.{Over}
 
@@ -17,7 +20,7 @@ commit-stored-requires-clause-no_doubt g c =
 
 pub commit-stored-requires-clause-suits : goal.commit-stored-requires-clause-suits
 commit-stored-requires-clause-suits g c =
-    suits-over (g.K.Keeper.rows c.self.inside.keeper) c.self.inside.annals c.args.self.now.annals c.args.entry c.args.version c.args.state c.advance-change.result
+    suits-over (g.K.Keeper.tells c.self.inside.keeper) c.self.inside.annals c.args.self.now.annals c.args.entry c.args.version c.args.state c.advance-change.result
     (ap (λ (h : Housed g.row.K.Denot). h.annals) c.self.view_is)
     (clear-over _ _ (record { annals = c.self.inside.annals; places = c.self.inside.places.items; pool = c.self.inside.pool; keeper = c.self.inside.keeper })
     c.args.self.now.annals (ap (λ (h : Housed g.row.K.Denot). h.annals) c.self.view_is) c.self.invariant c.known.ensures c.requires.loaded c.requires.runs).rows_are
@@ -55,3 +58,17 @@ invariant_of-self-2 g c =
     (ap (λ (h : Housed g.row.K.Denot). h.annals) c.self.view_is) c.self.invariant c.known.ensures c.note.ensures.known c.note.ensures.appended
     c.requires.loaded c.requires.runs
     (c.advance-change.ensures ∙ ap (λ (k : Core). advance_on (time_of (past_of k.log)) k.rows c.args.entry c.args.state) c.core.ensures) c.commit-stored.ensures.stored
+
+pub returns-clause-fared : goal.returns-clause-fared
+returns-clause-fared g c =
+    subst (λ (h : Housed g.row.K.Denot). KeeperFared (signs_of g.K.Keeper.tells g.K.Keeper.faults) h (record { annals = c.note.new.self; places = c.self.inside.places.items; pool = c.self.inside.pool; keeper = c.commit-stored.new.keeper })) c.self.view_is
+    (judge-fared (signs_of g.K.Keeper.tells g.K.Keeper.faults) c.args.client c.args.entry c.args.version c.args.state c.advance-change.result c.commit-stored.result _ (record { annals = c.self.inside.annals; places = c.self.inside.places.items; pool = c.self.inside.pool; keeper = c.self.inside.keeper }) (record { annals = c.note.new.self; places = c.self.inside.places.items; pool = c.self.inside.pool; keeper = c.commit-stored.new.keeper })
+    (appended-past c.args.client (Event.Judge c.args.client c.args.entry c.args.version c.args.state c.commit-stored.result) c.self.inside.annals c.note.new.self c.note.ensures.appended)
+    c.commit-stored.ensures.stored c.commit-stored.ensures.cause c.commit-stored.ensures.quiet)
+
+pub returns-in-NoMemory-clause-fared : goal.returns-in-NoMemory-clause-fared
+returns-in-NoMemory-clause-fared g c =
+    subst (λ (h : Housed g.row.K.Denot). KeeperFared (signs_of g.K.Keeper.tells g.K.Keeper.faults) h (record { annals = c.self.inside.annals; places = c.self.inside.places.items; pool = c.self.inside.pool; keeper = c.commit-stored.new.keeper })) c.self.view_is
+    (fared-quiet (signs_of g.K.Keeper.tells g.K.Keeper.faults) (record { annals = c.self.inside.annals; places = c.self.inside.places.items; pool = c.self.inside.pool; keeper = c.self.inside.keeper }) (record { annals = c.self.inside.annals; places = c.self.inside.places.items; pool = c.self.inside.pool; keeper = c.commit-stored.new.keeper }) refl
+    (calm-stored c.commit-stored.result (ap is_fault c.in-NoMemory.is) c.commit-stored.ensures.quiet)
+    (stored-before g.K.Keeper.tells c.self.inside.keeper c.commit-stored.new.keeper c.advance-change.result c.commit-stored.result _ c.commit-stored.ensures.stored))

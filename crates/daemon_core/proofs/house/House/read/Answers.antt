@@ -9,12 +9,12 @@ read_history-requires-clause-kept g c = λ l. so-keeps c.self.inside.annals.reop
 
 pub invariant_of-self : goal.invariant_of-self
 invariant_of-self g c =
-    house-read _ _ _ (record { annals = c.self.inside.annals; places = c.self.inside.places.items; pool = c.self.inside.pool; keeper = c.self.inside.keeper })
+    house-read g.K.Keeper.tells g.K.Keeper.doubt g.K.Keeper.faults g.K.Keeper.settled (record { annals = c.self.inside.annals; places = c.self.inside.places.items; pool = c.self.inside.pool; keeper = c.self.inside.keeper })
     c.read_history.new.keeper c.self.invariant c.known.ensures c.read_history.result c.read_history.new.annals c.read_history.ensures.first c.read_history.ensures.later
 
 pub returns-clause-ready : goal.returns-clause-ready
 returns-clause-ready g c =
-    can-boot _ _ _ (record { annals = c.self.inside.annals; places = c.self.inside.places.items; pool = c.self.inside.pool; keeper = c.self.inside.keeper })
+    can-boot g.K.Keeper.tells g.K.Keeper.doubt g.K.Keeper.faults g.K.Keeper.settled (record { annals = c.self.inside.annals; places = c.self.inside.places.items; pool = c.self.inside.pool; keeper = c.self.inside.keeper })
     c.read_history.new.keeper c.self.invariant c.known.ensures
     (subst (λ (h : Housed g.row.K.Denot). 1 ≤ h.annals.core.row_room) (sym c.self.view_is) c.requires)
     c.read_history.result c.read_history.new.annals c.read_history.ensures.first c.read_history.ensures.later

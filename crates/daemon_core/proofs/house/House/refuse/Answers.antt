@@ -4,6 +4,7 @@ use Rattle.update_log.specs.declared.answer.ClaimAnswer.{ClaimAnswer}
 use Rattle.update_log.specs.declared.event.Event.{Event}
 use Rattle.daemon_core.specs.Annals.{Appended}
 use Rattle.daemon_core.specs.Fetches.{note_of}
+use Rattle.daemon_core.specs.Turns.{signs_of}
 use Rattle.daemon_core.proofs.ClaimExits.{broken-answers, faults-unclaimed, same-faults}
 use Rattle.daemon_core.proofs.ClaimRoom.{places-same}
 use Rattle.daemon_core.proofs.house.House.refuse.Goals as goal
@@ -23,9 +24,9 @@ pub returns-clause-gave : goal.returns-clause-gave
 returns-clause-gave g c =
     (c.end_claim.ensures.pool, places-same c.args.self.now.places c.end_claim.new.self.places c.end_claim.ensures.places)
 
-pub returns-clause-faults : goal.returns-clause-faults
-returns-clause-faults g c =
-    faults-unclaimed g.K.Keeper.faults c.args.client c.args.ticket (note_of c.args.fetched) c.refused.result c.args.self.now c.end_claim.new.self c.end_claim.ensures.appended (ap is_taken c.refused.ensures) c.end_claim.ensures.keeper
+pub returns-clause-fared : goal.returns-clause-fared
+returns-clause-fared g c =
+    faults-unclaimed (signs_of g.K.Keeper.tells g.K.Keeper.faults) c.args.client c.args.ticket (note_of c.args.fetched) c.refused.result c.args.self.now c.end_claim.new.self c.end_claim.ensures.appended (ap is_taken c.refused.ensures) c.end_claim.ensures.keeper
 
 pub returns-clause-counts : goal.returns-clause-counts
 returns-clause-counts g c =

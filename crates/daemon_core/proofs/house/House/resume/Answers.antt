@@ -5,9 +5,10 @@ use Rattle.daemon_core.specs.Resumes.{note_in}
 use Rattle.daemon_core.proofs.ClaimAnswers.{faults-after}
 use Rattle.daemon_core.proofs.ClaimExits.{same-faults, stopped-faults}
 use Rattle.daemon_core.proofs.ClaimRoom.{places-same}
-use Rattle.daemon_core.proofs.PuttingOff.{counted-same}
 use Rattle.daemon_core.proofs.ResumeExits.{entered-in, entered-may, entered-stopped, gave-after, resumed-after}
 use Rattle.daemon_core.proofs.house.House.resume.Goals as goal
+use Rattle.daemon_core.proofs.Fared.{fared-same}
+use Rattle.daemon_core.specs.Turns.{signs_of}
 
 pub resume_in-requires-clause-may : goal.resume_in-requires-clause-may
 resume_in-requires-clause-may g c =
@@ -26,10 +27,10 @@ returns-in-Ok-clause-gave g c =
     gave-after c.args.entry c.args.held c.resume_in.result c.args.self.now c.enter.new.self c.resume_in.new.self
     (places-same c.args.self.now.places c.enter.new.self.places c.in-Ok.ensures.elsewhere.places) c.in-Ok.ensures.elsewhere.pool c.resume_in.ensures.gave
 
-pub returns-in-Ok-clause-faults : goal.returns-in-Ok-clause-faults
-returns-in-Ok-clause-faults g c =
-    faults-after g.K.Keeper.faults c.args.self.now c.enter.new.self c.resume_in.new.self
-    (ap (λ (a : Annalled). keeper_faults (past_in a)) c.in-Ok.ensures.entered.same) c.in-Ok.ensures.elsewhere.keeper c.resume_in.ensures.faults
+pub returns-in-Ok-clause-fared : goal.returns-in-Ok-clause-fared
+returns-in-Ok-clause-fared g c =
+    faults-after (signs_of g.K.Keeper.tells g.K.Keeper.faults) c.args.self.now c.enter.new.self c.resume_in.new.self
+    (ap (λ (a : Annalled). keeper_faults (past_in a)) c.in-Ok.ensures.entered.same) c.in-Ok.ensures.elsewhere.keeper c.resume_in.ensures.counts c.resume_in.ensures.fared
 
 pub returns-in-Ok-clause-counts : goal.returns-in-Ok-clause-counts
 returns-in-Ok-clause-counts g c =
@@ -43,11 +44,11 @@ pub returns-in-Err-clause-gave : goal.returns-in-Err-clause-gave
 returns-in-Err-clause-gave g c =
     (c.in-Err.ensures.elsewhere.pool, places-same c.args.self.now.places c.enter.new.self.places c.in-Err.ensures.elsewhere.places, refl)
 
-pub returns-in-Err-clause-faults : goal.returns-in-Err-clause-faults
-returns-in-Err-clause-faults g c =
-    counted-same g.K.Keeper.faults c.args.self.now c.enter.new.self
+pub returns-in-Err-clause-fared : goal.returns-in-Err-clause-fared
+returns-in-Err-clause-fared g c =
+    fared-same (signs_of g.K.Keeper.tells g.K.Keeper.faults) c.args.self.now c.enter.new.self
     (stopped-faults (Unit {0}) 0 16 c.in-Err.stop c.args.self.now.annals c.enter.new.self.annals c.in-Err.ensures.entered)
-    (same-faults g.K.Keeper.faults c.args.self.now c.enter.new.self c.in-Err.ensures.elsewhere.keeper)
+    c.in-Err.ensures.elsewhere.keeper
 
 pub returns-in-Err-clause-counts : goal.returns-in-Err-clause-counts
 returns-in-Err-clause-counts g c =

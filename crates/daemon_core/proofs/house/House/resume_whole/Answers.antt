@@ -6,21 +6,22 @@ use Rattle.daemon_core.specs.Housed.{Annalled, past_in}
 use Rattle.daemon_core.specs.Keeping.{keeper_faults}
 use Rattle.daemon_core.proofs.ClaimAnswers.{faults-after}
 use Rattle.daemon_core.proofs.ClaimExits.{same-faults}
-use Rattle.daemon_core.proofs.PuttingOff.{counted-same}
 use Rattle.daemon_core.proofs.ResumeExits.{gave-after, resume-plan, resumed-over, resuming, turn-left}
 use Rattle.daemon_core.proofs.house.House.resume_whole.Goals as goal
+use Rattle.daemon_core.proofs.Fared.{fared-same}
+use Rattle.daemon_core.specs.Turns.{signs_of}
 
 pub reserve_marks-requires-clause-within : goal.reserve_marks-requires-clause-within
 reserve_marks-requires-clause-within g c =
-    (resume-plan g.K.Keeper.rows g.K.Keeper.doubt c.args.entry c.args.ticket c.args.payload c.unwrap_or-number.result (record { annals = c.self.inside.annals; places = c.self.inside.places.items; pool = c.self.inside.pool; keeper = c.self.inside.keeper }) c.args.self.now c.self.view_is c.self.invariant c.known.ensures (record { may = c.requires.may; held = c.requires.held; accepted = c.requires.accepted }) (c.unwrap_or-number.ensures ∙ ap (λ (o : Option ℕ). unwrap_or o 0) c.board_of.ensures)).within
+    (resume-plan g.K.Keeper.tells g.K.Keeper.doubt c.args.entry c.args.ticket c.args.payload c.unwrap_or-number.result (record { annals = c.self.inside.annals; places = c.self.inside.places.items; pool = c.self.inside.pool; keeper = c.self.inside.keeper }) c.args.self.now c.self.view_is c.self.invariant c.known.ensures (record { may = c.requires.may; held = c.requires.held; accepted = c.requires.accepted }) (c.unwrap_or-number.ensures ∙ ap (λ (o : Option ℕ). unwrap_or o 0) c.board_of.ensures)).within
 
 pub reserve_marks-requires-clause-home : goal.reserve_marks-requires-clause-home
 reserve_marks-requires-clause-home g c =
-    (resume-plan g.K.Keeper.rows g.K.Keeper.doubt c.args.entry c.args.ticket c.args.payload c.unwrap_or-number.result (record { annals = c.self.inside.annals; places = c.self.inside.places.items; pool = c.self.inside.pool; keeper = c.self.inside.keeper }) c.args.self.now c.self.view_is c.self.invariant c.known.ensures (record { may = c.requires.may; held = c.requires.held; accepted = c.requires.accepted }) (c.unwrap_or-number.ensures ∙ ap (λ (o : Option ℕ). unwrap_or o 0) c.board_of.ensures)).home
+    (resume-plan g.K.Keeper.tells g.K.Keeper.doubt c.args.entry c.args.ticket c.args.payload c.unwrap_or-number.result (record { annals = c.self.inside.annals; places = c.self.inside.places.items; pool = c.self.inside.pool; keeper = c.self.inside.keeper }) c.args.self.now c.self.view_is c.self.invariant c.known.ensures (record { may = c.requires.may; held = c.requires.held; accepted = c.requires.accepted }) (c.unwrap_or-number.ensures ∙ ap (λ (o : Option ℕ). unwrap_or o 0) c.board_of.ensures)).home
 
 pub store_begin-requires-clause-begins : goal.store_begin-requires-clause-begins
 store_begin-requires-clause-begins g c =
-    resuming c.reserve_marks.new.self.annals c.args.self.now.annals c.args.entry c.args.ticket c.args.payload c.unwrap_or-number.result c.in-Ok.ensures.annals (resume-plan g.K.Keeper.rows g.K.Keeper.doubt c.args.entry c.args.ticket c.args.payload c.unwrap_or-number.result (record { annals = c.self.inside.annals; places = c.self.inside.places.items; pool = c.self.inside.pool; keeper = c.self.inside.keeper }) c.args.self.now c.self.view_is c.self.invariant c.known.ensures (record { may = c.requires.may; held = c.requires.held; accepted = c.requires.accepted }) (c.unwrap_or-number.ensures ∙ ap (λ (o : Option ℕ). unwrap_or o 0) c.board_of.ensures)).begins_so
+    resuming c.reserve_marks.new.self.annals c.args.self.now.annals c.args.entry c.args.ticket c.args.payload c.unwrap_or-number.result c.in-Ok.ensures.annals (resume-plan g.K.Keeper.tells g.K.Keeper.doubt c.args.entry c.args.ticket c.args.payload c.unwrap_or-number.result (record { annals = c.self.inside.annals; places = c.self.inside.places.items; pool = c.self.inside.pool; keeper = c.self.inside.keeper }) c.args.self.now c.self.view_is c.self.invariant c.known.ensures (record { may = c.requires.may; held = c.requires.held; accepted = c.requires.accepted }) (c.unwrap_or-number.ensures ∙ ap (λ (o : Option ℕ). unwrap_or o 0) c.board_of.ensures)).begins_so
 
 pub returns-in-Err-clause-turn : goal.returns-in-Err-clause-turn
 returns-in-Err-clause-turn g c =
@@ -30,9 +31,9 @@ pub returns-in-Err-clause-gave : goal.returns-in-Err-clause-gave
 returns-in-Err-clause-gave g c =
     (c.in-Err.ensures.pool, c.in-Err.ensures.roomier, refl)
 
-pub returns-in-Err-clause-faults : goal.returns-in-Err-clause-faults
-returns-in-Err-clause-faults g c =
-    counted-same g.K.Keeper.faults c.args.self.now c.reserve_marks.new.self (ap (λ (a : Annalled). keeper_faults (past_in a)) c.in-Err.ensures.annals) (same-faults g.K.Keeper.faults c.args.self.now c.reserve_marks.new.self c.in-Err.ensures.keeper)
+pub returns-in-Err-clause-fared : goal.returns-in-Err-clause-fared
+returns-in-Err-clause-fared g c =
+    fared-same (signs_of g.K.Keeper.tells g.K.Keeper.faults) c.args.self.now c.reserve_marks.new.self (ap (λ (a : Annalled). keeper_faults (past_in a)) c.in-Err.ensures.annals) c.in-Err.ensures.keeper
 
 pub returns-in-Err-clause-counts : goal.returns-in-Err-clause-counts
 returns-in-Err-clause-counts g c =
@@ -46,9 +47,9 @@ pub returns-in-Ok-clause-gave : goal.returns-in-Ok-clause-gave
 returns-in-Ok-clause-gave g c =
     gave-after c.args.entry (Some (c.args.ticket, (Fetched.Whole c.args.payload))) c.store_begin.result c.args.self.now c.reserve_marks.new.self c.store_begin.new.self c.in-Ok.ensures.roomier c.in-Ok.ensures.pool c.store_begin.ensures.gave
 
-pub returns-in-Ok-clause-faults : goal.returns-in-Ok-clause-faults
-returns-in-Ok-clause-faults g c =
-    faults-after g.K.Keeper.faults c.args.self.now c.reserve_marks.new.self c.store_begin.new.self (ap (λ (a : Annalled). keeper_faults (past_in a)) c.in-Ok.ensures.annals) c.in-Ok.ensures.keeper c.store_begin.ensures.faults
+pub returns-in-Ok-clause-fared : goal.returns-in-Ok-clause-fared
+returns-in-Ok-clause-fared g c =
+    faults-after (signs_of g.K.Keeper.tells g.K.Keeper.faults) c.args.self.now c.reserve_marks.new.self c.store_begin.new.self (ap (λ (a : Annalled). keeper_faults (past_in a)) c.in-Ok.ensures.annals) c.in-Ok.ensures.keeper c.store_begin.ensures.counts c.store_begin.ensures.fared
 
 pub returns-in-Ok-clause-counts : goal.returns-in-Ok-clause-counts
 returns-in-Ok-clause-counts g c =

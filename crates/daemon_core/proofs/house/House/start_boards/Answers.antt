@@ -29,7 +29,7 @@ invariant_of-self g c =
     let p : PlacesStand a c.self.inside.places.items = record { count = c.self.invariant.count; each = c.self.invariant.places } in
     let r = subst (λ (h : Housed g.row.K.Denot). live (past h) ≡ []) (sym c.self.view_is) c.requires.live in
     let q = subst (λ (h : Housed g.row.K.Denot). holds (past h) ≡ []) (sym c.self.view_is) c.requires.holds in
-    let n = subst (λ (h : Housed g.row.K.Denot). CanBoot g.K.Keeper.rows g.K.Keeper.doubt c.args.found h) (sym c.self.view_is) c.requires.can in
+    let n = subst (λ (h : Housed g.row.K.Denot). CanBoot g.K.Keeper.tells g.K.Keeper.doubt c.args.found h) (sym c.self.view_is) c.requires.can in
     let w = boot-noted (next_boot (past_in a) c.args.plan.now c.args.found c.start_all.new.listed.items) c.args.found a c.note_boot.new.self c.note_found.new.self c.note_boot.ensures.appended c.note_found.ensures in
     let kept = annals-found c.args.found c.note_boot.new.self c.note_found.new.self c.note_found.ensures c.note_boot.ensures.known in
     let n_is : c.self.inside.places.len ≡ length c.start_all.new.places = sym (c.start_all.ensures.places ∙ c.deref_mut.ensures.len) in

@@ -1,5 +1,5 @@
-use Rattle.std.proofs.Common.{◌≤◌, ◌∙◌, ◌+◌, ℕ, ap, sym, subst, refl, arith}
-use Rattle.std.specs.Prelude.{Err, IfSome, Some, Ok}
+use Rattle.std.proofs.Common.{◌≤◌, ◌∙◌, ◌+◌, ℕ, ap, sym, subst, refl, arith, inl, inr}
+use Rattle.std.specs.Prelude.{Err, IfSome, None, Some, Ok}
 use Rattle.update_log.specs.Pasts.{is_boot}
 use Rattle.update_log.specs.declared.answer.ResumeAnswer.{ResumeAnswer}
 use Rattle.update_log.specs.declared.event.Event.{Event}
@@ -13,20 +13,20 @@ use Rattle.daemon_core.specs.Housed.{Housed, past}
 use Rattle.daemon_core.specs.Keeping.{keeper_faults}
 use Rattle.daemon_core.specs.Resumes.{ResumeGave}
 use Rattle.daemon_core.specs.Returns.{place_at}
-use Rattle.daemon_core.specs.Turns.{FaultsCounted}
+use Rattle.daemon_core.specs.Turns.{KeeperFared, signs_of}
 use Rattle.daemon_core.proofs.ClaimRoom.{places-same, places-themselves}
-use Rattle.daemon_core.proofs.PuttingOff.{counted-same}
 use Rattle.daemon_core.proofs.ResumeExits.{begin-event, begin-home, begin-live, begin-ready, begin-sheet, doubt-fits, doubt-ready, doubtful-event, fail-clear, fail-suits, faults-resumed, gave-taken, house-doubts, house-left, house-took, resuming, turn-doubts, turn-left, turn-took}
 use Rattle.daemon_core.proofs.ResumeTurns.{resume-within}
 use Rattle.daemon_core.proofs.house.House.store_begin.Goals as goal
+use Rattle.daemon_core.proofs.Fared.{calm-memory, calm-ok, fared-quiet, told-left, told-with}
 
 pub commit-requires-clause-no_doubt : goal.commit-requires-clause-no_doubt
 commit-requires-clause-no_doubt g c =
-    fail-clear g.K.Keeper.rows g.K.Keeper.doubt c.args.entry (record { annals = c.self.inside.annals; places = c.self.inside.places.items; pool = c.self.inside.pool; keeper = c.self.inside.keeper }) c.self.invariant c.known.ensures (resuming c.self.inside.annals c.args.self.now.annals c.args.entry c.args.ticket c.args.payload c.args.number (ap (λ (h : Housed g.row.K.Denot). h.annals) c.self.view_is) c.requires.begins).may
+    fail-clear g.K.Keeper.tells g.K.Keeper.doubt c.args.entry (record { annals = c.self.inside.annals; places = c.self.inside.places.items; pool = c.self.inside.pool; keeper = c.self.inside.keeper }) c.self.invariant c.known.ensures (resuming c.self.inside.annals c.args.self.now.annals c.args.entry c.args.ticket c.args.payload c.args.number (ap (λ (h : Housed g.row.K.Denot). h.annals) c.self.view_is) c.requires.begins).may
 
 pub commit-requires-clause-suits : goal.commit-requires-clause-suits
 commit-requires-clause-suits g c =
-    fail-suits g.K.Keeper.rows g.K.Keeper.doubt c.args.entry ResumeAnswer.Begun c.resumption-change.result (record { annals = c.self.inside.annals; places = c.self.inside.places.items; pool = c.self.inside.pool; keeper = c.self.inside.keeper }) c.self.invariant c.known.ensures (resuming c.self.inside.annals c.args.self.now.annals c.args.entry c.args.ticket c.args.payload c.args.number (ap (λ (h : Housed g.row.K.Denot). h.annals) c.self.view_is) c.requires.begins).may c.resumption-change.ensures.is
+    fail-suits g.K.Keeper.tells g.K.Keeper.doubt c.args.entry ResumeAnswer.Begun c.resumption-change.result (record { annals = c.self.inside.annals; places = c.self.inside.places.items; pool = c.self.inside.pool; keeper = c.self.inside.keeper }) c.self.invariant c.known.ensures (resuming c.self.inside.annals c.args.self.now.annals c.args.entry c.args.ticket c.args.payload c.args.number (ap (λ (h : Housed g.row.K.Denot). h.annals) c.self.view_is) c.requires.begins).may c.resumption-change.ensures.is
 
 pub note-requires-clause-takes : goal.note-requires-clause-takes
 note-requires-clause-takes g c =
@@ -86,11 +86,11 @@ note-requires-in-Err-Fault-clause-made g c =
 
 pub take_out-board-requires-clause-within : goal.take_out-board-requires-clause-within
 take_out-board-requires-clause-within g c =
-    resume-within g.K.Keeper.rows g.K.Keeper.doubt c.args.entry c.args.ticket c.args.payload c.args.number (record { annals = c.self.inside.annals; places = c.self.inside.places.items; pool = c.self.inside.pool; keeper = c.self.inside.keeper }) c.self.invariant (resuming c.self.inside.annals c.args.self.now.annals c.args.entry c.args.ticket c.args.payload c.args.number (ap (λ (h : Housed g.row.K.Denot). h.annals) c.self.view_is) c.requires.begins)
+    resume-within g.K.Keeper.tells g.K.Keeper.doubt c.args.entry c.args.ticket c.args.payload c.args.number (record { annals = c.self.inside.annals; places = c.self.inside.places.items; pool = c.self.inside.pool; keeper = c.self.inside.keeper }) c.self.invariant (resuming c.self.inside.annals c.args.self.now.annals c.args.entry c.args.ticket c.args.payload c.args.number (ap (λ (h : Housed g.row.K.Denot). h.annals) c.self.view_is) c.requires.begins)
 
 pub take_out-board-requires-clause-home : goal.take_out-board-requires-clause-home
 take_out-board-requires-clause-home g c =
-    begin-home g.K.Keeper.rows g.K.Keeper.doubt c.args.entry c.args.ticket c.args.payload c.args.number (record { annals = c.self.inside.annals; places = c.self.inside.places.items; pool = c.self.inside.pool; keeper = c.self.inside.keeper }) c.self.invariant c.known.ensures (resuming c.self.inside.annals c.args.self.now.annals c.args.entry c.args.ticket c.args.payload c.args.number (ap (λ (h : Housed g.row.K.Denot). h.annals) c.self.view_is) c.requires.begins)
+    begin-home g.K.Keeper.tells g.K.Keeper.doubt c.args.entry c.args.ticket c.args.payload c.args.number (record { annals = c.self.inside.annals; places = c.self.inside.places.items; pool = c.self.inside.pool; keeper = c.self.inside.keeper }) c.self.invariant c.known.ensures (resuming c.self.inside.annals c.args.self.now.annals c.args.entry c.args.ticket c.args.payload c.args.number (ap (λ (h : Housed g.row.K.Denot). h.annals) c.self.view_is) c.requires.begins)
 
 pub taken-requires-clause-live : goal.taken-requires-clause-live
 taken-requires-clause-live g c =
@@ -102,22 +102,22 @@ taken-requires-clause-within g c =
 
 pub give-requires : goal.give-requires
 give-requires g c =
-    (let f = doubt-fits g.K.Keeper.rows g.K.Keeper.doubt c.args.entry c.args.ticket c.args.payload c.args.number (record { annals = c.self.inside.annals; places = c.self.inside.places.items; pool = c.self.inside.pool; keeper = c.self.inside.keeper }) c.self.invariant c.known.ensures (resuming c.self.inside.annals c.args.self.now.annals c.args.entry c.args.ticket c.args.payload c.args.number (ap (λ (h : Housed g.row.K.Denot). h.annals) c.self.view_is) c.requires.begins) in let e = c.into_blocks.ensures.count in omega (arith, f, e))
+    (let f = doubt-fits g.K.Keeper.tells g.K.Keeper.doubt c.args.entry c.args.ticket c.args.payload c.args.number (record { annals = c.self.inside.annals; places = c.self.inside.places.items; pool = c.self.inside.pool; keeper = c.self.inside.keeper }) c.self.invariant c.known.ensures (resuming c.self.inside.annals c.args.self.now.annals c.args.entry c.args.ticket c.args.payload c.args.number (ap (λ (h : Housed g.row.K.Denot). h.annals) c.self.view_is) c.requires.begins) in let e = c.into_blocks.ensures.count in omega (arith, f, e))
 
 pub invariant_of-self : goal.invariant_of-self
 invariant_of-self g c =
-    house-took g.K.Keeper.rows g.K.Keeper.doubt c.args.entry c.args.ticket c.args.payload c.args.number c.resumption-change.result c.begun.result (record { annals = c.self.inside.annals; places = c.self.inside.places.items; pool = c.self.inside.pool; keeper = c.self.inside.keeper }) c.note.new.self c.commit.new.self c.take_out-board.new.places.items c.self.invariant c.known.ensures c.note.ensures.known (resuming c.self.inside.annals c.args.self.now.annals c.args.entry c.args.ticket c.args.payload c.args.number (ap (λ (h : Housed g.row.K.Denot). h.annals) c.self.view_is) c.requires.begins)
+    house-took g.K.Keeper.tells g.K.Keeper.doubt c.args.entry c.args.ticket c.args.payload c.args.number c.resumption-change.result c.begun.result (record { annals = c.self.inside.annals; places = c.self.inside.places.items; pool = c.self.inside.pool; keeper = c.self.inside.keeper }) c.note.new.self c.commit.new.self c.take_out-board.new.places.items c.self.invariant c.known.ensures c.note.ensures.known (resuming c.self.inside.annals c.args.self.now.annals c.args.entry c.args.ticket c.args.payload c.args.number (ap (λ (h : Housed g.row.K.Denot). h.annals) c.self.view_is) c.requires.begins)
     (begin-event c.args.entry c.args.payload c.whole_note-note.result c.begun.result c.begun.ensures c.whole_note-note.ensures) c.note.ensures.appended c.resumption-change.ensures.is c.in-Ok.ensures.committed c.take_out-board.ensures.places
 
 pub invariant_of-self-in-Err-Fault : goal.invariant_of-self-in-Err-Fault
 invariant_of-self-in-Err-Fault g c =
-    house-doubts g.K.Keeper.rows g.K.Keeper.doubt c.args.entry c.args.ticket c.args.payload c.args.number c.resumption-change.result c.begin_in_doubt.result (record { annals = c.self.inside.annals; places = c.self.inside.places.items; pool = c.self.inside.pool; keeper = c.self.inside.keeper }) c.note-in-Err-Fault.new.self c.give.new.self c.commit.new.self c.self.invariant c.known.ensures c.note-in-Err-Fault.ensures.known (resuming c.self.inside.annals c.args.self.now.annals c.args.entry c.args.ticket c.args.payload c.args.number (ap (λ (h : Housed g.row.K.Denot). h.annals) c.self.view_is) c.requires.begins)
+    house-doubts g.K.Keeper.tells g.K.Keeper.doubt c.args.entry c.args.ticket c.args.payload c.args.number c.resumption-change.result c.begin_in_doubt.result (record { annals = c.self.inside.annals; places = c.self.inside.places.items; pool = c.self.inside.pool; keeper = c.self.inside.keeper }) c.note-in-Err-Fault.new.self c.give.new.self c.commit.new.self c.self.invariant c.known.ensures c.note-in-Err-Fault.ensures.known (resuming c.self.inside.annals c.args.self.now.annals c.args.entry c.args.ticket c.args.payload c.args.number (ap (λ (h : Housed g.row.K.Denot). h.annals) c.self.view_is) c.requires.begins)
     (doubtful-event c.args.entry c.args.payload c.whole_note-note.result c.begin_in_doubt.result c.begin_in_doubt.ensures c.whole_note-note.ensures) c.note-in-Err-Fault.ensures.appended c.resumption-change.ensures.is (rw c.in-Err-Fault.field-0-is at c.in-Err-Fault.ensures.committed)
     c.give.ensures.capacity (c.give.ensures.conserved ∙ ap (λ (n : ℕ). c.self.inside.pool.free + n) c.into_blocks.ensures.count)
 
 pub invariant_of-self-in-Err-NoMemory : goal.invariant_of-self-in-Err-NoMemory
 invariant_of-self-in-Err-NoMemory g c =
-    house-left g.K.Keeper.rows g.K.Keeper.doubt c.args.entry (record { annals = c.self.inside.annals; places = c.self.inside.places.items; pool = c.self.inside.pool; keeper = c.self.inside.keeper }) c.commit.new.self c.self.invariant c.known.ensures (resuming c.self.inside.annals c.args.self.now.annals c.args.entry c.args.ticket c.args.payload c.args.number (ap (λ (h : Housed g.row.K.Denot). h.annals) c.self.view_is) c.requires.begins).may (rw c.in-Err-NoMemory.field-0-is at c.in-Err-NoMemory.ensures.committed)
+    house-left g.K.Keeper.tells g.K.Keeper.doubt c.args.entry (record { annals = c.self.inside.annals; places = c.self.inside.places.items; pool = c.self.inside.pool; keeper = c.self.inside.keeper }) c.commit.new.self c.self.invariant c.known.ensures (resuming c.self.inside.annals c.args.self.now.annals c.args.entry c.args.ticket c.args.payload c.args.number (ap (λ (h : Housed g.row.K.Denot). h.annals) c.self.view_is) c.requires.begins).may (rw c.in-Err-NoMemory.field-0-is at c.in-Err-NoMemory.ensures.committed)
 
 pub returns-in-Ok-clause-turn : goal.returns-in-Ok-clause-turn
 returns-in-Ok-clause-turn g c =
@@ -126,14 +126,15 @@ returns-in-Ok-clause-turn g c =
 pub returns-in-Ok-clause-gave : goal.returns-in-Ok-clause-gave
 returns-in-Ok-clause-gave g c =
     subst (λ (h : Housed g.row.K.Denot). ResumeGave c.args.entry (Some (c.args.ticket, (Fetched.Whole c.args.payload))) (Ok (Claimed.Taken c.taken.result)) h (record { annals = c.note.new.self; places = c.take_out-board.new.places.items; pool = c.self.inside.pool; keeper = c.commit.new.self })) c.self.view_is
-    (gave-taken g.K.Keeper.rows g.K.Keeper.doubt c.args.entry c.args.ticket c.args.payload c.args.number c.taken.result c.begun.result (record { annals = c.self.inside.annals; places = c.self.inside.places.items; pool = c.self.inside.pool; keeper = c.self.inside.keeper }) (record { annals = c.note.new.self; places = c.take_out-board.new.places.items; pool = c.self.inside.pool; keeper = c.commit.new.self }) c.self.invariant c.known.ensures (resuming c.self.inside.annals c.args.self.now.annals c.args.entry c.args.ticket c.args.payload c.args.number (ap (λ (h : Housed g.row.K.Denot). h.annals) c.self.view_is) c.requires.begins)
+    (gave-taken g.K.Keeper.tells g.K.Keeper.doubt c.args.entry c.args.ticket c.args.payload c.args.number c.taken.result c.begun.result (record { annals = c.self.inside.annals; places = c.self.inside.places.items; pool = c.self.inside.pool; keeper = c.self.inside.keeper }) (record { annals = c.note.new.self; places = c.take_out-board.new.places.items; pool = c.self.inside.pool; keeper = c.commit.new.self }) c.self.invariant c.known.ensures (resuming c.self.inside.annals c.args.self.now.annals c.args.entry c.args.ticket c.args.payload c.args.number (ap (λ (h : Housed g.row.K.Denot). h.annals) c.self.view_is) c.requires.begins)
     (subst (λ (h : Housed g.row.K.Denot). IfSome (place_at h.places c.args.number).board (λ b. 8 ≤ b.room)) (sym c.self.view_is) c.requires.marks) (begin-event c.args.entry c.args.payload c.whole_note-note.result c.begun.result c.begun.ensures c.whole_note-note.ensures) c.note.ensures.appended refl
     c.take_out-board.ensures.places (c.take_out-board.ensures.board ∙ ap Some (sym c.taken.ensures.board)) c.taken.ensures.entry c.taken.ensures.payload c.taken.ensures.plugin c.taken.ensures.traced)
 
-pub returns-in-Ok-clause-faults : goal.returns-in-Ok-clause-faults
-returns-in-Ok-clause-faults g c =
-    subst (λ (h : Housed g.row.K.Denot). FaultsCounted g.K.Keeper.faults h (record { annals = c.note.new.self; places = c.take_out-board.new.places.items; pool = c.self.inside.pool; keeper = c.commit.new.self })) c.self.view_is
-    (faults-resumed g.K.Keeper.faults c.args.entry (Some (whole_note c.args.payload)) ResumeAnswer.Begun Stored.Yes c.begun.result (record { annals = c.self.inside.annals; places = c.self.inside.places.items; pool = c.self.inside.pool; keeper = c.self.inside.keeper }) (record { annals = c.note.new.self; places = c.take_out-board.new.places.items; pool = c.self.inside.pool; keeper = c.commit.new.self }) (begin-event c.args.entry c.args.payload c.whole_note-note.result c.begun.result c.begun.ensures c.whole_note-note.ensures) c.note.ensures.appended c.in-Ok.ensures.counts (λ e. cc))
+pub returns-in-Ok-clause-fared : goal.returns-in-Ok-clause-fared
+returns-in-Ok-clause-fared g c =
+    subst (λ (h : Housed g.row.K.Denot). KeeperFared (signs_of g.K.Keeper.tells g.K.Keeper.faults) h (record { annals = c.note.new.self; places = c.take_out-board.new.places.items; pool = c.self.inside.pool; keeper = c.commit.new.self })) c.self.view_is
+    (faults-resumed (signs_of g.K.Keeper.tells g.K.Keeper.faults) c.args.entry (Some (whole_note c.args.payload)) ResumeAnswer.Begun Stored.Yes c.begun.result (record { annals = c.self.inside.annals; places = c.self.inside.places.items; pool = c.self.inside.pool; keeper = c.self.inside.keeper }) (record { annals = c.note.new.self; places = c.take_out-board.new.places.items; pool = c.self.inside.pool; keeper = c.commit.new.self }) (begin-event c.args.entry c.args.payload c.whole_note-note.result c.begun.result c.begun.ensures c.whole_note-note.ensures) refl c.note.ensures.appended (λ e. cc)
+    (inr (calm-ok _ _ refl c.in-Ok.ensures.quiet)) (told-with g.K.Keeper.tells c.self.inside.keeper c.commit.new.self _ c.in-Ok.ensures.committed.0))
 
 pub returns-in-Ok-clause-counts : goal.returns-in-Ok-clause-counts
 returns-in-Ok-clause-counts g c =
@@ -156,10 +157,11 @@ returns-in-Err-Fault-clause-gave g c =
     subst (λ (h : Housed g.row.K.Denot). ResumeGave c.args.entry (Some (c.args.ticket, (Fetched.Whole c.args.payload))) (Ok (Claimed.Refused Refusal.KeeperFault)) h (record { annals = c.note-in-Err-Fault.new.self; places = c.self.inside.places.items; pool = c.give.new.self; keeper = c.commit.new.self })) c.self.view_is
     (c.give.ensures.conserved ∙ ap (λ (n : ℕ). c.self.inside.pool.free + n) c.into_blocks.ensures.count, places-themselves c.self.inside.places.items)
 
-pub returns-in-Err-Fault-clause-faults : goal.returns-in-Err-Fault-clause-faults
-returns-in-Err-Fault-clause-faults g c =
-    subst (λ (h : Housed g.row.K.Denot). FaultsCounted g.K.Keeper.faults h (record { annals = c.note-in-Err-Fault.new.self; places = c.self.inside.places.items; pool = c.give.new.self; keeper = c.commit.new.self })) c.self.view_is
-    (faults-resumed g.K.Keeper.faults c.args.entry (Some (whole_note c.args.payload)) (ResumeAnswer.Refused Refusal.KeeperFault) Stored.Fault c.begin_in_doubt.result (record { annals = c.self.inside.annals; places = c.self.inside.places.items; pool = c.self.inside.pool; keeper = c.self.inside.keeper }) (record { annals = c.note-in-Err-Fault.new.self; places = c.self.inside.places.items; pool = c.give.new.self; keeper = c.commit.new.self }) (doubtful-event c.args.entry c.args.payload c.whole_note-note.result c.begin_in_doubt.result c.begin_in_doubt.ensures c.whole_note-note.ensures) c.note-in-Err-Fault.ensures.appended c.in-Err-Fault.ensures.counts (λ e. c.in-Err-Fault.ensures.cause (ap Err c.in-Err-Fault.field-0-is)))
+pub returns-in-Err-Fault-clause-fared : goal.returns-in-Err-Fault-clause-fared
+returns-in-Err-Fault-clause-fared g c =
+    subst (λ (h : Housed g.row.K.Denot). KeeperFared (signs_of g.K.Keeper.tells g.K.Keeper.faults) h (record { annals = c.note-in-Err-Fault.new.self; places = c.self.inside.places.items; pool = c.give.new.self; keeper = c.commit.new.self })) c.self.view_is
+    (faults-resumed (signs_of g.K.Keeper.tells g.K.Keeper.faults) c.args.entry (Some (whole_note c.args.payload)) (ResumeAnswer.Refused Refusal.KeeperFault) Stored.Fault c.begin_in_doubt.result (record { annals = c.self.inside.annals; places = c.self.inside.places.items; pool = c.self.inside.pool; keeper = c.self.inside.keeper }) (record { annals = c.note-in-Err-Fault.new.self; places = c.self.inside.places.items; pool = c.give.new.self; keeper = c.commit.new.self }) (doubtful-event c.args.entry c.args.payload c.whole_note-note.result c.begin_in_doubt.result c.begin_in_doubt.ensures c.whole_note-note.ensures) refl c.note-in-Err-Fault.ensures.appended (λ e. c.in-Err-Fault.ensures.cause (ap Err c.in-Err-Fault.field-0-is)) (inl refl)
+    (told-left g.K.Keeper.tells g.K.Keeper.doubt c.self.inside.keeper c.commit.new.self _ (rw c.in-Err-Fault.field-0-is at c.in-Err-Fault.ensures.committed)))
 
 pub returns-in-Err-NoMemory-clause-turn : goal.returns-in-Err-NoMemory-clause-turn
 returns-in-Err-NoMemory-clause-turn g c =
@@ -169,6 +171,9 @@ pub returns-in-Err-NoMemory-clause-gave : goal.returns-in-Err-NoMemory-clause-ga
 returns-in-Err-NoMemory-clause-gave g c =
     (ap (λ (h : Housed g.row.K.Denot). h.pool) c.self.view_is, places-same c.args.self.now.places c.self.inside.places.items (ap (λ (h : Housed g.row.K.Denot). h.places) c.self.view_is), refl)
 
-pub returns-in-Err-NoMemory-clause-faults : goal.returns-in-Err-NoMemory-clause-faults
-returns-in-Err-NoMemory-clause-faults g c =
-    counted-same g.K.Keeper.faults c.args.self.now (record { annals = c.self.inside.annals; places = c.self.inside.places.items; pool = c.self.inside.pool; keeper = c.commit.new.self }) (ap (λ (h : Housed g.row.K.Denot). keeper_faults (past h)) c.self.view_is) (subst (λ (h : Housed g.row.K.Denot). g.K.Keeper.faults h.keeper ≤ g.K.Keeper.faults c.commit.new.self) c.self.view_is c.in-Err-NoMemory.ensures.counts)
+pub returns-in-Err-NoMemory-clause-fared : goal.returns-in-Err-NoMemory-clause-fared
+returns-in-Err-NoMemory-clause-fared g c =
+    subst (λ (h : Housed g.row.K.Denot). KeeperFared (signs_of g.K.Keeper.tells g.K.Keeper.faults) h (record { annals = c.self.inside.annals; places = c.self.inside.places.items; pool = c.self.inside.pool; keeper = c.commit.new.self })) c.self.view_is
+    (fared-quiet (signs_of g.K.Keeper.tells g.K.Keeper.faults) (record { annals = c.self.inside.annals; places = c.self.inside.places.items; pool = c.self.inside.pool; keeper = c.self.inside.keeper }) (record { annals = c.self.inside.annals; places = c.self.inside.places.items; pool = c.self.inside.pool; keeper = c.commit.new.self }) refl
+    (calm-memory _ (ap Err c.in-Err-NoMemory.field-0-is) c.in-Err-NoMemory.ensures.quiet)
+    (told-left g.K.Keeper.tells g.K.Keeper.doubt c.self.inside.keeper c.commit.new.self None (rw c.in-Err-NoMemory.field-0-is at c.in-Err-NoMemory.ensures.committed)))

@@ -1,5 +1,5 @@
 use Rattle.std.proofs.Common.{◌≡◌, ◌≤◌, ◌∙◌, ◌+◌, ℕ, ap, sym, subst, refl}
-use Rattle.std.specs.Prelude.{Err, IfSome, Some, Ok, is_some}
+use Rattle.std.specs.Prelude.{Err, IfSome, None, Some, Ok, is_some}
 use Rattle.history_keeper.specs.declared.change.Change.{Change}
 use Rattle.update_log.specs.declared.event.Event.{Event}
 use Rattle.update_log.specs.declared.refusal.Refusal.{Refusal}
@@ -11,21 +11,22 @@ use Rattle.daemon_core.specs.Claims.{ClaimGave, claim_event}
 use Rattle.daemon_core.specs.Housed.{Housed, past}
 use Rattle.daemon_core.specs.Keeping.{keeper_faults}
 use Rattle.daemon_core.specs.Returns.{place_at}
-use Rattle.daemon_core.specs.Turns.{FaultsCounted}
+use Rattle.daemon_core.specs.Turns.{KeeperFared, signs_of}
 use Rattle.daemon_core.proofs.ClaimAnswers.{gave-taken}
 use Rattle.daemon_core.proofs.ClaimExits.{end-fits, fault-event, fault-ready, faults-failed, faults-took, house-failed, house-left, house-took, made-event, store-plain, store-suits, storing, take-ready, took-live, took-within, turn-failed, turn-left, turn-took}
 use Rattle.daemon_core.proofs.ClaimRoom.{places-same, places-themselves}
 use Rattle.daemon_core.proofs.ClaimTurns.{claim-board, store-within}
-use Rattle.daemon_core.proofs.PuttingOff.{counted-same, keeps-left, keeps-made}
+use Rattle.daemon_core.proofs.PuttingOff.{keeps-left, keeps-made}
 use Rattle.daemon_core.proofs.house.House.store_claim.Goals as goal
+use Rattle.daemon_core.proofs.Fared.{calm-memory, calm-ok, fared-quiet, told-left, told-with}
 
 pub commit-requires-clause-no_doubt : goal.commit-requires-clause-no_doubt
 commit-requires-clause-no_doubt g c =
-    (store-plain g.K.Keeper.rows g.K.Keeper.doubt c.args.client c.args.ticket c.args.payload c.args.row c.args.number (record { annals = c.self.inside.annals; places = c.self.inside.places.items; pool = c.self.inside.pool; keeper = c.self.inside.keeper }) c.self.invariant c.known.ensures (storing c.self.inside.annals c.args.self.now.annals c.args.client c.args.ticket c.args.payload c.args.row c.args.number (ap (λ (h : Housed g.row.K.Denot). h.annals) c.self.view_is) c.requires.may c.requires.whole c.requires.store)).doubt_is
+    (store-plain g.K.Keeper.tells g.K.Keeper.doubt c.args.client c.args.ticket c.args.payload c.args.row c.args.number (record { annals = c.self.inside.annals; places = c.self.inside.places.items; pool = c.self.inside.pool; keeper = c.self.inside.keeper }) c.self.invariant c.known.ensures (storing c.self.inside.annals c.args.self.now.annals c.args.client c.args.ticket c.args.payload c.args.row c.args.number (ap (λ (h : Housed g.row.K.Denot). h.annals) c.self.view_is) c.requires.may c.requires.whole c.requires.store)).doubt_is
 
 pub commit-requires-clause-suits : goal.commit-requires-clause-suits
 commit-requires-clause-suits g c =
-    store-suits g.K.Keeper.rows g.K.Keeper.doubt c.args.client c.args.ticket c.args.payload c.args.row c.args.number (record { annals = c.self.inside.annals; places = c.self.inside.places.items; pool = c.self.inside.pool; keeper = c.self.inside.keeper }) c.self.invariant c.known.ensures (storing c.self.inside.annals c.args.self.now.annals c.args.client c.args.ticket c.args.payload c.args.row c.args.number (ap (λ (h : Housed g.row.K.Denot). h.annals) c.self.view_is) c.requires.may c.requires.whole c.requires.store)
+    store-suits g.K.Keeper.tells g.K.Keeper.doubt c.args.client c.args.ticket c.args.payload c.args.row c.args.number (record { annals = c.self.inside.annals; places = c.self.inside.places.items; pool = c.self.inside.pool; keeper = c.self.inside.keeper }) c.self.invariant c.known.ensures (storing c.self.inside.annals c.args.self.now.annals c.args.client c.args.ticket c.args.payload c.args.row c.args.number (ap (λ (h : Housed g.row.K.Denot). h.annals) c.self.view_is) c.requires.may c.requires.whole c.requires.store)
 
 pub note-requires-clause-takes : goal.note-requires-clause-takes
 note-requires-clause-takes g c =
@@ -69,11 +70,11 @@ note-requires-in-Err-Fault-clause-loaded g c =
 
 pub take_out-board-requires-clause-within : goal.take_out-board-requires-clause-within
 take_out-board-requires-clause-within g c =
-    (store-within g.K.Keeper.rows g.K.Keeper.doubt c.args.client c.args.ticket c.args.row c.args.number (record { annals = c.self.inside.annals; places = c.self.inside.places.items; pool = c.self.inside.pool; keeper = c.self.inside.keeper }) c.self.invariant (storing c.self.inside.annals c.args.self.now.annals c.args.client c.args.ticket c.args.payload c.args.row c.args.number (ap (λ (h : Housed g.row.K.Denot). h.annals) c.self.view_is) c.requires.may c.requires.whole c.requires.store).store)
+    (store-within g.K.Keeper.tells g.K.Keeper.doubt c.args.client c.args.ticket c.args.row c.args.number (record { annals = c.self.inside.annals; places = c.self.inside.places.items; pool = c.self.inside.pool; keeper = c.self.inside.keeper }) c.self.invariant (storing c.self.inside.annals c.args.self.now.annals c.args.client c.args.ticket c.args.payload c.args.row c.args.number (ap (λ (h : Housed g.row.K.Denot). h.annals) c.self.view_is) c.requires.may c.requires.whole c.requires.store).store)
 
 pub take_out-board-requires-clause-home : goal.take_out-board-requires-clause-home
 take_out-board-requires-clause-home g c =
-    ap is_some (claim-board g.K.Keeper.rows g.K.Keeper.doubt c.args.client c.args.payload.count c.args.ticket c.args.row c.args.number (record { annals = c.self.inside.annals; places = c.self.inside.places.items; pool = c.self.inside.pool; keeper = c.self.inside.keeper }) c.self.invariant c.known.ensures (storing c.self.inside.annals c.args.self.now.annals c.args.client c.args.ticket c.args.payload c.args.row c.args.number (ap (λ (h : Housed g.row.K.Denot). h.annals) c.self.view_is) c.requires.may c.requires.whole c.requires.store).may (storing c.self.inside.annals c.args.self.now.annals c.args.client c.args.ticket c.args.payload c.args.row c.args.number (ap (λ (h : Housed g.row.K.Denot). h.annals) c.self.view_is) c.requires.may c.requires.whole c.requires.store).store (store-within g.K.Keeper.rows g.K.Keeper.doubt c.args.client c.args.ticket c.args.row c.args.number (record { annals = c.self.inside.annals; places = c.self.inside.places.items; pool = c.self.inside.pool; keeper = c.self.inside.keeper }) c.self.invariant (storing c.self.inside.annals c.args.self.now.annals c.args.client c.args.ticket c.args.payload c.args.row c.args.number (ap (λ (h : Housed g.row.K.Denot). h.annals) c.self.view_is) c.requires.may c.requires.whole c.requires.store).store)).1
+    ap is_some (claim-board g.K.Keeper.tells g.K.Keeper.doubt c.args.client c.args.payload.count c.args.ticket c.args.row c.args.number (record { annals = c.self.inside.annals; places = c.self.inside.places.items; pool = c.self.inside.pool; keeper = c.self.inside.keeper }) c.self.invariant c.known.ensures (storing c.self.inside.annals c.args.self.now.annals c.args.client c.args.ticket c.args.payload c.args.row c.args.number (ap (λ (h : Housed g.row.K.Denot). h.annals) c.self.view_is) c.requires.may c.requires.whole c.requires.store).may (storing c.self.inside.annals c.args.self.now.annals c.args.client c.args.ticket c.args.payload c.args.row c.args.number (ap (λ (h : Housed g.row.K.Denot). h.annals) c.self.view_is) c.requires.may c.requires.whole c.requires.store).store (store-within g.K.Keeper.tells g.K.Keeper.doubt c.args.client c.args.ticket c.args.row c.args.number (record { annals = c.self.inside.annals; places = c.self.inside.places.items; pool = c.self.inside.pool; keeper = c.self.inside.keeper }) c.self.invariant (storing c.self.inside.annals c.args.self.now.annals c.args.client c.args.ticket c.args.payload c.args.row c.args.number (ap (λ (h : Housed g.row.K.Denot). h.annals) c.self.view_is) c.requires.may c.requires.whole c.requires.store).store)).1
 
 pub taken-requires-clause-live : goal.taken-requires-clause-live
 taken-requires-clause-live g c =
@@ -85,20 +86,20 @@ taken-requires-clause-within g c =
 
 pub give-requires : goal.give-requires
 give-requires g c =
-    end-fits g.K.Keeper.rows g.K.Keeper.doubt c.args.client c.args.payload.count _ c.args.ticket (record { annals = c.self.inside.annals; places = c.self.inside.places.items; pool = c.self.inside.pool; keeper = c.self.inside.keeper }) c.args.self.now.annals (ap (λ (h : Housed g.row.K.Denot). h.annals) c.self.view_is) c.self.invariant c.known.ensures c.requires.may c.into_blocks.ensures.count
+    end-fits g.K.Keeper.tells g.K.Keeper.doubt c.args.client c.args.payload.count _ c.args.ticket (record { annals = c.self.inside.annals; places = c.self.inside.places.items; pool = c.self.inside.pool; keeper = c.self.inside.keeper }) c.args.self.now.annals (ap (λ (h : Housed g.row.K.Denot). h.annals) c.self.view_is) c.self.invariant c.known.ensures c.requires.may c.into_blocks.ensures.count
 
 pub invariant_of-self : goal.invariant_of-self
 invariant_of-self g c =
-    house-took g.K.Keeper.rows g.K.Keeper.doubt c.args.client c.args.ticket c.args.payload c.args.row c.args.number c.claimed.result (record { annals = c.self.inside.annals; places = c.self.inside.places.items; pool = c.self.inside.pool; keeper = c.self.inside.keeper }) c.note.new.self c.commit.new.self c.take_out-board.new.places.items c.self.invariant c.known.ensures c.note.ensures.known (storing c.self.inside.annals c.args.self.now.annals c.args.client c.args.ticket c.args.payload c.args.row c.args.number (ap (λ (h : Housed g.row.K.Denot). h.annals) c.self.view_is) c.requires.may c.requires.whole c.requires.store)
+    house-took g.K.Keeper.tells g.K.Keeper.doubt c.args.client c.args.ticket c.args.payload c.args.row c.args.number c.claimed.result (record { annals = c.self.inside.annals; places = c.self.inside.places.items; pool = c.self.inside.pool; keeper = c.self.inside.keeper }) c.note.new.self c.commit.new.self c.take_out-board.new.places.items c.self.invariant c.known.ensures c.note.ensures.known (storing c.self.inside.annals c.args.self.now.annals c.args.client c.args.ticket c.args.payload c.args.row c.args.number (ap (λ (h : Housed g.row.K.Denot). h.annals) c.self.view_is) c.requires.may c.requires.whole c.requires.store)
     (made-event c.args.client c.args.row.entry c.args.ticket c.args.payload c.args.row c.whole_note-note.result c.claimed.result c.claimed.ensures c.whole_note-note.ensures refl) c.note.ensures.appended
-    (keeps-made g.K.Keeper.rows g.K.Keeper.doubt c.self.inside.keeper c.commit.new.self c.self.inside.annals.core.rows (Change.Add c.args.row) (store-plain g.K.Keeper.rows g.K.Keeper.doubt c.args.client c.args.ticket c.args.payload c.args.row c.args.number (record { annals = c.self.inside.annals; places = c.self.inside.places.items; pool = c.self.inside.pool; keeper = c.self.inside.keeper }) c.self.invariant c.known.ensures (storing c.self.inside.annals c.args.self.now.annals c.args.client c.args.ticket c.args.payload c.args.row c.args.number (ap (λ (h : Housed g.row.K.Denot). h.annals) c.self.view_is) c.requires.may c.requires.whole c.requires.store)) c.in-Ok.ensures.committed)
+    (keeps-made g.K.Keeper.tells g.K.Keeper.doubt c.self.inside.keeper c.commit.new.self c.self.inside.annals.core.rows (Change.Add c.args.row) (store-plain g.K.Keeper.tells g.K.Keeper.doubt c.args.client c.args.ticket c.args.payload c.args.row c.args.number (record { annals = c.self.inside.annals; places = c.self.inside.places.items; pool = c.self.inside.pool; keeper = c.self.inside.keeper }) c.self.invariant c.known.ensures (storing c.self.inside.annals c.args.self.now.annals c.args.client c.args.ticket c.args.payload c.args.row c.args.number (ap (λ (h : Housed g.row.K.Denot). h.annals) c.self.view_is) c.requires.may c.requires.whole c.requires.store)) c.in-Ok.ensures.committed)
     c.take_out-board.ensures.places
 
 pub invariant_of-self-in-Err-Fault : goal.invariant_of-self-in-Err-Fault
 invariant_of-self-in-Err-Fault g c =
-    house-failed g.K.Keeper.rows g.K.Keeper.doubt c.args.client c.args.ticket c.args.payload c.args.row c.args.number c.claimed-in-Err-Fault.result (record { annals = c.self.inside.annals; places = c.self.inside.places.items; pool = c.self.inside.pool; keeper = c.self.inside.keeper }) c.note-in-Err-Fault.new.self c.commit.new.self c.give.new.self c.self.invariant c.known.ensures c.note-in-Err-Fault.ensures.known (storing c.self.inside.annals c.args.self.now.annals c.args.client c.args.ticket c.args.payload c.args.row c.args.number (ap (λ (h : Housed g.row.K.Denot). h.annals) c.self.view_is) c.requires.may c.requires.whole c.requires.store)
+    house-failed g.K.Keeper.tells g.K.Keeper.doubt c.args.client c.args.ticket c.args.payload c.args.row c.args.number c.claimed-in-Err-Fault.result (record { annals = c.self.inside.annals; places = c.self.inside.places.items; pool = c.self.inside.pool; keeper = c.self.inside.keeper }) c.note-in-Err-Fault.new.self c.commit.new.self c.give.new.self c.self.invariant c.known.ensures c.note-in-Err-Fault.ensures.known (storing c.self.inside.annals c.args.self.now.annals c.args.client c.args.ticket c.args.payload c.args.row c.args.number (ap (λ (h : Housed g.row.K.Denot). h.annals) c.self.view_is) c.requires.may c.requires.whole c.requires.store)
     (fault-event c.args.client c.args.ticket c.args.payload c.whole_note-note.result c.claimed-in-Err-Fault.result c.claimed-in-Err-Fault.ensures c.whole_note-note.ensures) c.note-in-Err-Fault.ensures.appended
-    (keeps-left g.K.Keeper.rows g.K.Keeper.doubt c.self.inside.keeper c.commit.new.self c.self.inside.annals.core.rows (Some (Change.Add c.args.row)) (store-plain g.K.Keeper.rows g.K.Keeper.doubt c.args.client c.args.ticket c.args.payload c.args.row c.args.number (record { annals = c.self.inside.annals; places = c.self.inside.places.items; pool = c.self.inside.pool; keeper = c.self.inside.keeper }) c.self.invariant c.known.ensures (storing c.self.inside.annals c.args.self.now.annals c.args.client c.args.ticket c.args.payload c.args.row c.args.number (ap (λ (h : Housed g.row.K.Denot). h.annals) c.self.view_is) c.requires.may c.requires.whole c.requires.store)) (rw c.in-Err-Fault.field-0-is at c.in-Err-Fault.ensures.committed))
+    (keeps-left g.K.Keeper.tells g.K.Keeper.doubt c.self.inside.keeper c.commit.new.self c.self.inside.annals.core.rows (Some (Change.Add c.args.row)) (store-plain g.K.Keeper.tells g.K.Keeper.doubt c.args.client c.args.ticket c.args.payload c.args.row c.args.number (record { annals = c.self.inside.annals; places = c.self.inside.places.items; pool = c.self.inside.pool; keeper = c.self.inside.keeper }) c.self.invariant c.known.ensures (storing c.self.inside.annals c.args.self.now.annals c.args.client c.args.ticket c.args.payload c.args.row c.args.number (ap (λ (h : Housed g.row.K.Denot). h.annals) c.self.view_is) c.requires.may c.requires.whole c.requires.store)) (rw c.in-Err-Fault.field-0-is at c.in-Err-Fault.ensures.committed))
     c.give.ensures.capacity (c.give.ensures.conserved ∙ ap (λ (n : ℕ). c.self.inside.pool.free + n) c.into_blocks.ensures.count)
 
 pub returns-in-Ok-clause-turn : goal.returns-in-Ok-clause-turn
@@ -108,13 +109,14 @@ returns-in-Ok-clause-turn g c =
 pub returns-in-Ok-clause-gave : goal.returns-in-Ok-clause-gave
 returns-in-Ok-clause-gave g c =
     subst (λ (h : Housed g.row.K.Denot). ClaimGave c.args.client c.args.ticket (Fetched.Whole c.args.payload) (Ok (Claimed.Taken c.taken.result)) h (record { annals = c.note.new.self; places = c.take_out-board.new.places.items; pool = c.self.inside.pool; keeper = c.commit.new.self })) c.self.view_is
-    (gave-taken g.K.Keeper.rows g.K.Keeper.doubt c.args.client c.args.ticket c.args.payload c.args.row c.args.number c.taken.result (record { annals = c.self.inside.annals; places = c.self.inside.places.items; pool = c.self.inside.pool; keeper = c.self.inside.keeper }) (record { annals = c.note.new.self; places = c.take_out-board.new.places.items; pool = c.self.inside.pool; keeper = c.commit.new.self }) c.self.invariant c.known.ensures (storing c.self.inside.annals c.args.self.now.annals c.args.client c.args.ticket c.args.payload c.args.row c.args.number (ap (λ (h : Housed g.row.K.Denot). h.annals) c.self.view_is) c.requires.may c.requires.whole c.requires.store).may (storing c.self.inside.annals c.args.self.now.annals c.args.client c.args.ticket c.args.payload c.args.row c.args.number (ap (λ (h : Housed g.row.K.Denot). h.annals) c.self.view_is) c.requires.may c.requires.whole c.requires.store).whole (storing c.self.inside.annals c.args.self.now.annals c.args.client c.args.ticket c.args.payload c.args.row c.args.number (ap (λ (h : Housed g.row.K.Denot). h.annals) c.self.view_is) c.requires.may c.requires.whole c.requires.store).store (store-within g.K.Keeper.rows g.K.Keeper.doubt c.args.client c.args.ticket c.args.row c.args.number (record { annals = c.self.inside.annals; places = c.self.inside.places.items; pool = c.self.inside.pool; keeper = c.self.inside.keeper }) c.self.invariant (storing c.self.inside.annals c.args.self.now.annals c.args.client c.args.ticket c.args.payload c.args.row c.args.number (ap (λ (h : Housed g.row.K.Denot). h.annals) c.self.view_is) c.requires.may c.requires.whole c.requires.store).store) (subst (λ (h : Housed g.row.K.Denot). IfSome (place_at h.places c.args.number).board (λ b. 8 ≤ b.room)) (sym c.self.view_is) c.requires.marks) (subst (λ (x : Event). Appended c.args.client x c.self.inside.annals c.note.new.self) (sym (made-event c.args.client c.args.row.entry c.args.ticket c.args.payload c.args.row c.whole_note-note.result c.claimed.result c.claimed.ensures c.whole_note-note.ensures refl)) c.note.ensures.appended) refl
+    (gave-taken g.K.Keeper.tells g.K.Keeper.doubt c.args.client c.args.ticket c.args.payload c.args.row c.args.number c.taken.result (record { annals = c.self.inside.annals; places = c.self.inside.places.items; pool = c.self.inside.pool; keeper = c.self.inside.keeper }) (record { annals = c.note.new.self; places = c.take_out-board.new.places.items; pool = c.self.inside.pool; keeper = c.commit.new.self }) c.self.invariant c.known.ensures (storing c.self.inside.annals c.args.self.now.annals c.args.client c.args.ticket c.args.payload c.args.row c.args.number (ap (λ (h : Housed g.row.K.Denot). h.annals) c.self.view_is) c.requires.may c.requires.whole c.requires.store).may (storing c.self.inside.annals c.args.self.now.annals c.args.client c.args.ticket c.args.payload c.args.row c.args.number (ap (λ (h : Housed g.row.K.Denot). h.annals) c.self.view_is) c.requires.may c.requires.whole c.requires.store).whole (storing c.self.inside.annals c.args.self.now.annals c.args.client c.args.ticket c.args.payload c.args.row c.args.number (ap (λ (h : Housed g.row.K.Denot). h.annals) c.self.view_is) c.requires.may c.requires.whole c.requires.store).store (store-within g.K.Keeper.tells g.K.Keeper.doubt c.args.client c.args.ticket c.args.row c.args.number (record { annals = c.self.inside.annals; places = c.self.inside.places.items; pool = c.self.inside.pool; keeper = c.self.inside.keeper }) c.self.invariant (storing c.self.inside.annals c.args.self.now.annals c.args.client c.args.ticket c.args.payload c.args.row c.args.number (ap (λ (h : Housed g.row.K.Denot). h.annals) c.self.view_is) c.requires.may c.requires.whole c.requires.store).store) (subst (λ (h : Housed g.row.K.Denot). IfSome (place_at h.places c.args.number).board (λ b. 8 ≤ b.room)) (sym c.self.view_is) c.requires.marks) (subst (λ (x : Event). Appended c.args.client x c.self.inside.annals c.note.new.self) (sym (made-event c.args.client c.args.row.entry c.args.ticket c.args.payload c.args.row c.whole_note-note.result c.claimed.result c.claimed.ensures c.whole_note-note.ensures refl)) c.note.ensures.appended) refl
     c.take_out-board.ensures.places (c.take_out-board.ensures.board ∙ ap Some (sym c.taken.ensures.board)) c.taken.ensures.entry c.taken.ensures.payload c.taken.ensures.plugin c.taken.ensures.traced)
 
-pub returns-in-Ok-clause-faults : goal.returns-in-Ok-clause-faults
-returns-in-Ok-clause-faults g c =
-    subst (λ (h : Housed g.row.K.Denot). FaultsCounted g.K.Keeper.faults h (record { annals = c.note.new.self; places = c.take_out-board.new.places.items; pool = c.self.inside.pool; keeper = c.commit.new.self })) c.self.view_is
-    (faults-took g.K.Keeper.faults c.args.client c.args.ticket c.args.payload c.args.row c.claimed.result (record { annals = c.self.inside.annals; places = c.self.inside.places.items; pool = c.self.inside.pool; keeper = c.self.inside.keeper }) (record { annals = c.note.new.self; places = c.take_out-board.new.places.items; pool = c.self.inside.pool; keeper = c.commit.new.self }) (made-event c.args.client c.args.row.entry c.args.ticket c.args.payload c.args.row c.whole_note-note.result c.claimed.result c.claimed.ensures c.whole_note-note.ensures refl) c.note.ensures.appended c.in-Ok.ensures.counts)
+pub returns-in-Ok-clause-fared : goal.returns-in-Ok-clause-fared
+returns-in-Ok-clause-fared g c =
+    subst (λ (h : Housed g.row.K.Denot). KeeperFared (signs_of g.K.Keeper.tells g.K.Keeper.faults) h (record { annals = c.note.new.self; places = c.take_out-board.new.places.items; pool = c.self.inside.pool; keeper = c.commit.new.self })) c.self.view_is
+    (faults-took (signs_of g.K.Keeper.tells g.K.Keeper.faults) c.args.client c.args.ticket c.args.payload c.args.row c.claimed.result (record { annals = c.self.inside.annals; places = c.self.inside.places.items; pool = c.self.inside.pool; keeper = c.self.inside.keeper }) (record { annals = c.note.new.self; places = c.take_out-board.new.places.items; pool = c.self.inside.pool; keeper = c.commit.new.self }) (made-event c.args.client c.args.row.entry c.args.ticket c.args.payload c.args.row c.whole_note-note.result c.claimed.result c.claimed.ensures c.whole_note-note.ensures refl) c.note.ensures.appended
+    (calm-ok _ _ refl c.in-Ok.ensures.quiet) (told-with g.K.Keeper.tells c.self.inside.keeper c.commit.new.self _ c.in-Ok.ensures.committed.0))
 
 pub returns-in-Ok-clause-counts : goal.returns-in-Ok-clause-counts
 returns-in-Ok-clause-counts g c =
@@ -157,14 +159,15 @@ returns-in-Err-Fault-clause-gave g c =
     subst (λ (h : Housed g.row.K.Denot). ClaimGave c.args.client c.args.ticket (Fetched.Whole c.args.payload) (Ok (Claimed.Refused Refusal.KeeperFault)) h (record { annals = c.note-in-Err-Fault.new.self; places = c.self.inside.places.items; pool = c.give.new.self; keeper = c.commit.new.self })) c.self.view_is
     (c.give.ensures.conserved ∙ ap (λ (n : ℕ). c.self.inside.pool.free + n) c.into_blocks.ensures.count, places-themselves c.self.inside.places.items)
 
-pub returns-in-Err-Fault-clause-faults : goal.returns-in-Err-Fault-clause-faults
-returns-in-Err-Fault-clause-faults g c =
-    subst (λ (h : Housed g.row.K.Denot). FaultsCounted g.K.Keeper.faults h (record { annals = c.note-in-Err-Fault.new.self; places = c.self.inside.places.items; pool = c.give.new.self; keeper = c.commit.new.self })) c.self.view_is
-    (faults-failed g.K.Keeper.faults c.args.client c.args.ticket c.args.payload c.claimed-in-Err-Fault.result (record { annals = c.self.inside.annals; places = c.self.inside.places.items; pool = c.self.inside.pool; keeper = c.self.inside.keeper }) (record { annals = c.note-in-Err-Fault.new.self; places = c.self.inside.places.items; pool = c.give.new.self; keeper = c.commit.new.self }) (fault-event c.args.client c.args.ticket c.args.payload c.whole_note-note.result c.claimed-in-Err-Fault.result c.claimed-in-Err-Fault.ensures c.whole_note-note.ensures) c.note-in-Err-Fault.ensures.appended (c.in-Err-Fault.ensures.cause (ap Err c.in-Err-Fault.field-0-is)))
+pub returns-in-Err-Fault-clause-fared : goal.returns-in-Err-Fault-clause-fared
+returns-in-Err-Fault-clause-fared g c =
+    subst (λ (h : Housed g.row.K.Denot). KeeperFared (signs_of g.K.Keeper.tells g.K.Keeper.faults) h (record { annals = c.note-in-Err-Fault.new.self; places = c.self.inside.places.items; pool = c.give.new.self; keeper = c.commit.new.self })) c.self.view_is
+    (faults-failed (signs_of g.K.Keeper.tells g.K.Keeper.faults) c.args.client c.args.ticket c.args.payload c.claimed-in-Err-Fault.result (record { annals = c.self.inside.annals; places = c.self.inside.places.items; pool = c.self.inside.pool; keeper = c.self.inside.keeper }) (record { annals = c.note-in-Err-Fault.new.self; places = c.self.inside.places.items; pool = c.give.new.self; keeper = c.commit.new.self }) (fault-event c.args.client c.args.ticket c.args.payload c.whole_note-note.result c.claimed-in-Err-Fault.result c.claimed-in-Err-Fault.ensures c.whole_note-note.ensures) c.note-in-Err-Fault.ensures.appended (c.in-Err-Fault.ensures.cause (ap Err c.in-Err-Fault.field-0-is))
+    (told-left g.K.Keeper.tells g.K.Keeper.doubt c.self.inside.keeper c.commit.new.self (Some (Change.Add c.args.row)) (rw c.in-Err-Fault.field-0-is at c.in-Err-Fault.ensures.committed)))
 
 pub invariant_of-self-in-Err-NoMemory : goal.invariant_of-self-in-Err-NoMemory
 invariant_of-self-in-Err-NoMemory g c =
-    house-left g.K.Keeper.rows g.K.Keeper.doubt c.args.client c.args.ticket c.args.payload c.args.row c.args.number (record { annals = c.self.inside.annals; places = c.self.inside.places.items; pool = c.self.inside.pool; keeper = c.self.inside.keeper }) c.commit.new.self c.self.invariant c.known.ensures (storing c.self.inside.annals c.args.self.now.annals c.args.client c.args.ticket c.args.payload c.args.row c.args.number (ap (λ (h : Housed g.row.K.Denot). h.annals) c.self.view_is) c.requires.may c.requires.whole c.requires.store) (rw c.in-Err-NoMemory.field-0-is at c.in-Err-NoMemory.ensures.committed)
+    house-left g.K.Keeper.tells g.K.Keeper.doubt c.args.client c.args.ticket c.args.payload c.args.row c.args.number (record { annals = c.self.inside.annals; places = c.self.inside.places.items; pool = c.self.inside.pool; keeper = c.self.inside.keeper }) c.commit.new.self c.self.invariant c.known.ensures (storing c.self.inside.annals c.args.self.now.annals c.args.client c.args.ticket c.args.payload c.args.row c.args.number (ap (λ (h : Housed g.row.K.Denot). h.annals) c.self.view_is) c.requires.may c.requires.whole c.requires.store) (rw c.in-Err-NoMemory.field-0-is at c.in-Err-NoMemory.ensures.committed)
 
 pub returns-in-Err-NoMemory-clause-turn : goal.returns-in-Err-NoMemory-clause-turn
 returns-in-Err-NoMemory-clause-turn g c =
@@ -174,6 +177,9 @@ pub returns-in-Err-NoMemory-clause-gave : goal.returns-in-Err-NoMemory-clause-ga
 returns-in-Err-NoMemory-clause-gave g c =
     (ap (λ (h : Housed g.row.K.Denot). h.pool) c.self.view_is, places-same c.args.self.now.places c.self.inside.places.items (ap (λ (h : Housed g.row.K.Denot). h.places) c.self.view_is), refl, refl)
 
-pub returns-in-Err-NoMemory-clause-faults : goal.returns-in-Err-NoMemory-clause-faults
-returns-in-Err-NoMemory-clause-faults g c =
-    counted-same g.K.Keeper.faults c.args.self.now (record { annals = c.self.inside.annals; places = c.self.inside.places.items; pool = c.self.inside.pool; keeper = c.commit.new.self }) (ap (λ (h : Housed g.row.K.Denot). keeper_faults (past h)) c.self.view_is) (subst (λ (h : Housed g.row.K.Denot). g.K.Keeper.faults h.keeper ≤ g.K.Keeper.faults c.commit.new.self) c.self.view_is c.in-Err-NoMemory.ensures.counts)
+pub returns-in-Err-NoMemory-clause-fared : goal.returns-in-Err-NoMemory-clause-fared
+returns-in-Err-NoMemory-clause-fared g c =
+    subst (λ (h : Housed g.row.K.Denot). KeeperFared (signs_of g.K.Keeper.tells g.K.Keeper.faults) h (record { annals = c.self.inside.annals; places = c.self.inside.places.items; pool = c.self.inside.pool; keeper = c.commit.new.self })) c.self.view_is
+    (fared-quiet (signs_of g.K.Keeper.tells g.K.Keeper.faults) (record { annals = c.self.inside.annals; places = c.self.inside.places.items; pool = c.self.inside.pool; keeper = c.self.inside.keeper }) (record { annals = c.self.inside.annals; places = c.self.inside.places.items; pool = c.self.inside.pool; keeper = c.commit.new.self }) refl
+    (calm-memory _ (ap Err c.in-Err-NoMemory.field-0-is) c.in-Err-NoMemory.ensures.quiet)
+    (told-left g.K.Keeper.tells g.K.Keeper.doubt c.self.inside.keeper c.commit.new.self None (rw c.in-Err-NoMemory.field-0-is at c.in-Err-NoMemory.ensures.committed)))

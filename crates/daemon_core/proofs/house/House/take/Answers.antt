@@ -7,8 +7,9 @@ use Rattle.daemon_core.specs.Keeping.{keeper_faults}
 use Rattle.daemon_core.specs.PutOff.{IsAccept}
 use Rattle.daemon_core.proofs.ClaimAnswers.{faults-after, gave-after}
 use Rattle.daemon_core.proofs.ClaimExits.{may-over, payload-over, same-faults, store-over, take-plan, turn-left, turn-over}
-use Rattle.daemon_core.proofs.PuttingOff.{counted-same}
 use Rattle.daemon_core.proofs.house.House.take.Goals as goal
+use Rattle.daemon_core.proofs.Fared.{fared-same}
+use Rattle.daemon_core.specs.Turns.{signs_of}
 
 pub row_begun-row-requires : goal.row_begun-row-requires
 row_begun-row-requires g c =
@@ -16,11 +17,11 @@ row_begun-row-requires g c =
 
 pub reserve_marks-requires-clause-within : goal.reserve_marks-requires-clause-within
 reserve_marks-requires-clause-within g c =
-    (take-plan g.K.Keeper.rows g.K.Keeper.doubt c.args.client c.args.payload.count c.args.ticket c.row_begun-row.result c.unwrap_or-number.result (record { annals = c.self.inside.annals; places = c.self.inside.places.items; pool = c.self.inside.pool; keeper = c.self.inside.keeper }) c.args.self.now c.self.view_is c.self.invariant c.known.ensures c.requires.may c.requires.accepted c.row_begun-row.ensures.added c.row_begun-row.ensures.entry c.row_begun-row.ensures.suits c.row_begun-row.ensures.timely (c.unwrap_or-number.ensures ∙ ap (λ (o : Option ℕ). unwrap_or o 0) c.board_with.ensures)).within
+    (take-plan g.K.Keeper.tells g.K.Keeper.doubt c.args.client c.args.payload.count c.args.ticket c.row_begun-row.result c.unwrap_or-number.result (record { annals = c.self.inside.annals; places = c.self.inside.places.items; pool = c.self.inside.pool; keeper = c.self.inside.keeper }) c.args.self.now c.self.view_is c.self.invariant c.known.ensures c.requires.may c.requires.accepted c.row_begun-row.ensures.added c.row_begun-row.ensures.entry c.row_begun-row.ensures.suits c.row_begun-row.ensures.timely (c.unwrap_or-number.ensures ∙ ap (λ (o : Option ℕ). unwrap_or o 0) c.board_with.ensures)).within
 
 pub reserve_marks-requires-clause-home : goal.reserve_marks-requires-clause-home
 reserve_marks-requires-clause-home g c =
-    (take-plan g.K.Keeper.rows g.K.Keeper.doubt c.args.client c.args.payload.count c.args.ticket c.row_begun-row.result c.unwrap_or-number.result (record { annals = c.self.inside.annals; places = c.self.inside.places.items; pool = c.self.inside.pool; keeper = c.self.inside.keeper }) c.args.self.now c.self.view_is c.self.invariant c.known.ensures c.requires.may c.requires.accepted c.row_begun-row.ensures.added c.row_begun-row.ensures.entry c.row_begun-row.ensures.suits c.row_begun-row.ensures.timely (c.unwrap_or-number.ensures ∙ ap (λ (o : Option ℕ). unwrap_or o 0) c.board_with.ensures)).home
+    (take-plan g.K.Keeper.tells g.K.Keeper.doubt c.args.client c.args.payload.count c.args.ticket c.row_begun-row.result c.unwrap_or-number.result (record { annals = c.self.inside.annals; places = c.self.inside.places.items; pool = c.self.inside.pool; keeper = c.self.inside.keeper }) c.args.self.now c.self.view_is c.self.invariant c.known.ensures c.requires.may c.requires.accepted c.row_begun-row.ensures.added c.row_begun-row.ensures.entry c.row_begun-row.ensures.suits c.row_begun-row.ensures.timely (c.unwrap_or-number.ensures ∙ ap (λ (o : Option ℕ). unwrap_or o 0) c.board_with.ensures)).home
 
 pub store_claim-requires-clause-may : goal.store_claim-requires-clause-may
 store_claim-requires-clause-may g c =
@@ -32,7 +33,7 @@ store_claim-requires-clause-whole g c =
 
 pub store_claim-requires-clause-store : goal.store_claim-requires-clause-store
 store_claim-requires-clause-store g c =
-    store-over c.reserve_marks.new.self.annals c.args.self.now.annals c.args.client c.args.ticket c.row_begun-row.result c.unwrap_or-number.result c.in-Ok.ensures.annals (take-plan g.K.Keeper.rows g.K.Keeper.doubt c.args.client c.args.payload.count c.args.ticket c.row_begun-row.result c.unwrap_or-number.result (record { annals = c.self.inside.annals; places = c.self.inside.places.items; pool = c.self.inside.pool; keeper = c.self.inside.keeper }) c.args.self.now c.self.view_is c.self.invariant c.known.ensures c.requires.may c.requires.accepted c.row_begun-row.ensures.added c.row_begun-row.ensures.entry c.row_begun-row.ensures.suits c.row_begun-row.ensures.timely (c.unwrap_or-number.ensures ∙ ap (λ (o : Option ℕ). unwrap_or o 0) c.board_with.ensures)).store
+    store-over c.reserve_marks.new.self.annals c.args.self.now.annals c.args.client c.args.ticket c.row_begun-row.result c.unwrap_or-number.result c.in-Ok.ensures.annals (take-plan g.K.Keeper.tells g.K.Keeper.doubt c.args.client c.args.payload.count c.args.ticket c.row_begun-row.result c.unwrap_or-number.result (record { annals = c.self.inside.annals; places = c.self.inside.places.items; pool = c.self.inside.pool; keeper = c.self.inside.keeper }) c.args.self.now c.self.view_is c.self.invariant c.known.ensures c.requires.may c.requires.accepted c.row_begun-row.ensures.added c.row_begun-row.ensures.entry c.row_begun-row.ensures.suits c.row_begun-row.ensures.timely (c.unwrap_or-number.ensures ∙ ap (λ (o : Option ℕ). unwrap_or o 0) c.board_with.ensures)).store
 
 pub returns-in-Err-clause-turn : goal.returns-in-Err-clause-turn
 returns-in-Err-clause-turn g c =
@@ -42,9 +43,9 @@ pub returns-in-Err-clause-gave : goal.returns-in-Err-clause-gave
 returns-in-Err-clause-gave g c =
     (c.in-Err.ensures.pool, c.in-Err.ensures.roomier, refl, refl)
 
-pub returns-in-Err-clause-faults : goal.returns-in-Err-clause-faults
-returns-in-Err-clause-faults g c =
-    counted-same g.K.Keeper.faults c.args.self.now c.reserve_marks.new.self (ap (λ (a : Annalled). keeper_faults (past_in a)) c.in-Err.ensures.annals) (same-faults g.K.Keeper.faults c.args.self.now c.reserve_marks.new.self c.in-Err.ensures.keeper)
+pub returns-in-Err-clause-fared : goal.returns-in-Err-clause-fared
+returns-in-Err-clause-fared g c =
+    fared-same (signs_of g.K.Keeper.tells g.K.Keeper.faults) c.args.self.now c.reserve_marks.new.self (ap (λ (a : Annalled). keeper_faults (past_in a)) c.in-Err.ensures.annals) c.in-Err.ensures.keeper
 
 pub returns-in-Err-clause-counts : goal.returns-in-Err-clause-counts
 returns-in-Err-clause-counts g c =
@@ -58,9 +59,9 @@ pub returns-in-Ok-clause-gave : goal.returns-in-Ok-clause-gave
 returns-in-Ok-clause-gave g c =
     gave-after c.args.client c.args.ticket (Fetched.Whole c.args.payload) c.store_claim.result c.args.self.now c.reserve_marks.new.self c.store_claim.new.self c.in-Ok.ensures.roomier c.in-Ok.ensures.pool c.store_claim.ensures.gave
 
-pub returns-in-Ok-clause-faults : goal.returns-in-Ok-clause-faults
-returns-in-Ok-clause-faults g c =
-    faults-after g.K.Keeper.faults c.args.self.now c.reserve_marks.new.self c.store_claim.new.self (ap (λ (a : Annalled). keeper_faults (past_in a)) c.in-Ok.ensures.annals) c.in-Ok.ensures.keeper c.store_claim.ensures.faults
+pub returns-in-Ok-clause-fared : goal.returns-in-Ok-clause-fared
+returns-in-Ok-clause-fared g c =
+    faults-after (signs_of g.K.Keeper.tells g.K.Keeper.faults) c.args.self.now c.reserve_marks.new.self c.store_claim.new.self (ap (λ (a : Annalled). keeper_faults (past_in a)) c.in-Ok.ensures.annals) c.in-Ok.ensures.keeper c.store_claim.ensures.counts c.store_claim.ensures.fared
 
 pub returns-in-Ok-clause-counts : goal.returns-in-Ok-clause-counts
 returns-in-Ok-clause-counts g c =

@@ -1,37 +1,41 @@
-use Rattle.std.proofs.Common.{IsTrue, List}
-use Rattle.std.specs.declared.vec.Vec.{Vec}
-use Rattle.std.specs.declared.alloc.Global.{Global}
+use Rattle.std.proofs.Common.{List, refl, subst}
+use Rattle.std.specs.Prelude.{IfOk}
 use Rattle.sqlite.specs.Held.{state}
-use Rattle.sqlite.specs.State.{HasCleanDisk}
 use Rattle.history_keeper.specs.declared.row.Row.{Row}
-use Rattle.history_sqlite.specs.Tables.{Keeps}
-use Rattle.history_sqlite.proofs.TellingLemmas.{after_keeping, load_keeps, told_loaded}
+use Rattle.history_keeper.specs.Keepers.{StillSettled, StillTold}
+use Rattle.history_sqlite.specs.Telling.{IsSettled, TellsRows, database}
+use Rattle.history_sqlite.proofs.Opening.{if_ok, kept_read}
+use Rattle.history_sqlite.proofs.TellingLemmas.{given, knows_left, still_settled, still_told}
 use Rattle.history_sqlite.proofs.sql_keeper.SqlKeeper.read.Goals as goal
 
+-- the rows are left, whatever it answers
 pub invariant_of-self : goal.invariant_of-self
 invariant_of-self g c =
-    let s = c.self.inside in
-    let new = c.load_rows.new.connection in
-    let keeps : HasCleanDisk (state g.D.Store new) → IsTrue (state g.D.Store new).is_open → Keeps (state g.D.Store s.connection) (state g.D.Store new) =
-    λ clean is_open. load_keeps (λ (loaded : Vec Row Global). loaded.items) (state g.D.Store s.connection) (state g.D.Store new) c.load_rows.result (c.load_rows.ensures.loads clean) (c.load_rows.ensures.refused clean is_open) in (
+    let s = c.self.inside in (
       c.self.invariant.0,
-      (after_keeping g.D.Lasting.lasts (state g.D.Store s.connection) (state g.D.Store new) (λ known. (g.met.D.Lasting.clean new.store known, g.met.D.Lasting.open new.store known)) s.tells s.doubt c.self.invariant.1 keeps).1,
+      knows_left g.D.Lasting.supposed (state g.D.Store s.connection) (state g.D.Store c.load_rows.new.connection) c.load_rows.ensures.clean c.load_rows.ensures.was_open s.tells s.doubt
+          (λ clean is_open. kept_read (state g.D.Store s.connection) (state g.D.Store c.load_rows.new.connection) c.load_rows.result (λ loaded. loaded.items) (c.load_rows.ensures.loads clean) (c.load_rows.ensures.refused clean is_open)) c.self.invariant.1,
     )
 
 pub returns-clause-unchanged : goal.returns-clause-unchanged
 returns-clause-unchanged g c =
-    let s = c.self.inside in
-    let new = c.load_rows.new.connection in
-    let keeps : HasCleanDisk (state g.D.Store new) → IsTrue (state g.D.Store new).is_open → Keeps (state g.D.Store s.connection) (state g.D.Store new) =
-    λ clean is_open. load_keeps (λ (loaded : Vec Row Global). loaded.items) (state g.D.Store s.connection) (state g.D.Store new) c.load_rows.result (c.load_rows.ensures.loads clean) (c.load_rows.ensures.refused clean is_open) in
-    rw (← c.self.view_is) (after_keeping g.D.Lasting.lasts (state g.D.Store s.connection) (state g.D.Store new) (λ known. (g.met.D.Lasting.clean new.store known, g.met.D.Lasting.open new.store known)) s.tells s.doubt c.self.invariant.1 keeps).0
+    let new = (record { connection = c.load_rows.new.connection; doubt = c.self.inside.doubt; plan = c.self.inside.plan.items; calls = c.self.inside.calls; faults = c.self.inside.faults; tells = c.self.inside.tells }) in
+    subst (λ k. StillTold (TellsRows g.D.Store g.D.Lasting.supposed k) (TellsRows g.D.Store g.D.Lasting.supposed new)) c.self.view_is
+    (still_told g.D.Store g.D.Lasting.supposed (record { connection = c.self.inside.connection; doubt = c.self.inside.doubt; plan = c.self.inside.plan.items; calls = c.self.inside.calls; faults = c.self.inside.faults; tells = c.self.inside.tells }) new refl c.self.invariant.1 c.load_rows.ensures.clean c.load_rows.ensures.was_open
+    (λ clean is_open. kept_read (state g.D.Store c.self.inside.connection) (state g.D.Store c.load_rows.new.connection) c.load_rows.result (λ loaded. loaded.items) (c.load_rows.ensures.loads clean) (c.load_rows.ensures.refused clean is_open)))
 
 pub returns-clause-answer : goal.returns-clause-answer
 returns-clause-answer g c =
-    let s = c.self.inside in
-    let new = c.load_rows.new.connection in
-    rw (← c.self.view_is) (told_loaded g.D.Lasting.lasts (state g.D.Store s.connection) (state g.D.Store new) (λ known. (g.met.D.Lasting.clean new.store known, g.met.D.Lasting.open new.store known))
-    (λ (loaded : Vec Row Global). loaded.items) c.load_rows.result s.tells s.doubt c.self.invariant.1 c.load_rows.ensures.loads)
+    let new = (record { connection = c.load_rows.new.connection; doubt = c.self.inside.doubt; plan = c.self.inside.plan.items; calls = c.self.inside.calls; faults = c.self.inside.faults; tells = c.self.inside.tells }) in
+    if_ok c.load_rows.result _ (λ loaded is. given g.D.Store g.D.Lasting.supposed (record { connection = c.self.inside.connection; doubt = c.self.inside.doubt; plan = c.self.inside.plan.items; calls = c.self.inside.calls; faults = c.self.inside.faults; tells = c.self.inside.tells }) new refl c.self.invariant.1 c.load_rows.ensures.clean c.load_rows.ensures.was_open loaded.items
+    (λ clean. rw is at (c.load_rows.ensures.loads clean)))
+
+pub returns-clause-settled : goal.returns-clause-settled
+returns-clause-settled g c =
+    let new = (record { connection = c.load_rows.new.connection; doubt = c.self.inside.doubt; plan = c.self.inside.plan.items; calls = c.self.inside.calls; faults = c.self.inside.faults; tells = c.self.inside.tells }) in
+    subst (λ k. StillSettled (IsSettled g.D.Store) k new) c.self.view_is
+    (λ first s. still_settled (database g.D.Store first) (state g.D.Store c.self.inside.connection) (state g.D.Store c.load_rows.new.connection) first.doubt c.self.inside.doubt c.load_rows.ensures.clean c.load_rows.ensures.was_open
+    (λ clean is_open. kept_read (state g.D.Store c.self.inside.connection) (state g.D.Store c.load_rows.new.connection) c.load_rows.result (λ loaded. loaded.items) (c.load_rows.ensures.loads clean) (c.load_rows.ensures.refused clean is_open)) s)
 
 pub returns-clause-loads : goal.returns-clause-loads
 returns-clause-loads g c clean = rw (← c.self.view_is) (c.load_rows.ensures.loads clean)

@@ -1,10 +1,10 @@
 use Rattle.std.proofs.Common.{◌≡◌, ◌∙◌, Some, inr, sym, ap, subst}
-use Rattle.std.proofs.lemmas.Result.{on_ok_weaker, on_err_weaker}
+use Rattle.std.proofs.lemmas.Result.{IfErr-weaker, on_ok_weaker, on_err_weaker}
 use Rattle.sqlite.specs.State.{HasCleanDisk}
 use Rattle.history_sqlite.specs.Keeping.{Keeping}
-use Rattle.history_sqlite.specs.Telling.{database}
-use Rattle.history_sqlite.proofs.Opening.{where_ok}
-use Rattle.history_sqlite.proofs.TellingLemmas.{settled}
+use Rattle.history_sqlite.specs.Telling.{SettledSo, TellsRows, database}
+use Rattle.history_sqlite.proofs.Opening.{on_err, where_ok}
+use Rattle.history_sqlite.proofs.TellingLemmas.{reopened_written, settled, still_settled}
 use Rattle.history_sqlite.proofs.sql_keeper.SqlKeeper.settle.Goals as goal
 
 pub returns-in-Some-clause-settles : goal.returns-in-Some-clause-settles
@@ -21,10 +21,10 @@ returns-in-Some-clause-refused g c clean is_open =
     let loads = c.in_ok-_rows.ensures.loads (c.write.ensures.clean clean) in on_err_weaker c.write.result (λ keeps rows holds. keeps rows (loads rows holds).1) (c.write.ensures.refused clean is_open)
 
 pub returns-in-Some-clause-failed : goal.returns-in-Some-clause-failed
-returns-in-Some-clause-failed g c clean is =
+returns-in-Some-clause-failed g c clean =
     let old = c.args.self.now in
     let doubt : old.doubt ≡ Some c.in-Some.doubt = sym (ap (λ (k : Keeping g.row.D.Denot). k.doubt) c.read.ensures.same) ∙ sym (ap (λ (k : Keeping g.row.D.Denot). k.doubt) c.self-2.view_is) ∙ c.in-Some.is in
-    inr (c.in-Some.doubt, doubt, c.read.new.self.connection, c.write.ensures.failed clean is)
+    IfErr-weaker c.write.result _ _ (λ why failed. inr (c.in-Some.doubt, doubt, c.read.new.self.connection, failed)) (c.write.ensures.failed clean)
 
 pub returns-in-Some-clause-reads : goal.returns-in-Some-clause-reads
 returns-in-Some-clause-reads g c clean =
@@ -34,3 +34,20 @@ pub returns-clause-reads : goal.returns-clause-reads
 returns-clause-reads g c clean =
     let late : HasCleanDisk (database g.D.Store c.read.new.self) = subst (λ k. HasCleanDisk (database g.D.Store k)) c.self-in_default.view_is clean in
     (c.read.new.self.connection, c.in_ok-_rows._rows.items, c.in_ok-_rows.ensures.read late)
+
+pub returns-in-Some-clause-reopened : goal.returns-in-Some-clause-reopened
+returns-in-Some-clause-reopened g c =
+    let doubt : c.args.self.now.doubt ≡ Some c.in-Some.doubt = sym (ap (λ (k : Keeping g.row.D.Denot). k.doubt) c.read.ensures.same) ∙ sym (ap (λ (k : Keeping g.row.D.Denot). k.doubt) c.self-2.view_is) ∙ c.in-Some.is in
+    let tells = TellsRows g.D.Store g.D.Lasting.supposed in
+    reopened_written tells c.args.self.now c.read.new.self c.write.new.self c.write.result c.in-Some.doubt doubt
+    (ap (λ (k : Keeping g.row.D.Denot). k.doubt) c.read.ensures.same) c.read.ensures.unchanged c.write.ensures.made c.write.ensures.no_doubt c.write.ensures.unchanged c.write.ensures.same
+
+pub returns-in-Some-clause-still : goal.returns-in-Some-clause-still
+returns-in-Some-clause-still g c =
+    let mid = c.read.new.self in
+    let new = c.write.new.self in
+    on_err c.write.result (λ e is first s.
+    let same : new ≡ record mid { connection = new.connection } = rw is at c.write.ensures.same in
+    subst (λ left. SettledSo (database g.D.Store first) (database g.D.Store new) first.doubt left) (sym (ap (λ (k : Keeping g.row.D.Denot). k.doubt) same))
+    (still_settled (database g.D.Store first) (database g.D.Store mid) (database g.D.Store new) first.doubt mid.doubt c.write.ensures.clean c.write.ensures.was_open
+    (λ clean is_open. rw is at (c.write.ensures.refused clean is_open)) (c.read.ensures.settled first s)))

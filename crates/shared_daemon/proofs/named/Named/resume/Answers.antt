@@ -1,6 +1,7 @@
 use Rattle.std.proofs.Common.{sym, subst}
 use Rattle.daemon_core.specs.Housed.{Housed}
 use Rattle.daemon_core.specs.Resumes.{note_in}
+use Rattle.daemon_core.specs.Turns.{signs_of}
 use Rattle.shared_daemon.specs.Calls.{WasSeen}
 use Rattle.shared_daemon.specs.Entries.{chronicle}
 use Rattle.shared_daemon.specs.Resumed.{MayResumeRow}
@@ -11,31 +12,31 @@ use Rattle.shared_daemon.proofs.Seeing.{booted-named}
 use Rattle.shared_daemon.proofs.named.Named.resume.Goals as goal
 
 pub resume-resumed-requires-clause-booted : goal.resume-resumed-requires-clause-booted
-resume-resumed-requires-clause-booted g c = booted-named g.K.Keeper.faults g.N.Naming.name c.self.inside.house c.self.invariant
+resume-resumed-requires-clause-booted g c = booted-named (signs_of g.K.Keeper.tells g.K.Keeper.faults) g.N.Naming.name c.self.inside.house c.self.invariant
 
 pub resume-resumed-requires-clause-put_off : goal.resume-resumed-requires-clause-put_off
 resume-resumed-requires-clause-put_off g c =
-    put_off-met g.K.Keeper.faults g.N.Naming.name c.self.inside.house c.args.entry c.args.held c.self.invariant c.known.ensures.annals
+    put_off-met (signs_of g.K.Keeper.tells g.K.Keeper.faults) g.N.Naming.name c.self.inside.house c.args.entry c.args.held c.self.invariant c.known.ensures.annals
     (subst (λ (h : Housed g.row.K.Denot). WasSeen g.N.Naming.name 0 (MayResumeRow g.N.Naming.name c.args.entry c.args.held) (chronicle h)) (sym c.self.view_is) c.requires)
 
 pub resume-resumed-requires-clause-held : goal.resume-resumed-requires-clause-held
 resume-resumed-requires-clause-held g c =
-    comes-in-met g.K.Keeper.faults g.N.Naming.name c.self.inside.house c.args.entry c.args.held c.self.invariant c.known.ensures.annals
+    comes-in-met (signs_of g.K.Keeper.tells g.K.Keeper.faults) g.N.Naming.name c.self.inside.house c.args.entry c.args.held c.self.invariant c.known.ensures.annals
     (subst (λ (h : Housed g.row.K.Denot). WasSeen g.N.Naming.name 0 (MayResumeRow g.N.Naming.name c.args.entry c.args.held) (chronicle h)) (sym c.self.view_is) c.requires)
 
 pub invariant_of-self : goal.invariant_of-self
 invariant_of-self g c =
-    keeps-counted g.K.Keeper.faults g.N.Naming.name 0 c.self.inside.house c.resume-resumed.new.self c.self.invariant
+    keeps-counted (signs_of g.K.Keeper.tells g.K.Keeper.faults) g.N.Naming.name 0 c.self.inside.house c.resume-resumed.new.self c.self.invariant
     (resumed-grew c.args.entry (note_in c.args.held) c.resume-resumed.result c.self.inside.house.annals c.resume-resumed.new.self.annals c.resume-resumed.ensures.turn)
-    c.resume-resumed.ensures.faults c.resume-resumed.ensures.counts (resume-plans g.N.Naming.name.plans c.args.entry c.args.held c.resume-resumed.result c.self.inside.house c.resume-resumed.new.self c.resume-resumed.ensures.gave c.self.invariant.planned)
+    c.resume-resumed.ensures.fared c.resume-resumed.ensures.counts (resume-plans g.N.Naming.name.plans c.args.entry c.args.held c.resume-resumed.result c.self.inside.house c.resume-resumed.new.self c.resume-resumed.ensures.gave c.self.invariant.planned)
 
 pub returns-clause-turn : goal.returns-clause-turn
 returns-clause-turn g c = resumed-named c.args.entry (note_in c.args.held) c.resume-resumed.result c.args.self.now c.self.inside.house c.resume-resumed.new.self c.self.view_is c.known.ensures.annals c.resume-resumed.ensures.turn
 
 pub returns-clause-gave : goal.returns-clause-gave
 returns-clause-gave g c =
-    resumed-gave g.K.Keeper.faults g.N.Naming.name c.args.entry c.args.held c.resume-resumed.result c.self.inside.house c.resume-resumed.new.self
-    (keeps-counted g.K.Keeper.faults g.N.Naming.name 0 c.self.inside.house c.resume-resumed.new.self c.self.invariant
+    resumed-gave (signs_of g.K.Keeper.tells g.K.Keeper.faults) g.N.Naming.name c.args.entry c.args.held c.resume-resumed.result c.self.inside.house c.resume-resumed.new.self
+    (keeps-counted (signs_of g.K.Keeper.tells g.K.Keeper.faults) g.N.Naming.name 0 c.self.inside.house c.resume-resumed.new.self c.self.invariant
     (resumed-grew c.args.entry (note_in c.args.held) c.resume-resumed.result c.self.inside.house.annals c.resume-resumed.new.self.annals c.resume-resumed.ensures.turn)
-    c.resume-resumed.ensures.faults c.resume-resumed.ensures.counts (resume-plans g.N.Naming.name.plans c.args.entry c.args.held c.resume-resumed.result c.self.inside.house c.resume-resumed.new.self c.resume-resumed.ensures.gave c.self.invariant.planned))
+    c.resume-resumed.ensures.fared c.resume-resumed.ensures.counts (resume-plans g.N.Naming.name.plans c.args.entry c.args.held c.resume-resumed.result c.self.inside.house c.resume-resumed.new.self c.resume-resumed.ensures.gave c.self.invariant.planned))
     c.known-2.ensures.annals c.self.invariant.planned c.resume-resumed.ensures.gave
