@@ -58,10 +58,10 @@ digit_of byte = if is_ascii_digit byte then Some (byte - 48) else None
 abbrev pub last_eight : List ℕ → List ℕ
 last_eight text = drop (length text - 8) text
 
--- The number has these fields, and no number that has them is less than it.
-pub record IsLeastWith (format : Format) (numbers : List ℕ) (least : ℕ) : Type 0 where
-  pub same : (raw : ℕ) → raw < 2 ^ 32 → numbers ≡ fields format raw → fields format least ≡ numbers
-  pub least : (raw : ℕ) → raw < 2 ^ 32 → numbers ≡ fields format raw → least ≤ raw
+-- Where any raw number has these fields, this number has them and is no greater.
+pub record IsLeastWith (format : Format) (numbers : List ℕ) (number : ℕ) : Type 0 where
+  pub same : (raw : ℕ) → raw < 2 ^ 32 → numbers ≡ fields format raw → fields format number ≡ numbers
+  pub least : (raw : ℕ) → raw < 2 ^ 32 → numbers ≡ fields format raw → number ≤ raw
 
 -- Where any raw number writes an equal text, the result is no greater and writes the same text.
 abbrev pub IsLikely : Format → List ℕ → Option ℕ → Type 0

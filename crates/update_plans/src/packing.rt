@@ -8,27 +8,27 @@ use version_formats::Format;
 pub fn packed(format: Format, fields: &[u32]) -> u64
     ensures { IsLeastWith format fields.now result }
 {
-    let (a, b) = (field(fields, 0), field(fields, 1));
-    let (c, d) = (field(fields, 2), field(fields, 3));
+    let a = field(fields, 0);
+    let b = field(fields, 1);
+    let c = field(fields, 2);
+    let d = field(fields, 3);
     match format {
         Format::Plain | Format::Number => a,
-        Format::Pair => shifted(a, 16) + b,
-        Format::Triplet => shifted(a, 24) + shifted(b, 16) + c,
-        Format::Quad => shifted(a, 24) + shifted(b, 16) + shifted(c, 8) + d,
+        Format::Pair => (a << 16) + b,
+        Format::Triplet => (a << 24) + (b << 16) + c,
+        Format::Quad => (a << 24) + (b << 16) + (c << 8) + d,
         Format::Bcd => {
-            shifted(decimal_byte(a), 24)
-                + shifted(decimal_byte(b), 16)
-                + shifted(decimal_byte(c), 8)
+            (decimal_byte(a) << 24)
+                + (decimal_byte(b) << 16)
+                + (decimal_byte(c) << 8)
                 + decimal_byte(d)
         }
-        Format::DellBios => shifted(a, 16) + shifted(b, 8) + c,
-        Format::DellBiosMsb => shifted(a, 24) + shifted(b, 16) + shifted(c, 8),
-        Format::SurfaceLegacy => shifted(a, 22) + shifted(b, 10) + c,
-        Format::Surface => shifted(a, 24) + shifted(b, 8) + c,
-        Format::IntelMe => {
-            shifted(a.saturating_sub(11), 29) + shifted(b, 24) + shifted(c, 16) + d
-        }
-        Format::IntelMe2 => shifted(a, 28) + shifted(b, 24) + shifted(c, 16) + d,
+        Format::DellBios => (a << 16) + (b << 8) + c,
+        Format::DellBiosMsb => (a << 24) + (b << 16) + (c << 8),
+        Format::SurfaceLegacy => (a << 22) + (b << 10) + c,
+        Format::Surface => (a << 24) + (b << 8) + c,
+        Format::IntelMe => { (a.saturating_sub(11) << 29) + (b << 24) + (c << 16) + d }
+        Format::IntelMe2 => (a << 28) + (b << 24) + (c << 16) + d,
         Format::Hex => 0,
     }
 }
@@ -42,16 +42,6 @@ fn field(fields: &[u32], at: usize) -> u64
         Some(field) => u64::from(*field),
         None => 0,
     }
-}
-
-// The field with its lowest bit at that place.
-fn shifted(field: u64, low: u32) -> u64
-    requires field { field < 2 ^ 33 }
-    requires low { low < 30 }
-    ensures value { result ≡ field * 2 ^ low }
-    ensures small { result < 2 ^ 62 }
-{
-    field << low
 }
 
 // The least byte whose two decimal digits write the number.

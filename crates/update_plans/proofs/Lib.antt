@@ -1,0 +1,6 @@
+pub mod Options
+pub mod Least
+pub mod Sections
+pub mod Fields
+pub mod Likely
+pub mod Reading
