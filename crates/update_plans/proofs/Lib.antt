@@ -4,3 +4,4 @@ pub mod Sections
 pub mod Fields
 pub mod Likely
 pub mod Reading
+pub mod Walking

@@ -1,4 +1,6 @@
 pub mod RawNumbers
 pub mod Fields
+pub mod Walks
 pub use Rattle.version_formats.specs.Formats
 pub use Rattle.version_formats.specs.VersionOrder
+pub use Rattle.device_list.specs.Lists

@@ -8,5 +8,7 @@
 mod numbers;
 mod packing;
 pub mod raw;
+pub mod walk;
 
 pub use raw::raw_of;
+pub use walk::order;
