@@ -5,10 +5,16 @@
 //! here writes anything: a plan is made, and checked, over a log as it stands.
 #![tactic(auto)]
 
+mod course;
+mod making;
 mod numbers;
 mod packing;
+pub mod plan;
+mod planner;
 pub mod raw;
+mod requests;
 pub mod walk;
 
+pub use plan::{Plan, PlanStep, PlanStop, STEPS_MAX, TAG_MAX};
 pub use raw::raw_of;
 pub use walk::order;

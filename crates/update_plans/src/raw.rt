@@ -22,7 +22,8 @@ pub fn raw_of(format: Format, version: &Version) -> Option<u32>
     }
 }
 
-fn is_same(left: &Version, right: &Version) -> bool
+/// Whether two versions are equal in their order.
+pub fn is_same(left: &Version, right: &Version) -> bool
     ensures { result ≡ same_version left.now right.now }
 {
     match compare(left, right) {

@@ -1,0 +1,118 @@
+//! The steps of plans, made and checked over a log that goes on by them.
+use crate::course::mode_of;
+use crate::plan::{PlanStep, PlanStop, STEPS_MAX};
+use crate::planner::{Planner, release_at};
+use crate::raw_of;
+use crate::walk::order;
+use fw_base::NoMemory;
+use fw_facts::DeviceView;
+use release_catalogue::ReleaseRef;
+use std::alloc::Global;
+use std::cmp::Ordering;
+use update_log::Facts;
+use version_formats::{Version, compare};
+
+/// Puts the steps of the plan over the planner's log behind that log: for each device in the order of the
+/// walk, as long as there is one, the highest release that it can reach next.
+pub fn plan_all(alloc: Global, planner: &mut Planner) -> Result<Vec<PlanStep>, NoMemory> {
+    let places = order(alloc, planner.state.views())?;
+    let mut steps = Vec::new(alloc);
+    for at in &places {
+        plan_device(alloc, planner, *at, &mut steps)?;
+    }
+    Ok(steps)
+}
+
+/// Whether each step is good after those before it. They are put behind the log.
+pub fn check_all(planner: &mut Planner, steps: &[PlanStep]) -> Result<(), PlanStop> {
+    for step in steps {
+        if !planner.is_good(step) {
+            return Err(PlanStop::No {
+                step: planner.taken + 1,
+            });
+        }
+        planner.install(step)?;
+    }
+    Ok(())
+}
+
+// Puts the steps of a device behind the others, and takes them.
+fn plan_device(
+    alloc: Global,
+    planner: &mut Planner,
+    at: usize,
+    steps: &mut Vec<PlanStep>,
+) -> Result<(), NoMemory> {
+    let mut releases = highest_first(alloc, planner, at)?;
+    for _ in steps.len()..STEPS_MAX {
+        let Some(step) = next_step(planner, at, &releases) else {
+            return Ok(());
+        };
+        let mode = mode_of(planner.state.views()[at].seen);
+        planner.install(&step)?;
+        steps.push(step)?;
+        if mode_of(planner.state.views()[at].seen) != mode {
+            releases = highest_first(alloc, planner, at)?;
+        }
+    }
+    Ok(())
+}
+
+// The releases for the side that the device shows, the highest first, and those of one version in
+// catalogue order.
+fn highest_first(alloc: Global, planner: &Planner, at: usize) -> Result<Vec<ReleaseRef>, NoMemory> {
+    let facts = planner.facts;
+    let mut releases = facts
+        .catalogue
+        .releases_for(alloc, planner.state.views()[at].guids())?;
+    releases.sort_by(|left, right| compare_at(facts, *right, *left))?;
+    Ok(releases)
+}
+
+fn compare_at(facts: &Facts, left: ReleaseRef, right: ReleaseRef) -> Ordering {
+    match (release_at(facts, left), release_at(facts, right)) {
+        (Some(left), Some(right)) => compare(&left.version, &right.version),
+        (Some(_), None) | (None, Some(_)) | (None, None) => Ordering::Equal,
+    }
+}
+
+// The first step that is good, of releases above the version shown.
+fn next_step(planner: &Planner, at: usize, releases: &[ReleaseRef]) -> Option<PlanStep> {
+    let view = &planner.state.views()[at];
+    let shown = view.version()?;
+    for release in releases {
+        let version = release_at(planner.facts, *release)?.version;
+        if !is_above(&version, &shown) {
+            return None;
+        }
+        if let Some(step) = good_step(planner, view, *release, &version) {
+            return Some(step);
+        }
+    }
+    None
+}
+
+fn good_step(
+    planner: &Planner,
+    view: &DeviceView,
+    release: ReleaseRef,
+    version: &Version,
+) -> Option<PlanStep> {
+    let step = PlanStep {
+        device: view.sheet.device,
+        release,
+        raw: raw_of(view.sheet.format, version)?,
+    };
+    if planner.is_good(&step) {
+        Some(step)
+    } else {
+        None
+    }
+}
+
+fn is_above(version: &Version, shown: &Version) -> bool {
+    match compare(version, shown) {
+        Ordering::Greater => true,
+        Ordering::Less | Ordering::Equal => false,
+    }
+}

@@ -1,0 +1,197 @@
+//! A log that goes on by the installs of a plan.
+use crate::course::{OPS, ends_well, shown_after};
+use crate::plan::PlanStep;
+use crate::raw::is_same;
+use crate::requests::request_of;
+use device_list::Selector;
+use emulated_boards::Mark;
+use fw_base::{Digest, Name, NoMemory};
+use fw_facts::{Component, DeviceFlag, DeviceView, Release, Seen};
+use guid_ids::DeviceId;
+use history_keeper::RowState;
+use release_catalogue::ReleaseRef;
+use update_log::{
+    AskAnswer, ClaimAnswer, CoreState, Decision, Event, Facts, FetchNote, Op, Request, Stage,
+    Stored, Told, closing, next_op, step, verdict,
+};
+use version_formats::render;
+
+/// The most events of an install: an ask, a claim, six steps that begin and end, and a finish.
+const EVENTS_MAX: usize = 15;
+
+/// The most rows of a history.
+const ROWS_MAX: usize = 65_536;
+
+/// A state of its own, over which steps are tried and taken one after the other.
+#[derive(Drop)]
+pub struct Planner<'a> {
+    pub facts: &'a Facts,
+    pub state: CoreState,
+    pub client: u32,
+    pub tag: &'a Name,
+    /// How many steps were taken.
+    pub taken: u32,
+}
+
+impl<'a> Planner<'a> {
+    /// Whether the step is good as the next one.
+    pub fn is_good(&self, step: &PlanStep) -> bool {
+        let Some(component) = component_of(self.facts, step.release) else {
+            return false;
+        };
+        let Some(release) = release_of(component, step.release) else {
+            return false;
+        };
+        let Some(view) = self.view_of(&step.device) else {
+            return false;
+        };
+        is_same(&render(view.sheet.format, step.raw), &release.version)
+            && self.is_accepted(step, release)
+            && ends_well(view, component, &release.version, step.raw)
+    }
+
+    // Whether its request is accepted, at its ask and at its claim, with its very release. A claim finds
+    // what the ask found, and wants place for a row.
+    fn is_accepted(&self, step: &PlanStep, release: &Release) -> bool {
+        let request = self.request(step, release);
+        let decision = verdict(self.facts, &self.state, self.client, &request, Stage::Ask);
+        accepts(decision, step.release) && self.state.rows().len() < ROWS_MAX
+    }
+
+    fn request(&self, step: &PlanStep, release: &Release) -> Request {
+        request_of(self.tag, self.taken + 1, step, release.version)
+    }
+
+    // The device with that ID.
+    fn view_of(&self, device: &DeviceId) -> Option<&DeviceView> {
+        let at = self.state.resolve(&Selector::Id(*device))?;
+        self.state.views().get(at)
+    }
+
+    /// Puts the install of a step, which is good, behind the log.
+    pub fn install(&mut self, step: &PlanStep) -> Result<(), NoMemory> {
+        let Some(release) = release_at(self.facts, step.release) else {
+            return Ok(());
+        };
+        self.state.reserve(EVENTS_MAX)?;
+        let request = self.request(step, &release);
+        let entry = self.state.rows().len() as u32 + 1;
+        self.take(&request, step, &release, entry);
+        for op in OPS.iter() {
+            self.make(*op, step, entry, release.digest);
+        }
+        self.finish(&step.device, entry);
+        self.taken += 1;
+        Ok(())
+    }
+
+    // The ask and the claim.
+    fn take(&mut self, request: &Request, step: &PlanStep, release: &Release, entry: u32) {
+        self.append(Event::Ask {
+            client: self.client,
+            request: *request,
+            pending: None,
+            answer: AskAnswer::Hold {
+                blocks: blocks_of(release.size),
+                release: step.release,
+            },
+        });
+        self.append(Event::Claim {
+            client: self.client,
+            request: *request,
+            fetched: FetchNote::Whole {
+                digest: release.digest,
+                len: release.size,
+                raw: step.raw,
+            },
+            answer: ClaimAnswer::Entry(entry),
+        });
+    }
+
+    // A step of the entry, where it is the next one.
+    fn make(&mut self, op: Op, step: &PlanStep, entry: u32, digest: Digest) {
+        if next_op(&self.state.trace(entry)) != Some(op) {
+            return;
+        }
+        let client = self.client;
+        let seen = self.shown(op, step);
+        self.append(Event::Start { client, entry, op });
+        self.append(Event::End {
+            client,
+            entry,
+            op,
+            outcome: Ok(()),
+            told: marks(op, entry, digest),
+            seen,
+        });
+    }
+
+    fn shown(&self, op: Op, step: &PlanStep) -> Seen {
+        match self.view_of(&step.device) {
+            Some(view) => shown_after(
+                op,
+                view.sheet.flags.has(DeviceFlag::NeedsReboot),
+                step.raw,
+                view.seen,
+            ),
+            None => Seen::Gone,
+        }
+    }
+
+    fn finish(&mut self, device: &DeviceId, entry: u32) {
+        let state = self.end_of(device, entry);
+        self.append(Event::Finish {
+            client: self.client,
+            entry,
+            state,
+            stored: Stored::Yes,
+        });
+    }
+
+    // In which state the entry ends.
+    fn end_of(&self, device: &DeviceId, entry: u32) -> RowState {
+        match (self.state.row(entry), self.view_of(device)) {
+            (Some(row), Some(view)) => closing(&self.state.trace(entry), row, view),
+            (Some(_), None) | (None, Some(_)) | (None, None) => RowState::Begun,
+        }
+    }
+
+    fn append(&mut self, event: Event) {
+        step(self.facts, &mut self.state, event);
+    }
+}
+
+fn accepts(decision: Decision, at: ReleaseRef) -> bool {
+    match decision {
+        Decision::Accept { release, .. } => release == at,
+        Decision::Kept { .. } | Decision::Refused(_) => false,
+    }
+}
+
+/// The component of a release, where it is in the catalogue.
+pub fn component_of(facts: &Facts, at: ReleaseRef) -> Option<&Component> {
+    facts.catalogue.components().get(at.component as usize)
+}
+
+fn release_of(component: &Component, at: ReleaseRef) -> Option<&Release> {
+    component.releases.items().get(at.release as usize)
+}
+
+/// The release at a place of the catalogue.
+pub fn release_at(facts: &Facts, at: ReleaseRef) -> Option<Release> {
+    release_of(component_of(facts, at)?, at).copied()
+}
+
+fn blocks_of(size: u32) -> u32 {
+    ((u64::from(size) + 4095) / 4096) as u32
+}
+
+// The marks of a step that goes well.
+fn marks(op: Op, entry: u32, digest: Digest) -> Told {
+    match op {
+        Op::Detach => Told::one(Mark::Entered),
+        Op::Write => Told::two(Mark::Began { entry }, Mark::Ended { entry, digest }),
+        Op::Attach => Told::one(Mark::Left),
+        Op::Prepare | Op::Reload | Op::Cleanup => Told::none(),
+    }
+}
