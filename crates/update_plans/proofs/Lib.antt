@@ -5,3 +5,4 @@ pub mod Fields
 pub mod Likely
 pub mod Reading
 pub mod Walking
+pub mod Claims

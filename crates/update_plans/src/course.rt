@@ -1,74 +1,146 @@
 //! How an install goes where nothing fails.
-ghost use Rattle.std.specs.Prelude.{◌≡◌};
-ghost use Rattle.update_plans.specs.Plans.{board_after, shown_after};
+ghost use Rattle.std.specs.Prelude.{◌≡◌, ◌≤◌, ◌<◌, ◌+◌, ◌&&◌, ◌||◌, ◌++◌, ◌∷◌, [], Ok, length};
+ghost use Rattle.std.specs.List.{list_any};
+ghost use Rattle.std.specs.Str.{bytes_eq};
+ghost use Rattle.fw_facts.specs.Views.{is_home};
+ghost use Rattle.update_log.specs.Steps.{ended_well, is_op, mode_of, next_step, waits_for_boot};
+ghost use Rattle.update_plans.specs.Plans.{board_after, is_next, shown_after};
+ghost use Rattle.update_plans.specs.Courses.{course_of, course_step, course_with, ends_well, fits_side, shows_version, trace_begun};
 
 use crate::raw::is_same;
 use fw_facts::{Component, DeviceFlag, DeviceView, Mode, Seen};
 use guid_ids::Guid;
 use update_log::{Op, Trace, TraceStep, TraceSteps, next_op};
-use version_formats::{Version, render};
+use version_formats::{Format, Version, render};
 
-/// The steps of an entry, in their order.
-pub const OPS: [Op; 6] = [
-    Op::Prepare,
-    Op::Detach,
-    Op::Write,
-    Op::Attach,
-    Op::Reload,
-    Op::Cleanup,
-];
+/// The trace of an entry, and what the port shows.
+#[derive(Clone, Copy, Debug)]
+pub struct Course {
+    pub trace: Trace,
+    pub seen: Seen,
+}
 
 /// Whether the install of a release with that version and raw number ends as a success, or waits for a
 /// boot, on a device that stands like this.
-pub fn ends_well(view: &DeviceView, component: &Component, version: &Version, raw: u32) -> bool {
-    let course = Course::of(first_trace(view, component), view.seen, raw);
-    match course.seen {
-        Seen::Home { raw: shown, .. } => {
-            course.waits_for_boot() || is_same(&render(view.sheet.format, shown), version)
+pub fn ends_well(view: &DeviceView, component: &Component, version: &Version, raw: u32) -> bool
+    ensures { result ≡ ends_well view.now component.now version.now raw }
+{
+    let course = course_of(first_trace(view, component), view.seen, raw);
+    is_home(course.seen)
+        && (waits_for_boot(&course.trace) || shows_version(view.sheet.format, version, course.seen))
+}
+
+// The whole course of an entry that begins with that trace.
+fn course_of(first: Trace, seen: Seen, raw: u32) -> Course
+    requires { first.steps ≡ [] }
+    ensures { result ≡ course_of first seen raw }
+{
+    Course { trace: first, seen }
+        .take(Op::Prepare, raw)
+        .take(Op::Detach, raw)
+        .take(Op::Write, raw)
+        .take(Op::Attach, raw)
+        .take(Op::Reload, raw)
+        .take(Op::Cleanup, raw)
+}
+
+impl Course {
+    // The course with that step, where it is the next one.
+    fn take(self, op: Op, raw: u32) -> Course
+        requires { length self.trace.steps < 6 }
+        ensures value { result ≡ course_step raw self op }
+        ensures longer { length result.trace.steps ≤ length self.trace.steps + 1 }
+    {
+        if is_next(next_op(&self.trace), op) {
+            self.with(op, raw)
+        } else {
+            self
         }
+    }
+
+    fn with(self, op: Op, raw: u32) -> Course
+        requires { length self.trace.steps < 6 }
+        ensures { result ≡ course_with raw self op }
+    {
+        let Trace {
+            flags,
+            mode,
+            runtime_fits,
+            loader_fits,
+            steps,
+        } = self.trace;
+        let waits = flags.has(DeviceFlag::NeedsReboot);
+        let seen = shown_after(op, waits, raw, self.seen);
+        let trace = Trace {
+            flags,
+            mode,
+            runtime_fits,
+            loader_fits,
+            steps: pushed(steps, op, seen),
+        };
+        Course { trace, seen }
+    }
+}
+
+// The steps with one more, which went well.
+fn pushed(mut steps: TraceSteps, op: Op, seen: Seen) -> TraceSteps
+    requires { length steps < 6 }
+    ensures { result ≡ steps ++ record { op = op; outcome = Ok tt; seen = seen } ∷ [] }
+{
+    steps.push(TraceStep {
+        op,
+        outcome: Ok(()),
+        seen,
+    });
+    steps
+}
+
+/// The step is the next one.
+pub fn is_next(next: Option<Op>, op: Op) -> bool
+    ensures { result ≡ is_next next op }
+{
+    match next {
+        Some(next) => is_op(next, op),
+        None => false,
+    }
+}
+
+fn is_op(left: Op, right: Op) -> bool
+    ensures { result ≡ is_op left right }
+{
+    left as u8 == right as u8
+}
+
+// The device needs a boot, and was written.
+fn waits_for_boot(trace: &Trace) -> bool
+    ensures { result ≡ waits_for_boot trace.now }
+{
+    trace.flags.has(DeviceFlag::NeedsReboot) && was_written(trace.steps.items())
+}
+
+fn was_written(steps: &[TraceStep]) -> bool
+    ensures { result ≡ ended_well Op.Write steps.now }
+{
+    steps
+        .iter()
+        .any(|step| is_op(step.op, Op::Write) && step.outcome.is_ok())
+}
+
+fn shows_version(format: Format, version: &Version, seen: Seen) -> bool
+    ensures { result ≡ shows_version format version.now seen }
+{
+    match seen {
+        Seen::Home { raw, .. } => is_same(&render(format, raw), version),
         Seen::Gone | Seen::Stranger => false,
     }
 }
 
-/// The trace of an entry at its end, and what the port shows then.
-#[derive(Clone, Copy, Debug)]
-struct Course {
-    trace: Trace,
-    seen: Seen,
-}
-
-impl Course {
-    // The course from that trace on.
-    fn of(first: Trace, seen: Seen, raw: u32) -> Course {
-        let mut course = Course { trace: first, seen };
-        for op in OPS.iter() {
-            course.take(*op, raw);
-        }
-        course
-    }
-
-    // Takes a step, where it is the next one.
-    fn take(&mut self, op: Op, raw: u32) {
-        if next_op(&self.trace) == Some(op) {
-            let waits = self.trace.flags.has(DeviceFlag::NeedsReboot);
-            self.seen = shown_after(op, waits, raw, self.seen);
-            self.trace.steps.push(TraceStep {
-                op,
-                outcome: Ok(()),
-                seen: self.seen,
-            });
-        }
-    }
-
-    // The device needs a boot, and was written.
-    fn waits_for_boot(&self) -> bool {
-        self.trace.flags.has(DeviceFlag::NeedsReboot)
-            && self
-                .trace
-                .steps
-                .items()
-                .iter()
-                .any(|step| step.op == Op::Write)
+fn is_home(seen: Seen) -> bool
+    ensures { result ≡ is_home seen }
+{
+    match seen {
+        Seen::Home { .. } => true,
+        Seen::Gone | Seen::Stranger => false,
     }
 }
 
@@ -93,10 +165,7 @@ fn board_after(op: Op, waits: bool, new: u32, raw: u32, mode: Mode) -> Seen
             raw,
             mode: Mode::Bootloader,
         },
-        Op::Write => Seen::Home {
-            raw: if waits { raw } else { new },
-            mode,
-        },
+        Op::Write => written(waits, new, raw, mode),
         Op::Attach | Op::Reload | Op::Cleanup => Seen::Home {
             raw,
             mode: Mode::Runtime,
@@ -104,35 +173,61 @@ fn board_after(op: Op, waits: bool, new: u32, raw: u32, mode: Mode) -> Seen
     }
 }
 
+fn written(waits: bool, new: u32, raw: u32, mode: Mode) -> Seen
+    ensures { result ≡ board_after Op.Write waits new raw mode }
+{
+    if waits {
+        Seen::Home { raw, mode }
+    } else {
+        Seen::Home { raw: new, mode }
+    }
+}
+
 // The trace with which an entry of the device begins, for a release of the component.
-fn first_trace(view: &DeviceView, component: &Component) -> Trace {
-    let sheet = &view.sheet;
-    let counterparts = sheet.counterparts.items();
+fn first_trace(view: &DeviceView, component: &Component) -> Trace
+    ensures { result ≡ trace_begun view.now component.now }
+{
     Trace {
         flags: view.flags(),
         mode: mode_of(view.seen),
-        runtime_fits: side_fits(sheet.runtime_guids.items(), component, counterparts),
-        loader_fits: side_fits(sheet.loader_guids.items(), component, counterparts),
+        runtime_fits: fits_side(view.sheet.runtime_guids.items(), component, view),
+        loader_fits: fits_side(view.sheet.loader_guids.items(), component, view),
         steps: TraceSteps::none(),
     }
 }
 
 /// The mode that the port shows.
-pub fn mode_of(seen: Seen) -> Mode {
+pub fn mode_of(seen: Seen) -> Mode
+    ensures { result ≡ mode_of seen }
+{
     match seen {
         Seen::Home { mode, .. } => mode,
         Seen::Gone | Seen::Stranger => Mode::Runtime,
     }
 }
 
-fn side_fits(side: &[Guid], component: &Component, counterparts: &[Guid]) -> bool {
-    has_any(side, component.provides.items()) || has_any(side, counterparts)
+// The component provides a GUID of the side, or one of them is among the device's counterparts.
+fn fits_side(side: &[Guid], component: &Component, view: &DeviceView) -> bool
+    ensures { result ≡ fits_side side.now component.now view.now }
+{
+    has_provided(side, component.provides.items())
+        || has_counterpart(side, view.sheet.counterparts.items())
 }
 
-fn has_any(side: &[Guid], guids: &[Guid]) -> bool {
-    guids.iter().any(|guid| is_among(side, guid))
+fn has_provided(side: &[Guid], provides: &[Guid]) -> bool
+    ensures { result ≡ list_any (λ own. list_any (λ guid. bytes_eq own guid) side.now) provides.now }
+{
+    provides.iter().any(|own| is_among(side, own))
 }
 
-fn is_among(side: &[Guid], guid: &Guid) -> bool {
+fn has_counterpart(side: &[Guid], counterparts: &[Guid]) -> bool
+    ensures { result ≡ list_any (λ guid. list_any (bytes_eq guid) side.now) counterparts.now }
+{
+    counterparts.iter().any(|guid| is_among(side, guid))
+}
+
+fn is_among(side: &[Guid], guid: &Guid) -> bool
+    ensures { result ≡ list_any (bytes_eq guid.now) side.now }
+{
     side.iter().any(|own| guid == own)
 }

@@ -1,5 +1,5 @@
 //! A log that goes on by the installs of a plan.
-use crate::course::{OPS, ends_well, shown_after};
+use crate::course::{ends_well, is_next, shown_after};
 use crate::plan::PlanStep;
 use crate::raw::is_same;
 use crate::requests::request_of;
@@ -77,9 +77,12 @@ impl<'a> Planner<'a> {
         let request = self.request(step, &release);
         let entry = self.state.rows().len() as u32 + 1;
         self.take(&request, step, &release, entry);
-        for op in OPS.iter() {
-            self.make(*op, step, entry, release.digest);
-        }
+        self.make(Op::Prepare, step, entry, release.digest);
+        self.make(Op::Detach, step, entry, release.digest);
+        self.make(Op::Write, step, entry, release.digest);
+        self.make(Op::Attach, step, entry, release.digest);
+        self.make(Op::Reload, step, entry, release.digest);
+        self.make(Op::Cleanup, step, entry, release.digest);
         self.finish(&step.device, entry);
         self.taken += 1;
         Ok(())
@@ -110,7 +113,7 @@ impl<'a> Planner<'a> {
 
     // A step of the entry, where it is the next one.
     fn make(&mut self, op: Op, step: &PlanStep, entry: u32, digest: Digest) {
-        if next_op(&self.state.trace(entry)) != Some(op) {
+        if !is_next(next_op(&self.state.trace(entry)), op) {
             return;
         }
         let client = self.client;
