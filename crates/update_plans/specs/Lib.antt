@@ -3,6 +3,7 @@ pub mod Fields
 pub mod Walks
 pub mod Plans
 pub mod Courses
+pub mod Following
 pub use Rattle.version_formats.specs.Formats
 pub use Rattle.version_formats.specs.VersionOrder
 pub use Rattle.device_list.specs.Lists

@@ -58,41 +58,37 @@ impl Course {
         }
     }
 
-    fn with(self, op: Op, raw: u32) -> Course
-        requires { length self.trace.steps < 6 }
-        ensures { result ≡ course_with raw self op }
+    fn with(&self, op: Op, raw: u32) -> Course
+        requires { length self.now.trace.steps < 6 }
+        ensures { result ≡ course_with raw self.now op }
     {
-        let Trace {
-            flags,
-            mode,
-            runtime_fits,
-            loader_fits,
-            steps,
-        } = self.trace;
-        let waits = flags.has(DeviceFlag::NeedsReboot);
+        let waits = self.trace.flags.has(DeviceFlag::NeedsReboot);
         let seen = shown_after(op, waits, raw, self.seen);
-        let trace = Trace {
-            flags,
-            mode,
-            runtime_fits,
-            loader_fits,
-            steps: pushed(steps, op, seen),
-        };
-        Course { trace, seen }
+        Course {
+            trace: Trace {
+                flags: self.trace.flags,
+                mode: self.trace.mode,
+                runtime_fits: self.trace.runtime_fits,
+                loader_fits: self.trace.loader_fits,
+                steps: pushed(&self.trace.steps, op, seen),
+            },
+            seen,
+        }
     }
 }
 
 // The steps with one more, which went well.
-fn pushed(mut steps: TraceSteps, op: Op, seen: Seen) -> TraceSteps
-    requires { length steps < 6 }
-    ensures { result ≡ steps ++ record { op = op; outcome = Ok tt; seen = seen } ∷ [] }
+fn pushed(steps: &TraceSteps, op: Op, seen: Seen) -> TraceSteps
+    requires { length steps.now < 6 }
+    ensures { result ≡ steps.now ++ record { op = op; outcome = Ok tt; seen = seen } ∷ [] }
 {
-    steps.push(TraceStep {
+    let mut longer = *steps;
+    longer.push(TraceStep {
         op,
         outcome: Ok(()),
         seen,
     });
-    steps
+    longer
 }
 
 /// The step is the next one.
