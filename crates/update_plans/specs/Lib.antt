@@ -1,9 +1,11 @@
 pub mod RawNumbers
 pub mod Fields
 pub mod Walks
+pub mod Tags
 pub mod Plans
 pub mod Courses
 pub mod Following
+pub use Rattle.fw_base.specs.Names
 pub use Rattle.version_formats.specs.Formats
 pub use Rattle.version_formats.specs.VersionOrder
 pub use Rattle.device_list.specs.Lists

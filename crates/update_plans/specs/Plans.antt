@@ -46,6 +46,9 @@ pub record Scene : Type 0 where
   pub client : ℕ
   pub tag : List ℕ
 
+abbrev pub scene : Facts → List Row → ℕ → List ℕ → Scene
+scene facts opening client tag = record { facts = facts; opening = opening; client = client; tag = tag }
+
 -- ---- what a step asks for
 
 -- The release at a place of the catalogue.

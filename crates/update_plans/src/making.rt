@@ -1,4 +1,12 @@
 //! The steps of plans, made and checked over a log that goes on by them.
+ghost use Rattle.std.specs.Prelude.{◌≡◌, ◌≤◌, ◌<◌, ◌+◌, ◌*◌, ◌⊎◌, ℕ, None, Some, List, IfOk, MatchResult, length};
+ghost use Rattle.history_keeper.specs.declared.row.Row.{Row};
+ghost use Rattle.update_log.specs.Core.{Stands};
+ghost use Rattle.update_log.specs.Pasts.{past_of};
+ghost use Rattle.update_plans.specs.Following.{IsQuiet};
+ghost use Rattle.update_plans.specs.Plans.{first_bad, plan, scene};
+ghost use Rattle.update_plans.specs.Tags.{IsTag};
+
 use crate::course::mode_of;
 use crate::plan::{PlanStep, PlanStop, STEPS_MAX};
 use crate::planner::{Planner, release_at};
@@ -14,7 +22,15 @@ use version_formats::{Version, compare};
 
 /// Puts the steps of the plan over the planner's log behind that log: for each device in the order of the
 /// walk, as long as there is one, the highest release that it can reach next.
-pub fn plan_all(alloc: Global, planner: &mut Planner) -> Result<Vec<PlanStep>, NoMemory> {
+pub fn plan_all(alloc: Global, planner: &mut Planner) -> Result<Vec<PlanStep>, NoMemory>
+    ghost opening: { List Row }
+    requires tag { IsTag planner.old.tag.now }
+    requires none_taken { planner.old.taken ≡ 0 }
+    requires few { length planner.old.state.log < 200000 }
+    requires stands { Stands planner.old.facts.now opening planner.old.state }
+    requires quiet { IsQuiet (scene planner.old.facts.now opening planner.old.client planner.old.tag.now) (past_of planner.old.state.log) }
+    ensures { IfOk result (λ steps. steps.items ≡ plan (scene planner.old.facts.now opening planner.old.client planner.old.tag.now) (past_of planner.old.state.log)) }
+{
     let places = order(alloc, planner.state.views())?;
     let mut steps = Vec::new(alloc);
     for at in &places {
@@ -24,7 +40,18 @@ pub fn plan_all(alloc: Global, planner: &mut Planner) -> Result<Vec<PlanStep>, N
 }
 
 /// Whether each step is good after those before it. They are put behind the log.
-pub fn check_all(planner: &mut Planner, steps: &[PlanStep]) -> Result<(), PlanStop> {
+pub fn check_all(planner: &mut Planner, steps: &[PlanStep]) -> Result<(), PlanStop>
+    ghost opening: { List Row }
+    requires tag { IsTag planner.old.tag.now }
+    requires none_taken { planner.old.taken ≡ 0 }
+    requires few_steps { length steps.now ≤ 8192 }
+    requires few { length planner.old.state.log < 200000 }
+    requires stands { Stands planner.old.facts.now opening planner.old.state }
+    requires quiet { IsQuiet (scene planner.old.facts.now opening planner.old.client planner.old.tag.now) (past_of planner.old.state.log) }
+    ensures { MatchResult result
+        (λ _. first_bad (scene planner.old.facts.now opening planner.old.client planner.old.tag.now) 1 steps.now (past_of planner.old.state.log) ≡ None)
+        (λ stop. (stop ≡ PlanStop.NoMemory) ⊎ ((number : ℕ) × (stop ≡ PlanStop.No number) × (first_bad (scene planner.old.facts.now opening planner.old.client planner.old.tag.now) 1 steps.now (past_of planner.old.state.log) ≡ Some number))) }
+{
     for step in steps {
         if !planner.is_good(step) {
             return Err(PlanStop::No {

@@ -1,4 +1,17 @@
 //! A log that goes on by the installs of a plan.
+ghost use Rattle.std.specs.Prelude.{◌≡◌, ◌<◌, ◌≤◌, ◌+◌, ◌-◌, ◌*◌, ◌∷◌, ◌&&◌, true, nat_lt, length, List, option_map, option_and_then, option_copied, slice_get, IfSome, OnOk, Ok};
+ghost use Rattle.fw_base.specs.Names.{name_read};
+ghost use Rattle.device_list.specs.Lists.{place};
+ghost use Rattle.history_keeper.specs.declared.row.Row.{Row};
+ghost use Rattle.release_catalogue.specs.Lookup.{Chosen};
+ghost use Rattle.update_log.specs.Core.{Stands};
+ghost use Rattle.update_log.specs.Holding.{blocks_of};
+ghost use Rattle.update_log.specs.Pasts.{past_of};
+ghost use Rattle.update_log.specs.Shows.{marks};
+ghost use Rattle.update_plans.specs.Following.{IsQuiet};
+ghost use Rattle.update_plans.specs.Plans.{accepts, installed, is_good, scene};
+ghost use Rattle.update_plans.specs.Tags.{IsTag};
+
 use crate::course::{ends_well, is_next, shown_after};
 use crate::plan::PlanStep;
 use crate::raw::is_same;
@@ -35,7 +48,13 @@ pub struct Planner<'a> {
 
 impl<'a> Planner<'a> {
     /// Whether the step is good as the next one.
-    pub fn is_good(&self, step: &PlanStep) -> bool {
+    pub fn is_good(&self, step: &PlanStep) -> bool
+        requires tag { IsTag self.now.tag.now }
+        requires few { self.now.taken < 8192 }
+        ensures { (opening : List Row) → Stands self.now.facts.now opening self.now.state
+            → IsQuiet (scene self.now.facts.now opening self.now.client self.now.tag.now) (past_of self.now.state.log)
+            → result ≡ is_good (scene self.now.facts.now opening self.now.client self.now.tag.now) (self.now.taken + 1) step.now (past_of self.now.state.log) }
+    {
         let Some(component) = component_of(self.facts, step.release) else {
             return false;
         };
@@ -69,7 +88,23 @@ impl<'a> Planner<'a> {
     }
 
     /// Puts the install of a step, which is good, behind the log.
-    pub fn install(&mut self, step: &PlanStep) -> Result<(), NoMemory> {
+    pub fn install(&mut self, step: &PlanStep) -> Result<(), NoMemory>
+        ghost opening: { List Row }
+        requires tag { IsTag self.old.tag.now }
+        requires few { self.old.taken < 8192 }
+        requires stands { Stands self.old.facts.now opening self.old.state }
+        requires quiet { IsQuiet (scene self.old.facts.now opening self.old.client self.old.tag.now) (past_of self.old.state.log) }
+        requires few_events { length self.old.state.log ≤ 200000 + 15 * self.old.taken }
+        requires good { is_good (scene self.old.facts.now opening self.old.client self.old.tag.now) (self.old.taken + 1) step.now (past_of self.old.state.log) ≡ true }
+        ensures past { OnOk result (past_of self.new.state.log ≡ installed (scene self.old.facts.now opening self.old.client self.old.tag.now) (self.old.taken + 1) step.now (past_of self.old.state.log)) }
+        ensures stands { OnOk result (Stands self.old.facts.now opening self.new.state) }
+        ensures quiet { OnOk result (IsQuiet (scene self.old.facts.now opening self.old.client self.old.tag.now) (past_of self.new.state.log)) }
+        ensures taken { OnOk result (self.new.taken ≡ self.old.taken + 1) }
+        ensures few_events { OnOk result (length self.new.state.log ≤ length self.old.state.log + 15) }
+        ensures facts { self.new.facts.now ≡ self.old.facts.now }
+        ensures client { self.new.client ≡ self.old.client }
+        ensures tag { self.new.tag.now ≡ self.old.tag.now }
+    {
         let Some(release) = release_at(self.facts, step.release) else {
             return Ok(());
         };
@@ -164,7 +199,9 @@ impl<'a> Planner<'a> {
     }
 }
 
-fn accepts(decision: Decision, at: ReleaseRef) -> bool {
+fn accepts(decision: Decision, at: ReleaseRef) -> bool
+    ensures { result ≡ accepts at decision }
+{
     match decision {
         Decision::Accept { release, .. } => release == at,
         Decision::Kept { .. } | Decision::Refused(_) => false,
@@ -172,25 +209,35 @@ fn accepts(decision: Decision, at: ReleaseRef) -> bool {
 }
 
 /// The component of a release, where it is in the catalogue.
-pub fn component_of(facts: &Facts, at: ReleaseRef) -> Option<&Component> {
+pub fn component_of(facts: &Facts, at: ReleaseRef) -> Option<&Component>
+    ensures { option_copied result ≡ slice_get facts.now.catalogue at.component }
+{
     facts.catalogue.components().get(at.component as usize)
 }
 
-fn release_of(component: &Component, at: ReleaseRef) -> Option<&Release> {
+fn release_of(component: &Component, at: ReleaseRef) -> Option<&Release>
+    ensures { option_copied result ≡ slice_get component.now.releases at.release }
+{
     component.releases.items().get(at.release as usize)
 }
 
 /// The release at a place of the catalogue.
-pub fn release_at(facts: &Facts, at: ReleaseRef) -> Option<Release> {
+pub fn release_at(facts: &Facts, at: ReleaseRef) -> Option<Release>
+    ensures { result ≡ option_and_then (λ component. slice_get component.releases at.release) (slice_get facts.now.catalogue at.component) }
+{
     release_of(component_of(facts, at)?, at).copied()
 }
 
-fn blocks_of(size: u32) -> u32 {
+fn blocks_of(size: u32) -> u32
+    ensures { result ≡ blocks_of size }
+{
     ((u64::from(size) + 4095) / 4096) as u32
 }
 
 // The marks of a step that goes well.
-fn marks(op: Op, entry: u32, digest: Digest) -> Told {
+fn marks(op: Op, entry: u32, digest: Digest) -> Told
+    ensures { result ≡ marks op entry digest }
+{
     match op {
         Op::Detach => Told::one(Mark::Entered),
         Op::Write => Told::two(Mark::Began { entry }, Mark::Ended { entry, digest }),

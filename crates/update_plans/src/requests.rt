@@ -1,6 +1,7 @@
 //! What the steps of a plan ask for.
-ghost use Rattle.std.specs.Prelude.{◌≡◌, ◌≤◌, ◌<◌, ◌++◌, Ok, length, codes, decimal};
-ghost use Rattle.fw_base.specs.Names.{name_read};
+ghost use Rattle.std.specs.Prelude.{◌≡◌, ◌≤◌, ◌++◌, length, codes, decimal};
+ghost use Rattle.update_plans.specs.Plans.{no_flags};
+ghost use Rattle.update_plans.specs.Tags.{IsTag};
 
 use crate::plan::PlanStep;
 use arrayvec::ArrayVec;
@@ -12,9 +13,9 @@ use version_formats::Version;
 
 /// The request of a step: for its device by its ID, and that version.
 pub fn request_of(tag: &Name, number: u32, step: &PlanStep, version: Version) -> Request
-    requires few { length tag.now ≤ 56 }
-    requires read { name_read tag.now ≡ Ok tag.now }
+    requires tag { IsTag tag.now }
     requires number { number ≤ 8192 }
+    ensures { result ≡ record { tag = tag.now ++ codes "-" ++ decimal number; device = Selector.Id step.now.device; version = version; flags = no_flags } }
 {
     Request {
         tag: step_tag(tag, number),
@@ -30,8 +31,7 @@ pub fn request_of(tag: &Name, number: u32, step: &PlanStep, version: Version) ->
 
 // The tag of a step: that of the plan, a dash and the step's number.
 fn step_tag(tag: &Name, number: u32) -> Name
-    requires few { length tag.now ≤ 56 }
-    requires read { name_read tag.now ≡ Ok tag.now }
+    requires tag { IsTag tag.now }
     requires number { number ≤ 8192 }
     ensures { result ≡ tag.now ++ codes "-" ++ decimal number }
 {
