@@ -108,11 +108,11 @@ fn next_step(planner: &Planner, at: usize, releases: &[ReleaseRef]) -> Option<Pl
     let view = &planner.state.views()[at];
     let shown = view.version()?;
     for release in releases {
-        let version = release_at(planner.facts, *release)?.version;
-        if !is_above(&version, &shown) {
+        let version = &release_at(planner.facts, *release)?.version;
+        if !is_above(version, &shown) {
             return None;
         }
-        if let Some(step) = good_step(planner, view, *release, &version) {
+        if let Some(step) = good_step(planner, view, *release, version) {
             return Some(step);
         }
     }

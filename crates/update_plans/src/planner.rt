@@ -105,7 +105,7 @@ impl<'a> Planner<'a> {
         ensures client { self.new.client ≡ self.old.client }
         ensures tag { self.new.tag.now ≡ self.old.tag.now }
     {
-        let Some(release) = release_at(self.facts, step.release) else {
+        let Some(release) = release_at(self.facts, step.release).copied() else {
             return Ok(());
         };
         self.state.reserve(EVENTS_MAX)?;
@@ -222,10 +222,10 @@ fn release_of(component: &Component, at: ReleaseRef) -> Option<&Release>
 }
 
 /// The release at a place of the catalogue.
-pub fn release_at(facts: &Facts, at: ReleaseRef) -> Option<Release>
-    ensures { result ≡ option_and_then (λ component. slice_get component.releases at.release) (slice_get facts.now.catalogue at.component) }
+pub fn release_at(facts: &Facts, at: ReleaseRef) -> Option<&Release>
+    ensures { option_copied result ≡ option_and_then (λ component. slice_get component.releases at.release) (slice_get facts.now.catalogue at.component) }
 {
-    release_of(component_of(facts, at)?, at).copied()
+    release_of(component_of(facts, at)?, at)
 }
 
 fn blocks_of(size: u32) -> u32
