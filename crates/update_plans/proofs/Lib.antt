@@ -6,3 +6,4 @@ pub mod Likely
 pub mod Reading
 pub mod Walking
 pub mod Claims
+pub mod Tags

@@ -43,7 +43,7 @@ fn step_tag(tag: &Name, number: u32) -> Name
 }
 
 fn tag_text(tag: &Name, number: u32) -> ArrayVec<u8, 64>
-    requires few { length tag.now ≤ 56 }
+    requires tag { IsTag tag.now }
     requires number { number ≤ 8192 }
     ensures { result.items ≡ tag.now ++ codes "-" ++ decimal number }
 {
