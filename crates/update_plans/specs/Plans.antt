@@ -69,12 +69,13 @@ request_of s number step chosen =
 
 -- ---- what the device shows
 
-abbrev pub is_device : List ℕ → DeviceView → Bool
-is_device device view = bytes_eq view.sheet.device device
+-- The device has that ID.
+abbrev pub has_id : List ℕ → DeviceView → Bool
+has_id device view = bytes_eq view.sheet.device device
 
 -- The device as it stands after a past.
 abbrev pub view_of : Scene → List ℕ → List Event → Option DeviceView
-view_of s device past = find (is_device device) (views s.facts s.opening past)
+view_of s device past = find (has_id device) (views s.facts s.opening past)
 
 abbrev pub seen_of : Scene → List ℕ → List Event → Seen
 seen_of s device past = option_map_or (λ view. view.seen) (view_of s device past) Seen.Gone
