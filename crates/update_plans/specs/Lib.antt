@@ -5,6 +5,7 @@ pub mod Tags
 pub mod Plans
 pub mod Courses
 pub mod Following
+pub mod Choosing
 pub use Rattle.fw_base.specs.Names
 pub use Rattle.version_formats.specs.Formats
 pub use Rattle.version_formats.specs.VersionOrder

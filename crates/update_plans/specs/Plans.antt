@@ -236,9 +236,13 @@ chains s (device ∷ devices) left number past =
     let own = chain s device left number past in
     own ++ chains s devices (left - length own) (number + length own) (after s number own past)
 
+-- The ID of the device at a place.
+abbrev pub device_at : List DeviceView → ℕ → List ℕ
+device_at views at = option_map_or (λ view. view.sheet.device) (slice_get views at) []
+
 -- The devices in the order of the walk.
 abbrev pub visited : List DeviceView → List (List ℕ)
-visited views = map (λ at. option_map_or (λ view. view.sheet.device) (slice_get views at) []) (walk views)
+visited views = map (device_at views) (walk views)
 
 -- The most steps of a plan.
 abbrev pub steps_max : ℕ
