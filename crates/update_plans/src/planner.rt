@@ -1,10 +1,12 @@
 //! A log that goes on by the installs of a plan.
-ghost use Rattle.std.specs.Prelude.{◌≡◌, ◌<◌, ◌≤◌, ◌+◌, ◌-◌, ◌*◌, ◌∷◌, ◌&&◌, true, nat_lt, length, List, option_map, option_and_then, option_copied, slice_get, IfSome, OnOk, Ok};
+ghost use Rattle.std.specs.Prelude.{◌≡◌, ◌<◌, ◌≤◌, ◌+◌, ◌-◌, ◌*◌, ◌∷◌, ◌++◌, [], ◌&&◌, true, nat_lt, length, List, option_map, option_and_then, option_copied, slice_get, IfSome, OnOk, Ok};
 ghost use Rattle.fw_base.specs.Names.{name_read};
 ghost use Rattle.device_list.specs.Lists.{place};
 ghost use Rattle.history_keeper.specs.declared.row.Row.{Row};
 ghost use Rattle.release_catalogue.specs.Lookup.{Chosen};
 ghost use Rattle.update_log.specs.Core.{Stands};
+ghost use Rattle.update_log.specs.CoreAfter.{IsNext};
+ghost use Rattle.update_log.specs.Known.{rows};
 ghost use Rattle.update_log.specs.Holding.{blocks_of};
 ghost use Rattle.update_log.specs.Pasts.{past_of};
 ghost use Rattle.update_log.specs.Shows.{marks};
@@ -194,7 +196,22 @@ impl<'a> Planner<'a> {
         }
     }
 
-    fn append(&mut self, event: Event) {
+    // Puts an event behind the log.
+    fn append(&mut self, event: Event)
+        ghost opening: { List Row }
+        requires stands { Stands self.old.facts.now opening self.old.state }
+        requires next { IsNext self.old.facts.now opening (past_of self.old.state.log) event }
+        requires room { 0 < self.old.state.room }
+        requires row { length (rows self.old.facts.now opening (event ∷ past_of self.old.state.log)) ≤ length self.old.state.rows + self.old.state.row_room }
+        ensures log { self.new.state.log ≡ self.old.state.log ++ event ∷ [] }
+        ensures stands { Stands self.old.facts.now opening self.new.state }
+        ensures room { self.old.state.room ≤ self.new.state.room + 1 }
+        ensures row_room { self.new.state.row_room + length self.new.state.rows ≡ self.old.state.row_room + length self.old.state.rows }
+        ensures facts { self.new.facts.now ≡ self.old.facts.now }
+        ensures client { self.new.client ≡ self.old.client }
+        ensures tag { self.new.tag.now ≡ self.old.tag.now }
+        ensures taken { self.new.taken ≡ self.old.taken }
+    {
         step(self.facts, &mut self.state, event);
     }
 }
