@@ -56,3 +56,4 @@ pub mod ResumeTurns
 pub mod ResumeExits
 pub mod PartsKept
 pub mod Planned
+pub mod NextSo

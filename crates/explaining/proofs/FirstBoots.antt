@@ -133,7 +133,7 @@ boot_next facts log shown listed l b count all =
       refl,
       (
         tt,
-        record { booted = λ h. cc; on = λ h. refl; below = λ h. tt },
+        record { booted = λ h. cc; on = λ h. refl },
         (
           first_plan,
           record {

@@ -39,3 +39,4 @@ pub mod CoreAfter
 pub mod CoreKept
 pub mod CoreTake
 pub mod FirstSteps
+pub mod Unlimited

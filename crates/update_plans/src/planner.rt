@@ -1,0 +1,264 @@
+//! A log that goes on by the installs of a plan.
+ghost use Rattle.std.specs.Prelude.{◌≡◌, ◌<◌, ◌≤◌, ◌+◌, ◌-◌, ◌*◌, ◌∷◌, ◌++◌, [], ◌&&◌, true, nat_lt, length, List, option_map, option_and_then, option_copied, slice_get, IfSome, OnOk, Ok};
+ghost use Rattle.fw_base.specs.Names.{name_read};
+ghost use Rattle.device_list.specs.Lists.{place};
+ghost use Rattle.history_keeper.specs.declared.row.Row.{Row};
+ghost use Rattle.release_catalogue.specs.Lookup.{Chosen};
+ghost use Rattle.update_log.specs.Core.{Stands};
+ghost use Rattle.update_log.specs.CoreAfter.{IsNext};
+ghost use Rattle.update_log.specs.Known.{rows};
+ghost use Rattle.update_log.specs.Holding.{blocks_of};
+ghost use Rattle.update_log.specs.Pasts.{past_of};
+ghost use Rattle.update_log.specs.Shows.{marks};
+ghost use Rattle.update_plans.specs.Following.{IsQuiet};
+ghost use Rattle.update_plans.specs.Plans.{accepts, installed, is_good, scene};
+ghost use Rattle.update_plans.specs.Tags.{IsTag};
+
+use crate::course::{ends_well, is_next, shown_after};
+use crate::plan::PlanStep;
+use crate::raw::is_same;
+use crate::requests::request_of;
+use device_list::Selector;
+use emulated_boards::Mark;
+use fw_base::{Digest, Name, NoMemory};
+use fw_facts::{Component, DeviceFlag, DeviceView, Release, Seen};
+use guid_ids::DeviceId;
+use history_keeper::RowState;
+use release_catalogue::ReleaseRef;
+use update_log::{
+    AskAnswer, ClaimAnswer, CoreState, Decision, Event, Facts, FetchNote, Op, Request, Stage,
+    Stored, Told, closing, next_op, step, verdict,
+};
+use version_formats::render;
+
+/// The most events of an install: an ask, a claim, six steps that begin and end, and a finish.
+const EVENTS_MAX: usize = 15;
+
+/// The most rows of a history.
+const ROWS_MAX: usize = 65_536;
+
+/// A state of its own, over which steps are tried and taken one after the other.
+#[derive(Drop)]
+pub struct Planner<'a> {
+    pub facts: &'a Facts,
+    pub state: CoreState,
+    pub client: u32,
+    pub tag: &'a Name,
+    /// How many steps were taken.
+    pub taken: u32,
+}
+
+impl<'a> Planner<'a> {
+    /// Whether the step is good as the next one.
+    pub fn is_good(&self, step: &PlanStep) -> bool
+        requires tag { IsTag self.now.tag.now }
+        requires few { self.now.taken < 8192 }
+        ensures { (opening : List Row) → Stands self.now.facts.now opening self.now.state
+            → IsQuiet (scene self.now.facts.now opening self.now.client self.now.tag.now) (past_of self.now.state.log)
+            → result ≡ is_good (scene self.now.facts.now opening self.now.client self.now.tag.now) (self.now.taken + 1) step.now (past_of self.now.state.log) }
+    {
+        let Some(component) = component_of(self.facts, step.release) else {
+            return false;
+        };
+        let Some(release) = release_of(component, step.release) else {
+            return false;
+        };
+        let Some(view) = self.view_of(&step.device) else {
+            return false;
+        };
+        is_same(&render(view.sheet.format, step.raw), &release.version)
+            && self.is_accepted(step, release)
+            && ends_well(view, component, &release.version, step.raw)
+    }
+
+    // Whether its request is accepted, at its ask and at its claim, with its very release. A claim finds
+    // what the ask found, and wants place for a row.
+    fn is_accepted(&self, step: &PlanStep, release: &Release) -> bool {
+        let request = self.request(step, release);
+        let decision = verdict(self.facts, &self.state, self.client, &request, Stage::Ask);
+        accepts(decision, step.release) && self.state.rows().len() < ROWS_MAX
+    }
+
+    fn request(&self, step: &PlanStep, release: &Release) -> Request {
+        request_of(self.tag, self.taken + 1, step, release.version)
+    }
+
+    // The device with that ID.
+    fn view_of(&self, device: &DeviceId) -> Option<&DeviceView> {
+        let at = self.state.resolve(&Selector::Id(*device))?;
+        self.state.views().get(at)
+    }
+
+    /// Puts the install of a step, which is good, behind the log.
+    pub fn install(&mut self, step: &PlanStep) -> Result<(), NoMemory>
+        ghost opening: { List Row }
+        requires tag { IsTag self.old.tag.now }
+        requires few { self.old.taken < 8192 }
+        requires stands { Stands self.old.facts.now opening self.old.state }
+        requires quiet { IsQuiet (scene self.old.facts.now opening self.old.client self.old.tag.now) (past_of self.old.state.log) }
+        requires few_events { length self.old.state.log ≤ 200000 + 15 * self.old.taken }
+        requires good { is_good (scene self.old.facts.now opening self.old.client self.old.tag.now) (self.old.taken + 1) step.now (past_of self.old.state.log) ≡ true }
+        ensures past { OnOk result (past_of self.new.state.log ≡ installed (scene self.old.facts.now opening self.old.client self.old.tag.now) (self.old.taken + 1) step.now (past_of self.old.state.log)) }
+        ensures stands { OnOk result (Stands self.old.facts.now opening self.new.state) }
+        ensures quiet { OnOk result (IsQuiet (scene self.old.facts.now opening self.old.client self.old.tag.now) (past_of self.new.state.log)) }
+        ensures taken { OnOk result (self.new.taken ≡ self.old.taken + 1) }
+        ensures few_events { OnOk result (length self.new.state.log ≤ length self.old.state.log + 15) }
+        ensures facts { self.new.facts.now ≡ self.old.facts.now }
+        ensures client { self.new.client ≡ self.old.client }
+        ensures tag { self.new.tag.now ≡ self.old.tag.now }
+    {
+        let Some(release) = release_at(self.facts, step.release).copied() else {
+            return Ok(());
+        };
+        self.state.reserve(EVENTS_MAX)?;
+        let request = self.request(step, &release);
+        let entry = self.state.rows().len() as u32 + 1;
+        self.take(&request, step, &release, entry);
+        self.make(Op::Prepare, step, entry, release.digest);
+        self.make(Op::Detach, step, entry, release.digest);
+        self.make(Op::Write, step, entry, release.digest);
+        self.make(Op::Attach, step, entry, release.digest);
+        self.make(Op::Reload, step, entry, release.digest);
+        self.make(Op::Cleanup, step, entry, release.digest);
+        self.finish(&step.device, entry);
+        self.taken += 1;
+        Ok(())
+    }
+
+    // The ask and the claim.
+    fn take(&mut self, request: &Request, step: &PlanStep, release: &Release, entry: u32) {
+        self.append(Event::Ask {
+            client: self.client,
+            request: *request,
+            pending: None,
+            answer: AskAnswer::Hold {
+                blocks: blocks_of(release.size),
+                release: step.release,
+            },
+        });
+        self.append(Event::Claim {
+            client: self.client,
+            request: *request,
+            fetched: FetchNote::Whole {
+                digest: release.digest,
+                len: release.size,
+                raw: step.raw,
+            },
+            answer: ClaimAnswer::Entry(entry),
+        });
+    }
+
+    // A step of the entry, where it is the next one.
+    fn make(&mut self, op: Op, step: &PlanStep, entry: u32, digest: Digest) {
+        if !is_next(next_op(&self.state.trace(entry)), op) {
+            return;
+        }
+        let client = self.client;
+        let seen = self.shown(op, step);
+        self.append(Event::Start { client, entry, op });
+        self.append(Event::End {
+            client,
+            entry,
+            op,
+            outcome: Ok(()),
+            told: marks(op, entry, digest),
+            seen,
+        });
+    }
+
+    fn shown(&self, op: Op, step: &PlanStep) -> Seen {
+        match self.view_of(&step.device) {
+            Some(view) => shown_after(
+                op,
+                view.sheet.flags.has(DeviceFlag::NeedsReboot),
+                step.raw,
+                view.seen,
+            ),
+            None => Seen::Gone,
+        }
+    }
+
+    fn finish(&mut self, device: &DeviceId, entry: u32) {
+        let state = self.end_of(device, entry);
+        self.append(Event::Finish {
+            client: self.client,
+            entry,
+            state,
+            stored: Stored::Yes,
+        });
+    }
+
+    // In which state the entry ends.
+    fn end_of(&self, device: &DeviceId, entry: u32) -> RowState {
+        match (self.state.row(entry), self.view_of(device)) {
+            (Some(row), Some(view)) => closing(&self.state.trace(entry), row, view),
+            (Some(_), None) | (None, Some(_)) | (None, None) => RowState::Begun,
+        }
+    }
+
+    // Puts an event behind the log.
+    fn append(&mut self, event: Event)
+        ghost opening: { List Row }
+        requires stands { Stands self.old.facts.now opening self.old.state }
+        requires next { IsNext self.old.facts.now opening (past_of self.old.state.log) event }
+        requires room { 0 < self.old.state.room }
+        requires row { length (rows self.old.facts.now opening (event ∷ past_of self.old.state.log)) ≤ length self.old.state.rows + self.old.state.row_room }
+        ensures log { self.new.state.log ≡ self.old.state.log ++ event ∷ [] }
+        ensures stands { Stands self.old.facts.now opening self.new.state }
+        ensures room { self.old.state.room ≤ self.new.state.room + 1 }
+        ensures row_room { self.new.state.row_room + length self.new.state.rows ≡ self.old.state.row_room + length self.old.state.rows }
+        ensures facts { self.new.facts.now ≡ self.old.facts.now }
+        ensures client { self.new.client ≡ self.old.client }
+        ensures tag { self.new.tag.now ≡ self.old.tag.now }
+        ensures taken { self.new.taken ≡ self.old.taken }
+    {
+        step(self.facts, &mut self.state, event);
+    }
+}
+
+fn accepts(decision: Decision, at: ReleaseRef) -> bool
+    ensures { result ≡ accepts at decision }
+{
+    match decision {
+        Decision::Accept { release, .. } => release == at,
+        Decision::Kept { .. } | Decision::Refused(_) => false,
+    }
+}
+
+/// The component of a release, where it is in the catalogue.
+pub fn component_of(facts: &Facts, at: ReleaseRef) -> Option<&Component>
+    ensures { option_copied result ≡ slice_get facts.now.catalogue at.component }
+{
+    facts.catalogue.components().get(at.component as usize)
+}
+
+fn release_of(component: &Component, at: ReleaseRef) -> Option<&Release>
+    ensures { option_copied result ≡ slice_get component.now.releases at.release }
+{
+    component.releases.items().get(at.release as usize)
+}
+
+/// The release at a place of the catalogue.
+pub fn release_at(facts: &Facts, at: ReleaseRef) -> Option<&Release>
+    ensures { option_copied result ≡ option_and_then (λ component. slice_get component.releases at.release) (slice_get facts.now.catalogue at.component) }
+{
+    release_of(component_of(facts, at)?, at)
+}
+
+fn blocks_of(size: u32) -> u32
+    ensures { result ≡ blocks_of size }
+{
+    ((u64::from(size) + 4095) / 4096) as u32
+}
+
+// The marks of a step that goes well.
+fn marks(op: Op, entry: u32, digest: Digest) -> Told
+    ensures { result ≡ marks op entry digest }
+{
+    match op {
+        Op::Detach => Told::one(Mark::Entered),
+        Op::Write => Told::two(Mark::Began { entry }, Mark::Ended { entry, digest }),
+        Op::Attach => Told::one(Mark::Left),
+        Op::Prepare | Op::Reload | Op::Cleanup => Told::none(),
+    }
+}
