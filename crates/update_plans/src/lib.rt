@@ -12,11 +12,14 @@ mod packing;
 pub mod plan;
 mod planner;
 pub mod raw;
-mod requests;
+pub mod releases;
+pub mod requests;
 pub mod tops;
 pub mod walk;
 
 pub use plan::{Plan, PlanStep, PlanStop, STEPS_MAX, TAG_MAX};
 pub use raw::raw_of;
+pub use releases::version_at;
+pub use requests::request_of;
 pub use tops::{check_plan, make_plan};
 pub use walk::order;

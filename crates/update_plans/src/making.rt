@@ -13,8 +13,9 @@ ghost use Rattle.update_plans.specs.Tags.{IsTag};
 
 use crate::course::mode_of;
 use crate::plan::{PlanStep, PlanStop, STEPS_MAX};
-use crate::planner::{Planner, release_at};
+use crate::planner::Planner;
 use crate::raw_of;
+use crate::releases::release_at;
 use crate::walk::order;
 use fw_base::NoMemory;
 use fw_facts::DeviceView;

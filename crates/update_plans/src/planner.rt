@@ -1,5 +1,5 @@
 //! A log that goes on by the installs of a plan.
-ghost use Rattle.std.specs.Prelude.{◌≡◌, ◌<◌, ◌≤◌, ◌+◌, ◌-◌, ◌*◌, ◌∷◌, ◌++◌, [], ◌&&◌, true, nat_lt, length, List, option_map, option_and_then, option_copied, slice_get, IfSome, OnOk, Ok};
+ghost use Rattle.std.specs.Prelude.{◌≡◌, ◌<◌, ◌≤◌, ◌+◌, ◌-◌, ◌*◌, ◌∷◌, ◌++◌, [], ◌&&◌, true, nat_lt, length, List, option_map, IfSome, OnOk, Ok};
 ghost use Rattle.fw_base.specs.Names.{name_read};
 ghost use Rattle.device_list.specs.Lists.{place};
 ghost use Rattle.history_keeper.specs.declared.row.Row.{Row};
@@ -17,11 +17,12 @@ ghost use Rattle.update_plans.specs.Tags.{IsTag};
 use crate::course::{ends_well, is_next, shown_after};
 use crate::plan::PlanStep;
 use crate::raw::is_same;
+use crate::releases::{component_of, release_at, release_of};
 use crate::requests::request_of;
 use device_list::Selector;
 use emulated_boards::Mark;
 use fw_base::{Digest, Name, NoMemory};
-use fw_facts::{Component, DeviceFlag, DeviceView, Release, Seen};
+use fw_facts::{DeviceFlag, DeviceView, Release, Seen};
 use guid_ids::DeviceId;
 use history_keeper::RowState;
 use release_catalogue::ReleaseRef;
@@ -223,26 +224,6 @@ fn accepts(decision: Decision, at: ReleaseRef) -> bool
         Decision::Accept { release, .. } => release == at,
         Decision::Kept { .. } | Decision::Refused(_) => false,
     }
-}
-
-/// The component of a release, where it is in the catalogue.
-pub fn component_of(facts: &Facts, at: ReleaseRef) -> Option<&Component>
-    ensures { option_copied result ≡ slice_get facts.now.catalogue at.component }
-{
-    facts.catalogue.components().get(at.component as usize)
-}
-
-fn release_of(component: &Component, at: ReleaseRef) -> Option<&Release>
-    ensures { option_copied result ≡ slice_get component.now.releases at.release }
-{
-    component.releases.items().get(at.release as usize)
-}
-
-/// The release at a place of the catalogue.
-pub fn release_at(facts: &Facts, at: ReleaseRef) -> Option<&Release>
-    ensures { option_copied result ≡ option_and_then (λ component. slice_get component.releases at.release) (slice_get facts.now.catalogue at.component) }
-{
-    release_of(component_of(facts, at)?, at)
 }
 
 fn blocks_of(size: u32) -> u32

@@ -34,6 +34,7 @@ pub fn make_plan(
     requires quiet { IsQuiet (scene facts.now opening client tag.now) (past_of state.now.log) }
     ensures planned { IfOk result (λ made. made.steps ≡ plan (scene facts.now opening client tag.now) (past_of state.now.log)) }
     ensures tagged { IfOk result (λ made. made.tag ≡ tag.now) }
+    ensures few { IfOk result (λ made. length made.steps ≤ 8192) }
     ensures good { IfOk result (λ made. first_bad (scene facts.now opening client tag.now) 1 made.steps (past_of state.now.log) ≡ None) }
 {
     let mut planner = planner_of(alloc, facts, state, client, tag)?;
