@@ -79,7 +79,7 @@ module _ (shelves : ℕ) (sheets : List PluginSheet) (old new : Option (List ℕ
   stated-same : (came : List ℕ) → Came came old new → WasRead came new → stated came ≡ Ok site
   stated-same came c r = ap stated (came-all came given.bytes old new c given.input_is r.ended) ∙ given.states
 
-  site-same : (came : List ℕ) (other : Site) → Came came old new → WasRead came new → stated came ≡ Ok other → other ≡ site
+  pub site-same : (came : List ℕ) (other : Site) → Came came old new → WasRead came new → stated came ≡ Ok other → other ≡ site
   site-same came other c r s = ok-same (stated came) other site s (stated-same came c r)
 
 -- Plugins that can be arranged have no fault.
@@ -90,7 +90,7 @@ arranged-well sheets (faults.Cycle shown) can (names, inr (order, s)) = can.bett
 arranged-well sheets faults.NoMemory can h = absurd h
 
 -- The rows before a log are a valid history where the keeper came with one.
-valid-opening : (came : Option (List Row)) (opening : List Row) (log : List Event) → MatchOption came (IsHistory opening) IsHistory → IsOpening came opening log → IsHistory opening
+pub valid-opening : (came : Option (List Row)) (opening : List Row) (log : List Event) → MatchOption came (IsHistory opening) IsHistory → IsOpening came opening log → IsHistory opening
 valid-opening None opening log v o = v
 valid-opening (Some all) opening log v (inl e) = subst IsHistory (sym e) v
 valid-opening (Some all) opening log v (inr (e, none)) = subst IsHistory (sym e) (history_front all 0 v)
@@ -100,7 +100,7 @@ too-many asked asked' most shelves e w h = let m : most < asked = h.1 in omega (
 
 module _ {K : Type 0} (told : K → Option (List Row)) (doubted : K → Option Change) (faults : K → ℕ) where
   -- A run that stopped before its campaign had a cause that the input, the shelves or the plugins show.
-  stopped : (Complete : Type 0) (shelves : ℕ) (sheets : List PluginSheet) (keeper : K) (old new : Option (List ℕ)) (site : Site) (stop : OpenStop)
+  pub stopped : (Complete : Type 0) (shelves : ℕ) (sheets : List PluginSheet) (keeper : K) (old new : Option (List ℕ)) (site : Site) (stop : OpenStop)
       → HasStopped (limits.Shelves shelves) sheets stop old new → GivesSite shelves old site → CanBeArranged sheets → RunDone told keeper Complete (stop_status stop)
   stopped Complete shelves sheets keeper old new site stops.SourceFault h given can = tt
   stopped Complete shelves sheets keeper old new site stops.NoMemory h given can = tt

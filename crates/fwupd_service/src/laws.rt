@@ -1,7 +1,8 @@
 //! Laws of what a run of the program comes to.
-ghost use Rattle.fwupd_service.specs.Complete.{MakeCompletes, RunCompletes};
+ghost use Rattle.fwupd_service.specs.Complete.{MakeCompletes, PlanCompletes, RunCompletes, UpdateAccepts, UpdateCompletes};
 
 use history_keeper::Keeper;
+use update_plans::laws::next_is_accepted;
 
 /// Where the input gives a site, the plugins can be arranged and the history held, `run` plays the whole
 /// campaign of that site and writes its report, but for want of memory, a fault of the input or the output, or
@@ -9,6 +10,26 @@ use history_keeper::Keeper;
 pub fn run_completes<K: Keeper>()
     ensures { RunCompletes K.rows K.doubt K.faults }
 {}
+
+/// Where the input gives a site, the plugins can be arranged and the history held, `plan` prints the plan of that
+/// site's first boot, but for want of memory and a fault of the input or the output.
+pub fn plan_completes<K: Keeper>()
+    ensures { PlanCompletes K.rows K.doubt K.faults }
+{}
+
+/// Where the input gives a site, the plugins can be arranged and the history held, `update` plays that plan whole,
+/// and writes its report, but for the causes that keep `run` from its work.
+pub fn update_completes<K: Keeper>()
+    ensures { UpdateCompletes K.rows K.doubt K.faults }
+{}
+
+/// Where the plays of the installs before ended well, and their devices show what was planned, `update` accepts the
+/// next one.
+pub fn update_accepts()
+    ensures { UpdateAccepts }
+{
+    next_is_accepted();
+}
 
 /// Where the plugins can be arranged, `make` plays the whole campaign of the generated site and writes its
 /// summary, but for want of memory or a fault of the output.

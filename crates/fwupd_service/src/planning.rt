@@ -1,6 +1,7 @@
 //! The command `plan`: which installs bring each device of a document as far as it can come.
 ghost use Rattle.std.specs.Prelude.{◌≡◌, ◌⊎◌, ◌≤◌, length, map, None};
 ghost use Rattle.outer_traits.specs.Faults.{Rose};
+ghost use Rattle.client_plays.specs.Has.{shelves_told};
 ghost use Rattle.history_keeper.specs.Histories.{IsHistory};
 ghost use Rattle.site_making.specs.Settled.{vetoes_of};
 ghost use Rattle.campaign_inputs.specs.Begin.{CanBegin};
@@ -34,7 +35,7 @@ pub(crate) fn plan<S: Source, P: Shelf, K: Keeper, T: Sink>(
     requires few_plugins { length plugins.items ≤ 64 }
     requires no_doubt { K.doubt keeper ≡ None }
     requires tag { IsTag tag }
-    ensures ends { PlanEnds K.rows K.doubt K.faults (length shelves.items) (map (λ p. own_sheet p) plugins.items)
+    ensures ends { PlanEnds K.rows K.doubt K.faults (length (shelves_told P.files P.faults shelves.items)) (map (λ p. own_sheet p) plugins.items)
         (λ machine. map (λ p. vetoes_of (own_sheet p) (vetoes_on p machine)) plugins.items) tag result.status keeper
         (record { log = result.log; opening = result.opening; boards = result.boards; keeper = result.keeper })
         (S.left source.old) (S.left source.new) (T.taken out.old) (T.taken out.new) }
@@ -75,11 +76,13 @@ fn plan_campaign<P, K: Keeper, T: Sink>(
 {
     let mut keeper = keeper;
     let Loaded { rows, stop } = load(alloc, &mut keeper);
-    let status = match stop {
-        None => print(alloc, campaign, &rows, &tag, out),
-        Some(stop) => load_status(stop),
-    };
-    Ran::loaded(alloc, status, rows, shelves, keeper)
+    match stop {
+        None => {
+            let status = print(alloc, campaign, &rows, &tag, out);
+            Ran::loaded(alloc, status, rows, shelves, keeper)
+        }
+        Some(stop) => Ran::loaded(alloc, load_status(stop), rows, shelves, keeper),
+    }
 }
 
 /// Prints the plan over those rows, a valid history.

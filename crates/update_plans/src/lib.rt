@@ -6,6 +6,7 @@
 #![tactic(auto)]
 
 mod course;
+pub mod laws;
 mod making;
 mod numbers;
 mod packing;
