@@ -1,6 +1,13 @@
 -- The log of a first boot, and that a plan may be made over it.
-use Rattle.std.proofs.Common.{◌≡◌, ℕ, ◌<◌, ◌≤◌, List, [], ◌∷◌, length, inl, inr, refl, ap, sym, ◌∙◌, subst, arith}
-use Rattle.std.specs.Prelude.{None}
+use Rattle.std.proofs.Common.{◌≡◌, ℕ, ◌<◌, ◌≤◌, List, [], ◌∷◌, length, map, inl, inr, refl, ap, sym, ◌∙◌, subst, arith}
+use Rattle.std.specs.Prelude.{All, None}
+use Rattle.std.proofs.lemmas.List.{length-map}
+use Rattle.std.proofs.lemmas.List.Elements.{All-weaker}
+use Rattle.emulated_boards.specs.Boards.{BoardState}
+use Rattle.campaign_inputs.specs.Begin.{IsAsMade}
+use Rattle.first_boots.specs.FirstBoot.{IsAsMade as IsFresh, IsFirstShown, first_boot, listed_from, shown_by}
+use Rattle.first_boots.proofs.FirstBoots.{boot_next, first_shown}
+use Rattle.update_log.specs.CoreAfter.{IsNext}
 use Rattle.fw_facts.specs.declared.seen.Seen.{Seen}
 use Rattle.history_keeper.specs.declared.row.Row.{Row}
 use Rattle.history_keeper.specs.Histories.{IsHistory}
@@ -23,14 +30,32 @@ few_first [] shown = omega arith
 few_first (boot ∷ boots) shown = omega arith
 
 can_first : (facts : Facts) (rows : List Row) (tag : List ℕ) (boots : List BootPlan) (shown : List Seen) → IsHistory rows
-    → CanBePlanned facts rows tag (first_log boots shown)
-can_first facts rows tag [] shown h = inl refl
-can_first facts rows tag (boot ∷ boots) shown h =
-    inr (record { history = h; booted = omega arith; on = refl; no_hold = refl; none_live = refl; client = λ e. cc })
+    → length shown ≡ length facts.sheets → All IsFirstShown shown → CanBePlanned facts rows tag (first_log boots shown)
+can_first facts rows tag [] shown h count fine = inl refl
+can_first facts rows tag (boot ∷ boots) shown h count fine =
+    let next : IsNext facts rows [] (first_boot boot shown) = boot_next facts rows boot [] shown (listed_from boot 0 shown) refl refl count fine in
+    inr (record {
+      campaign = next.0;
+      facts_are = next.1;
+      legal = next.2;
+      history = h;
+      booted = omega arith;
+      on = refl;
+      no_hold = refl;
+      none_live = refl;
+      client = λ e. cc;
+    })
 
 pub can_be_planned : (facts : Facts) (rows : List Row) (tag : List ℕ) (boots : List BootPlan) (shown : List Seen) (log : List Event)
-    → log ≡ first_log boots shown → IsHistory rows → CanBePlanned facts rows tag (past_of log)
-can_be_planned facts rows tag boots shown log e h = rw (e, past_of_first boots shown) (can_first facts rows tag boots shown h)
+    → log ≡ first_log boots shown → IsHistory rows → length shown ≡ length facts.sheets → All IsFirstShown shown → CanBePlanned facts rows tag (past_of log)
+can_be_planned facts rows tag boots shown log e h count fine = rw (e, past_of_first boots shown) (can_first facts rows tag boots shown h count fine)
+
+-- Boards that are as made show themselves so, and are as many as the sheets.
+pub made_fine : (boards : List BoardState) → All IsAsMade boards → All IsFirstShown (map shown_by boards)
+made_fine boards made = first_shown boards (All-weaker IsAsMade IsFresh (λ b h. (h.image, h.condition)) boards made)
+
+pub as_many : (boards : List BoardState) (n : ℕ) → length boards ≡ n → length (map shown_by boards) ≡ n
+as_many boards n e = length-map boards shown_by ∙ e
 
 pub few_events : (boots : List BootPlan) (shown : List Seen) (log : List Event) → log ≡ first_log boots shown → length log < 200000
 few_events boots shown log e = rw e (few_first boots shown)

@@ -7,3 +7,9 @@ pub mod Reading
 pub mod Walking
 pub mod Claims
 pub mod Tags
+pub mod Released
+pub mod Coursed
+pub mod Targets
+pub mod Shown
+pub mod Installing
+pub mod Installed

@@ -10,7 +10,7 @@ use Rattle.history_keeper.specs.declared.row.RowState.{RowState}
 use Rattle.release_catalogue.specs.Lookup.{Chosen}
 use Rattle.release_catalogue.specs.declared.reference.ReleaseRef.{ReleaseRef}
 use Rattle.update_log.specs.Holding.{holds, live}
-use Rattle.update_log.specs.Legal.{BelowLimit, IsLegal}
+use Rattle.update_log.specs.Legal.{BelowLimit, IsLegal, IsLegalUnlimited}
 use Rattle.update_log.specs.Pasts.{boots, off}
 use Rattle.update_log.specs.Shows.{Campaign}
 use Rattle.update_log.specs.Steps.{in_runtime, mode_of}
@@ -24,9 +24,13 @@ use Rattle.update_log.specs.declared.refusal.FetchNote.{FetchNote}
 use Rattle.update_plans.specs.Plans.{Scene, accepts, first_bad, installed, is_ended, release_at, request_of, view_of}
 use Rattle.update_plans.specs.declared.plan.PlanStep.{PlanStep}
 
--- A plan may be made over the past: the history before it is valid, its boot runs and isn't off, nobody has a
--- hold or a live entry, and the client is none of the daemon's own.
+-- A plan may be made over the past: it is legal in some campaign with these facts, or would be if its boots had no
+-- limit; the history before it is valid, its boot runs and isn't off, nobody has a hold or a live entry, and the
+-- client is none of the daemon's own.
 pub record IsQuiet (s : Scene) (past : List Event) : Type 0 where
+  pub campaign : Campaign
+  pub facts_are : campaign.facts ≡ s.facts
+  pub legal : IsLegalUnlimited campaign s.opening past
   pub history : IsHistory s.opening
   pub booted : 0 < boots past
   pub on : off past ≡ false

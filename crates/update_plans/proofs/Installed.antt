@@ -1,0 +1,270 @@
+-- An install of a good step: each of its events is allowed, it ends as the course of its device does, and a plan may
+-- be made behind it.
+use Rattle.std.proofs.Common.{◌≡◌, ◌≢◌, ℕ, ◌+◌, ◌<◌, ◌≤◌, ◌⊎◌, ◌&&◌, ◌||◌, ◌==◌, Bool, true, false, not, List, [], ◌∷◌, ◌++◌, length, inl, inr, refl, sym, ap, ◌∙◌, subst, arith}
+use Rattle.std.specs.Prelude.{Option, Some, None, Ok, find, option_map, option_and_then, unwrap_or}
+use Rattle.std.specs.Option.{option_map_or}
+use Rattle.std.specs.List.{AllByRecursion, list_any}
+use Rattle.std.proofs.lemmas.Bool.{eqb-true}
+use Rattle.fw_facts.specs.declared.flags.DeviceFlag.{DeviceFlag}
+use Rattle.fw_facts.specs.declared.seen.Mode.{Mode}
+use Rattle.fw_facts.specs.declared.seen.Seen.{Seen}
+use Rattle.fw_facts.specs.declared.view.DeviceView.{DeviceView}
+use Rattle.fw_facts.specs.Flags.{has_flag}
+use Rattle.fw_facts.specs.Views.{is_home, version_of}
+use Rattle.history_keeper.specs.declared.row.Row.{Row}
+use Rattle.history_keeper.specs.declared.row.RowState.{RowState}
+use Rattle.history_keeper.specs.declared.change.Change.{Change}
+use Rattle.release_catalogue.specs.Lookup.{Chosen}
+use Rattle.update_log.specs.declared.answer.AskAnswer.{AskAnswer}
+use Rattle.update_log.specs.declared.answer.ClaimAnswer.{ClaimAnswer}
+use Rattle.update_log.specs.declared.decision.Decision.{Decision}
+use Rattle.update_log.specs.declared.decision.Stage.{Stage}
+use Rattle.update_log.specs.declared.event.Event.{Event}
+use Rattle.update_log.specs.declared.event.Op.{Op}
+use Rattle.update_log.specs.declared.event.Stored.{Stored}
+use Rattle.update_log.specs.declared.facts.BootPlan.{BootPlan}
+use Rattle.update_log.specs.declared.facts.Facts.{Facts}
+use Rattle.update_log.specs.declared.live.Held.{Held}
+use Rattle.update_log.specs.declared.live.LiveEntry.{LiveEntry}
+use Rattle.update_log.specs.declared.live.OpenStep.{OpenStep}
+use Rattle.update_log.specs.declared.refusal.FetchNote.{FetchNote}
+use Rattle.update_log.specs.declared.request.Request.{Request}
+use Rattle.update_log.specs.declared.trace.Trace.{Trace}
+use Rattle.update_log.specs.Boards.{Board}
+use Rattle.update_log.specs.Holding.{blocks_of, hold, holds, live, open_steps, step_open}
+use Rattle.update_log.specs.Known.{Target, known, new_row, row_of, rows, rows_by, seen, target, view_of as view_in, views}
+use Rattle.update_log.specs.Known.Fate as fates
+use Rattle.update_log.specs.Legal.{BootRuns, ClaimAnswered, IsLegalUnlimited, UnchangedExactly, is_fetched, next_entry}
+use Rattle.update_log.specs.Pasts.{boots, off, time_of}
+use Rattle.update_log.specs.Shows.{Campaign}
+use Rattle.update_log.specs.Steps.{all_ops, closing, closing_of, ended_well, first_trace, may_be_next, mode_of, next_op, next_step, trace, view_of_row}
+use Rattle.update_log.specs.Verdicts.{need, verdict}
+use Rattle.update_log.proofs.LegalOnce.{PastKept, past-kept-on}
+use Rattle.update_log.proofs.Lists.{All-find, by_test, eqb-self, find-passes}
+use Rattle.update_log.proofs.Openings.{bytes-same, bytes-self}
+use Rattle.update_log.proofs.RowsKept.{row_of-past}
+use Rattle.update_log.proofs.StepsKept.{OpenKept}
+use Rattle.update_log.proofs.StrokeFacts.{and-true}
+use Rattle.update_log.proofs.TakenKept.{find-push_new}
+use Rattle.update_plans.specs.declared.course.Course.{Course}
+use Rattle.update_plans.specs.declared.plan.PlanStep.{PlanStep}
+use Rattle.update_plans.specs.Courses.{course_step, trace_begun}
+use Rattle.update_plans.specs.Following.{IsQuiet}
+use Rattle.update_plans.specs.Plans.{Scene, accepts, asked, done, end_of, has_id, installed_with, is_ended, is_good_with, release_at, request_of, taken, view_of, with_ops}
+use Rattle.update_plans.proofs.Coursed.{Returns, attached, is-runtime, later-runtime, none_left, reload_ended, returns-detach, returns-first, returns-prepare, returns-write, went-write}
+use Rattle.update_plans.proofs.Installing.{Goes, goes-on}
+use Rattle.update_plans.proofs.Shown.{IsOf, board-of, seen-now, view-now}
+use Rattle.update_plans.proofs.Targets.{Found, found}
+
+some-same : {X : Type 0} {x y : X} → Some x ≡ Some y → x ≡ y
+some-same e = cc
+
+module _ (s : Scene) (number : ℕ) (step : PlanStep) (chosen : Chosen) (past : List Event) (q : IsQuiet s past) (f : Found s number step chosen past) where
+  entry : ℕ
+  entry = next_entry s.facts s.opening past
+
+  -- the campaign with the scene's facts
+  abbrev here : Campaign
+  here = record { facts = s.facts; first = q.campaign.first; plans = q.campaign.plans }
+
+  legal-here : IsLegalUnlimited here s.opening past
+  legal-here = subst (λ (c : Campaign). IsLegalUnlimited c s.opening past) (ap (λ (facts : Facts). record { facts = facts; first = q.campaign.first; plans = q.campaign.plans }) q.facts_are) q.legal
+
+  kept : PastKept s.facts s.opening past
+  kept = past-kept-on here s.opening past q.history legal-here
+
+  asks : Request
+  asks = request_of s number step chosen
+
+  blocks_are : need f.t ≡ blocks_of chosen.release.size
+  blocks_are = ap (λ (c : Chosen). blocks_of c.release.size) f.chosen_is
+
+  release_is : f.t.chosen.at ≡ step.release
+  release_is = ap (λ (c : Chosen). c.at) f.chosen_is ∙ sym f.at_is
+
+  -- ---- the ask
+
+  ask-legal : IsLegalUnlimited here s.opening (asked s number step chosen past)
+  ask-legal = (
+    legal-here,
+    record { booted = λ h. q.booted; on = λ h. q.on },
+    record {
+      free = record { hold = rw q.no_hold refl; live = rw q.none_live refl };
+      pending = tt;
+      answer_is = rw (f.decided_is, release_is, blocks_are) refl;
+    },
+  )
+
+  -- ---- the claim
+
+  held : Held
+  held = record { client = s.client; request = asks; pending = None; blocks = blocks_of chosen.release.size; release = step.release }
+
+  held-is : hold (asked s number step chosen past) s.client ≡ Some held
+  held-is = rw (q.no_hold, eqb-self s.client) refl
+
+  fetched : FetchNote
+  fetched = FetchNote.Whole chosen.release.digest chosen.release.size step.raw
+
+  fetched-is : is_fetched fetched (target s.facts (views s.facts s.opening past) asks) ≡ true
+  fetched-is = rw (f.target_is, f.chosen_is, bytes-self chosen.release.digest, eqb-self chosen.release.size) refl
+
+  claim-answered : (d : Decision) → accepts step.release d ≡ true
+      → ClaimAnswered fetched (target s.facts (views s.facts s.opening past) asks) entry d (ClaimAnswer.Entry entry)
+  claim-answered (Decision.Accept device release blocks) h = rw fetched-is (inl refl)
+  claim-answered (Decision.Kept e state) h = cc
+  claim-answered (Decision.Refused refusal) h = cc
+
+  claim-legal : accepts step.release (verdict s.facts s.opening (asked s number step chosen past) s.client asks (Stage.Claim step.release)) ≡ true
+      → IsLegalUnlimited here s.opening (taken s number step chosen (asked s number step chosen past))
+  claim-legal h = (
+    ask-legal,
+    record { booted = λ h. q.booted; on = λ h. q.on },
+    (
+      held,
+      record {
+        held_is = held-is;
+        request_is = refl;
+        pending = refl;
+        answer_is = claim-answered (verdict s.facts s.opening (asked s number step chosen past) s.client asks (Stage.Claim step.release)) h;
+      },
+    ),
+  )
+
+  -- ---- what the claim makes of the log
+
+  begun : List Event
+  begun = taken s number step chosen (asked s number step chosen past)
+
+  row : Row
+  row = new_row entry (time_of past) s.client asks RowState.Begun f.t
+
+  rows-begun : rows s.facts s.opening begun ≡ rows s.facts s.opening past ++ row ∷ []
+  rows-begun =
+      ap (λ (o : Option Target). rows_by fates.Made (option_map (λ t. Change.Add (new_row entry (time_of past) s.client asks RowState.Begun t)) o) (rows s.facts s.opening past)) f.target_is
+
+  row-begun : row_of (rows s.facts s.opening begun) entry ≡ Some row
+  row-begun =
+      ap (λ (all : List Row). row_of all entry) rows-begun
+      ∙ find-push_new (λ r. r.entry == entry) (rows s.facts s.opening past) row
+      (row_of-past 1 (rows s.facts s.opening past) entry kept.rows_kept.valid.entries (omega arith)) (eqb-self entry)
+
+  live-begun : live begun ≡ record { client = s.client; entry = entry; blocks = blocks_of chosen.release.size } ∷ []
+  live-begun = rw q.none_live refl
+
+  holds-begun : holds begun ≡ []
+  holds-begun = rw (q.no_hold, eqb-self s.client) refl
+
+  trace-begun : trace s.facts s.opening entry begun ≡ Some (trace_begun f.t.view f.t.chosen.component)
+  trace-begun = rw (eqb-self entry, f.target_is) refl
+
+  -- no step of a new entry is open
+  closed-begun : step_open begun entry ≡ None
+  closed-begun = of (find (λ x. x.entry == entry) (open_steps past)) refl
+    where
+      of : (o : Option OpenStep) → find (λ x. x.entry == entry) (open_steps past) ≡ o → o ≡ None
+      of None e = refl
+      of (Some x) e =
+          let open : OpenKept past x = All-find (OpenKept past) (λ x. x.entry == entry) (open_steps past) x kept.steps.open_are e in
+          let same : x.entry ≡ entry = eqb-true x.entry entry (find-passes (λ x. x.entry == entry) (open_steps past) x e) in
+          let fresh = kept.steps.fresh x.entry (omega (arith, same)) in
+          let started = open.started in
+          cc
+
+  -- ---- the steps
+
+  board : (b : Board) × IsOf s step.device b
+  board = board-of s step.device past f.t.view f.view_is
+
+  abbrev b : Board
+  b = board.0
+
+  first : Course
+  first = record { trace = trace_begun f.t.view f.t.chosen.component; seen = f.t.view.seen }
+
+  -- the view that was found is the board's
+  view-is : f.t.view ≡ view_in (live past) (known s.facts s.opening past) b
+  view-is = some-same (sym f.view_is ∙ view-now s step.device b past board.1)
+
+  flags-are : has_flag DeviceFlag.NeedsReboot f.t.view.sheet.flags ≡ has_flag DeviceFlag.NeedsReboot b.sheet.flags
+  flags-are = ap (λ (v : DeviceView). has_flag DeviceFlag.NeedsReboot v.sheet.flags) view-is
+
+  device-is : f.t.view.sheet.device ≡ step.device
+  device-is = bytes-same f.t.view.sheet.device step.device (find-passes (has_id step.device) (views s.facts s.opening past) f.t.view f.view_is)
+
+  home-first : (raw : ℕ) × (mode : Mode) × (f.t.view.seen ≡ Seen.Home raw mode)
+  home-first = of f.t.view.seen refl f.home
+    where
+      of : (x : Seen) → f.t.view.seen ≡ x → is_home f.t.view.seen ≡ true → (raw : ℕ) × (mode : Mode) × (f.t.view.seen ≡ Seen.Home raw mode)
+      of (Seen.Home raw mode) e h = (raw, mode, e)
+      of Seen.Gone e h = let bad : false ≡ true = sym (ap is_home e) ∙ h in cc
+      of Seen.Stranger e h = let bad : false ≡ true = sym (ap is_home e) ∙ h in cc
+
+  abbrev G : List Event → Course → Type 0
+  G = Goes s step chosen q.campaign.first q.campaign.plans entry b board.1 f.t.view flags-are
+
+  goes-first : accepts step.release (verdict s.facts s.opening (asked s number step chosen past) s.client asks (Stage.Claim step.release)) ≡ true → G begun first
+  goes-first h = record {
+    legal = claim-legal h;
+    booted = q.booted;
+    on = q.on;
+    row = row;
+    row_is = row-begun;
+    device_is = device-is;
+    version_is = ap (λ (c : Chosen). c.release.version) f.chosen_is;
+    digest_is = ap (λ (c : Chosen). c.release.digest) f.chosen_is;
+    blocks = blocks_of chosen.release.size;
+    live_is = live-begun;
+    holds_are = holds-begun;
+    closed = closed-begun;
+    trace_is = trace-begun;
+    flags_are = refl;
+    seen_is = sym (ap (λ (v : DeviceView). v.seen) view-is);
+    raw_is = rw (eqb-self entry) refl;
+    raw = home-first.0;
+    mode = home-first.1;
+    home = home-first.2;
+    returns = returns-first first refl;
+  }
+
+  -- the courses behind each step
+  prepared : Course
+  prepared = course_step step.raw first Op.Prepare
+
+  detached : Course
+  detached = course_step step.raw prepared Op.Detach
+
+  written : Course
+  written = course_step step.raw detached Op.Write
+
+  back : Course
+  back = course_step step.raw written Op.Attach
+
+  looked : Course
+  looked = course_step step.raw back Op.Reload
+
+  cleaned : Course
+  cleaned = course_step step.raw looked Op.Cleanup
+
+  goes-whole : accepts step.release (verdict s.facts s.opening (asked s number step chosen past) s.client asks (Stage.Claim step.release)) ≡ true → G (done s number step chosen past) cleaned
+  goes-whole h =
+      let on = goes-on s step chosen q.campaign.first q.campaign.plans entry b board.1 f.t.view flags-are in
+      let g0 : G begun first = goes-first h in
+      let g1 = on begun first Op.Prepare g0 (λ n. tt) (returns-prepare step.raw first g0.raw g0.mode g0.home g0.returns) in
+      let g2 = on _ prepared Op.Detach g1 (λ n. tt) (returns-detach step.raw prepared g1.returns) in
+      let g3 = on _ detached Op.Write g2 (λ n. tt) (returns-write step.raw detached g2.raw g2.mode g2.home g2.returns) in
+      let run4 = attached step.raw written g3.raw g3.mode g3.home (went-write step.raw first refl) g3.returns in
+      let g4 = on _ written Op.Attach g3 (λ n. tt) (inl run4) in
+      let run5 = later-runtime step.raw back Op.Reload g4.raw g4.mode g4.home refl run4 in
+      let g5 = on _ back Op.Reload g4 (λ n. is-runtime (mode_of back.seen) run4) (inl run5) in
+      let run6 = later-runtime step.raw looked Op.Cleanup g5.raw g5.mode g5.home refl run5 in
+      on _ looked Op.Cleanup g5 (λ n. is-runtime (mode_of looked.seen) run5) (inl run6)
+
+  -- ---- the finish
+
+  none-next : (t : Trace) → AllByRecursion (λ o. may_be_next t o ≡ false) all_ops → next_step t ≡ None
+  none-next t none = rw (none.0, none.1.0, none.1.1.0, none.1.1.1.0, none.1.1.1.1.0, none.1.1.1.1.1.0) refl
+
+  -- the state in which it ends, by the course alone
+  ended : RowState
+  ended = closing_of cleaned.trace row (view_in (live (done s number step chosen past)) (known s.facts s.opening (done s number step chosen past)) b)
