@@ -1,5 +1,5 @@
 -- Each legal past of early events, with boards that fit, writes each entry once.
-use Rattle.update_log.proofs.Unlimited.{boot-runs, unlimited}
+use Rattle.update_log.proofs.Unlimited.{unlimited}
 use Rattle.std.proofs.Common.{◌≡◌, ◌≢◌, ℕ, true, false, List, [], ◌∷◌, refl, ap, sym, ◌∙◌, ◌≤◌, arith, ◌⊎◌, inl, inr, length, subst}
 use Rattle.std.proofs.lemmas.Bool.{eqb-true}
 use Rattle.std.specs.Prelude.{Option, Some, None, IfSome, ◌==◌, option_map}
@@ -21,7 +21,7 @@ use Rattle.update_log.proofs.StrokeFacts.{few-writes, writes}
 use Rattle.update_log.proofs.TakenKept.{Taken, TakenKept, WaitingKept, goes_on-grows, row_of-known, taken-at_most, taken-boot, taken-claim, taken-end, taken-none, taken-quiet, taken-resume, taken-schedule, taken-start, untaken-unstarted, waiting-advanced, waiting-boot, waiting-claim, waiting-none, waiting-resume, waiting-same, waiting-schedule}
 use Rattle.update_log.specs.Holding.{live, open_steps}
 use Rattle.update_log.specs.Known.{Fate, board_of, doubt, fate, fate_stored, reason_of, refusal_number, row_of, rows, rows_by, seen}
-use Rattle.update_log.specs.Legal.{Allowed, BootRuns, BootTakes, IsLegal, IsLegalUnlimited, ResumeAllowed, closing_stored}
+use Rattle.update_log.specs.Legal.{Allowed, BootRuns, IsLegal, IsLegalUnlimited, ResumeAllowed, closing_stored}
 use Rattle.update_log.specs.Once.{AtTaking, BoardState, FitsPast, HasDigest, IsTakenOnce, JournalFits, MarkOnce, OncePast, Stroke, TakenBy, WrittenOnce, accepts, entry_named, how_many, is_like, is_pending, strokes, takes}
 use Rattle.update_log.specs.Pasts.{is_keeper_fault, time_of}
 use Rattle.update_log.specs.Shows.{Campaign, digest_of, marks, told, told_by}
@@ -367,9 +367,6 @@ taken-once-on c opening past valid legal =
     }
 
 -- ---- the same of legal pasts
-
-pub past-step : (c : Campaign) (opening : List Row) (past : List Event) (event : Event) → PastKept c.facts opening past → HoldsMade c.facts opening past → BootTakes past event → Allowed c opening past event → PastKept c.facts opening (event ∷ past)
-past-step c opening past event k made t a = past-step-on c opening past event k made (boot-runs past event t) a
 
 pub past-held : (c : Campaign) (opening : List Row) (past : List Event) → IsHistory opening → IsLegal c opening past → PastHeld c.facts opening past
 past-held c opening past valid legal = past-held-on c opening past valid (unlimited c opening past legal)

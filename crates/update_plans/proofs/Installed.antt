@@ -4,6 +4,7 @@ use Rattle.std.proofs.Common.{◌≡◌, ◌≢◌, ℕ, ◌+◌, ◌<◌, ◌�
 use Rattle.std.specs.Prelude.{Option, Some, None, Ok, find, option_map, option_and_then, unwrap_or}
 use Rattle.std.specs.Option.{option_map_or}
 use Rattle.std.specs.List.{AllByRecursion, list_any}
+use Rattle.std.specs.Str.{bytes_eq}
 use Rattle.std.proofs.lemmas.Bool.{eqb-true}
 use Rattle.fw_facts.specs.declared.flags.DeviceFlag.{DeviceFlag}
 use Rattle.fw_facts.specs.declared.seen.Mode.{Mode}
@@ -37,7 +38,7 @@ use Rattle.update_log.specs.Known.Fate as fates
 use Rattle.update_log.specs.Legal.{BootRuns, ClaimAnswered, IsLegalUnlimited, UnchangedExactly, is_fetched, next_entry}
 use Rattle.update_log.specs.Pasts.{boots, off, time_of}
 use Rattle.update_log.specs.Shows.{Campaign}
-use Rattle.update_log.specs.Steps.{all_ops, closing, closing_of, ended_well, first_trace, may_be_next, mode_of, next_op, next_step, trace, view_of_row}
+use Rattle.update_log.specs.Steps.{all_ops, closing, closing_at, closing_of, ended_well, first_trace, may_be_next, mode_of, next_op, next_step, trace, view_of_row}
 use Rattle.update_log.specs.Verdicts.{need, verdict}
 use Rattle.update_log.proofs.LegalOnce.{PastKept, past-kept-on}
 use Rattle.update_log.proofs.Lists.{All-find, by_test, eqb-self, find-passes}
@@ -50,7 +51,7 @@ use Rattle.update_plans.specs.declared.course.Course.{Course}
 use Rattle.update_plans.specs.declared.plan.PlanStep.{PlanStep}
 use Rattle.update_plans.specs.Courses.{course_step, trace_begun}
 use Rattle.update_plans.specs.Following.{IsQuiet}
-use Rattle.update_plans.specs.Plans.{Scene, accepts, asked, done, end_of, has_id, installed_with, is_ended, is_good_with, release_at, request_of, taken, view_of, with_ops}
+use Rattle.update_plans.specs.Plans.{Scene, accepts, asked, done, end_of, has_id, installed_with, is_ended, is_good_with, release_at, request_of, taken, view_of, with_ops, writes}
 use Rattle.update_plans.proofs.Coursed.{Returns, attached, is-runtime, later-runtime, none_left, reload_ended, returns-detach, returns-first, returns-prepare, returns-write, went-write}
 use Rattle.update_plans.proofs.Installing.{Goes, goes-on}
 use Rattle.update_plans.proofs.Shown.{IsOf, board-of, seen-now, view-now}
@@ -165,10 +166,10 @@ module _ (s : Scene) (number : ℕ) (step : PlanStep) (chosen : Chosen) (past : 
       of : (o : Option OpenStep) → find (λ x. x.entry == entry) (open_steps past) ≡ o → o ≡ None
       of None e = refl
       of (Some x) e =
-          let open : OpenKept past x = All-find (OpenKept past) (λ x. x.entry == entry) (open_steps past) x kept.steps.open_are e in
+          let opened : OpenKept past x = All-find (OpenKept past) (λ x. x.entry == entry) (open_steps past) x kept.steps.open_are e in
           let same : x.entry ≡ entry = eqb-true x.entry entry (find-passes (λ x. x.entry == entry) (open_steps past) x e) in
           let fresh = kept.steps.fresh x.entry (omega (arith, same)) in
-          let started = open.started in
+          let started = opened.started in
           cc
 
   -- ---- the steps
@@ -265,6 +266,70 @@ module _ (s : Scene) (number : ℕ) (step : PlanStep) (chosen : Chosen) (past : 
   none-next : (t : Trace) → AllByRecursion (λ o. may_be_next t o ≡ false) all_ops → next_step t ≡ None
   none-next t none = rw (none.0, none.1.0, none.1.1.0, none.1.1.1.0, none.1.1.1.1.0, none.1.1.1.1.1.0) refl
 
-  -- the state in which it ends, by the course alone
-  ended : RowState
-  ended = closing_of cleaned.trace row (view_in (live (done s number step chosen past)) (known s.facts s.opening (done s number step chosen past)) b)
+  -- its board's view, as the log stands before the finish
+  view_done : DeviceView
+  view_done = view_in (live (done s number step chosen past)) (known s.facts s.opening (done s number step chosen past)) b
+
+  closing-is : (g : G (done s number step chosen past) cleaned) → closing s.facts s.opening (done s number step chosen past) entry ≡ Some (closing_of cleaned.trace g.row view_done)
+  closing-is g =
+      ap (option_and_then (λ t. option_and_then (closing_at (views s.facts s.opening (done s number step chosen past)) t) (row_of (rows s.facts s.opening (done s number step chosen past)) entry))) g.trace_is
+      ∙ ap (option_and_then (closing_at (views s.facts s.opening (done s number step chosen past)) cleaned.trace)) g.row_is
+      ∙ ap (option_map (closing_of cleaned.trace g.row)) (view-of-row g)
+    where
+      view-of-row : (g : G (done s number step chosen past) cleaned) → view_of_row (views s.facts s.opening (done s number step chosen past)) g.row ≡ Some view_done
+      view-of-row g =
+          ap (λ (device : List ℕ). find (λ v. bytes_eq v.sheet.device device) (views s.facts s.opening (done s number step chosen past))) g.device_is
+          ∙ view-now s step.device b (done s number step chosen past) board.1
+
+  end-is : (g : G (done s number step chosen past) cleaned) → end_of s number step chosen past ≡ closing_of cleaned.trace g.row view_done
+  end-is g = ap (λ (o : Option RowState). unwrap_or o RowState.Begun) (closing-is g)
+
+  ended-changes : (state : RowState) → is_ended state ≡ true → UnchangedExactly state Stored.Yes
+  ended-changes RowState.Success h = λ e. cc
+  ended-changes RowState.NeedsReboot h = λ e. cc
+  ended-changes RowState.Failed h = cc
+  ended-changes RowState.Begun h = cc
+  ended-changes RowState.Pending h = cc
+
+  finish-legal : G (done s number step chosen past) cleaned → is_ended (end_of s number step chosen past) ≡ true → IsLegalUnlimited here s.opening (installed_with s number step chosen past)
+  finish-legal g h = (
+    g.legal,
+    record { booted = λ e. g.booted; on = λ e. g.on },
+    (
+      record { client = s.client; entry = entry; blocks = g.blocks },
+      end_of s number step chosen past,
+      record {
+        live = rw (g.live_is, eqb-self entry) refl;
+        client_is = refl;
+        open_none = g.closed;
+        done = ap (option_and_then next_step) g.trace_is ∙ none-next cleaned.trace (none_left step.raw first refl);
+        closing = closing-is g ∙ ap (λ (x : RowState). Some x) (sym (end-is g));
+        state_is = refl;
+        unchanged = ended-changes (end_of s number step chosen past) h;
+      },
+    ),
+  )
+
+  -- behind it a plan may be made again
+  quiet-again : G (done s number step chosen past) cleaned → is_ended (end_of s number step chosen past) ≡ true → IsQuiet s (installed_with s number step chosen past)
+  quiet-again g h = record {
+    campaign = here;
+    facts_are = refl;
+    legal = finish-legal g h;
+    history = q.history;
+    booted = g.booted;
+    on = g.on;
+    no_hold = g.holds_are;
+    none_live = rw (g.live_is, eqb-self entry) refl;
+    client = q.client;
+  }
+
+-- So behind the install of a good step a plan may be made again.
+pub installed-quiet : (s : Scene) (number : ℕ) (step : PlanStep) (chosen : Chosen) (past : List Event) → IsQuiet s past → release_at s step.release ≡ Some chosen
+    → is_good_with s number step past chosen ≡ true → IsQuiet s (installed_with s number step chosen past)
+installed-quiet s number step chosen past q there good =
+    let all = and-true (writes s step chosen past) _ good in
+    let accepted = and-true (accepts step.release (verdict s.facts s.opening past s.client (request_of s number step chosen) Stage.Ask)) _ all.1 in
+    let claimed = and-true (accepts step.release (verdict s.facts s.opening (asked s number step chosen past) s.client (request_of s number step chosen) (Stage.Claim step.release))) _ accepted.1 in
+    let f = found s number step chosen past there accepted.0 in
+    quiet-again s number step chosen past q f (goes-whole s number step chosen past q f claimed.0) claimed.1
