@@ -40,3 +40,4 @@ pub mod CoreKept
 pub mod CoreTake
 pub mod FirstSteps
 pub mod Unlimited
+pub mod Copied
