@@ -130,22 +130,22 @@ any-last p [] x h = rw h refl
 any-last p (y ∷ xs) x h = by_test (p y) _ (λ t. rw t refl) (λ f. rw f (any-last p xs x h))
 
 module _ (raw : ℕ) (first : Course) (fresh : first.trace.steps ≡ []) where
-  after-prepare : Course
+  abbrev pub after-prepare : Course
   after-prepare = course_step raw first Op.Prepare
 
-  after-detach : Course
+  abbrev pub after-detach : Course
   after-detach = course_step raw after-prepare Op.Detach
 
-  after-write : Course
+  abbrev pub after-write : Course
   after-write = course_step raw after-detach Op.Write
 
-  after-attach : Course
+  abbrev pub after-attach : Course
   after-attach = course_step raw after-write Op.Attach
 
-  after-reload : Course
+  abbrev pub after-reload : Course
   after-reload = course_step raw after-attach Op.Reload
 
-  after-cleanup : Course
+  abbrev pub after-cleanup : Course
   after-cleanup = course_step raw after-reload Op.Cleanup
 
   went-first : Went [] 0 first

@@ -1,7 +1,7 @@
 -- An install of a good step: each of its events is allowed, it ends as the course of its device does, and a plan may
 -- be made behind it.
 use Rattle.std.proofs.Common.{◌≡◌, ◌≢◌, ℕ, ◌+◌, ◌<◌, ◌≤◌, ◌⊎◌, ◌&&◌, ◌||◌, ◌==◌, Bool, true, false, not, List, [], ◌∷◌, ◌++◌, length, inl, inr, refl, sym, ap, ◌∙◌, subst, arith}
-use Rattle.std.specs.Prelude.{Option, Some, None, Ok, find, option_map, option_and_then, unwrap_or}
+use Rattle.std.specs.Prelude.{Option, Some, None, Ok, find, nat_lt, option_map, option_and_then, unwrap_or, if◌then◌else◌}
 use Rattle.std.specs.Option.{option_map_or}
 use Rattle.std.specs.List.{AllByRecursion, list_any}
 use Rattle.std.specs.Str.{bytes_eq}
@@ -11,7 +11,7 @@ use Rattle.fw_facts.specs.declared.seen.Mode.{Mode}
 use Rattle.fw_facts.specs.declared.seen.Seen.{Seen}
 use Rattle.fw_facts.specs.declared.view.DeviceView.{DeviceView}
 use Rattle.fw_facts.specs.Flags.{has_flag}
-use Rattle.fw_facts.specs.Views.{is_home, version_of}
+use Rattle.fw_facts.specs.Views.{is_home, version_of, version_shown}
 use Rattle.history_keeper.specs.declared.row.Row.{Row}
 use Rattle.history_keeper.specs.declared.row.RowState.{RowState}
 use Rattle.history_keeper.specs.declared.change.Change.{Change}
@@ -38,7 +38,7 @@ use Rattle.update_log.specs.Known.Fate as fates
 use Rattle.update_log.specs.Legal.{BootRuns, ClaimAnswered, IsLegalUnlimited, UnchangedExactly, is_fetched, next_entry}
 use Rattle.update_log.specs.Pasts.{boots, off, time_of}
 use Rattle.update_log.specs.Shows.{Campaign}
-use Rattle.update_log.specs.Steps.{all_ops, closing, closing_at, closing_of, ended_well, first_trace, may_be_next, mode_of, next_op, next_step, trace, view_of_row}
+use Rattle.update_log.specs.Steps.{all_ops, closing, closing_at, closing_of, ended_well, first_trace, may_be_next, judge_shown, mode_of, next_op, next_step, trace, view_of_row, waits_for_boot}
 use Rattle.update_log.specs.Verdicts.{need, verdict}
 use Rattle.update_log.proofs.LegalOnce.{PastKept, past-kept-on}
 use Rattle.update_log.proofs.Lists.{All-find, by_test, eqb-self, find-passes}
@@ -49,10 +49,14 @@ use Rattle.update_log.proofs.StrokeFacts.{and-true}
 use Rattle.update_log.proofs.TakenKept.{find-push_new}
 use Rattle.update_plans.specs.declared.course.Course.{Course}
 use Rattle.update_plans.specs.declared.plan.PlanStep.{PlanStep}
-use Rattle.update_plans.specs.Courses.{course_step, trace_begun}
+use Rattle.update_plans.specs.Courses.{course_step, ends_so, ends_well, shows_version, trace_begun}
 use Rattle.update_plans.specs.Following.{IsQuiet}
 use Rattle.update_plans.specs.Plans.{Scene, accepts, asked, done, end_of, has_id, installed_with, is_ended, is_good_with, release_at, request_of, taken, view_of, with_ops, writes}
-use Rattle.update_plans.proofs.Coursed.{Returns, attached, is-runtime, later-runtime, none_left, reload_ended, returns-detach, returns-first, returns-prepare, returns-write, went-write}
+use Rattle.version_formats.specs.Formats.{render}
+use Rattle.version_formats.specs.VersionOrder.{same_version}
+use Rattle.version_formats.specs.declared.format.Format.{Format}
+use Rattle.update_plans.proofs.Claims.{accepted_twice}
+use Rattle.update_plans.proofs.Coursed.{Returns, attached, course_is, is-runtime, later-runtime, none_left, reload_ended, returns-detach, returns-first, returns-prepare, returns-write, went-write}
 use Rattle.update_plans.proofs.Installing.{Goes, goes-on}
 use Rattle.update_plans.proofs.Shown.{IsOf, board-of, seen-now, view-now}
 use Rattle.update_plans.proofs.Targets.{Found, found}
@@ -61,7 +65,7 @@ some-same : {X : Type 0} {x y : X} → Some x ≡ Some y → x ≡ y
 some-same e = cc
 
 module _ (s : Scene) (number : ℕ) (step : PlanStep) (chosen : Chosen) (past : List Event) (q : IsQuiet s past) (f : Found s number step chosen past) where
-  entry : ℕ
+  abbrev entry : ℕ
   entry = next_entry s.facts s.opening past
 
   -- the campaign with the scene's facts
@@ -74,7 +78,7 @@ module _ (s : Scene) (number : ℕ) (step : PlanStep) (chosen : Chosen) (past : 
   kept : PastKept s.facts s.opening past
   kept = past-kept-on here s.opening past q.history legal-here
 
-  asks : Request
+  abbrev asks : Request
   asks = request_of s number step chosen
 
   blocks_are : need f.t ≡ blocks_of chosen.release.size
@@ -98,13 +102,13 @@ module _ (s : Scene) (number : ℕ) (step : PlanStep) (chosen : Chosen) (past : 
 
   -- ---- the claim
 
-  held : Held
+  abbrev held : Held
   held = record { client = s.client; request = asks; pending = None; blocks = blocks_of chosen.release.size; release = step.release }
 
   held-is : hold (asked s number step chosen past) s.client ≡ Some held
   held-is = rw (q.no_hold, eqb-self s.client) refl
 
-  fetched : FetchNote
+  abbrev fetched : FetchNote
   fetched = FetchNote.Whole chosen.release.digest chosen.release.size step.raw
 
   fetched-is : is_fetched fetched (target s.facts (views s.facts s.opening past) asks) ≡ true
@@ -134,10 +138,10 @@ module _ (s : Scene) (number : ℕ) (step : PlanStep) (chosen : Chosen) (past : 
 
   -- ---- what the claim makes of the log
 
-  begun : List Event
+  abbrev begun : List Event
   begun = taken s number step chosen (asked s number step chosen past)
 
-  row : Row
+  abbrev row : Row
   row = new_row entry (time_of past) s.client asks RowState.Begun f.t
 
   rows-begun : rows s.facts s.opening begun ≡ rows s.facts s.opening past ++ row ∷ []
@@ -180,7 +184,7 @@ module _ (s : Scene) (number : ℕ) (step : PlanStep) (chosen : Chosen) (past : 
   abbrev b : Board
   b = board.0
 
-  first : Course
+  abbrev first : Course
   first = record { trace = trace_begun f.t.view f.t.chosen.component; seen = f.t.view.seen }
 
   -- the view that was found is the board's
@@ -229,22 +233,22 @@ module _ (s : Scene) (number : ℕ) (step : PlanStep) (chosen : Chosen) (past : 
   }
 
   -- the courses behind each step
-  prepared : Course
+  abbrev prepared : Course
   prepared = course_step step.raw first Op.Prepare
 
-  detached : Course
+  abbrev detached : Course
   detached = course_step step.raw prepared Op.Detach
 
-  written : Course
+  abbrev written : Course
   written = course_step step.raw detached Op.Write
 
-  back : Course
+  abbrev back : Course
   back = course_step step.raw written Op.Attach
 
-  looked : Course
+  abbrev looked : Course
   looked = course_step step.raw back Op.Reload
 
-  cleaned : Course
+  abbrev cleaned : Course
   cleaned = course_step step.raw looked Op.Cleanup
 
   goes-whole : accepts step.release (verdict s.facts s.opening (asked s number step chosen past) s.client asks (Stage.Claim step.release)) ≡ true → G (done s number step chosen past) cleaned
@@ -267,7 +271,7 @@ module _ (s : Scene) (number : ℕ) (step : PlanStep) (chosen : Chosen) (past : 
   none-next t none = rw (none.0, none.1.0, none.1.1.0, none.1.1.1.0, none.1.1.1.1.0, none.1.1.1.1.1.0) refl
 
   -- its board's view, as the log stands before the finish
-  view_done : DeviceView
+  abbrev view_done : DeviceView
   view_done = view_in (live (done s number step chosen past)) (known s.facts s.opening (done s number step chosen past)) b
 
   closing-is : (g : G (done s number step chosen past) cleaned) → closing s.facts s.opening (done s number step chosen past) entry ≡ Some (closing_of cleaned.trace g.row view_done)
@@ -283,6 +287,38 @@ module _ (s : Scene) (number : ℕ) (step : PlanStep) (chosen : Chosen) (past : 
 
   end-is : (g : G (done s number step chosen past) cleaned) → end_of s number step chosen past ≡ closing_of cleaned.trace g.row view_done
   end-is g = ap (λ (o : Option RowState). unwrap_or o RowState.Begun) (closing-is g)
+
+  -- whether it ends well is what its device alone says
+  ends-so : (g : G (done s number step chosen past) cleaned) → is_ended (end_of s number step chosen past) ≡ ends_well f.t.view f.t.chosen.component chosen.release.version step.raw
+  ends-so g =
+      ap is_ended (end-is g)
+      ∙ ap is_ended (ap (λ (t : Bool). if t && is_home view_done.seen then (if waits_for_boot cleaned.trace then RowState.NeedsReboot else judge_shown (version_of view_done) g.row) else RowState.Begun) (reload_ended step.raw first refl))
+      ∙ shown
+      ∙ ap (ends_so f.t.view.sheet.format chosen.release.version) (sym (course_is step.raw (trace_begun f.t.view f.t.chosen.component) f.t.view.seen))
+    where
+      seen-done : view_done.seen ≡ Seen.Home g.raw g.mode
+      seen-done = g.seen_is ∙ g.home
+
+      format : b.sheet.format ≡ f.t.view.sheet.format
+      format = sym (ap (λ (v : DeviceView). v.sheet.format) view-is)
+
+      judged : (same : Bool) → is_ended (if same then RowState.Success else RowState.Failed) ≡ same
+      judged true = refl
+      judged false = refl
+
+      at-home : (raw : ℕ) (mode : Mode) (waits : Bool)
+          → is_ended (if waits then RowState.NeedsReboot else judge_shown (version_shown b.sheet (Seen.Home raw mode)) g.row) ≡ (waits || shows_version f.t.view.sheet.format chosen.release.version (Seen.Home raw mode))
+      at-home raw mode true = refl
+      at-home raw mode false =
+          judged (same_version (render b.sheet.format raw) g.row.version_new)
+          ∙ ap (λ (v : List ℕ). same_version (render b.sheet.format raw) v) g.version_is ∙ ap (λ (form : Format). same_version (render form raw) chosen.release.version) format
+
+      shown : is_ended (if true && is_home view_done.seen then (if waits_for_boot cleaned.trace then RowState.NeedsReboot else judge_shown (version_of view_done) g.row) else RowState.Begun)
+          ≡ ends_so f.t.view.sheet.format chosen.release.version cleaned
+      shown =
+          ap (λ (x : Seen). is_ended (if is_home x then (if waits_for_boot cleaned.trace then RowState.NeedsReboot else judge_shown (version_shown b.sheet x) g.row) else RowState.Begun)) seen-done
+          ∙ at-home g.raw g.mode (waits_for_boot cleaned.trace)
+          ∙ sym (ap (λ (x : Seen). is_home x && (waits_for_boot cleaned.trace || shows_version f.t.view.sheet.format chosen.release.version x)) g.home)
 
   ended-changes : (state : RowState) → is_ended state ≡ true → UnchangedExactly state Stored.Yes
   ended-changes RowState.Success h = λ e. cc
@@ -333,3 +369,40 @@ installed-quiet s number step chosen past q there good =
     let claimed = and-true (accepts step.release (verdict s.facts s.opening (asked s number step chosen past) s.client (request_of s number step chosen) (Stage.Claim step.release))) _ accepted.1 in
     let f = found s number step chosen past there accepted.0 in
     quiet-again s number step chosen past q f (goes-whole s number step chosen past q f claimed.0) claimed.1
+
+-- ---- whether a step is good, as the code finds it
+
+-- What is tested one after the other, where the third and the fourth are others' tests.
+tests-same : (w a p c e x : Bool) → (a ≡ true → c ≡ p) → (w ≡ true → a ≡ true → c ≡ true → x ≡ e) → (w && (a && (c && x))) ≡ ((w && (a && p)) && e)
+tests-same false a p c e x third fourth = refl
+tests-same true false p c e x third fourth = refl
+tests-same true true p true e x third fourth = rw (sym (third refl)) (fourth refl refl refl)
+tests-same true true p false e x third fourth = rw (sym (third refl)) refl
+
+-- The version is written, the ask is accepted and the history has place for a row, and its device alone ends well.
+pub good-is : (s : Scene) (number : ℕ) (step : PlanStep) (chosen : Chosen) (past : List Event) (v : DeviceView) → IsQuiet s past → release_at s step.release ≡ Some chosen → view_of s step.device past ≡ Some v
+    → is_good_with s number step past chosen
+    ≡ ((same_version (render v.sheet.format step.raw) chosen.release.version
+    && (accepts step.release (verdict s.facts s.opening past s.client (request_of s number step chosen) Stage.Ask) && nat_lt (length (rows s.facts s.opening past)) 65536))
+    && ends_well v chosen.component chosen.release.version step.raw)
+good-is s number step chosen past v q there here =
+    ap (λ (w : Bool). w && (asks && (claims && is_ended (end_of s number step chosen past)))) written
+    ∙ tests-same (same_version (render v.sheet.format step.raw) chosen.release.version) asks (nat_lt (length (rows s.facts s.opening past)) 65536) claims (ends_well v chosen.component chosen.release.version step.raw)
+    (is_ended (end_of s number step chosen past)) (λ a. accepted_twice s number step chosen past a) (λ w a c. ends a c)
+  where
+    asks : Bool
+    asks = accepts step.release (verdict s.facts s.opening past s.client (request_of s number step chosen) Stage.Ask)
+
+    claims : Bool
+    claims = accepts step.release (verdict s.facts s.opening (asked s number step chosen past) s.client (request_of s number step chosen) (Stage.Claim step.release))
+
+    written : writes s step chosen past ≡ same_version (render v.sheet.format step.raw) chosen.release.version
+    written = ap (λ (o : Option DeviceView). option_map_or (λ view. same_version (render view.sheet.format step.raw) chosen.release.version) o false) here
+
+    ends : asks ≡ true → claims ≡ true → is_ended (end_of s number step chosen past) ≡ ends_well v chosen.component chosen.release.version step.raw
+    ends a c =
+        let f = found s number step chosen past there a in
+        let same : f.t.view ≡ v = some-same (sym f.view_is ∙ here) in
+        ends-so s number step chosen past q f (goes-whole s number step chosen past q f c)
+        ∙ ap (λ (view : DeviceView). ends_well view f.t.chosen.component chosen.release.version step.raw) same
+        ∙ ap (λ (c : Chosen). ends_well v c.component chosen.release.version step.raw) f.chosen_is

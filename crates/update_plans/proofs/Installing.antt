@@ -75,16 +75,13 @@ reboots v = get_or-set_other v.sheet.flags 5 6 _ false (λ e. cc)
 -- ---- what a step shows is allowed
 
 -- the mode that is shown at the end of a step: reload and cleanup leave it, where the board is in runtime mode
-Suits : Op → Mode → Type 0
+abbrev pub Suits : Op → Mode → Type 0
 Suits Op.Prepare mode = Unit {0}
 Suits Op.Detach mode = Unit {0}
 Suits Op.Write mode = Unit {0}
 Suits Op.Attach mode = Unit {0}
 Suits Op.Reload mode = mode ≡ Mode.Runtime
 Suits Op.Cleanup mode = mode ≡ Mode.Runtime
-
-home_of : Seen → ℕ → Mode → Type 0
-home_of seen raw mode = seen ≡ Seen.Home raw mode
 
 has-mode : (s : Seen) (raw : ℕ) (mode : Mode) → s ≡ Seen.Home raw mode → HasMode s mode
 has-mode s raw mode e = subst (λ (x : Seen). HasMode x mode) (sym e) refl
@@ -98,13 +95,13 @@ mode-allowed Op.Attach entry digest before raw mode waits new raw' mode' b s e =
 mode-allowed Op.Reload entry digest before raw mode waits new raw' mode' b s e = has-mode before raw mode' (b ∙ ap (λ (m : Mode). Seen.Home raw m) (s ∙ ap mode_of e))
 mode-allowed Op.Cleanup entry digest before raw mode waits new raw' mode' b s e = has-mode before raw mode' (b ∙ ap (λ (m : Mode). Seen.Home raw m) (s ∙ ap mode_of e))
 
-raw_in : Seen → ℕ
+abbrev raw_in : Seen → ℕ
 raw_in (Seen.Home raw mode) = raw
 raw_in Seen.Gone = 0
 raw_in Seen.Stranger = 0
 
 -- the raw number is that of before, or after a whole write that of the payload
-RawSo : Op → Bool → ℕ → ℕ → ℕ → Type 0
+abbrev RawSo : Op → Bool → ℕ → ℕ → ℕ → Type 0
 RawSo op waits new raw raw' = (raw ≡ raw') ⊎ ((op ≡ Op.Write) × (new ≡ raw'))
 
 raw-so : (op : Op) (waits : Bool) (new raw : ℕ) (mode : Mode) (raw' : ℕ) (mode' : Mode) → board_after op waits new raw mode ≡ Seen.Home raw' mode' → RawSo op waits new raw raw'
@@ -172,7 +169,7 @@ module _ (s : Scene) (step : PlanStep) (chosen : Chosen) (first : List Seen) (pl
   digest-so past course g = ap (λ (o : Option Row). unwrap_or (option_map (λ r. r.digest) o) []) g.row_is ∙ g.digest_is
 
   -- the event that begins the next step, and the past with it
-  starts : Op → List Event → List Event
+  abbrev starts : Op → List Event → List Event
   starts op past = Event.Start s.client entry op ∷ past
 
   start-legal : (past : List Event) (course : Course) (op : Op) → Goes past course → is_next (next_step course.trace) op ≡ true → IsLegalUnlimited c s.opening (starts op past)
@@ -194,7 +191,7 @@ module _ (s : Scene) (step : PlanStep) (chosen : Chosen) (first : List Seen) (pl
   opened past course op g = find-push_new (λ x. x.entry == entry) (open_steps past) (record { client = s.client; entry = entry; op = op }) g.closed (eqb-self entry)
 
   -- the event that ends it, as it goes where nothing fails
-  ended : Op → Course → Event
+  abbrev ended : Op → Course → Event
   ended op course = Event.End s.client entry op (Ok tt) (marks op entry chosen.release.digest) (shows_next step.raw course op)
 
   end-shows : (past : List Event) (course : Course) (op : Op) (board : ℕ) → Goes past course → Suits op (mode_of course.seen) → board ≡ b.number

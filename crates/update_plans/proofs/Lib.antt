@@ -13,3 +13,4 @@ pub mod Targets
 pub mod Shown
 pub mod Installing
 pub mod Installed
+pub mod Planned
