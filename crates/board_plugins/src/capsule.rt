@@ -66,17 +66,14 @@ impl Plugin for Capsule {
 
     ghost vetoes_on = { λ _ _. [] };
 
-    ghost prepare_gives = { λ _ old answer new. Untouched old answer new };
-
-    ghost detach_gives = { λ _ old answer new. Untouched old answer new };
-
-    ghost write_gives = { λ _ entry payload old answer new. BoardStep old (stage entry (payload_image payload)) answer new };
-
-    ghost attach_gives = { λ _ old answer new. Untouched old answer new };
-
-    ghost reload_gives = { λ _ old answer new. BoardStep old look answer new };
-
-    ghost cleanup_gives = { λ _ old answer new. Untouched old answer new };
+    ghost steps = { λ _. record {
+      prepare = λ old answer new. Untouched old answer new;
+      detach = λ old answer new. Untouched old answer new;
+      write = λ entry payload old answer new. BoardStep old (stage entry (payload_image payload)) answer new;
+      attach = λ old answer new. Untouched old answer new;
+      reload = λ old answer new. BoardStep old look answer new;
+      cleanup = λ old answer new. Untouched old answer new;
+    } };
 
     fn sheet(&self) -> &PluginSheet {
         &self.sheet

@@ -14,6 +14,3 @@ pub use capsule::Capsule;
 pub use flash::Flash;
 pub use loader::Loader;
 pub use power::Power;
-
-#[cfg(test)]
-mod tests;

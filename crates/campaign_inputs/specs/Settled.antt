@@ -31,6 +31,13 @@ pub record IsCampaignOf (site : Site) (sheets : List PluginSheet) (vetoes : List
   pub facts_vetoes : AreAt vetoes (running arrangement) campaign.facts.vetoes
   pub boards : map start_of campaign.boards.items ≡ map new_board site.boards
 
+-- Of plugins with these sheets those run that have the sheets `started`: the enabled ones of their arrangement, in
+-- its order.
+pub record AreRunning (sheets started : List PluginSheet) : Type 0 where
+  pub arrangement : Arrangement
+  pub arranged : IsArrangement sheets arrangement
+  pub started_are : AreAt sheets (running arrangement) started
+
 -- Plugins with these sheets can't be arranged, for this reason: a repeated name or a cycle. Want of memory
 -- is no such reason.
 abbrev pub AreAtFault : List PluginSheet → OrderFault → Type 0

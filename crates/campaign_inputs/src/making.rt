@@ -5,7 +5,7 @@ ghost use Rattle.site_making.specs.Made.{made_site};
 ghost use Rattle.site_making.specs.Settled.{vetoes_of};
 ghost use Rattle.campaign_inputs.specs.Begin.{CanBegin};
 ghost use Rattle.campaign_inputs.specs.Limits.{CanBeRun};
-ghost use Rattle.campaign_inputs.specs.Settled.{IsCampaignOf};
+ghost use Rattle.campaign_inputs.specs.Settled.{AreRunning, IsCampaignOf};
 
 use crate::settling::{Ready, settle};
 use fw_base::NoMemory;
@@ -31,6 +31,7 @@ pub fn make_campaign(
     ensures settled { IfOk result (λ ready. IsCampaignOf (made_site boards clients) (map (λ p. own_sheet p) plugins.items)
         (map (λ p. vetoes_of (own_sheet p) (vetoes_on p (made_site boards clients).machine)) plugins.items) ready.campaign) }
     ensures plugins { IfOk result (λ ready. ready.campaign.facts.vetoes ≡ map (λ p. vetoes_of (own_sheet p) (own_vetoes p)) ready.plugins.items) }
+    ensures running { IfOk result (λ ready. AreRunning (map (λ p. own_sheet p) plugins.items) (map (λ p. own_sheet p) ready.plugins.items)) }
     ensures begins { IfOk result (λ ready. CanBegin ready.campaign) }
     ensures can_run { OnOk result (CanBeRun (made_site boards clients)) }
     ensures refused { IfErr result (HasCause (map (λ p. own_sheet p) plugins.items)) }

@@ -5,7 +5,7 @@ ghost use Rattle.site_making.specs.Settled.{vetoes_of};
 ghost use Rattle.campaign_inputs.specs.Begin.{CanBegin};
 ghost use Rattle.campaign_inputs.specs.Limits.{CanBeRun};
 ghost use Rattle.campaign_inputs.specs.Opened.{Allows, HasStopped, IsOpened, IsPassed, StopsWith, asked_for, of_input, of_order};
-ghost use Rattle.campaign_inputs.specs.Settled.{IsCampaignOf};
+ghost use Rattle.campaign_inputs.specs.Settled.{AreRunning, IsCampaignOf};
 
 use crate::input::{InputStop, read_input};
 use crate::settling::{Ready, settle};
@@ -55,6 +55,7 @@ pub fn open_campaign<S: Source>(
         (λ machine. map (λ p. vetoes_of (own_sheet p) (vetoes_on p machine)) plugins.items)
         (S.left source.old) (S.left source.new) ready.campaign) }
     ensures plugins { IfOk result (λ ready. ready.campaign.facts.vetoes ≡ map (λ p. vetoes_of (own_sheet p) (own_vetoes p)) ready.plugins.items) }
+    ensures running { IfOk result (λ ready. AreRunning (map (λ p. own_sheet p) plugins.items) (map (λ p. own_sheet p) ready.plugins.items)) }
     ensures begins { IfOk result (λ ready. CanBegin ready.campaign) }
     ensures stopped { IfErr result (λ stop. HasStopped limit (map (λ p. own_sheet p) plugins.items) stop (S.left source.old) (S.left source.new)) }
     ensures fault { IsErrOf result OpenStop.SourceFault → Rose (S.faults source.old) (S.faults source.new) }
@@ -105,6 +106,7 @@ fn settle_within(
     ensures settled { IfOk result (λ ready. IsCampaignOf site (map (λ p. own_sheet p) plugins.items)
         (map (λ p. vetoes_of (own_sheet p) (vetoes_on p site.machine)) plugins.items) ready.campaign) }
     ensures plugins { IfOk result (λ ready. ready.campaign.facts.vetoes ≡ map (λ p. vetoes_of (own_sheet p) (own_vetoes p)) ready.plugins.items) }
+    ensures running { IfOk result (λ ready. AreRunning (map (λ p. own_sheet p) plugins.items) (map (λ p. own_sheet p) ready.plugins.items)) }
     ensures begins { IfOk result (λ ready. CanBegin ready.campaign) }
     ensures stopped { IfErr result (λ stop. StopsWith limit site (map (λ p. own_sheet p) plugins.items) stop) }
 {

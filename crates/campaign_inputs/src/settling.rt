@@ -4,7 +4,7 @@ ghost use Rattle.plugin_order.specs.Arranged.{HasCause};
 ghost use Rattle.site_types.specs.Limits.{CanBeSettled};
 ghost use Rattle.site_making.specs.Settled.{vetoes_of};
 ghost use Rattle.campaign_inputs.specs.Begin.{CanBegin};
-ghost use Rattle.campaign_inputs.specs.Settled.{IsCampaignOf};
+ghost use Rattle.campaign_inputs.specs.Settled.{AreRunning, IsCampaignOf};
 
 use plugin_order::OrderFault;
 use plugin_starts::{Started, start_plugins};
@@ -30,6 +30,7 @@ pub fn settle(alloc: Global, site: Site, plugins: Vec<Box<dyn Plugin>>) -> Resul
     ensures settled { IfOk result (λ ready. IsCampaignOf site (map (λ p. own_sheet p) plugins.items)
         (map (λ p. vetoes_of (own_sheet p) (vetoes_on p site.machine)) plugins.items) ready.campaign) }
     ensures plugins { IfOk result (λ ready. ready.campaign.facts.vetoes ≡ map (λ p. vetoes_of (own_sheet p) (own_vetoes p)) ready.plugins.items) }
+    ensures running { IfOk result (λ ready. AreRunning (map (λ p. own_sheet p) plugins.items) (map (λ p. own_sheet p) ready.plugins.items)) }
     ensures begins { IfOk result (λ ready. length site.boards ≤ 256 → CanBegin ready.campaign) }
     ensures refused { IfErr result (HasCause (map (λ p. own_sheet p) plugins.items)) }
 {

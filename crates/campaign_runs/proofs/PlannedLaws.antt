@@ -9,7 +9,7 @@ use Rattle.update_log.specs.Pasts.{is_boot}
 use Rattle.client_scripts.specs.declared.item.Item.{Item}
 use Rattle.client_plays.specs.Moments.{Grew}
 use Rattle.client_plays.specs.Scripts.{EarlierPlayed}
-use Rattle.client_plays.specs.Tools.{Files}
+use Rattle.client_plays.specs.Tools.{Means}
 use Rattle.campaign_runs.specs.Planned.{BootsPlanned}
 
 or-parts : (a b : Bool) → (a || b) ≡ false → (a ≡ false) × (b ≡ false)
@@ -40,13 +40,13 @@ planned-more plans (event ∷ more) past b p =
 pub planned-grown : (plans : List BootPlan) (old new : List Event) → Grew old new → BootsPlanned plans old → BootsPlanned plans new
 planned-grown plans old new g p = subst (BootsPlanned plans) (sym g.are) (planned-more plans g.more old g.no_boot p)
 
-earlier-more : (wanting : Bool) (facts : Facts) (opening : List Row) (files : ℕ → Files) (scripts : List (List (List Item))) (more past : List Event) → list_any is_boot more ≡ false → EarlierPlayed wanting facts opening files scripts past → EarlierPlayed wanting facts opening files scripts (more ++ past)
-earlier-more wanting facts opening files scripts [] past b p = p
-earlier-more wanting facts opening files scripts (event ∷ more) past b p =
+earlier-more : (wanting : Bool) (facts : Facts) (opening : List Row) (means : ℕ → Means) (scripts : List (List (List Item))) (more past : List Event) → list_any is_boot more ≡ false → EarlierPlayed wanting facts opening means scripts past → EarlierPlayed wanting facts opening means scripts (more ++ past)
+earlier-more wanting facts opening means scripts [] past b p = p
+earlier-more wanting facts opening means scripts (event ∷ more) past b p =
     let q = or-parts (is_boot event) (list_any is_boot more) b in
-    let rest = earlier-more wanting facts opening files scripts more past q.1 p in
+    let rest = earlier-more wanting facts opening means scripts more past q.1 p in
     (rw q.0 tt, rest)
 
-pub earlier-grown : (wanting : Bool) (facts : Facts) (opening : List Row) (files : ℕ → Files) (scripts : List (List (List Item))) (old new : List Event) → Grew old new → EarlierPlayed wanting facts opening files scripts old → EarlierPlayed wanting facts opening files scripts new
-earlier-grown wanting facts opening files scripts old new g p =
-    subst (EarlierPlayed wanting facts opening files scripts) (sym g.are) (earlier-more wanting facts opening files scripts g.more old g.no_boot p)
+pub earlier-grown : (wanting : Bool) (facts : Facts) (opening : List Row) (means : ℕ → Means) (scripts : List (List (List Item))) (old new : List Event) → Grew old new → EarlierPlayed wanting facts opening means scripts old → EarlierPlayed wanting facts opening means scripts new
+earlier-grown wanting facts opening means scripts old new g p =
+    subst (EarlierPlayed wanting facts opening means scripts) (sym g.are) (earlier-more wanting facts opening means scripts g.more old g.no_boot p)

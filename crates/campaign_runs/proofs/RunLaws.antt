@@ -18,7 +18,7 @@ use Rattle.client_plays.specs.Moments.{Grew, began, mine}
 use Rattle.client_plays.specs.Plays.{Plays, TaskPlays}
 use Rattle.client_plays.specs.Scripts.{BootPlayed, EarlierPlayed, PlayedSo, items_of, scripts_in, tasks}
 use Rattle.client_plays.specs.Endings.{HouseBootPlayed, IsCounted, IsIdle}
-use Rattle.client_plays.specs.Tools.{Files}
+use Rattle.client_plays.specs.Tools.{Means}
 use Rattle.client_plays.proofs.BootLaws.{so-told}
 use Rattle.client_plays.proofs.MomentLaws.{grew-boots}
 use Rattle.client_plays.proofs.RestLaws.{before-same, counted-both}
@@ -30,11 +30,11 @@ use Rattle.campaign_runs.proofs.FaultBoots.{faults-earlier, faults-played}
 use Rattle.campaign_runs.proofs.PlannedLaws.{earlier-grown, planned-grown}
 
 -- What was played stays played where memory is told to be wanting.
-played-told : (before now : Bool) (facts : Facts) (opening : List Row) (files : ℕ → Files) (of_boot : List (List Item)) (past : List Event) → (before ≡ true → now ≡ true) → BootPlayed before facts opening files of_boot past → BootPlayed now facts opening files of_boot past
-played-told before now facts opening files of_boot past h p =
+played-told : (before now : Bool) (facts : Facts) (opening : List Row) (means : ℕ → Means) (of_boot : List (List Item)) (past : List Event) → (before ≡ true → now ≡ true) → BootPlayed before facts opening means of_boot past → BootPlayed now facts opening means of_boot past
+played-told before now facts opening means of_boot past h p =
     record {
-      daemon = so-told (off past) before now 0 (TaskPlays facts (files 0)) (tasks facts opening (began past)) (mine 0 past) h p.daemon;
-      clients = λ client c. so-told (off past) before now client (Plays facts opening (files client) client) (items_of of_boot client) (mine client past) h (p.clients client c);
+      daemon = so-told (off past) before now 0 (TaskPlays facts opening (means 0)) (tasks facts opening (began past)) (mine 0 past) h p.daemon;
+      clients = λ client c. so-told (off past) before now client (Plays facts opening (means client) client) (items_of of_boot client) (mine client past) h (p.clients client c);
       order = p.order;
       idle = p.idle;
     }
@@ -43,41 +43,41 @@ by_test : (b : Bool) (G : Type 0) → (b ≡ true → G) → (b ≡ false → G)
 by_test true G f g = f refl
 by_test false G f g = g refl
 
-earlier-told : (before now : Bool) (facts : Facts) (opening : List Row) (files : ℕ → Files) (scripts : List (List (List Item))) (past : List Event) → (before ≡ true → now ≡ true) → EarlierPlayed before facts opening files scripts past → EarlierPlayed now facts opening files scripts past
-earlier-told before now facts opening files scripts [] h p = tt
-earlier-told before now facts opening files scripts (event ∷ past) h p = (
+earlier-told : (before now : Bool) (facts : Facts) (opening : List Row) (means : ℕ → Means) (scripts : List (List (List Item))) (past : List Event) → (before ≡ true → now ≡ true) → EarlierPlayed before facts opening means scripts past → EarlierPlayed now facts opening means scripts past
+earlier-told before now facts opening means scripts [] h p = tt
+earlier-told before now facts opening means scripts (event ∷ past) h p = (
   by_test (is_boot event) _
-      (λ t. rw t (played-told before now facts opening files (scripts_in scripts (boots past)) past h (rw t at p.0)))
+      (λ t. rw t (played-told before now facts opening means (scripts_in scripts (boots past)) past h (rw t at p.0)))
       (λ f. rw f tt),
-  earlier-told before now facts opening files scripts past h p.1,
+  earlier-told before now facts opening means scripts past h p.1,
 )
 
 -- The boots before one that just began.
-earlier-begun : {K : Type 0} (told : K → Option (List Row)) (faults : K → ℕ) (wanting : Bool) (files : ℕ → Files) (plan : BootPlan) (scripts : List (List (List Item))) (count : ℕ) (mid begun : Housed K) → HasBegun told faults plan mid begun → boots (past mid) ≡ count → BootPlayed wanting mid.annals.facts (rows_before mid.annals) files (scripts_in scripts count) (past mid) → EarlierPlayed wanting mid.annals.facts (rows_before mid.annals) files scripts (past mid) → EarlierPlayed wanting mid.annals.facts (rows_before begun.annals) files scripts (past begun)
-earlier-begun told faults wanting files plan scripts count mid begun b n p e =
+earlier-begun : {K : Type 0} (told : K → Option (List Row)) (faults : K → ℕ) (wanting : Bool) (means : ℕ → Means) (plan : BootPlan) (scripts : List (List (List Item))) (count : ℕ) (mid begun : Housed K) → HasBegun told faults plan mid begun → boots (past mid) ≡ count → BootPlayed wanting mid.annals.facts (rows_before mid.annals) means (scripts_in scripts count) (past mid) → EarlierPlayed wanting mid.annals.facts (rows_before mid.annals) means scripts (past mid) → EarlierPlayed wanting mid.annals.facts (rows_before begun.annals) means scripts (past begun)
+earlier-begun told faults wanting means plan scripts count mid begun b n p e =
     let facts = mid.annals.facts in
-    let P = λ (o : List Row). BootPlayed wanting facts o files (scripts_in scripts (boots (past mid))) (past mid) × EarlierPlayed wanting facts o files scripts (past mid) in
+    let P = λ (o : List Row). BootPlayed wanting facts o means (scripts_in scripts (boots (past mid))) (past mid) × EarlierPlayed wanting facts o means scripts (past mid) in
     let both : P (rows_before begun.annals) =
     elim b.before [
-      | inl same ↦ subst P (sym same) (subst (λ (k : ℕ). BootPlayed wanting facts (rows_before mid.annals) files (scripts_in scripts k) (past mid)) (sym n) p, e)
-      | inr a ↦ (faults-played wanting facts (rows_before begun.annals) files scripts (past mid) a, faults-earlier wanting facts (rows_before begun.annals) files scripts (past mid) a)
+      | inl same ↦ subst P (sym same) (subst (λ (k : ℕ). BootPlayed wanting facts (rows_before mid.annals) means (scripts_in scripts k) (past mid)) (sym n) p, e)
+      | inr a ↦ (faults-played wanting facts (rows_before begun.annals) means scripts (past mid) a, faults-earlier wanting facts (rows_before begun.annals) means scripts (past mid) a)
     ]
     in
-    subst (EarlierPlayed wanting facts (rows_before begun.annals) files scripts) (sym b.past_is) both
+    subst (EarlierPlayed wanting facts (rows_before begun.annals) means scripts) (sym b.past_is) both
 
 -- One boot more was started and played.
-pub run-more : {K : Type 0} (told : K → Option (List Row)) (faults : K → ℕ) (before now : Bool) (files : ℕ → Files) (plans : List BootPlan) (scripts : List (List (List Item))) (count : ℕ) (plan : BootPlan) (old mid begun new : Housed K) → slice_get plans count ≡ Some plan → RanSoFar told faults before files plans scripts count old mid → HasBegun told faults plan mid begun → BootMore faults now before files (scripts_in scripts (count + 1)) begun new → (begun.annals.loaded ≡ false → new ≡ begun) → RanSoFar told faults now files plans scripts (count + 1) old new
-run-more told faults before now files plans scripts count plan old mid begun new at r b m unread =
+pub run-more : {K : Type 0} (told : K → Option (List Row)) (faults : K → ℕ) (before now : Bool) (means : ℕ → Means) (plans : List BootPlan) (scripts : List (List (List Item))) (count : ℕ) (plan : BootPlan) (old mid begun new : Housed K) → slice_get plans count ≡ Some plan → RanSoFar told faults before means plans scripts count old mid → HasBegun told faults plan mid begun → BootMore faults now before means (scripts_in scripts (count + 1)) begun new → (begun.annals.loaded ≡ false → new ≡ begun) → RanSoFar told faults now means plans scripts (count + 1) old new
+run-more told faults before now means plans scripts count plan old mid begun new at r b m unread =
     let g = m.played.grew in
     let facts : new.annals.facts ≡ mid.annals.facts = m.played.rest.same.facts ∙ b.facts in
     let rows : rows_before new.annals ≡ rows_before begun.annals = before-same begun.annals new.annals m.played.rest.same in
     let n : boots (past begun) ≡ count + 1 = ap boots b.past_is ∙ ap (λ (k : ℕ). k + 1) r.count_is in
     let planned : BootsPlanned plans (past begun) =
     subst (BootsPlanned plans) (sym b.past_is) ((plan, subst (λ (k : ℕ). slice_get plans k ≡ Some plan) (sym r.count_is) at, b.planned), r.planned) in
-    let earlier = earlier-begun told faults before files plan scripts count mid begun b r.count_is (midfacts r.played) r.earlier in
-    let grown = earlier-grown before mid.annals.facts (rows_before begun.annals) files scripts (past begun) (past new) g earlier in
-    let E = λ (f : Facts) (o : List Row). EarlierPlayed now f o files scripts (past new) in
-    let B = λ (f : Facts) (o : List Row). BootPlayed now f o files (scripts_in scripts (count + 1)) (past new) in
+    let earlier = earlier-begun told faults before means plan scripts count mid begun b r.count_is (midfacts r.played) r.earlier in
+    let grown = earlier-grown before mid.annals.facts (rows_before begun.annals) means scripts (past begun) (past new) g earlier in
+    let E = λ (f : Facts) (o : List Row). EarlierPlayed now f o means scripts (past new) in
+    let B = λ (f : Facts) (o : List Row). BootPlayed now f o means (scripts_in scripts (count + 1)) (past new) in
     record {
       facts = facts ∙ r.facts;
       first = m.played.rest.same.first ∙ b.first ∙ r.first;
@@ -85,7 +85,7 @@ run-more told faults before now files plans scripts count plan old mid begun new
       planned = planned-grown plans (past begun) (past new) g planned;
       played = subst (λ (f : Facts). B f (rows_before new.annals)) (sym m.played.rest.same.facts) (subst (λ (o : List Row). B begun.annals.facts o) (sym rows) m.played.played);
       earlier = subst (λ (f : Facts). E f (rows_before new.annals)) (sym facts) (subst (λ (o : List Row). E mid.annals.facts o) (sym rows)
-          (earlier-told before now mid.annals.facts (rows_before begun.annals) files scripts (past new) m.told grown));
+          (earlier-told before now mid.annals.facts (rows_before begun.annals) means scripts (past new) m.told grown));
       idle = m.played.rest.idle;
       counted = counted-both faults old mid new r.counted (counted-both faults mid begun new b.counted m.played.rest.counted m.played.rest.counts) (le-both _ _ _ b.counts m.played.rest.counts);
       counts = le-both _ _ _ r.counts (le-both _ _ _ b.counts m.played.rest.counts);
@@ -94,17 +94,17 @@ run-more told faults before now files plans scripts count plan old mid begun new
           (λ u. ap (λ (h : Housed _). told h.keeper) (unread u)) m.played.rest.same.opening (b.opening (told old.keeper) r.opening);
     }
   where
-    midfacts : BootPlayed before mid.annals.facts (rows_before mid.annals) files (scripts_in scripts count) (past mid) → BootPlayed before mid.annals.facts (rows_before mid.annals) files (scripts_in scripts count) (past mid)
+    midfacts : BootPlayed before mid.annals.facts (rows_before mid.annals) means (scripts_in scripts count) (past mid) → BootPlayed before mid.annals.facts (rows_before mid.annals) means (scripts_in scripts count) (past mid)
     midfacts p = p
 
     le-both : (a b c : ℕ) → a ≤ b → b ≤ c → a ≤ c
     le-both a b c x y = omega arith
 
 -- No boot was begun.
-pub run-stopped : {K : Type 0} (told : K → Option (List Row)) (faults : K → ℕ) (wanting : Bool) (files : ℕ → Files) (plans : List BootPlan) (scripts : List (List (List Item))) (count : ℕ) (old mid new : Housed K) → RanSoFar told faults wanting files plans scripts count old mid → NoneBegan told faults mid new → RanSoFar told faults wanting files plans scripts count old new
-run-stopped told faults wanting files plans scripts count old mid new r n =
-    let B = λ (f : Facts) (o : List Row) (p : List Event). BootPlayed wanting f o files (scripts_in scripts count) p in
-    let E = λ (f : Facts) (o : List Row) (p : List Event). EarlierPlayed wanting f o files scripts p in
+pub run-stopped : {K : Type 0} (told : K → Option (List Row)) (faults : K → ℕ) (wanting : Bool) (means : ℕ → Means) (plans : List BootPlan) (scripts : List (List (List Item))) (count : ℕ) (old mid new : Housed K) → RanSoFar told faults wanting means plans scripts count old mid → NoneBegan told faults mid new → RanSoFar told faults wanting means plans scripts count old new
+run-stopped told faults wanting means plans scripts count old mid new r n =
+    let B = λ (f : Facts) (o : List Row) (p : List Event). BootPlayed wanting f o means (scripts_in scripts count) p in
+    let E = λ (f : Facts) (o : List Row) (p : List Event). EarlierPlayed wanting f o means scripts p in
     record {
       facts = n.facts ∙ r.facts;
       first = n.first ∙ r.first;
@@ -122,15 +122,15 @@ run-stopped told faults wanting files plans scripts count old mid new r n =
     }
 
 -- Nothing was run yet.
-pub run-none : {K : Type 0} (told : K → Option (List Row)) (faults : K → ℕ) (wanting : Bool) (files : ℕ → Files) (plans : List BootPlan) (scripts : List (List (List Item))) (h : Housed K) → past h ≡ [] → h.annals.loaded ≡ false → h.annals.opening ≡ [] → RanSoFar told faults wanting files plans scripts 0 h h
-run-none told faults wanting files plans scripts h e unread blank =
+pub run-none : {K : Type 0} (told : K → Option (List Row)) (faults : K → ℕ) (wanting : Bool) (means : ℕ → Means) (plans : List BootPlan) (scripts : List (List (List Item))) (h : Housed K) → past h ≡ [] → h.annals.loaded ≡ false → h.annals.opening ≡ [] → RanSoFar told faults wanting means plans scripts 0 h h
+run-none told faults wanting means plans scripts h e unread blank =
     record {
       facts = refl;
       first = refl;
       count_is = ap boots e;
       planned = subst (BootsPlanned plans) (sym e) tt;
-      played = subst (λ (p : List Event). BootPlayed wanting h.annals.facts (rows_before h.annals) files (scripts_in scripts 0) p) (sym e) (faults-played wanting h.annals.facts (rows_before h.annals) files scripts [] tt);
-      earlier = subst (EarlierPlayed wanting h.annals.facts (rows_before h.annals) files scripts) (sym e) tt;
+      played = subst (λ (p : List Event). BootPlayed wanting h.annals.facts (rows_before h.annals) means (scripts_in scripts 0) p) (sym e) (faults-played wanting h.annals.facts (rows_before h.annals) means scripts [] tt);
+      earlier = subst (EarlierPlayed wanting h.annals.facts (rows_before h.annals) means scripts) (sym e) tt;
       idle = subst IsIdle (sym e) (record { no_hold = refl; no_live = refl });
       counted = inl (omega arith);
       counts = omega arith;
@@ -149,8 +149,8 @@ faulted-more (event ∷ more) past b =
 pub grew-faulted : (old new : List Event) → Grew old new → last_faulted new ≡ last_faulted old
 grew-faulted old new g = ap last_faulted g.are ∙ faulted-more g.more old g.no_boot
 
-pub run-read : {K : Type 0} (told : K → Option (List Row)) (faults : K → ℕ) (now before : Bool) (files : ℕ → Files) (of_boot : List (List Item)) (plan : BootPlan) (mid begun new : Housed K) → HasBegun told faults plan mid begun → BootMore faults now before files of_boot begun new → ReadLast new
-run-read told faults now before files of_boot plan mid begun new b m f =
+pub run-read : {K : Type 0} (told : K → Option (List Row)) (faults : K → ℕ) (now before : Bool) (means : ℕ → Means) (of_boot : List (List Item)) (plan : BootPlan) (mid begun new : Housed K) → HasBegun told faults plan mid begun → BootMore faults now before means of_boot begun new → ReadLast new
+run-read told faults now before means of_boot plan mid begun new b m f =
     m.played.rest.same.reopened ∙ b.read (sym (grew-faulted (past begun) (past new) m.played.grew) ∙ f)
 
 -- Memory was wanting now, or before.
@@ -162,32 +162,32 @@ or-other : (a b : Bool) → b ≡ true → (a || b) ≡ true
 or-other true b e = refl
 or-other false b e = e
 
-pub boot-either : {K : Type 0} (faults : K → ℕ) (told before now : Bool) (files : ℕ → Files) (of_boot : List (List Item)) (old new : Housed K) → told ≡ (before || now) → HouseBootPlayed faults now files of_boot old new → BootMore faults told before files of_boot old new
-boot-either faults told before now files of_boot old new e h =
+pub boot-either : {K : Type 0} (faults : K → ℕ) (told before now : Bool) (means : ℕ → Means) (of_boot : List (List Item)) (old new : Housed K) → told ≡ (before || now) → HouseBootPlayed faults now means of_boot old new → BootMore faults told before means of_boot old new
+boot-either faults told before now means of_boot old new e h =
     record {
       played = record {
-        played = played-told now told old.annals.facts (rows_before old.annals) files of_boot (past new) (λ n. e ∙ or-other before now n) h.played;
+        played = played-told now told old.annals.facts (rows_before old.annals) means of_boot (past new) (λ n. e ∙ or-other before now n) h.played;
         grew = h.grew;
         rest = h.rest;
       };
       told = λ b. e ∙ or-first before now b;
     }
 
--- The shelves have the same files in each boot.
-boot-files : (wanting : Bool) (facts : Facts) (opening : List Row) (now files : ℕ → Files) (of_boot : List (List Item)) (past : List Event) → ((client : ℕ) → now client ≡ files client) → BootPlayed wanting facts opening now of_boot past → BootPlayed wanting facts opening files of_boot past
-boot-files wanting facts opening now files of_boot past e p =
+-- Each client has the same means in each boot.
+boot-means : (wanting : Bool) (facts : Facts) (opening : List Row) (now means : ℕ → Means) (of_boot : List (List Item)) (past : List Event) → ((client : ℕ) → now client ≡ means client) → BootPlayed wanting facts opening now of_boot past → BootPlayed wanting facts opening means of_boot past
+boot-means wanting facts opening now means of_boot past e p =
     record {
-      daemon = subst (λ (f : Files). PlayedSo (off past) wanting 0 (TaskPlays facts f) (tasks facts opening (began past)) (mine 0 past)) (e 0) p.daemon;
-      clients = λ client c. subst (λ (f : Files). PlayedSo (off past) wanting client (Plays facts opening f client) (items_of of_boot client) (mine client past)) (e client) (p.clients client c);
+      daemon = subst (λ (f : Means). PlayedSo (off past) wanting 0 (TaskPlays facts opening f) (tasks facts opening (began past)) (mine 0 past)) (e 0) p.daemon;
+      clients = λ client c. subst (λ (f : Means). PlayedSo (off past) wanting client (Plays facts opening f client) (items_of of_boot client) (mine client past)) (e client) (p.clients client c);
       order = p.order;
       idle = p.idle;
     }
 
-pub same-files : {K : Type 0} (faults : K → ℕ) (wanting before : Bool) (now files : ℕ → Files) (of_boot : List (List Item)) (old new : Housed K) → ((client : ℕ) → now client ≡ files client) → BootMore faults wanting before now of_boot old new → BootMore faults wanting before files of_boot old new
-same-files faults wanting before now files of_boot old new e m =
+pub same-means : {K : Type 0} (faults : K → ℕ) (wanting before : Bool) (now means : ℕ → Means) (of_boot : List (List Item)) (old new : Housed K) → ((client : ℕ) → now client ≡ means client) → BootMore faults wanting before now of_boot old new → BootMore faults wanting before means of_boot old new
+same-means faults wanting before now means of_boot old new e m =
     record {
       played = record {
-        played = boot-files wanting old.annals.facts (rows_before old.annals) now files of_boot (past new) e m.played.played;
+        played = boot-means wanting old.annals.facts (rows_before old.annals) now means of_boot (past new) e m.played.played;
         grew = m.played.grew;
         rest = m.played.rest;
       };
@@ -217,9 +217,9 @@ stopped-so told Ending.Whole plans count mid new lt s = absurd s
 stopped-so told (Ending.BadHistory entry) plans count mid new lt s = (lt, (mid, s.0, s.1))
 stopped-so told Ending.NoMemory plans count mid new lt s = lt
 
-pub ran-stopped : {K : Type 0} (told : K → Option (List Row)) (faults : K → ℕ) (ending : Ending) (wanting : Bool) (files : ℕ → Files) (plans : List BootPlan) (scripts : List (List (List Item))) (count : ℕ) (old mid new : Housed K) → count < length plans → RanSoFar told faults wanting files plans scripts count old mid → NoneBegan told faults mid new → StoppedBy told ending mid new → CampaignRan told faults ending wanting files plans scripts old new
-ran-stopped told faults ending wanting files plans scripts count old mid new lt r n s =
-    record { count = count; ran = run-stopped told faults wanting files plans scripts count old mid new r n; ended = stopped-so told ending plans count mid new lt s }
+pub ran-stopped : {K : Type 0} (told : K → Option (List Row)) (faults : K → ℕ) (ending : Ending) (wanting : Bool) (means : ℕ → Means) (plans : List BootPlan) (scripts : List (List (List Item))) (count : ℕ) (old mid new : Housed K) → count < length plans → RanSoFar told faults wanting means plans scripts count old mid → NoneBegan told faults mid new → StoppedBy told ending mid new → CampaignRan told faults ending wanting means plans scripts old new
+ran-stopped told faults ending wanting means plans scripts count old mid new lt r n s =
+    record { count = count; ran = run-stopped told faults wanting means plans scripts count old mid new r n; ended = stopped-so told ending plans count mid new lt s }
 
 -- The plan of a boot.
 pub plan-at : (plans : List BootPlan) (n : ℕ) (plan : BootPlan) → plan ≡ get_or plans n plan → n < length plans → slice_get plans n ≡ Some plan

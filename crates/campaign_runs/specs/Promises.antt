@@ -8,7 +8,7 @@ use Rattle.update_log.specs.Pasts.{boots, past_of}
 use Rattle.update_log.specs.Shows.{Campaign}
 use Rattle.client_scripts.specs.declared.item.Item.{Item}
 use Rattle.client_plays.specs.Scripts.{Script}
-use Rattle.client_plays.specs.Tools.{Files}
+use Rattle.client_plays.specs.Tools.{Means}
 
 -- Of every campaign, however it ended: each event is allowed by the log before it, so the boots are those
 -- of the plans, in order; the boards fit the log; and each was written once for each accepted request.
@@ -18,11 +18,11 @@ pub record IsTrueLog (c : Campaign) (opening : List Row) (log : List Event) (boa
   pub once : Once c opening log boards
 
 -- So many boots were run, and in each the daemon did its tasks and each client played its script.
--- `wanting` says that memory was wanting, and so something was left; `files` has the files of each client's shelf.
-pub record PlayedBoots (wanting : Bool) (c : Campaign) (opening : List Row) (files : ℕ → Files) (scripts : List (List (List Item))) (count : ℕ) (log : List Event) : Type 0 where
+-- `wanting` says that memory was wanting, and so something was left; `means` has those of each client.
+pub record PlayedBoots (wanting : Bool) (c : Campaign) (opening : List Row) (means : ℕ → Means) (scripts : List (List (List Item))) (count : ℕ) (log : List Event) : Type 0 where
   pub boots_are : boots (past_of log) ≡ count
-  pub played : Script wanting c.facts opening files scripts log
+  pub played : Script wanting c.facts opening means scripts log
 
 -- All boots were.
-abbrev pub PlayedWhole : Bool → Campaign → List Row → (ℕ → Files) → List (List (List Item)) → List Event → Type 0
-PlayedWhole wanting c opening files scripts log = PlayedBoots wanting c opening files scripts (length c.plans) log
+abbrev pub PlayedWhole : Bool → Campaign → List Row → (ℕ → Means) → List (List (List Item)) → List Event → Type 0
+PlayedWhole wanting c opening means scripts log = PlayedBoots wanting c opening means scripts (length c.plans) log

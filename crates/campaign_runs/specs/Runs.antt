@@ -18,7 +18,7 @@ use Rattle.daemon_core.specs.Planned.{KeepsPlans}
 use Rattle.client_scripts.specs.declared.item.Item.{Item}
 use Rattle.client_plays.specs.Endings.{HouseBootPlayed, IsIdle}
 use Rattle.client_plays.specs.Scripts.{BootPlayed, EarlierPlayed, scripts_in}
-use Rattle.client_plays.specs.Tools.{Files}
+use Rattle.client_plays.specs.Tools.{Means}
 use Rattle.campaign_runs.specs.declared.ending.Ending.{Ending}
 use Rattle.campaign_runs.specs.Planned.{BootsPlanned, IsPlanned}
 
@@ -37,13 +37,13 @@ ReadLast h = last_faulted (past h) ≡ false → h.annals.reopened ≡ false
 -- So many boots of a campaign were run: each by its plan, in order, and played. Nobody has anything out,
 -- each fault of the keeper that the log tells was counted, and each board at home has the faults planned that
 -- its number had.
-pub record RanSoFar {K : Type 0} (told : K → Option (List Row)) (faults : K → ℕ) (wanting : Bool) (files : ℕ → Files) (plans : List BootPlan) (scripts : List (List (List Item))) (count : ℕ) (old new : Housed K) : Type 0 where
+pub record RanSoFar {K : Type 0} (told : K → Option (List Row)) (faults : K → ℕ) (wanting : Bool) (means : ℕ → Means) (plans : List BootPlan) (scripts : List (List (List Item))) (count : ℕ) (old new : Housed K) : Type 0 where
   pub facts : new.annals.facts ≡ old.annals.facts
   pub first : new.annals.first ≡ old.annals.first
   pub count_is : boots (past new) ≡ count
   pub planned : BootsPlanned plans (past new)
-  pub played : BootPlayed wanting new.annals.facts (rows_before new.annals) files (scripts_in scripts count) (past new)
-  pub earlier : EarlierPlayed wanting new.annals.facts (rows_before new.annals) files scripts (past new)
+  pub played : BootPlayed wanting new.annals.facts (rows_before new.annals) means (scripts_in scripts count) (past new)
+  pub earlier : EarlierPlayed wanting new.annals.facts (rows_before new.annals) means scripts (past new)
   pub idle : IsIdle (past new)
   pub counted : FaultsCounted faults old new
   pub counts : faults old.keeper ≤ faults new.keeper
@@ -59,9 +59,9 @@ EndedSo told (Ending.BadHistory entry) plans count new = (count < length plans) 
 EndedSo told Ending.NoMemory plans count new = count < length plans
 
 -- The boots of a campaign were run, as far as it went.
-pub record CampaignRan {K : Type 0} (told : K → Option (List Row)) (faults : K → ℕ) (ending : Ending) (wanting : Bool) (files : ℕ → Files) (plans : List BootPlan) (scripts : List (List (List Item))) (old new : Housed K) : Type 0 where
+pub record CampaignRan {K : Type 0} (told : K → Option (List Row)) (faults : K → ℕ) (ending : Ending) (wanting : Bool) (means : ℕ → Means) (plans : List BootPlan) (scripts : List (List (List Item))) (old new : Housed K) : Type 0 where
   pub count : ℕ
-  pub ran : RanSoFar told faults wanting files plans scripts count old new
+  pub ran : RanSoFar told faults wanting means plans scripts count old new
   pub ended : EndedSo told ending plans count new
 
 -- A boot began by its plan: it stands behind the log, and nothing was done in it yet. The rows before the
@@ -111,6 +111,6 @@ StartedSo told faults None plan old new = HasBegun told faults plan old new
 StartedSo told faults (Some ending) plan old new = NoneBegan told faults old new × StoppedBy told ending old new
 
 -- A boot was played, after others; `before` says that memory was wanting before.
-pub record BootMore {K : Type 0} (faults : K → ℕ) (wanting before : Bool) (files : ℕ → Files) (of_boot : List (List Item)) (old new : Housed K) : Type 0 where
-  pub played : HouseBootPlayed faults wanting files of_boot old new
+pub record BootMore {K : Type 0} (faults : K → ℕ) (wanting before : Bool) (means : ℕ → Means) (of_boot : List (List Item)) (old new : Housed K) : Type 0 where
+  pub played : HouseBootPlayed faults wanting means of_boot old new
   pub told : before ≡ true → wanting ≡ true

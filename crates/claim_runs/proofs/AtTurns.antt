@@ -33,7 +33,7 @@ use Rattle.shared_daemon.specs.Others.{IsOwn}
 use Rattle.shared_daemon.specs.Steps.{EndsOwn, GoesHome, MayFinish, MayStart}
 use Rattle.shared_daemon.proofs.Stayed.{marks-met}
 use Rattle.claim_runs.specs.Known.{HomeSeen, RunsFor, RunsSeen, StepToEnd}
-use Rattle.claim_runs.specs.Ran.{Finishes, Gained, IsOver, back_event}
+use Rattle.claim_runs.specs.Ran.{Gained, IsOver, WasFinished, back_event}
 use Rattle.claim_runs.proofs.Freed.{HasOnly, back-frees, finish-frees, only-so}
 use Rattle.claim_runs.proofs.Kept.{goes-home, home-off, home-stay, off-seen, off-stay, past-added, runs-stay}
 use Rattle.claim_runs.proofs.Logs.{gained-event}
@@ -197,7 +197,7 @@ module _ {did : List Entry → List Entry → Type 0} (name : Name) (lock : Lock
       }
 
   -- The entry was finished.
-  pub finished : (parts : Parts) (f : Finished) → RunsFor name entry None old parts → AddsOn old.number (Event.Finish old.number entry f.state f.stored) t.met new.seen → Finishes entry f old new
+  pub finished : (parts : Parts) (f : Finished) → RunsFor name entry None old parts → AddsOn old.number (Event.Finish old.number entry f.state f.stored) t.met new.seen → WasFinished entry f old new
   finished parts f r a =
       let n : ℕ = old.number in
       let event : Event = Event.Finish n entry f.state f.stored in
@@ -205,7 +205,6 @@ module _ {did : List Entry → List Entry → Type 0} (name : Name) (lock : Lock
       let only : HasOnly (past_seen t.met) n entry = only-home name n entry parts.board parts.payload.count t.met t.meets.log met in
       let free : IsFree (past_seen new.seen) n = subst (λ (w : List Event). IsFree w n) (sym (past-added n event t.met new.seen a.1)) (finish-frees (past_seen t.met) n entry f.state f.stored only) in
       record {
-        steps = [];
         gained = gained-event {did = did} name event old new same t a.1;
         free_is = subst (λ (i : ℕ). IsFree (past_seen new.seen) i) (sym same) free;
       }

@@ -1,15 +1,21 @@
 -- What parts of a run put among the own entries of a pass, one behind the other.
 use Rattle.std.proofs.Common.{◌≡◌, ℕ, Bool, true, false, List, [], ◌∷◌, ◌++◌, map, refl, ap, sym, ◌∙◌, subst, append_assoc, inl, inr}
 use Rattle.std.proofs.lemmas.List.{append-nil}
-use Rattle.std.specs.Prelude.{Some, None, OnErr, OnOk, Result, Ok, Err, ⊤}
-use Rattle.fw_facts.specs.declared.seen.Seen.{Seen}
+use Rattle.std.specs.Prelude.{Some, None, IfOk, OnErr, OnOk, Result, Ok, Err, ⊤}
+use Rattle.block_pool.specs.Views.{SealedBytes}
+use Rattle.emulated_boards.specs.Boards.{BoardState}
+use Rattle.emulated_boards.specs.Conditions.{view_of}
 use Rattle.emulated_boards.specs.declared.fault.BoardFault.{BoardFault}
 use Rattle.emulated_boards.specs.declared.mark.Mark.{Mark}
+use Rattle.plugin_trait.specs.Steps.{PluginSteps}
 use Rattle.update_log.specs.declared.event.Event.{Event}
 use Rattle.update_log.specs.declared.event.Op.{Op}
 use Rattle.daemon_core.specs.declared.finished.Finished.{Finished}
 use Rattle.plain_runs.specs.declared.outcome.Outcome.{Outcome}
-use Rattle.plain_runs.specs.Ran.{StepMade, cut_events, start_events, step_events}
+use Rattle.device_claims.specs.Claims.{StepGives}
+use Rattle.device_claims.specs.declared.claim.Parts.{Parts}
+use Rattle.plain_runs.specs.Ran.{AreMade, IsBegun, StepMade, cut_events, start_events, step_events}
+use Rattle.plain_runs.proofs.Logs.{are-made_on}
 use Rattle.turn_lock.specs.Shown.{PassView}
 use Rattle.shared_daemon.specs.declared.entry.Entry.{Entry}
 use Rattle.shared_daemon.specs.Calls.{Adds, FoundOff, Took}
@@ -17,7 +23,7 @@ use Rattle.shared_daemon.specs.Entries.{entry_of}
 use Rattle.shared_daemon.specs.Names.{Name}
 use Rattle.shared_daemon.proofs.Gains.{took-event, took-none}
 use Rattle.shared_daemon.proofs.Logs.{begins-trans}
-use Rattle.claim_runs.specs.Ran.{CameBack, Finishes, Gained, GaveBack, IsOver, MadeSteps, Ran, back_event}
+use Rattle.claim_runs.specs.Ran.{CameBack, Closes, Finishes, Gained, GaveBack, IsOver, MadeSteps, Ran, WasFinished, back_event}
 
 map-join : (n : ℕ) (xs ys : List Event) → map (entry_of n) (xs ++ ys) ≡ map (entry_of n) xs ++ map (entry_of n) ys
 map-join n [] ys = refl
@@ -76,70 +82,102 @@ came-back entry a b c (cut, g) h o =
       over = o;
     }
 
--- Steps behind steps.
-pub made-none : (entry : ℕ) (a : PassView Entry) → MadeSteps entry a a
-made-none entry a = ([], gained-none a)
+-- ---- what the plugin made
 
-pub made-on : (entry : ℕ) (a b c : PassView Entry) → MadeSteps entry a b → MadeSteps entry b c → MadeSteps entry a c
-made-on entry a b c (xs, g) (ys, h) =
-    let h' : Gained (step_events a.number entry ys) b c = subst (λ (n : ℕ). Gained (step_events n entry ys) b c) g.same h in (
-      xs ++ ys,
-      gained-as (step_events a.number entry xs ++ step_events a.number entry ys) (step_events a.number entry (xs ++ ys)) a c (sym (steps-append a.number entry xs ys))
-          (gained-on (step_events a.number entry xs) (step_events a.number entry ys) a b c g h'),
-    )
+module _ (by : PluginSteps) (entry : ℕ) where
+  -- A claim that is handed on as it is.
+  made-none : (parts : Parts) (a : PassView Entry) → MadeSteps by entry parts parts a a
+  made-none parts a = record { steps = []; gained = gained-none a; payload = refl; made = refl }
 
--- A step that was started and ended.
-pub made-one : (entry : ℕ) (op : Op) (outcome : Result ⊤ BoardFault) (told : List Mark) (seen : Seen) (a b c : PassView Entry) → Gained (Event.Start a.number entry op ∷ []) a b → Gained (Event.End b.number entry op outcome told seen ∷ []) b c → MadeSteps entry a c
-made-one entry op outcome told seen a b c g h = (
-  record { op = op; outcome = outcome; told = told; seen = seen } ∷ [],
-  gained-on (Event.Start a.number entry op ∷ []) (Event.End a.number entry op outcome told seen ∷ []) a b c g
-      (subst (λ (n : ℕ). Gained (Event.End n entry op outcome told seen ∷ []) b c) g.same h),
-)
+  pub made-here : (was is : Parts) (a : PassView Entry) → is ≡ was → MadeSteps by entry was is a a
+  made-here was is a e = subst (λ (p : Parts). MadeSteps by entry was p a a) (sym e) (made-none was a)
 
--- The giving back, behind nothing, behind a start, and behind steps.
-pub back-none : (entry : ℕ) (a b : PassView Entry) → CameBack entry a b → GaveBack entry a b
-back-none entry a b k = record { steps = []; started = None; cut = k.cut; gained = k.gained; over = k.over }
+  pub made-on : (p q r : Parts) (a b c : PassView Entry) → MadeSteps by entry p q a b → MadeSteps by entry q r b c → MadeSteps by entry p r a c
+  made-on p q r a b c g h =
+      let n : ℕ = a.number in
+      let rest : Gained (step_events n entry h.steps) b c = subst (λ (i : ℕ). Gained (step_events i entry h.steps) b c) g.gained.same h.gained in
+      record {
+        steps = g.steps ++ h.steps;
+        gained = gained-as (step_events n entry g.steps ++ step_events n entry h.steps) (step_events n entry (g.steps ++ h.steps)) a c (sym (steps-append n entry g.steps h.steps))
+            (gained-on (step_events n entry g.steps) (step_events n entry h.steps) a b c g.gained rest);
+        payload = h.payload ∙ g.payload;
+        made = are-made_on by entry p.payload g.steps h.steps p.board q.board r.board g.made
+            (subst (λ (x : SealedBytes). AreMade by entry x q.board h.steps r.board) g.payload h.made);
+      }
 
-pub back-started : (entry : ℕ) (op : Op) (a b c : PassView Entry) → Gained (Event.Start a.number entry op ∷ []) a b → CameBack entry b c → GaveBack entry a c
-back-started entry op a b c g k =
-    record {
-      steps = [];
-      started = Some op;
-      cut = k.cut;
-      gained = gained-on (Event.Start a.number entry op ∷ []) (cut_events k.cut ++ back_event a.number entry ∷ []) a b c g
-          (subst (λ (n : ℕ). Gained (cut_events k.cut ++ back_event n entry ∷ []) b c) g.same k.gained);
-      over = k.over;
-    }
+  -- A step that was started and ended.
+  made-one : (op : Op) (outcome : Result ⊤ BoardFault) (told : List Mark) (was is : Parts) (a b c : PassView Entry) → StepGives by op entry was.payload was.board outcome is.board → is.payload ≡ was.payload
+      → Gained (Event.Start a.number entry op ∷ []) a b → Gained (Event.End b.number entry op outcome told (view_of is.board.condition) ∷ []) b c → MadeSteps by entry was is a c
+  made-one op outcome told was is a b c m p g h =
+      record {
+        steps = record { op = op; outcome = outcome; told = told; seen = view_of is.board.condition } ∷ [];
+        gained = gained-on (Event.Start a.number entry op ∷ []) (Event.End a.number entry op outcome told (view_of is.board.condition) ∷ []) a b c g
+            (subst (λ (n : ℕ). Gained (Event.End n entry op outcome told (view_of is.board.condition) ∷ []) b c) g.same h);
+        payload = p;
+        made = (is.board, m, refl, refl);
+      }
 
-pub back-on : (entry : ℕ) (a b c : PassView Entry) → MadeSteps entry a b → GaveBack entry b c → GaveBack entry a c
-back-on entry a b c (xs, g) k =
-    let n : ℕ = a.number in
-    let tail : List Event = start_events n entry k.started ++ (cut_events k.cut ++ back_event n entry ∷ []) in
-    let rest : Gained (step_events n entry k.steps ++ tail) b c =
-    subst (λ (i : ℕ). Gained (step_events i entry k.steps ++ (start_events i entry k.started ++ (cut_events k.cut ++ back_event i entry ∷ []))) b c) g.same k.gained in
-    record {
-      steps = xs ++ k.steps;
-      started = k.started;
-      cut = k.cut;
-      gained = gained-as (step_events n entry xs ++ (step_events n entry k.steps ++ tail)) (step_events n entry (xs ++ k.steps) ++ tail) a c
-          (sym (append_assoc (step_events n entry xs) (step_events n entry k.steps) tail) ∙ ap (λ (l : List Event). l ++ tail) (sym (steps-append n entry xs k.steps)))
-          (gained-on (step_events n entry xs) (step_events n entry k.steps ++ tail) a b c g rest);
-      over = k.over;
-    }
+  -- The giving back, behind nothing, behind a start, and behind steps.
+  pub back-none : (was : Parts) (a b : PassView Entry) → CameBack entry a b → GaveBack by entry was a b
+  back-none was a b k =
+      record { steps = []; started = None; cut = k.cut; gained = k.gained; over = k.over; last = was.board; made = refl; begun = tt }
 
-pub finished-on : (entry : ℕ) (finished : Finished) (a b c : PassView Entry) → MadeSteps entry a b → Finishes entry finished b c → Finishes entry finished a c
-finished-on entry finished a b c (xs, g) k =
-    let n : ℕ = a.number in
-    let tail : List Event = Event.Finish n entry finished.state finished.stored ∷ [] in
-    let rest : Gained (step_events n entry k.steps ++ tail) b c =
-    subst (λ (i : ℕ). Gained (step_events i entry k.steps ++ Event.Finish i entry finished.state finished.stored ∷ []) b c) g.same k.gained in
-    record {
-      steps = xs ++ k.steps;
-      gained = gained-as (step_events n entry xs ++ (step_events n entry k.steps ++ tail)) (step_events n entry (xs ++ k.steps) ++ tail) a c
-          (sym (append_assoc (step_events n entry xs) (step_events n entry k.steps) tail) ∙ ap (λ (l : List Event). l ++ tail) (sym (steps-append n entry xs k.steps)))
-          (gained-on (step_events n entry xs) (step_events n entry k.steps ++ tail) a b c g rest);
-      free_is = k.free_is;
-    }
+  back-started : (op : Op) (was : Parts) (answer : Result ⊤ BoardFault) (is : BoardState) (a b c : PassView Entry) → StepGives by op entry was.payload was.board answer is
+      → Gained (Event.Start a.number entry op ∷ []) a b → CameBack entry b c → GaveBack by entry was a c
+  back-started op was answer is a b c m g k =
+      record {
+        steps = [];
+        started = Some op;
+        cut = k.cut;
+        gained = gained-on (Event.Start a.number entry op ∷ []) (cut_events k.cut ++ back_event a.number entry ∷ []) a b c g
+            (subst (λ (n : ℕ). Gained (cut_events k.cut ++ back_event n entry ∷ []) b c) g.same k.gained);
+        over = k.over;
+        last = was.board;
+        made = refl;
+        begun = (answer, is, m);
+      }
+
+  pub back-on : (p q : Parts) (a b c : PassView Entry) → MadeSteps by entry p q a b → GaveBack by entry q b c → GaveBack by entry p a c
+  back-on p q a b c g k =
+      let n : ℕ = a.number in
+      let tail : List Event = start_events n entry k.started ++ (cut_events k.cut ++ back_event n entry ∷ []) in
+      let rest : Gained (step_events n entry k.steps ++ tail) b c =
+      subst (λ (i : ℕ). Gained (step_events i entry k.steps ++ (start_events i entry k.started ++ (cut_events k.cut ++ back_event i entry ∷ []))) b c) g.gained.same k.gained in
+      record {
+        steps = g.steps ++ k.steps;
+        started = k.started;
+        cut = k.cut;
+        gained = gained-as (step_events n entry g.steps ++ (step_events n entry k.steps ++ tail)) (step_events n entry (g.steps ++ k.steps) ++ tail) a c
+            (sym (append_assoc (step_events n entry g.steps) (step_events n entry k.steps) tail) ∙ ap (λ (l : List Event). l ++ tail) (sym (steps-append n entry g.steps k.steps)))
+            (gained-on (step_events n entry g.steps) (step_events n entry k.steps ++ tail) a b c g.gained rest);
+        over = k.over;
+        last = k.last;
+        made = are-made_on by entry p.payload g.steps k.steps p.board q.board k.last g.made
+            (subst (λ (x : SealedBytes). AreMade by entry x q.board k.steps k.last) g.payload k.made);
+        begun = subst (λ (x : SealedBytes). IsBegun by entry x k.last k.started) g.payload k.begun;
+      }
+
+  finished-on : (finished : Finished) (p q : Parts) (a b c : PassView Entry) → MadeSteps by entry p q a b → WasFinished entry finished b c → Finishes by entry p finished a c
+  finished-on finished p q a b c g k =
+      let n : ℕ = a.number in
+      record {
+        steps = g.steps;
+        gained = gained-on (step_events n entry g.steps) (Event.Finish n entry finished.state finished.stored ∷ []) a b c g.gained
+            (subst (λ (i : ℕ). Gained (Event.Finish i entry finished.state finished.stored ∷ []) b c) g.gained.same k.gained);
+        free_is = k.free_is;
+        last = q.board;
+        made = g.made;
+      }
+
+  -- A finish, or a giving back, behind steps.
+  pub ran-after : (o : Outcome) (p q : Parts) (a b c : PassView Entry) → MadeSteps by entry p q a b → Closes entry o b c → Ran by entry p o a c
+  ran-after (Outcome.Finished finished) p q a b c g h = finished-on finished p q a b c g h
+  ran-after Outcome.Off p q a b c g h = back-on p q a b c g (back-none q b c h)
+
+-- The run, by the plugin at a place, of what was taken.
+pub ran-at : (by at : PluginSteps) (entry : ℕ) (o : Outcome) (was taken : Parts) (a b : PassView Entry) → at ≡ by → was ≡ taken → Ran by entry was o a b → Ran at entry taken o a b
+ran-at by at entry o was taken a b e w r =
+    subst (λ (s : PluginSteps). Ran s entry taken o a b) (sym e) (subst (λ (p : Parts). Ran by entry p o a b) w r)
 
 -- ---- what the end of a step answered
 
@@ -147,26 +185,23 @@ pub on-err : {T E : Type 0} (r : Result T E) (P : Type 0) → P → OnErr r P
 on-err (Ok x) P p = tt
 on-err (Err e) P p = p
 
-pub made-end : {T E : Type 0} (r : Result T E) (entry : ℕ) (op : Op) (outcome : Result ⊤ BoardFault) (seen : Seen) (a b c : PassView Entry) → Gained (Event.Start a.number entry op ∷ []) a b
-    → OnOk r ((told : List Mark) × Gained (Event.End b.number entry op outcome told seen ∷ []) b c) → OnOk r (MadeSteps entry a c)
-made-end (Ok x) entry op outcome seen a b c g (told, h) = made-one entry op outcome told seen a b c g h
-made-end (Err e) entry op outcome seen a b c g h = tt
+module _ {E : Type 0} (by : PluginSteps) (entry : ℕ) where
+  pub made-end : (r : Result Parts E) (op : Op) (outcome : Result ⊤ BoardFault) (was is : Parts) (a b c : PassView Entry) → StepGives by op entry was.payload was.board outcome is.board → is.payload ≡ was.payload → Gained (Event.Start a.number entry op ∷ []) a b
+      → IfOk r (λ next. next ≡ is) → OnOk r ((told : List Mark) × Gained (Event.End b.number entry op outcome told (view_of is.board.condition) ∷ []) b c) → IfOk r (λ next. MadeSteps by entry was next a c)
+  made-end (Ok next) op outcome was is a b c m p g e h =
+      subst (λ (n : Parts). MadeSteps by entry was n a c) (sym e) (made-one by entry op outcome h.0 was is a b c m p g h.1)
+  made-end (Err x) op outcome was is a b c m p g e h = tt
 
-pub gone-end : {T E : Type 0} (r : Result T E) (entry : ℕ) (op : Op) (a b c : PassView Entry) → Gained (Event.Start a.number entry op ∷ []) a b → OnErr r (CameBack entry b c) → OnErr r (GaveBack entry a c)
-gone-end (Ok x) entry op a b c g h = tt
-gone-end (Err e) entry op a b c g h = back-started entry op a b c g h
+  pub gone-end : (r : Result Parts E) (op : Op) (was : Parts) (answer : Result ⊤ BoardFault) (is : BoardState) (a b c : PassView Entry) → StepGives by op entry was.payload was.board answer is → Gained (Event.Start a.number entry op ∷ []) a b → OnErr r (CameBack entry b c) → OnErr r (GaveBack by entry was a c)
+  gone-end (Ok next) op was answer is a b c m g h = tt
+  gone-end (Err x) op was answer is a b c m g h = back-started by entry op was answer is a b c m g h
 
--- ---- steps behind steps
+  -- ---- steps behind steps
 
-pub made-after : {T E : Type 0} (r : Result T E) (entry : ℕ) (a b c : PassView Entry) → MadeSteps entry a b → OnOk r (MadeSteps entry b c) → OnOk r (MadeSteps entry a c)
-made-after (Ok x) entry a b c g h = made-on entry a b c g h
-made-after (Err e) entry a b c g h = tt
+  pub made-after : (r : Result Parts E) (p q : Parts) (a b c : PassView Entry) → MadeSteps by entry p q a b → IfOk r (λ next. MadeSteps by entry q next b c) → IfOk r (λ next. MadeSteps by entry p next a c)
+  made-after (Ok next) p q a b c g h = made-on by entry p q next a b c g h
+  made-after (Err x) p q a b c g h = tt
 
-pub gone-after : {T E : Type 0} (r : Result T E) (entry : ℕ) (a b c : PassView Entry) → MadeSteps entry a b → OnErr r (GaveBack entry b c) → OnErr r (GaveBack entry a c)
-gone-after (Ok x) entry a b c g h = tt
-gone-after (Err e) entry a b c g h = back-on entry a b c g h
-
--- A finish, or a giving back, behind steps.
-pub ran-after : (entry : ℕ) (o : Outcome) (a b c : PassView Entry) → MadeSteps entry a b → Ran entry o b c → Ran entry o a c
-ran-after entry (Outcome.Finished finished) a b c g h = finished-on entry finished a b c g h
-ran-after entry Outcome.Off a b c g h = back-on entry a b c g h
+  pub gone-after : (r : Result Parts E) (p q : Parts) (a b c : PassView Entry) → MadeSteps by entry p q a b → OnErr r (GaveBack by entry q b c) → OnErr r (GaveBack by entry p a c)
+  gone-after (Ok next) p q a b c g h = tt
+  gone-after (Err x) p q a b c g h = back-on by entry p q a b c g h

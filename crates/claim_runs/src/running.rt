@@ -1,12 +1,13 @@
 //! The whole run of a claim.
-ghost use Rattle.std.specs.Prelude.{◌≡◌, ◌≤◌, ◌<◌, length, None, IfOk, OnErr, OnOk, []};
+ghost use Rattle.std.specs.Prelude.{◌≡◌, ◌≤◌, ◌<◌, length, None, IfOk, OnErr, []};
+ghost use Rattle.plugin_trait.specs.Steps.{steps_at};
 ghost use Rattle.update_log.specs.declared.event.Op.{Op};
 ghost use Rattle.update_log.specs.Steps.{next_step};
 ghost use Rattle.device_claims.specs.States.{IsNext};
 ghost use Rattle.install_engine.specs.RunsIn.{parts_taken};
 ghost use Rattle.shared_daemon.specs.Names.{IsPass};
 ghost use Rattle.claim_runs.specs.Known.{RunsFor, RunsSeen};
-ghost use Rattle.claim_runs.specs.Ran.{GaveBack, MadeSteps, Ran};
+ghost use Rattle.claim_runs.specs.Ran.{Closes, GaveBack, MadeSteps, Ran};
 
 use crate::steps::{attach, cleanup, detach, prepare, reload, write};
 use daemon_core::{FinishStop, Off, Taken};
@@ -32,8 +33,8 @@ fn loosen<R: Wait, K: Keeper, N: Naming, G: Gate>(
     requires runs { RunsFor N.name entry None pass.old claim }
     ensures pass { IsPass daemon.now.id N.name pass.new }
     ensures runs { IfOk result (λ next. RunsFor N.name entry None pass.new next) }
-    ensures made { OnOk result (MadeSteps entry pass.old pass.new) }
-    ensures gone { OnErr result (GaveBack entry pass.old pass.new) }
+    ensures made { IfOk result (λ next. MadeSteps (steps plugin.now) entry claim next pass.old pass.new) }
+    ensures gone { OnErr result (GaveBack (steps plugin.now) entry claim pass.old pass.new) }
 {
     if claim.may_detach() {
         detach(rt, daemon, pass, entry, gate, claim, plugin)
@@ -56,8 +57,8 @@ fn flash<R: Wait, K: Keeper, N: Naming, G: Gate>(
     requires runs { RunsFor N.name entry None pass.old claim }
     ensures pass { IsPass daemon.now.id N.name pass.new }
     ensures runs { IfOk result (λ next. RunsFor N.name entry None pass.new next) }
-    ensures made { OnOk result (MadeSteps entry pass.old pass.new) }
-    ensures gone { OnErr result (GaveBack entry pass.old pass.new) }
+    ensures made { IfOk result (λ next. MadeSteps (steps plugin.now) entry claim next pass.old pass.new) }
+    ensures gone { OnErr result (GaveBack (steps plugin.now) entry claim pass.old pass.new) }
 {
     if claim.may_write() {
         write(rt, daemon, pass, entry, gate, claim, plugin)
@@ -81,8 +82,8 @@ fn join<R: Wait, K: Keeper, N: Naming, G: Gate>(
     ensures pass { IsPass daemon.now.id N.name pass.new }
     ensures runs { IfOk result (λ next. RunsFor N.name entry None pass.new next) }
     ensures next { IfOk result (λ next. IsNext Op.Reload next.trace) }
-    ensures made { OnOk result (MadeSteps entry pass.old pass.new) }
-    ensures gone { OnErr result (GaveBack entry pass.old pass.new) }
+    ensures made { IfOk result (λ next. MadeSteps (steps plugin.now) entry claim next pass.old pass.new) }
+    ensures gone { OnErr result (GaveBack (steps plugin.now) entry claim pass.old pass.new) }
 {
     if claim.may_attach() {
         attach(rt, daemon, pass, entry, gate, claim, plugin)
@@ -106,8 +107,8 @@ fn make_ready<R: Wait, K: Keeper, N: Naming, G: Gate>(
     requires next { IsNext Op.Prepare claim.trace }
     ensures pass { IsPass daemon.now.id N.name pass.new }
     ensures runs { IfOk result (λ next. RunsFor N.name entry None pass.new next) }
-    ensures made { OnOk result (MadeSteps entry pass.old pass.new) }
-    ensures gone { OnErr result (GaveBack entry pass.old pass.new) }
+    ensures made { IfOk result (λ next. MadeSteps (steps plugin.now) entry claim next pass.old pass.new) }
+    ensures gone { OnErr result (GaveBack (steps plugin.now) entry claim pass.old pass.new) }
 {
     let next = prepare(rt, daemon, pass, entry, gate, claim, plugin)?;
     loosen(rt, daemon, pass, entry, gate, next, plugin)
@@ -128,8 +129,8 @@ fn update<R: Wait, K: Keeper, N: Naming, G: Gate>(
     ensures pass { IsPass daemon.now.id N.name pass.new }
     ensures runs { IfOk result (λ next. RunsFor N.name entry None pass.new next) }
     ensures next { IfOk result (λ next. IsNext Op.Reload next.trace) }
-    ensures made { OnOk result (MadeSteps entry pass.old pass.new) }
-    ensures gone { OnErr result (GaveBack entry pass.old pass.new) }
+    ensures made { IfOk result (λ next. MadeSteps (steps plugin.now) entry claim next pass.old pass.new) }
+    ensures gone { OnErr result (GaveBack (steps plugin.now) entry claim pass.old pass.new) }
 {
     let next = flash(rt, daemon, pass, entry, gate, claim, plugin)?;
     join(rt, daemon, pass, entry, gate, next, plugin)
@@ -151,8 +152,8 @@ fn look_and_end<R: Wait, K: Keeper, N: Naming, G: Gate>(
     ensures pass { IsPass daemon.now.id N.name pass.new }
     ensures runs { IfOk result (λ next. RunsFor N.name entry None pass.new next) }
     ensures done { IfOk result (λ next. next_step next.trace ≡ None) }
-    ensures made { OnOk result (MadeSteps entry pass.old pass.new) }
-    ensures gone { OnErr result (GaveBack entry pass.old pass.new) }
+    ensures made { IfOk result (λ next. MadeSteps (steps plugin.now) entry claim next pass.old pass.new) }
+    ensures gone { OnErr result (GaveBack (steps plugin.now) entry claim pass.old pass.new) }
 {
     let next = reload(rt, daemon, pass, entry, gate, claim, plugin)?;
     cleanup(rt, daemon, pass, entry, gate, next, plugin)
@@ -174,8 +175,8 @@ fn advance<R: Wait, K: Keeper, N: Naming, G: Gate>(
     ensures pass { IsPass daemon.now.id N.name pass.new }
     ensures runs { IfOk result (λ next. RunsFor N.name entry None pass.new next) }
     ensures next { IfOk result (λ next. IsNext Op.Reload next.trace) }
-    ensures made { OnOk result (MadeSteps entry pass.old pass.new) }
-    ensures gone { OnErr result (GaveBack entry pass.old pass.new) }
+    ensures made { IfOk result (λ next. MadeSteps (steps plugin.now) entry claim next pass.old pass.new) }
+    ensures gone { OnErr result (GaveBack (steps plugin.now) entry claim pass.old pass.new) }
 {
     let next = make_ready(rt, daemon, pass, entry, gate, claim, plugin)?;
     update(rt, daemon, pass, entry, gate, next, plugin)
@@ -197,8 +198,8 @@ fn make_steps<R: Wait, K: Keeper, N: Naming, G: Gate>(
     ensures pass { IsPass daemon.now.id N.name pass.new }
     ensures runs { IfOk result (λ next. RunsFor N.name entry None pass.new next) }
     ensures done { IfOk result (λ next. next_step next.trace ≡ None) }
-    ensures made { OnOk result (MadeSteps entry pass.old pass.new) }
-    ensures gone { OnErr result (GaveBack entry pass.old pass.new) }
+    ensures made { IfOk result (λ next. MadeSteps (steps plugin.now) entry claim next pass.old pass.new) }
+    ensures gone { OnErr result (GaveBack (steps plugin.now) entry claim pass.old pass.new) }
 {
     let next = advance(rt, daemon, pass, entry, gate, claim, plugin)?;
     look_and_end(rt, daemon, pass, entry, gate, next, plugin)
@@ -216,7 +217,7 @@ fn finish<R: Wait, K: Keeper, N: Naming>(
     requires runs { RunsFor N.name entry None pass.old claim }
     requires done { next_step claim.trace ≡ None }
     ensures pass { IsPass daemon.now.id N.name pass.new }
-    ensures ran { Ran entry result pass.old pass.new }
+    ensures closed { Closes entry result pass.old pass.new }
 {
     let (board, payload) = claim.into_parts();
     match daemon.finish(rt, pass, entry, board, payload) {
@@ -232,7 +233,7 @@ fn finish<R: Wait, K: Keeper, N: Naming>(
 /// Runs a claim that was taken to its end: each step that is wanted, and the finish. Each step is held up
 /// at the gate between its start and the plugin's work, outside of any turn. The entry is the live one
 /// of the pass's client with no step yet, with the board, payload and trace that its taking gave; and the
-/// plugins are the enabled ones, in their order. `Off` is answered where a call of the daemon was answered
+/// plugins are the enabled ones, in their order; the one at the place that was taken makes each step. `Off` is answered where a call of the daemon was answered
 /// off; the board and the payload have gone back then.
 pub fn run_claim<R: Wait, K: Keeper, N: Naming, G: Gate>(
     rt: &R,
@@ -248,7 +249,7 @@ pub fn run_claim<R: Wait, K: Keeper, N: Naming, G: Gate>(
     requires marks { 8 ≤ taken.board.room }
     requires served { taken.plugin < length plugins.now }
     ensures pass { IsPass daemon.now.id N.name pass.new }
-    ensures ran { Ran taken.entry result pass.old pass.new }
+    ensures ran { Ran (steps_at (λ p. steps p) plugins.now taken.plugin) taken.entry (parts_taken taken) result pass.old pass.new }
 {
     let Taken {
         entry,

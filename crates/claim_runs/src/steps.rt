@@ -1,5 +1,5 @@
 //! The steps of a claim, each between its start and its end in the log.
-ghost use Rattle.std.specs.Prelude.{◌≡◌, None, IfOk, OnErr, OnOk};
+ghost use Rattle.std.specs.Prelude.{◌≡◌, None, IfOk, OnErr};
 ghost use Rattle.update_log.specs.declared.event.Op.{Op};
 ghost use Rattle.update_log.specs.Steps.{next_step};
 ghost use Rattle.device_claims.specs.States.{IsNext};
@@ -32,8 +32,8 @@ pub(crate) fn prepare<R: Wait, K: Keeper, N: Naming, G: Gate>(
     requires next { IsNext Op.Prepare claim.trace }
     ensures pass { IsPass daemon.now.id N.name pass.new }
     ensures runs { IfOk result (λ next. RunsFor N.name entry None pass.new next) }
-    ensures made { OnOk result (MadeSteps entry pass.old pass.new) }
-    ensures gone { OnErr result (GaveBack entry pass.old pass.new) }
+    ensures made { IfOk result (λ next. MadeSteps (steps plugin.now) entry claim next pass.old pass.new) }
+    ensures gone { OnErr result (GaveBack (steps plugin.now) entry claim pass.old pass.new) }
 {
     let claim = begin(rt, daemon, pass, entry, Op::Prepare, gate, claim)?;
     let (claim, answer) = claim.prepare(plugin);
@@ -55,8 +55,8 @@ pub(crate) fn detach<R: Wait, K: Keeper, N: Naming, G: Gate>(
     requires next { IsNext Op.Detach claim.trace }
     ensures pass { IsPass daemon.now.id N.name pass.new }
     ensures runs { IfOk result (λ next. RunsFor N.name entry None pass.new next) }
-    ensures made { OnOk result (MadeSteps entry pass.old pass.new) }
-    ensures gone { OnErr result (GaveBack entry pass.old pass.new) }
+    ensures made { IfOk result (λ next. MadeSteps (steps plugin.now) entry claim next pass.old pass.new) }
+    ensures gone { OnErr result (GaveBack (steps plugin.now) entry claim pass.old pass.new) }
 {
     let claim = begin(rt, daemon, pass, entry, Op::Detach, gate, claim)?;
     let (claim, answer) = claim.detach(plugin);
@@ -78,8 +78,8 @@ pub(crate) fn write<R: Wait, K: Keeper, N: Naming, G: Gate>(
     requires next { IsNext Op.Write claim.trace }
     ensures pass { IsPass daemon.now.id N.name pass.new }
     ensures runs { IfOk result (λ next. RunsFor N.name entry None pass.new next) }
-    ensures made { OnOk result (MadeSteps entry pass.old pass.new) }
-    ensures gone { OnErr result (GaveBack entry pass.old pass.new) }
+    ensures made { IfOk result (λ next. MadeSteps (steps plugin.now) entry claim next pass.old pass.new) }
+    ensures gone { OnErr result (GaveBack (steps plugin.now) entry claim pass.old pass.new) }
 {
     let claim = begin(rt, daemon, pass, entry, Op::Write, gate, claim)?;
     let (claim, answer) = claim.write(plugin);
@@ -102,8 +102,8 @@ pub(crate) fn attach<R: Wait, K: Keeper, N: Naming, G: Gate>(
     ensures pass { IsPass daemon.now.id N.name pass.new }
     ensures runs { IfOk result (λ next. RunsFor N.name entry None pass.new next) }
     ensures next { IfOk result (λ next. IsNext Op.Reload next.trace) }
-    ensures made { OnOk result (MadeSteps entry pass.old pass.new) }
-    ensures gone { OnErr result (GaveBack entry pass.old pass.new) }
+    ensures made { IfOk result (λ next. MadeSteps (steps plugin.now) entry claim next pass.old pass.new) }
+    ensures gone { OnErr result (GaveBack (steps plugin.now) entry claim pass.old pass.new) }
 {
     let claim = begin(rt, daemon, pass, entry, Op::Attach, gate, claim)?;
     let (claim, answer) = claim.attach(plugin);
@@ -126,8 +126,8 @@ pub(crate) fn reload<R: Wait, K: Keeper, N: Naming, G: Gate>(
     ensures pass { IsPass daemon.now.id N.name pass.new }
     ensures runs { IfOk result (λ next. RunsFor N.name entry None pass.new next) }
     ensures next { IfOk result (λ next. IsNext Op.Cleanup next.trace) }
-    ensures made { OnOk result (MadeSteps entry pass.old pass.new) }
-    ensures gone { OnErr result (GaveBack entry pass.old pass.new) }
+    ensures made { IfOk result (λ next. MadeSteps (steps plugin.now) entry claim next pass.old pass.new) }
+    ensures gone { OnErr result (GaveBack (steps plugin.now) entry claim pass.old pass.new) }
 {
     let claim = begin(rt, daemon, pass, entry, Op::Reload, gate, claim)?;
     let (claim, answer) = claim.reload(plugin);
@@ -150,8 +150,8 @@ pub(crate) fn cleanup<R: Wait, K: Keeper, N: Naming, G: Gate>(
     ensures pass { IsPass daemon.now.id N.name pass.new }
     ensures runs { IfOk result (λ next. RunsFor N.name entry None pass.new next) }
     ensures done { IfOk result (λ next. next_step next.trace ≡ None) }
-    ensures made { OnOk result (MadeSteps entry pass.old pass.new) }
-    ensures gone { OnErr result (GaveBack entry pass.old pass.new) }
+    ensures made { IfOk result (λ next. MadeSteps (steps plugin.now) entry claim next pass.old pass.new) }
+    ensures gone { OnErr result (GaveBack (steps plugin.now) entry claim pass.old pass.new) }
 {
     let claim = begin(rt, daemon, pass, entry, Op::Cleanup, gate, claim)?;
     let (claim, answer) = claim.cleanup(plugin);

@@ -3,6 +3,9 @@ use Rattle.std.proofs.Common.{◌≡◌, ◌⊎◌, ℕ, ◌≤◌, ◌<◌, ◌
 use Rattle.std.proofs.lemmas.Bool.{cases_lt}
 use Rattle.std.specs.Prelude.{Option, Some, IfNone, MatchBool, if◌then◌else◌, min, not}
 use Rattle.std.specs.List.{AllByRecursion}
+use Rattle.block_pool.specs.Views.{SealedBytes}
+use Rattle.emulated_boards.specs.Boards.{BoardState}
+use Rattle.plugin_trait.specs.Steps.{PluginSteps}
 use Rattle.outer_traits.specs.Faults.{Rose}
 use Rattle.history_keeper.specs.declared.row.Row.{Row}
 use Rattle.update_log.specs.declared.event.Event.{Event}
@@ -17,9 +20,9 @@ use Rattle.client_plays.specs.declared.played.Played.{Played}
 use Rattle.client_plays.specs.Endings.{EndsSo}
 use Rattle.client_plays.specs.Faults.{Counted, FaultsTold, faults_in, faults_noted, is_noted_fault, tells_shelf_fault}
 use Rattle.client_plays.specs.Moments.{Moment}
-use Rattle.client_plays.specs.Plays.{Alone, GivesBack, InstallPlays, Leaves, Plays, SchedulePlays, TaskPlays, ToJudge, UpdatePlays}
+use Rattle.client_plays.specs.Plays.{Alone, GivesBack, InstallPlays, Leaves, Plays, SchedulePlays, StepsPlay, TaskPlays, ToJudge, UpdatePlays}
 use Rattle.client_plays.specs.Scripts.{PlayedSo, PlaysAll, PlaysOne, PlaysUntil}
-use Rattle.client_plays.specs.Tools.{Files}
+use Rattle.client_plays.specs.Tools.{Means}
 
 by_test : (b : Bool) (G : Type 0) → (b ≡ true → G) → (b ≡ false → G) → G
 by_test true G f g = f refl
@@ -110,12 +113,16 @@ quiet-alone Fact f [] p = absurd p
 quiet-alone Fact f (m ∷ []) p = quiet-one m (f m p)
 quiet-alone Fact f (m ∷ n ∷ moments) p = absurd p
 
-pub quiet-update : (client entry : ℕ) → TellsNone (UpdatePlays client entry)
-quiet-update client entry [] u = absurd u
-quiet-update client entry (m ∷ []) u = quiet-one m (ap tells_shelf_fault u.2)
-quiet-update client entry (m ∷ n ∷ moments) u =
-    quiet-more m (n ∷ moments) (ap tells_shelf_fault u.0.started_is)
-    (quiet-more n moments (ap tells_shelf_fault u.0.ended_is) (quiet-update client entry moments u.1))
+quiet-steps : (steps : PluginSteps) (client entry : ℕ) (payload : SealedBytes) (board : BoardState) → TellsNone (StepsPlay steps client entry payload board)
+quiet-steps steps client entry payload board [] u = absurd u
+quiet-steps steps client entry payload board (m ∷ []) u = quiet-one m (ap tells_shelf_fault u.2)
+quiet-steps steps client entry payload board (m ∷ n ∷ moments) u =
+    quiet-more m (n ∷ moments) (ap tells_shelf_fault u.1.started_is)
+    (quiet-more n moments (ap tells_shelf_fault u.1.ended_is) (quiet-steps steps client entry payload u.0 moments u.2))
+
+pub quiet-update : (facts : Facts) (opening : List Row) (plugins : ℕ → PluginSteps) (client entry : ℕ) (taken : List Event) → TellsNone (UpdatePlays facts opening plugins client entry taken)
+quiet-update facts opening plugins client entry taken moments u =
+    quiet-steps (plugins u.place) client entry u.payload u.board moments u.plays
 
 quiet-back : (client : ℕ) → TellsNone (GivesBack client)
 quiet-back client [] g = refl
@@ -150,22 +157,22 @@ fetches (Item.Settle selector) = false
 fetches (Item.Unplug selector) = false
 fetches (Item.Plug selector) = false
 
-quiet-schedule : (facts : Facts) (files : Files) (client : ℕ) (request : Request) (offline : Bool) → not offline ≡ false → TellsNone (λ moments. MatchBool offline (Alone (SchedulePlays client request) moments) (InstallPlays facts files client request moments))
-quiet-schedule facts files client request true e moments p = quiet-alone (SchedulePlays client request) (λ m s. ap tells_shelf_fault s.1) moments p
-quiet-schedule facts files client request false e moments p = cc
+quiet-schedule : (facts : Facts) (opening : List Row) (means : Means) (client : ℕ) (request : Request) (offline : Bool) → not offline ≡ false → TellsNone (λ moments. MatchBool offline (Alone (SchedulePlays client request) moments) (InstallPlays facts opening means client request moments))
+quiet-schedule facts opening means client request true e moments p = quiet-alone (SchedulePlays client request) (λ m s. ap tells_shelf_fault s.1) moments p
+quiet-schedule facts opening means client request false e moments p = cc
 
-pub quiet-item : (facts : Facts) (opening : List Row) (files : Files) (client : ℕ) (item : Item) → fetches item ≡ false → TellsNone (Plays facts opening files client item)
-quiet-item facts opening files client (Item.Ask query) e moments p = quiet-alone _ (λ m s. ap tells_shelf_fault s) moments p
-quiet-item facts opening files client (Item.Install request) e moments p = quiet-schedule facts files client request request.flags.offline e moments p
-quiet-item facts opening files client (Item.Settle selector) e moments p =
+pub quiet-item : (facts : Facts) (opening : List Row) (means : Means) (client : ℕ) (item : Item) → fetches item ≡ false → TellsNone (Plays facts opening means client item)
+quiet-item facts opening means client (Item.Ask query) e moments p = quiet-alone _ (λ m s. ap tells_shelf_fault s) moments p
+quiet-item facts opening means client (Item.Install request) e moments p = quiet-schedule facts opening means client request request.flags.offline e moments p
+quiet-item facts opening means client (Item.Settle selector) e moments p =
     quiet-alone _ (λ m s. elim s [ inl judged ↦ ap tells_shelf_fault judged.event_is | inr asked ↦ ap tells_shelf_fault asked ]) moments p
-quiet-item facts opening files client (Item.Unplug selector) e moments p = quiet-alone _ (λ m s. ap tells_shelf_fault s.1) moments p
-quiet-item facts opening files client (Item.Plug selector) e moments p = quiet-alone _ (λ m s. ap tells_shelf_fault s.1) moments p
+quiet-item facts opening means client (Item.Unplug selector) e moments p = quiet-alone _ (λ m s. ap tells_shelf_fault s.1) moments p
+quiet-item facts opening means client (Item.Plug selector) e moments p = quiet-alone _ (λ m s. ap tells_shelf_fault s.1) moments p
 
 -- ---- lists of things
 
-pub quiet-judge : (facts : Facts) (files : Files) (entry : ℕ) → TellsNone (TaskPlays facts files (ToJudge entry))
-quiet-judge facts files entry moments p = quiet-alone _ (λ m s. ap tells_shelf_fault s.3) moments p
+pub quiet-judge : (facts : Facts) (opening : List Row) (means : Means) (entry : ℕ) → TellsNone (TaskPlays facts opening means (ToJudge entry))
+quiet-judge facts opening means entry moments p = quiet-alone _ (λ m s. ap tells_shelf_fault s.3) moments p
 
 module _ {X : Type 0} (wanting : Bool) (client : ℕ) (Play : X → List Moment → Type 0) where
   quiet-some : (w : Bool) (x : X) → TellsNone (Play x) → TellsNone (PlaysOne w client Play x)

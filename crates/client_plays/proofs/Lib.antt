@@ -11,3 +11,5 @@ pub mod FaultLaws
 pub mod ShelfCounts
 pub mod IdleLaws
 pub mod OrderLaws
+pub mod WiderLaws
+pub mod UpdateLaws

@@ -15,7 +15,7 @@ use Rattle.client_plays.specs.declared.played.Played.{Played}
 use Rattle.client_plays.specs.Moments.{Did, Grew, Moment}
 use Rattle.client_plays.specs.Plays.{Leaves}
 use Rattle.client_plays.specs.Scripts.{BootPlayed, PlayedSo, PlaysAll}
-use Rattle.client_plays.specs.Tools.{Files}
+use Rattle.client_plays.specs.Tools.{Means}
 
 -- Nobody has a hold or a live entry.
 pub record IsIdle (past : List Event) : Type 0 where
@@ -108,8 +108,8 @@ pub record SoFar {K X : Type 0} (faults : K → ℕ) (wanting : Bool) (client : 
   pub rest : AtRest faults old new
 
 -- A boot was played: the log grew by events of this boot, and the house is at rest.
-pub record HouseBootPlayed {K : Type 0} (faults : K → ℕ) (wanting : Bool) (files : ℕ → Files) (of_boot : List (List Item)) (old new : Housed K) : Type 0 where
-  pub played : BootPlayed wanting old.annals.facts (rows_before old.annals) files of_boot (past new)
+pub record HouseBootPlayed {K : Type 0} (faults : K → ℕ) (wanting : Bool) (means : ℕ → Means) (of_boot : List (List Item)) (old new : Housed K) : Type 0 where
+  pub played : BootPlayed wanting old.annals.facts (rows_before old.annals) means of_boot (past new)
   pub grew : Grew (past old) (past new)
   pub rest : AtRest faults old new
 

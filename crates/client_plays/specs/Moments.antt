@@ -13,6 +13,10 @@ pub record Moment : Type 0 where
 abbrev pub at : List Event → Event → Moment
 at past event = record { before = past; event = event }
 
+-- The past behind it.
+abbrev pub behind : Moment → List Event
+behind m = m.event ∷ m.before
+
 -- A client's events of the boot that runs, the oldest first, each with the past before it.
 abbrev pub mine_after : ℕ → List Event → Event → List Moment → List Moment
 mine_after client past event before =

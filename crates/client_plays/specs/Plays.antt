@@ -6,11 +6,14 @@
 use Rattle.std.specs.Prelude.{◌≡◌, ◌⊎◌, ℕ, Bool, true, ◌&&◌, ◌==◌, MatchBool, List, [], ◌∷◌, ◌++◌, Option, Some, None, Result}
 use Rattle.std.specs.List.{list_any}
 use Rattle.std.specs.Str.{bytes_eq}
-use Rattle.fw_facts.specs.declared.seen.Seen.{Seen}
+use Rattle.block_pool.specs.Views.{SealedBytes}
 use Rattle.fw_facts.specs.declared.view.DeviceView.{DeviceView}
+use Rattle.emulated_boards.specs.Boards.{BoardState}
+use Rattle.emulated_boards.specs.Conditions.{view_of}
 use Rattle.emulated_boards.specs.declared.fault.BoardFault.{BoardFault}
 use Rattle.emulated_boards.specs.declared.mark.Mark.{Mark}
 use Rattle.device_list.specs.declared.selector.Selector.{Selector}
+use Rattle.plugin_trait.specs.Steps.{PluginSteps}
 use Rattle.release_catalogue.specs.declared.reference.ReleaseRef.{ReleaseRef}
 use Rattle.history_keeper.specs.declared.row.Row.{Row}
 use Rattle.history_keeper.specs.declared.row.RowState.{RowState}
@@ -26,12 +29,15 @@ use Rattle.update_log.specs.declared.answer.ResumeAnswer.{ResumeAnswer}
 use Rattle.update_log.specs.declared.refusal.FetchNote.{FetchNote}
 use Rattle.update_log.specs.declared.request.Request.{Request}
 use Rattle.update_log.specs.declared.facts.Facts.{Facts}
-use Rattle.update_log.specs.Known.{rows, views}
+use Rattle.update_log.specs.Known.{board_of, rows, seen, views}
 use Rattle.update_log.specs.Legal.{found_view}
+use Rattle.update_log.specs.Shows.{digest_of}
+use Rattle.daemon_core.specs.Claims.{IsServedBy}
+use Rattle.device_claims.specs.Claims.{StepGives}
 use Rattle.client_scripts.specs.declared.item.Item.{Item}
-use Rattle.client_plays.specs.Moments.{Moment}
+use Rattle.client_plays.specs.Moments.{Moment, behind}
 use Rattle.client_plays.specs.Shelves.{IsFetched}
-use Rattle.client_plays.specs.Tools.{Files}
+use Rattle.client_plays.specs.Tools.{Files, Means}
 
 -- There is one event, of which this holds.
 abbrev pub Alone : (Moment → Type 0) → List Moment → Type 0
@@ -41,51 +47,71 @@ Alone Fact (m ∷ n ∷ moments) = ⊥
 
 -- What an entry's update does.
 
--- A step of an entry was started, and ended next.
-pub record StepPlays (client entry : ℕ) (started ended : Event) : Type 0 where
+-- A step of an entry was started, and ended next. The plugin made it of the board as it was, with that payload,
+-- and its end shows the board as it is.
+pub record StepPlays (steps : PluginSteps) (client entry : ℕ) (payload : SealedBytes) (was is : BoardState) (started ended : Event) : Type 0 where
   pub op : Op
   pub outcome : Result (Unit {0}) BoardFault
   pub told : List Mark
-  pub seen : Seen
   pub started_is : started ≡ Event.Start client entry op
-  pub ended_is : ended ≡ Event.End client entry op outcome told seen
+  pub ended_is : ended ≡ Event.End client entry op outcome told (view_of is.condition)
+  pub made : StepGives steps op entry payload was outcome is
 
 -- The entry was finished.
 abbrev pub FinishPlays : ℕ → ℕ → Event → Type 0
 FinishPlays client entry event = (state : RowState) × (stored : Stored) × (event ≡ Event.Finish client entry state stored)
 
--- The steps of an entry, one after the other, and its finish.
-abbrev pub UpdatePlays : ℕ → ℕ → List Moment → Type 0
-UpdatePlays client entry [] = ⊥
-UpdatePlays client entry (m ∷ []) = FinishPlays client entry m.event
-UpdatePlays client entry (m ∷ n ∷ moments) = StepPlays client entry m.event n.event × UpdatePlays client entry moments
+-- The steps of an entry, one after the other, and its finish. Each step takes the board as the one before left
+-- it.
+abbrev pub StepsPlay : PluginSteps → ℕ → ℕ → SealedBytes → BoardState → List Moment → Type 0
+StepsPlay steps client entry payload board [] = ⊥
+StepsPlay steps client entry payload board (m ∷ []) = FinishPlays client entry m.event
+StepsPlay steps client entry payload board (m ∷ n ∷ moments) =
+    (next : BoardState) × StepPlays steps client entry payload board next m.event n.event × StepsPlay steps client entry payload next moments
+
+-- By this past the plugin of an entry's board stands at this place among the enabled ones.
+pub record IsOwnPlugin (facts : Facts) (opening : List Row) (past : List Event) (entry place : ℕ) : Type 0 where
+  pub number : ℕ
+  pub board_is : board_of facts (rows facts opening past) entry ≡ Some number
+  pub served : IsServedBy facts number place
+
+-- The update of an entry, by the past as it was taken. The plugin of its board made each step: of a board that
+-- shows what the log saw of it last, with a payload that has the digest of the entry's row.
+pub record UpdatePlays (facts : Facts) (opening : List Row) (plugins : ℕ → PluginSteps) (client entry : ℕ) (taken : List Event) (moments : List Moment) : Type 0 where
+  pub place : ℕ
+  pub own : IsOwnPlugin facts opening taken entry place
+  pub board : BoardState
+  pub shown : view_of board.condition ≡ seen facts opening taken own.number
+  pub payload : SealedBytes
+  pub digest : digest_of (rows facts opening taken) entry ≡ payload.digest
+  pub plays : StepsPlay (plugins place) client entry payload board moments
 
 -- An install.
 
--- What follows on the claim: the update, where the claim took an entry.
-abbrev pub AfterClaim : ℕ → ClaimAnswer → List Moment → Type 0
-AfterClaim client (ClaimAnswer.Entry entry) moments = UpdatePlays client entry moments
-AfterClaim client (ClaimAnswer.Kept entry state) moments = moments ≡ []
-AfterClaim client (ClaimAnswer.Refused refusal) moments = moments ≡ []
+-- What follows on the claim, by the past behind it: the update, where the claim took an entry.
+abbrev pub AfterClaim : Facts → List Row → (ℕ → PluginSteps) → ℕ → List Event → ClaimAnswer → List Moment → Type 0
+AfterClaim facts opening plugins client past (ClaimAnswer.Entry entry) moments = UpdatePlays facts opening plugins client entry past moments
+AfterClaim facts opening plugins client past (ClaimAnswer.Kept entry state) moments = moments ≡ []
+AfterClaim facts opening plugins client past (ClaimAnswer.Refused refusal) moments = moments ≡ []
 
 -- The claim, for which the release's payload was fetched from the client's shelf, and what follows on it.
-abbrev pub ClaimPlays : Facts → Files → ℕ → Request → ReleaseRef → List Moment → Type 0
-ClaimPlays facts files client request release [] = ⊥
-ClaimPlays facts files client request release (m ∷ moments) =
+abbrev pub ClaimPlays : Facts → List Row → Means → ℕ → Request → ReleaseRef → List Moment → Type 0
+ClaimPlays facts opening means client request release [] = ⊥
+ClaimPlays facts opening means client request release (m ∷ moments) =
     (note : FetchNote) × (answer : ClaimAnswer) × (m.event ≡ Event.Claim client request note answer)
-    × IsFetched facts files release note × AfterClaim client answer moments
+    × IsFetched facts means.files release note × AfterClaim facts opening means.plugins client (behind m) answer moments
 
 -- What follows on the ask: the claim, where the ask was answered with a hold.
-abbrev pub AfterAsk : Facts → Files → ℕ → Request → AskAnswer → List Moment → Type 0
-AfterAsk facts files client request (AskAnswer.Hold blocks release) moments = ClaimPlays facts files client request release moments
-AfterAsk facts files client request (AskAnswer.Kept entry state) moments = moments ≡ []
-AfterAsk facts files client request (AskAnswer.Refused refusal) moments = moments ≡ []
+abbrev pub AfterAsk : Facts → List Row → Means → ℕ → Request → AskAnswer → List Moment → Type 0
+AfterAsk facts opening means client request (AskAnswer.Hold blocks release) moments = ClaimPlays facts opening means client request release moments
+AfterAsk facts opening means client request (AskAnswer.Kept entry state) moments = moments ≡ []
+AfterAsk facts opening means client request (AskAnswer.Refused refusal) moments = moments ≡ []
 
 -- The ask, and what follows on it.
-abbrev pub InstallPlays : Facts → Files → ℕ → Request → List Moment → Type 0
-InstallPlays facts files client request [] = ⊥
-InstallPlays facts files client request (m ∷ moments) =
-    (answer : AskAnswer) × (m.event ≡ Event.Ask client request None answer) × AfterAsk facts files client request answer moments
+abbrev pub InstallPlays : Facts → List Row → Means → ℕ → Request → List Moment → Type 0
+InstallPlays facts opening means client request [] = ⊥
+InstallPlays facts opening means client request (m ∷ moments) =
+    (answer : AskAnswer) × (m.event ≡ Event.Ask client request None answer) × AfterAsk facts opening means client request answer moments
 
 -- An install that is put off.
 abbrev pub SchedulePlays : ℕ → Request → Moment → Type 0
@@ -119,14 +145,14 @@ UnplugPlays client selector m = (answer : PlugAnswer) × (m.event ≡ Event.Unpl
 abbrev pub PlugPlays : ℕ → Selector → Moment → Type 0
 PlugPlays client selector m = (answer : PlugAnswer) × (m.event ≡ Event.Plug client selector answer)
 
--- The events are the play of an item of that client, whose shelf has these files.
-abbrev pub Plays : Facts → List Row → Files → ℕ → Item → List Moment → Type 0
-Plays facts opening files client (Item.Ask query) moments = Alone (λ m. m.event ≡ Event.Query client query) moments
-Plays facts opening files client (Item.Install request) moments =
-    MatchBool request.flags.offline (Alone (SchedulePlays client request) moments) (InstallPlays facts files client request moments)
-Plays facts opening files client (Item.Settle selector) moments = Alone (SettlePlays facts opening client selector) moments
-Plays facts opening files client (Item.Unplug selector) moments = Alone (UnplugPlays client selector) moments
-Plays facts opening files client (Item.Plug selector) moments = Alone (PlugPlays client selector) moments
+-- The events are the play of an item of that client, who has these means.
+abbrev pub Plays : Facts → List Row → Means → ℕ → Item → List Moment → Type 0
+Plays facts opening means client (Item.Ask query) moments = Alone (λ m. m.event ≡ Event.Query client query) moments
+Plays facts opening means client (Item.Install request) moments =
+    MatchBool request.flags.offline (Alone (SchedulePlays client request) moments) (InstallPlays facts opening means client request moments)
+Plays facts opening means client (Item.Settle selector) moments = Alone (SettlePlays facts opening client selector) moments
+Plays facts opening means client (Item.Unplug selector) moments = Alone (UnplugPlays client selector) moments
+Plays facts opening means client (Item.Plug selector) moments = Alone (PlugPlays client selector) moments
 
 -- What the daemon does by itself.
 
@@ -139,10 +165,10 @@ abbrev pub JudgePlays : ℕ → Moment → Type 0
 JudgePlays entry m =
     (version : List ℕ) × (state : RowState) × (stored : Stored) × (m.event ≡ Event.Judge 0 entry version state stored)
 
--- What follows on the resumption: the update, where it was begun.
-abbrev pub AfterResume : ℕ → ResumeAnswer → List Moment → Type 0
-AfterResume entry ResumeAnswer.Begun moments = UpdatePlays 0 entry moments
-AfterResume entry (ResumeAnswer.Refused refusal) moments = moments ≡ []
+-- What follows on the resumption, by the past behind it: the update, where it was begun.
+abbrev pub AfterResume : Facts → List Row → (ℕ → PluginSteps) → ℕ → List Event → ResumeAnswer → List Moment → Type 0
+AfterResume facts opening plugins entry past ResumeAnswer.Begun moments = UpdatePlays facts opening plugins 0 entry past moments
+AfterResume facts opening plugins entry past (ResumeAnswer.Refused refusal) moments = moments ≡ []
 
 -- Where the ask was answered with a hold, the release's payload was fetched from the daemon's shelf; and
 -- else nothing was.
@@ -152,23 +178,24 @@ ResumeFetches facts files (AskAnswer.Kept entry state) note = note ≡ None
 ResumeFetches facts files (AskAnswer.Refused refusal) note = note ≡ None
 
 -- The resumption after an ask that was answered so, and what follows on it.
-abbrev pub ResumePlays : Facts → Files → ℕ → AskAnswer → List Moment → Type 0
-ResumePlays facts files entry asked [] = ⊥
-ResumePlays facts files entry asked (m ∷ moments) =
+abbrev pub ResumePlays : Facts → List Row → Means → ℕ → AskAnswer → List Moment → Type 0
+ResumePlays facts opening means entry asked [] = ⊥
+ResumePlays facts opening means entry asked (m ∷ moments) =
     (note : Option FetchNote) × (answer : ResumeAnswer) × (stored : Stored)
-    × (m.event ≡ Event.Resume 0 entry note answer stored) × ResumeFetches facts files asked note × AfterResume entry answer moments
+    × (m.event ≡ Event.Resume 0 entry note answer stored) × ResumeFetches facts means.files asked note
+    × AfterResume facts opening means.plugins entry (behind m) answer moments
 
 -- The ask for an entry that was put off, and what follows on it.
-abbrev pub PendingPlays : Facts → Files → ℕ → List Moment → Type 0
-PendingPlays facts files entry [] = ⊥
-PendingPlays facts files entry (m ∷ moments) =
+abbrev pub PendingPlays : Facts → List Row → Means → ℕ → List Moment → Type 0
+PendingPlays facts opening means entry [] = ⊥
+PendingPlays facts opening means entry (m ∷ moments) =
     (request : Request) × (answer : AskAnswer) × (m.event ≡ Event.Ask 0 request (Some entry) answer)
-    × ResumePlays facts files entry answer moments
+    × ResumePlays facts opening means entry answer moments
 
--- The events are the play of a task of the daemon, whose shelf has these files.
-abbrev pub TaskPlays : Facts → Files → Task → List Moment → Type 0
-TaskPlays facts files (ToJudge entry) moments = Alone (JudgePlays entry) moments
-TaskPlays facts files (ToResume entry) moments = PendingPlays facts files entry moments
+-- The events are the play of a task of the daemon, which has these means.
+abbrev pub TaskPlays : Facts → List Row → Means → Task → List Moment → Type 0
+TaskPlays facts opening means (ToJudge entry) moments = Alone (JudgePlays entry) moments
+TaskPlays facts opening means (ToResume entry) moments = PendingPlays facts opening means entry moments
 
 -- What is left of a play.
 

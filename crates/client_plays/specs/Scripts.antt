@@ -14,7 +14,7 @@ use Rattle.client_scripts.specs.declared.item.Item.{Item}
 use Rattle.client_plays.specs.Idle.{EndsIdle}
 use Rattle.client_plays.specs.Moments.{DaemonFirst, Moment, began, mine}
 use Rattle.client_plays.specs.Plays.{Leaves, Plays, Task, TaskPlays, ToJudge, ToResume}
-use Rattle.client_plays.specs.Tools.{Files}
+use Rattle.client_plays.specs.Tools.{Means}
 
 -- The plays of a list of things to do.
 
@@ -75,22 +75,22 @@ tasks facts opening (boot ∷ past) =
 
 -- The boot that runs was played: the daemon did its tasks, each client its script, and nobody else
 -- did anything. The daemon's events came before all clients', and the boot ends idle. `wanting` says that
--- memory was wanting; `files` has the files of each client's shelf.
-pub record BootPlayed (wanting : Bool) (facts : Facts) (opening : List Row) (files : ℕ → Files) (of_boot : List (List Item)) (past : List Event) : Type 0 where
-  pub daemon : PlayedSo (off past) wanting 0 (TaskPlays facts (files 0)) (tasks facts opening (began past)) (mine 0 past)
-  pub clients : (client : ℕ) → 0 < client → PlayedSo (off past) wanting client (Plays facts opening (files client) client) (items_of of_boot client) (mine client past)
+-- memory was wanting; `means` has those of each client.
+pub record BootPlayed (wanting : Bool) (facts : Facts) (opening : List Row) (means : ℕ → Means) (of_boot : List (List Item)) (past : List Event) : Type 0 where
+  pub daemon : PlayedSo (off past) wanting 0 (TaskPlays facts opening (means 0)) (tasks facts opening (began past)) (mine 0 past)
+  pub clients : (client : ℕ) → 0 < client → PlayedSo (off past) wanting client (Plays facts opening (means client) client) (items_of of_boot client) (mine client past)
   pub order : DaemonFirst past
   pub idle : EndsIdle past
 
 -- The boots before the one that runs were.
-abbrev pub EarlierPlayed : Bool → Facts → List Row → (ℕ → Files) → List (List (List Item)) → List Event → Type 0
-EarlierPlayed wanting facts opening files scripts [] = Unit {0}
-EarlierPlayed wanting facts opening files scripts (event ∷ past) =
-    MatchBool (is_boot event) (BootPlayed wanting facts opening files (scripts_in scripts (boots past)) past) (Unit {0})
-    × EarlierPlayed wanting facts opening files scripts past
+abbrev pub EarlierPlayed : Bool → Facts → List Row → (ℕ → Means) → List (List (List Item)) → List Event → Type 0
+EarlierPlayed wanting facts opening means scripts [] = Unit {0}
+EarlierPlayed wanting facts opening means scripts (event ∷ past) =
+    MatchBool (is_boot event) (BootPlayed wanting facts opening means (scripts_in scripts (boots past)) past) (Unit {0})
+    × EarlierPlayed wanting facts opening means scripts past
 
 -- All boots of a log were played.
-abbrev pub Script : Bool → Facts → List Row → (ℕ → Files) → List (List (List Item)) → List Event → Type 0
-Script wanting facts opening files scripts log =
-    BootPlayed wanting facts opening files (scripts_in scripts (boots (past_of log))) (past_of log)
-    × EarlierPlayed wanting facts opening files scripts (past_of log)
+abbrev pub Script : Bool → Facts → List Row → (ℕ → Means) → List (List (List Item)) → List Event → Type 0
+Script wanting facts opening means scripts log =
+    BootPlayed wanting facts opening means (scripts_in scripts (boots (past_of log))) (past_of log)
+    × EarlierPlayed wanting facts opening means scripts (past_of log)

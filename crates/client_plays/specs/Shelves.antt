@@ -9,7 +9,8 @@ use Rattle.update_log.specs.declared.facts.Facts.{Facts}
 use Rattle.update_log.specs.declared.refusal.FetchNote.{FetchNote}
 use Rattle.daemon_core.specs.Holds.{IsReleaseAt}
 use Rattle.install_engine.specs.Findings.{Finding, found_of, missing, other_length, other_digest, whole}
-use Rattle.client_plays.specs.Tools.{Files, ShelfTold, shelf_of}
+use Rattle.plugin_trait.specs.Steps.{PluginSteps}
+use Rattle.client_plays.specs.Tools.{Files, Means, ShelfTold, means_of, shelf_of}
 
 -- What the log says of what was found on a shelf. The raw version of an image that is no good is 0.
 abbrev pub note_found : List ℕ → Finding → FetchNote
@@ -60,3 +61,7 @@ files_of (Some shelf) = shelf.files
 
 abbrev pub files_for : List ShelfTold → ℕ → Files
 files_for shelves client = files_of (slice_get shelves (shelf_of client))
+
+-- What each client plays with: the files of its shelf, and these plugins.
+abbrev pub means_for : (ℕ → PluginSteps) → List ShelfTold → ℕ → Means
+means_for plugins shelves client = means_of (files_for shelves client) plugins

@@ -1,10 +1,23 @@
 -- What a worker has, and what becomes of it.
 use Rattle.std.specs.Prelude.{◌≡◌, ◌≤◌, ◌<◌, ◌-◌, ℕ, List, [], ◌∷◌, length, Option}
+use Rattle.plugin_trait.specs.Steps.{PluginSteps, no_steps}
 use Rattle.update_log.specs.declared.facts.Facts.{Facts}
 
 -- The files of a shelf, each with its name and its bytes, where it tells them.
 abbrev pub Files : Type 0
 Files = Option (List (List ℕ × List ℕ))
+
+-- What a client plays with: the files of its shelf, and what the steps of the plugin at each place give.
+pub record Means : Type 1 where
+  pub files : Files
+  pub plugins : ℕ → PluginSteps
+
+abbrev pub means_of : Files → (ℕ → PluginSteps) → Means
+means_of files plugins = record { files = files; plugins = plugins }
+
+-- These files, and no plugin.
+abbrev pub files_alone : Files → Means
+files_alone files = means_of files (λ place. no_steps)
 
 -- What is known of a shelf: its files, and how often it failed.
 pub record ShelfTold : Type 0 where

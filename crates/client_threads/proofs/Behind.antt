@@ -13,7 +13,8 @@ use Rattle.client_plays.specs.Has.{shelves_told}
 use Rattle.client_plays.specs.Moments.{Grew, mine}
 use Rattle.client_plays.specs.Plays.{Plays}
 use Rattle.client_plays.specs.Scripts.{PlayedSo, items_of}
-use Rattle.client_plays.specs.Tools.{Files}
+use Rattle.client_plays.specs.Tools.{Files, means_of}
+use Rattle.plugin_trait.specs.Steps.{PluginSteps}
 use Rattle.client_plays.proofs.ShelfCounts.{count-client, count-quiet}
 use Rattle.turn_lock.specs.Lists.{BeginsWith, beyond}
 use Rattle.turn_lock.specs.Shown.{HasItsEntries, IsFresh, LockId, PassView}
@@ -100,14 +101,14 @@ module _ {P : Type 0} (lock : LockId) (name : Name) (of_boot : List (List Item))
       }
 
 -- As it closed.
-module _ {P : Type 0} (files : P → Files) (faults : P → ℕ) (lock : LockId) (name : Name) (of_boot : List (List Item)) (own : PassView Entry) (old new : List (Client P)) where
+module _ {P : Type 0} (files : P → Files) (plugins : ℕ → PluginSteps) (faults : P → ℕ) (lock : LockId) (name : Name) (of_boot : List (List Item)) (own : PassView Entry) (old new : List (Client P)) where
   abbrev passes : List (Client P) → List (PassView Entry)
   passes clients = own ∷ map (λ (c : Client P). c.pass) clients
 
   pub record AllPlayed : Type 0 where
     pub dealt : Dealt lock name of_boot own old
     pub count : length new ≡ length old
-    pub played : (i : ℕ) (d : Client P) → i < length old → PlayedScript files faults lock name of_boot (get_or old i d) (get_or new i d)
+    pub played : (i : ℕ) (d : Client P) → i < length old → PlayedScript files plugins faults lock name of_boot (get_or old i d) (get_or new i d)
 
   own-is : AllPlayed → IsPass lock name own
   own-is a = All-head (IsPass lock name) own (map (λ (c : Client P). c.pass) old) a.dealt.are
@@ -145,7 +146,7 @@ module _ {P : Type 0} (files : P → Files) (faults : P → ℕ) (lock : LockId)
     wants c = c.wanting
 
     one : (client i : ℕ) (d : Client P) → client ≡ i + 1 → i < length old → mine client (past_seen name.start) ≡ []
-        → PlayedSo (off (past_seen log)) (list_any (λ (c : Client P). c.wanting) new) client (Plays name.facts name.opening (told client) client) (items_of of_boot client) (mine client (past_seen log))
+        → PlayedSo (off (past_seen log)) (list_any (λ (c : Client P). c.wanting) new) client (Plays name.facts name.opening (means_of (told client) plugins) client) (items_of of_boot client) (mine client (past_seen log))
     one client i d e low none =
         let pass : Client P → PassView Entry = λ c. c.pass in
         let many : length new ≡ length old = a.count in
@@ -154,10 +155,10 @@ module _ {P : Type 0} (files : P → Files) (faults : P → ℕ) (lock : LockId)
         let number : c.pass.number ≡ client = numbered own (length of_boot + 1) old i d a.dealt.begun low (let k = a.dealt.count in omega arith) ∙ sym e in
         let shelf : files c.shelf ≡ told client = sym (shelves i d low) ∙ ap told (sym e) in
         let wanting : Bool = list_any (λ (c : Client P). c.wanting) new in
-        let P' : ℕ → Files → Type 0 = λ k fs. PlayedSo (off (past_seen log)) wanting k (Plays name.facts name.opening fs k) (items_of of_boot k) (mine k (past_seen log)) in
+        let P' : ℕ → Files → Type 0 = λ k fs. PlayedSo (off (past_seen log)) wanting k (Plays name.facts name.opening (means_of fs plugins) k) (items_of of_boot k) (mine k (past_seen log)) in
         subst (λ (fs : Files). P' client fs) shelf
         (subst (λ (k : ℕ). P' k (files c.shelf)) number
-        (one-played name log (start-log a) l files faults lock of_boot c n (a.played i d low)
+        (one-played name log (start-log a) l files plugins faults lock of_boot c n (a.played i d low)
         (mapped (IsFresh name.start) pass old (All-tail (IsFresh name.start) own (map pass old) a.dealt.fresh) i d low)
         (mapped (λ (p : PassView Entry). BeginsWith log p.seen) pass new (All-tail (λ (p : PassView Entry). BeginsWith log p.seen) own (map pass new) seen) i d (omega arith))
         (mapped (HasItsEntries maker_of name.start log) pass new (All-tail (HasItsEntries maker_of name.start log) own (map pass new) mine_are) i d (omega arith))
@@ -165,18 +166,18 @@ module _ {P : Type 0} (files : P → Files) (faults : P → ℕ) (lock : LockId)
         (ap (λ (k : ℕ). mine k (past_seen name.start)) number ∙ none)))
 
     some : (client i : ℕ) (xs : List (Client P)) → xs ≡ old → client ≡ i + 1 → i < length old → mine client (past_seen name.start) ≡ []
-        → PlayedSo (off (past_seen log)) (list_any (λ (c : Client P). c.wanting) new) client (Plays name.facts name.opening (told client) client) (items_of of_boot client) (mine client (past_seen log))
+        → PlayedSo (off (past_seen log)) (list_any (λ (c : Client P). c.wanting) new) client (Plays name.facts name.opening (means_of (told client) plugins) client) (items_of of_boot client) (mine client (past_seen log))
     some client i [] s e low none = let n : 0 ≡ length old = ap length s in absurd (omega arith)
     some client i (d ∷ xs) s e low none = one client i d e low none
 
     stranger : (client : ℕ) → length of_boot + 1 ≤ client → mine client (past_seen name.start) ≡ []
-        → PlayedSo (off (past_seen log)) (list_any (λ (c : Client P). c.wanting) new) client (Plays name.facts name.opening (told client) client) (items_of of_boot client) (mine client (past_seen log))
+        → PlayedSo (off (past_seen log)) (list_any (λ (c : Client P). c.wanting) new) client (Plays name.facts name.opening (means_of (told client) plugins) client) (items_of of_boot client) (mine client (past_seen log))
     stranger client high none =
-        nothing-so (off (past_seen log)) (list_any (λ (c : Client P). c.wanting) new) client (Plays name.facts name.opening (told client) client) (items_of of_boot client) (mine client (past_seen log))
+        nothing-so (off (past_seen log)) (list_any (λ (c : Client P). c.wanting) new) client (Plays name.facts name.opening (means_of (told client) plugins) client) (items_of of_boot client) (mine client (past_seen log))
         (items-beyond of_boot client (omega arith))
         (stranger-quiet name log (start-log a) l (length of_boot + 1) client high makers ∙ none)
 
-    pub played-behind : PlayedBehind (list_any (λ (c : Client P). c.wanting) new) name told of_boot log
+    pub played-behind : PlayedBehind (list_any (λ (c : Client P). c.wanting) new) name (λ client. means_of (told client) plugins) of_boot log
     played-behind =
         record {
           daemon =
@@ -205,7 +206,7 @@ module _ {P : Type 0} (files : P → Files) (faults : P → ℕ) (lock : LockId)
         let number : c.pass.number ≡ i + 1 = numbered own (length of_boot + 1) old i d a.dealt.begun low (let k = a.dealt.count in omega arith) in
         let next : i + 1 ≡ suc i = omega arith in
         subst (λ (k : ℕ). FaultsTold (mine k (past_seen name.start)) (mine k (past_seen log)) (faults c.shelf) (faults n.shelf)) (number ∙ next)
-        (one-told name log (start-log a) l files faults lock of_boot c n (a.played i d low)
+        (one-told name log (start-log a) l files plugins faults lock of_boot c n (a.played i d low)
         (mapped (IsFresh name.start) pass old (All-tail (IsFresh name.start) own (map pass old) a.dealt.fresh) i d low)
         (mapped (λ (p : PassView Entry). BeginsWith log p.seen) pass new (All-tail (λ (p : PassView Entry). BeginsWith log p.seen) own (map pass new) seen) i d (omega arith))
         (mapped (HasItsEntries maker_of name.start log) pass new (All-tail (HasItsEntries maker_of name.start log) own (map pass new) mine_are) i d (omega arith)))

@@ -14,7 +14,7 @@ use Rattle.client_plays.specs.Endings.{HouseBootPlayed, HouseWent, IsCounted, Is
 use Rattle.client_plays.specs.Moments.{Moment, NoClients, began, mine}
 use Rattle.client_plays.specs.Plays.{Plays, Task, TaskPlays}
 use Rattle.client_plays.specs.Scripts.{PlayedSo, items_of, tasks}
-use Rattle.client_plays.specs.Tools.{Files}
+use Rattle.client_plays.specs.Tools.{Means}
 use Rattle.client_plays.specs.Idle.{EndsIdle}
 use Rattle.client_plays.proofs.IdleLaws.{ends-idle, fresh-idle}
 use Rattle.client_plays.proofs.MomentLaws.{grew-began, grew-boots, grew-both, grew-nothing, grew-off, mine-boot}
@@ -43,16 +43,16 @@ or-other true b e = refl
 or-other false b e = e
 
 -- Nothing was done in a boot that was off from the first.
-pub boot-off : {K : Type 0} (faults : K → ℕ) (files : ℕ → Files) (of_boot : List (List Item)) (h : Housed K) → IsIdle (past h) → IsFresh (past h) → off (past h) ≡ true → HouseBootPlayed faults false files of_boot h h
-boot-off faults files of_boot h i f o =
+pub boot-off : {K : Type 0} (faults : K → ℕ) (means : ℕ → Means) (of_boot : List (List Item)) (h : Housed K) → IsIdle (past h) → IsFresh (past h) → off (past h) ≡ true → HouseBootPlayed faults false means of_boot h h
+boot-off faults means of_boot h i f o =
     let facts = h.annals.facts in
     let opening = rows_before h.annals in
     let all : List Task = tasks facts opening (began (past h)) in
     record {
       played = record {
-        daemon = subst (λ (m : List Moment). PlayedSo (off (past h)) false 0 (TaskPlays facts (files 0)) all m) (sym (fresh-mine (past h) 0 f))
-            (so-left (off (past h)) false 0 (TaskPlays facts (files 0)) all [] o (until-nothing false 0 (TaskPlays facts (files 0)) all (task-unplayed facts (files 0) 0)));
-        clients = λ client c. left-off facts opening (files client) client (items_of of_boot client) (mine client (past h)) (off (past h)) false o (fresh-mine (past h) client f);
+        daemon = subst (λ (m : List Moment). PlayedSo (off (past h)) false 0 (TaskPlays facts opening (means 0)) all m) (sym (fresh-mine (past h) 0 f))
+            (so-left (off (past h)) false 0 (TaskPlays facts opening (means 0)) all [] o (until-nothing false 0 (TaskPlays facts opening (means 0)) all (task-unplayed facts opening (means 0) 0)));
+        clients = λ client c. left-off facts opening (means client) client (items_of of_boot client) (mine client (past h)) (off (past h)) false o (fresh-mine (past h) client f);
         order = first-nothing (past h) (fresh-mine (past h) 0 f);
         idle = subst EndsIdle (sym f.are) (fresh-idle f.boot f.before f.is);
       };
@@ -60,7 +60,7 @@ boot-off faults files of_boot h i f o =
       rest = rest-here faults h i;
     }
 
-module _ {K : Type 0} (faults : K → ℕ) (now : Bool) (files : Files) (old mid : Housed K) (h : HouseWent faults now 0 (TaskPlays old.annals.facts files) (tasks old.annals.facts (rows_before old.annals) (began (past old))) old mid) where
+module _ {K : Type 0} (faults : K → ℕ) (now : Bool) (means : Means) (old mid : Housed K) (h : HouseWent faults now 0 (TaskPlays old.annals.facts (rows_before old.annals) means) (tasks old.annals.facts (rows_before old.annals) (began (past old))) old mid) where
   -- After the tasks.
   pub no-clients_yet : IsFresh (past old) → NoClients (past mid)
   no-clients_yet f client c = h.went.did.others client (not-first client c) ∙ fresh-mine (past old) client f
@@ -80,26 +80,26 @@ module _ {K : Type 0} (faults : K → ℕ) (now : Bool) (files : Files) (old mid
   still-read r f = h.rest.same.reopened ∙ r (sym (grew-faulted (past old) (past mid) h.went.did.grew) ∙ f)
 
   -- After the clients.
-  module _ (wanting : Bool) (told then : ℕ → Files) (of_boot : List (List Item)) (new : Housed K) (f : IsFresh (past old)) (first : told 0 ≡ files) (same : (client : ℕ) → then client ≡ told client) (p : ClientsPlayed faults wanting then of_boot mid new) where
+  module _ (wanting : Bool) (told then : ℕ → Means) (of_boot : List (List Item)) (new : Housed K) (f : IsFresh (past old)) (first : told 0 ≡ means) (same : (client : ℕ) → then client ≡ told client) (p : ClientsPlayed faults wanting then of_boot mid new) where
     stays : off (past mid) ≡ true → off (past new) ≡ true
     stays = grew-off (past mid) (past new) p.grew
 
-    tasks-played : PlayedSo (off (past new)) (now || wanting) 0 (TaskPlays old.annals.facts (told 0)) (tasks old.annals.facts (rows_before old.annals) (began (past new))) (mine 0 (past new))
+    tasks-played : PlayedSo (off (past new)) (now || wanting) 0 (TaskPlays old.annals.facts (rows_before old.annals) (told 0)) (tasks old.annals.facts (rows_before old.annals) (began (past new))) (mine 0 (past new))
     tasks-played =
         let boot : began (past new) ≡ began (past old) = grew-began (past mid) (past new) p.grew ∙ grew-began (past old) (past mid) h.went.did.grew in
         let own : mine 0 (past new) ≡ h.went.moments = p.daemon ∙ h.went.did.own ∙ ap (λ (m : List Moment). m ++ h.went.moments) (fresh-mine (past old) 0 f) in
-        let T : Files → List Event → List Moment → Type 0 = λ fs b m. PlayedSo (off (past new)) (now || wanting) 0 (TaskPlays old.annals.facts fs) (tasks old.annals.facts (rows_before old.annals) b) m in
-        subst (λ (fs : Files). T fs (began (past new)) (mine 0 (past new))) (sym first)
-        (subst (λ (b : List Event). T files b (mine 0 (past new))) (sym boot)
-        (subst (λ (m : List Moment). T files (began (past old)) m) (sym own)
-        (still-played 0 (TaskPlays old.annals.facts files) (tasks old.annals.facts (rows_before old.annals) (began (past old))) h.went.moments (off (past mid)) (off (past new)) now (now || wanting) stays (or-one now wanting) h.went.plays)))
+        let T : Means → List Event → List Moment → Type 0 = λ fs b m. PlayedSo (off (past new)) (now || wanting) 0 (TaskPlays old.annals.facts (rows_before old.annals) fs) (tasks old.annals.facts (rows_before old.annals) b) m in
+        subst (λ (fs : Means). T fs (began (past new)) (mine 0 (past new))) (sym first)
+        (subst (λ (b : List Event). T means b (mine 0 (past new))) (sym boot)
+        (subst (λ (m : List Moment). T means (began (past old)) m) (sym own)
+        (still-played 0 (TaskPlays old.annals.facts (rows_before old.annals) means) (tasks old.annals.facts (rows_before old.annals) (began (past old))) h.went.moments (off (past mid)) (off (past new)) now (now || wanting) stays (or-one now wanting) h.went.plays)))
 
     scripts-played : (client : ℕ) → 0 < client → PlayedSo (off (past new)) (now || wanting) client (Plays old.annals.facts (rows_before old.annals) (told client) client) (items_of of_boot client) (mine client (past new))
     scripts-played client c =
         let s : SameFacts old.annals mid.annals = h.rest.same in
-        let P : Facts → List Row → Files → Type 0 = λ fs o x. PlayedSo (off (past new)) wanting client (Plays fs o x client) (items_of of_boot client) (mine client (past new)) in
+        let P : Facts → List Row → Means → Type 0 = λ fs o x. PlayedSo (off (past new)) wanting client (Plays fs o x client) (items_of of_boot client) (mine client (past new)) in
         still-played client (Plays old.annals.facts (rows_before old.annals) (told client) client) (items_of of_boot client) (mine client (past new)) (off (past new)) (off (past new)) wanting (now || wanting) (λ o. o) (or-other now wanting)
-        (subst (λ (x : Files). P old.annals.facts (rows_before old.annals) x) (same client)
+        (subst (λ (x : Means). P old.annals.facts (rows_before old.annals) x) (same client)
         (subst (λ (o : List Row). P old.annals.facts o (then client)) (before-same old.annals mid.annals s)
         (subst (λ (fs : Facts). P fs (rows_before mid.annals) (then client)) s.facts (p.clients client c))))
 

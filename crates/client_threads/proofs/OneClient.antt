@@ -12,7 +12,8 @@ use Rattle.client_plays.specs.Faults.{FaultsTold}
 use Rattle.client_plays.specs.Moments.{Moment, mine}
 use Rattle.client_plays.specs.Plays.{Plays}
 use Rattle.client_plays.specs.Scripts.{PlayedSo, items_of}
-use Rattle.client_plays.specs.Tools.{Files}
+use Rattle.client_plays.specs.Tools.{Files, means_of}
+use Rattle.plugin_trait.specs.Steps.{PluginSteps}
 use Rattle.turn_lock.specs.Lists.{BeginsWith, beyond, made_by}
 use Rattle.turn_lock.specs.Shown.{HasItsEntries, IsFresh, LockId, PassView}
 use Rattle.turn_lock.proofs.Counting.{made_by-past}
@@ -51,8 +52,8 @@ module _ (name : Name) (log : List Entry) (s : IsLogOf name name.start) (l : IsL
   stranger-quiet seats client high makers = quiet client (made_by-past maker_of seats client (beyond name.start log) high makers)
 
   -- A client that played its script.
-  module _ {P : Type 0} (files : P → Files) (faults : P → ℕ) (lock : LockId) (of_boot : List (List Item)) (old new : Client P)
-      (p : PlayedScript files faults lock name of_boot old new) (f : IsFresh name.start old.pass) (b : BeginsWith log new.pass.seen) (m : HasItsEntries maker_of name.start log new.pass) where
+  module _ {P : Type 0} (files : P → Files) (plugins : ℕ → PluginSteps) (faults : P → ℕ) (lock : LockId) (of_boot : List (List Item)) (old new : Client P)
+      (p : PlayedScript files plugins faults lock name of_boot old new) (f : IsFresh name.start old.pass) (b : BeginsWith log new.pass.seen) (m : HasItsEntries maker_of name.start log new.pass) where
     met : Meets name new.pass.number new.pass.seen log
     met =
         record {
@@ -82,10 +83,10 @@ module _ (name : Name) (log : List Entry) (s : IsLogOf name name.start) (l : IsL
         (subst (λ (ms : List Moment). FaultsTold (own old.pass) ms (faults old.shelf) (faults new.shelf)) (sym own-now) p.told)
 
     pub one-played : (wanting : Bool) → (new.wanting ≡ true → wanting ≡ true) → mine old.pass.number (past_seen name.start) ≡ []
-        → PlayedSo (off (past_seen log)) wanting old.pass.number (Plays name.facts name.opening (files old.shelf) old.pass.number) (items_of of_boot old.pass.number) (mine old.pass.number (past_seen log))
+        → PlayedSo (off (past_seen log)) wanting old.pass.number (Plays name.facts name.opening (means_of (files old.shelf) plugins) old.pass.number) (items_of of_boot old.pass.number) (mine old.pass.number (past_seen log))
     one-played wanting told none =
         let n : ℕ = old.pass.number in
-        let Play : Item → List Moment → Type 0 = Plays name.facts name.opening (files old.shelf) n in
+        let Play : Item → List Moment → Type 0 = Plays name.facts name.opening (means_of (files old.shelf) plugins) n in
         let later : off (past_seen new.pass.seen) ≡ true → off (past_seen log) ≡ true = (stays name new.pass.number new.pass.seen log p.pass.log met).is_off in
         subst (λ (ms : List Moment). PlayedSo (off (past_seen log)) wanting n Play (items_of of_boot n) ms) (sym (own-moments none))
         (still-played n Play (items_of of_boot n) p.went.moments (off (past_seen new.pass.seen)) (off (past_seen log)) new.wanting wanting later told p.went.plays)

@@ -9,7 +9,7 @@ use Rattle.client_scripts.specs.declared.item.Item.{Item}
 use Rattle.client_plays.specs.Moments.{Moment}
 use Rattle.client_plays.specs.Plays.{Leaves, Plays}
 use Rattle.client_plays.specs.Scripts.{PlayedSo, PlaysAll, items_of}
-use Rattle.client_plays.specs.Tools.{Files}
+use Rattle.client_plays.specs.Tools.{Means}
 use Rattle.client_plays.proofs.PlayLaws.{item-unplayed}
 use Rattle.client_plays.proofs.RestLaws.{so-left}
 use Rattle.client_plays.proofs.ScriptLaws.{so-all, so-more, until-nothing}
@@ -54,16 +54,16 @@ all-left client Play [] h = refl
 all-left client Play (x ∷ xs) h =
     record { first = []; rest = []; are = refl; first_is = h x; rest_is = all-left client Play xs h }
 
-module _ (facts : Facts) (opening : List Row) (files : Files) (client : ℕ) (items : List Item) (moments : List Moment) where
-  pub left-wanting : (is_off : Bool) → moments ≡ [] → PlayedSo is_off true client (Plays facts opening files client) items moments
+module _ (facts : Facts) (opening : List Row) (means : Means) (client : ℕ) (items : List Item) (moments : List Moment) where
+  pub left-wanting : (is_off : Bool) → moments ≡ [] → PlayedSo is_off true client (Plays facts opening means client) items moments
   left-wanting is_off m =
-      let Play : Item → List Moment → Type 0 = Plays facts opening files client in
+      let Play : Item → List Moment → Type 0 = Plays facts opening means client in
       subst (λ (ms : List Moment). PlayedSo is_off true client Play items ms) (sym m)
-      (so-all is_off true client Play items [] (all-left client Play items (λ item. item-unplayed facts opening files client item)))
+      (so-all is_off true client Play items [] (all-left client Play items (λ item. item-unplayed facts opening means client item)))
 
   -- And where nothing was done in a boot that is off.
-  pub left-off : (is_off wanting : Bool) → is_off ≡ true → moments ≡ [] → PlayedSo is_off wanting client (Plays facts opening files client) items moments
+  pub left-off : (is_off wanting : Bool) → is_off ≡ true → moments ≡ [] → PlayedSo is_off wanting client (Plays facts opening means client) items moments
   left-off is_off wanting o m =
-      let Play : Item → List Moment → Type 0 = Plays facts opening files client in
+      let Play : Item → List Moment → Type 0 = Plays facts opening means client in
       subst (λ (ms : List Moment). PlayedSo is_off wanting client Play items ms) (sym m)
-      (so-left is_off wanting client Play items [] o (until-nothing wanting client Play items (λ item. item-unplayed facts opening files client item)))
+      (so-left is_off wanting client Play items [] o (until-nothing wanting client Play items (λ item. item-unplayed facts opening means client item)))

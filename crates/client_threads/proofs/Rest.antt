@@ -19,7 +19,7 @@ use Rattle.client_plays.specs.Faults.{ShelvesCount}
 use Rattle.client_plays.specs.Moments.{Grew, NoClients, mine}
 use Rattle.client_plays.specs.Plays.{Plays}
 use Rattle.client_plays.specs.Scripts.{PlayedSo, items_of}
-use Rattle.client_plays.specs.Tools.{Files, ShelfTold}
+use Rattle.client_plays.specs.Tools.{Means, ShelfTold}
 use Rattle.client_plays.proofs.MomentLaws.{grew-nothing}
 use Rattle.client_plays.proofs.RestLaws.{rest-here}
 use Rattle.shared_daemon.specs.Entries.{chronicle, past_seen}
@@ -117,12 +117,12 @@ module _ {K : Type 0} (faults : K → ℕ) where
     pub shelves-counted : (was now : List ShelfTold) → ShelvesCount (past_seen name.start) (past_seen (chronicle new)) was now → ShelvesCount (past old) (past new) was now
     shelves-counted was now c = count-closed (past_seen name.start) (past_seen (chronicle new)) (past old) (past new) was now old-past new-past c
 
-    pub clients-played : AllHome old.places → (wanting : Bool) (files : ℕ → Files) (of_boot : List (List Item)) → IsLogOf name name.start → IsLogOf name (chronicle new) → HasNothing (chronicle new) → NoClients (past old) → PlayedBehind wanting name files of_boot (chronicle new) → ClientsPlayed faults wanting files of_boot old new
-    clients-played home wanting files of_boot s l nothing none p =
+    pub clients-played : AllHome old.places → (wanting : Bool) (means : ℕ → Means) (of_boot : List (List Item)) → IsLogOf name name.start → IsLogOf name (chronicle new) → HasNothing (chronicle new) → NoClients (past old) → PlayedBehind wanting name means of_boot (chronicle new) → ClientsPlayed faults wanting means of_boot old new
+    clients-played home wanting means of_boot s l nothing none p =
         record {
           daemon = ap (mine 0) (sym new-past) ∙ p.daemon ∙ ap (mine 0) old-past;
           clients = λ client c.
-              let P : Facts → List Row → List Event → Type 0 = λ f o es. PlayedSo (off es) wanting client (Plays f o (files client) client) (items_of of_boot client) (mine client es) in
+              let P : Facts → List Row → List Event → Type 0 = λ f o es. PlayedSo (off es) wanting client (Plays f o (means client) client) (items_of of_boot client) (mine client es) in
               subst (λ (f : Facts). P f (rows_before old.annals) (past new)) (ap (λ (x : Name). x.facts) e)
               (subst (λ (o : List Row). P name.facts o (past new)) rows-so
               (subst (λ (es : List Event). P name.facts name.opening es) new-past
@@ -132,34 +132,34 @@ module _ {K : Type 0} (faults : K → ℕ) where
         }
 
   -- Nothing was done.
-  module _ (files : ℕ → Files) (of_boot : List (List Item)) (h : Housed K) (i : IsIdle (past h)) (none : NoClients (past h)) where
-    pub no-clients : (wanting : Bool) → of_boot ≡ [] → ClientsPlayed faults wanting files of_boot h h
+  module _ (means : ℕ → Means) (of_boot : List (List Item)) (h : Housed K) (i : IsIdle (past h)) (none : NoClients (past h)) where
+    pub no-clients : (wanting : Bool) → of_boot ≡ [] → ClientsPlayed faults wanting means of_boot h h
     no-clients wanting e =
         record {
           daemon = refl;
           clients = λ client c.
-              nothing-so (off (past h)) wanting client (Plays h.annals.facts (rows_before h.annals) (files client) client) (items_of of_boot client) (mine client (past h))
+              nothing-so (off (past h)) wanting client (Plays h.annals.facts (rows_before h.annals) (means client) client) (items_of of_boot client) (mine client (past h))
               (ap (λ (all : List (List Item)). items_of all client) e ∙ items-beyond [] client c) (none client c);
           grew = grew-nothing (past h);
           rest = rest-here faults h i;
         }
 
-    pub clients-off : (wanting : Bool) → off (past h) ≡ true → ClientsPlayed faults wanting files of_boot h h
+    pub clients-off : (wanting : Bool) → off (past h) ≡ true → ClientsPlayed faults wanting means of_boot h h
     clients-off wanting o =
         record {
           daemon = refl;
           clients = λ client c.
-              left-off h.annals.facts (rows_before h.annals) (files client) client (items_of of_boot client) (mine client (past h)) (off (past h)) wanting o (none client c);
+              left-off h.annals.facts (rows_before h.annals) (means client) client (items_of of_boot client) (mine client (past h)) (off (past h)) wanting o (none client c);
           grew = grew-nothing (past h);
           rest = rest-here faults h i;
         }
 
-    pub clients-left : ClientsPlayed faults true files of_boot h h
+    pub clients-left : ClientsPlayed faults true means of_boot h h
     clients-left =
         record {
           daemon = refl;
           clients = λ client c.
-              left-wanting h.annals.facts (rows_before h.annals) (files client) client (items_of of_boot client) (mine client (past h)) (off (past h)) (none client c);
+              left-wanting h.annals.facts (rows_before h.annals) (means client) client (items_of of_boot client) (mine client (past h)) (off (past h)) (none client c);
           grew = grew-nothing (past h);
           rest = rest-here faults h i;
         }

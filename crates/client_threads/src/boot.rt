@@ -1,6 +1,7 @@
 //! A boot: the daemon's tasks on the plain house, and then the clients behind the daemon's lock.
 ghost use Rattle.std.specs.Prelude.{◌≡◌, ◌+◌, ◌≤◌, ◌<◌, [], false, All, length, map, vec_capacity};
 ghost use Rattle.std.specs.List.{range_with_len};
+ghost use Rattle.plugin_trait.specs.Steps.{steps_at};
 ghost use Rattle.update_log.specs.Pasts.{boots};
 ghost use Rattle.daemon_core.specs.Annals.{IsAnnals};
 ghost use Rattle.daemon_core.specs.Housed.{past};
@@ -11,7 +12,7 @@ ghost use Rattle.client_plays.specs.Endings.{HouseBootPlayed, IsCounted, IsFresh
 ghost use Rattle.client_plays.specs.Faults.{ShelvesCount};
 ghost use Rattle.client_plays.specs.Has.{shelves_told, tools_of};
 ghost use Rattle.client_plays.specs.Moments.{NoClients};
-ghost use Rattle.client_plays.specs.Shelves.{files_for};
+ghost use Rattle.client_plays.specs.Shelves.{means_for};
 ghost use Rattle.client_plays.specs.Tools.{Serves, ShelvesStay};
 ghost use Rattle.campaign_runs.specs.Runs.{ReadLast};
 ghost use Rattle.client_threads.specs.Begins.{CanBegin, name_of};
@@ -67,7 +68,7 @@ fn play_behind<
     ensures log { IsLogOf N.name (chronicle result.0) }
     ensures nothing { HasNothing (chronicle result.0) }
     ensures annals { IsAnnals result.0.annals }
-    ensures played { PlayedBehind result.1 N.name (files_for (shelves_told P.files P.faults shelves.old.items)) of_boot.now (chronicle result.0) }
+    ensures played { PlayedBehind result.1 N.name (means_for (steps_at (λ p. steps p) plugins.now) (shelves_told P.files P.faults shelves.old.items)) of_boot.now (chronicle result.0) }
     ensures kept { ShelvesStay (shelves_told P.files P.faults shelves.old.items) (shelves_told P.files P.faults shelves.new.items) }
     ensures told { ShelvesCount (past_seen N.name.start) (past_seen (chronicle result.0)) (shelves_told P.files P.faults shelves.old.items) (shelves_told P.files P.faults shelves.new.items) }
 {
@@ -106,7 +107,7 @@ fn play_named<
     requires proper { All (All IsScriptItem) of_boot.now }
     requires shelves { length of_boot.now ≤ length shelves.old.items }
     requires served { length house.annals.facts.vetoes ≤ length plugins.now }
-    ensures played { ClientsPlayed K.faults result.1 (files_for (shelves_told P.files P.faults shelves.old.items)) of_boot.now house result.0 }
+    ensures played { ClientsPlayed K.faults result.1 (means_for (steps_at (λ p. steps p) plugins.now) (shelves_told P.files P.faults shelves.old.items)) of_boot.now house result.0 }
     ensures kept { ShelvesStay (shelves_told P.files P.faults shelves.old.items) (shelves_told P.files P.faults shelves.new.items) }
     ensures told { ShelvesCount (past house) (past result.0) (shelves_told P.files P.faults shelves.old.items) (shelves_told P.files P.faults shelves.new.items) }
 {
@@ -146,7 +147,7 @@ fn play_clients<R: Threads + Wait + Sync, K: Keeper + Send, P: Shelf + Send, G: 
     requires proper { All (All IsScriptItem) of_boot.now }
     requires shelves { length of_boot.now ≤ length shelves.old.items }
     requires served { length house.annals.facts.vetoes ≤ length plugins.now }
-    ensures played { ClientsPlayed K.faults result.1 (files_for (shelves_told P.files P.faults shelves.old.items)) of_boot.now house result.0 }
+    ensures played { ClientsPlayed K.faults result.1 (means_for (steps_at (λ p. steps p) plugins.now) (shelves_told P.files P.faults shelves.old.items)) of_boot.now house result.0 }
     ensures kept { ShelvesStay (shelves_told P.files P.faults shelves.old.items) (shelves_told P.files P.faults shelves.new.items) }
     ensures told { ShelvesCount (past house) (past result.0) (shelves_told P.files P.faults shelves.old.items) (shelves_told P.files P.faults shelves.new.items) }
 {
@@ -186,7 +187,7 @@ pub(crate) fn play_boot<
     requires few { length of_boot.now ≤ 16 }
     requires serves { Serves (tools_of P.files P.faults (length plugins.now) shelves.old.items) house.annals.facts (length of_boot.now) }
     ensures unread { house.annals.loaded ≡ false → result.0 ≡ house }
-    ensures played { HouseBootPlayed K.faults result.1 (files_for (shelves_told P.files P.faults shelves.old.items)) of_boot.now house result.0 }
+    ensures played { HouseBootPlayed K.faults result.1 (means_for (steps_at (λ p. steps p) plugins.now) (shelves_told P.files P.faults shelves.old.items)) of_boot.now house result.0 }
     ensures kept { ShelvesStay (shelves_told P.files P.faults shelves.old.items) (shelves_told P.files P.faults shelves.new.items) }
     ensures told { ShelvesCount (past house) (past result.0) (shelves_told P.files P.faults shelves.old.items) (shelves_told P.files P.faults shelves.new.items) }
 {

@@ -1,10 +1,11 @@
 //! A campaign by a worker whose clients run on threads.
 ghost use Rattle.std.specs.Prelude.{◌≡◌, ◌≤◌, ◌<◌, ◌-◌, ◌^◌, [], false, All, length};
+ghost use Rattle.plugin_trait.specs.Steps.{steps_at};
 ghost use Rattle.update_log.specs.Legal.{IsLegal};
 ghost use Rattle.daemon_core.specs.Housed.{past, rows_before};
 ghost use Rattle.client_plays.specs.Endings.{IsScriptItem};
 ghost use Rattle.client_plays.specs.Faults.{ShelvesCount};
-ghost use Rattle.client_plays.specs.Shelves.{files_for};
+ghost use Rattle.client_plays.specs.Shelves.{means_for};
 ghost use Rattle.client_plays.specs.Tools.{Serves, ShelvesStay};
 ghost use Rattle.campaign_runs.specs.Planned.{with_plans};
 ghost use Rattle.campaign_runs.specs.Runs.{CampaignRan};
@@ -24,8 +25,9 @@ use std::thread::Threads;
 use update_log::BootPlan;
 
 /// Runs a campaign on a new house: its boots one after the other, and in each the clients on threads, each
-/// with a shelf of these. The plugins are the enabled ones, in the order of the facts; the gate is told of
-/// each step of a client before the plugin makes it. The house and the shelves come back.
+/// with a shelf of these. The plugins are the enabled ones, in the order of the facts: the one at the place of
+/// a board's own makes the steps of its entries. The gate is told of each step of a client before. The house
+/// and the shelves come back.
 pub fn run_on_threads<R: Threads + Wait + Sync, K: Keeper + Send, P: Shelf + Send, G: Gate + Sync>(
     rt: &R,
     alloc: Global,
@@ -45,7 +47,7 @@ pub fn run_on_threads<R: Threads + Wait + Sync, K: Keeper + Send, P: Shelf + Sen
     requires proper { All (All (All IsScriptItem)) scripts.now }
     requires clients { All (λ of_boot. length of_boot ≤ 16) scripts.now }
     requires shelves { All (λ of_boot. length of_boot ≤ length (shelves_told P.files P.faults shelves.items)) scripts.now }
-    ensures ran { CampaignRan K.rows K.faults result.1.ending result.1.wanting (files_for (shelves_told P.files P.faults shelves.items)) plans.now scripts.now house result.0 }
+    ensures ran { CampaignRan K.rows K.faults result.1.ending result.1.wanting (means_for (steps_at (λ p. steps p) plugins.items) (shelves_told P.files P.faults shelves.items)) plans.now scripts.now house result.0 }
     ensures legal { IsLegal (with_plans result.0.annals.facts result.0.annals.first plans.now) (rows_before result.0.annals) (past result.0) }
     ensures kept { ShelvesStay (shelves_told P.files P.faults shelves.items) (shelves_told P.files P.faults result.2.items) }
     ensures told { ShelvesCount (past house) (past result.0) (shelves_told P.files P.faults shelves.items) (shelves_told P.files P.faults result.2.items) }

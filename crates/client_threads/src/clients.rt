@@ -4,6 +4,7 @@ ghost use Rattle.client_scripts.specs.declared.item.Item.{Item};
 ghost use denote.Param.Send.{IsSend, IsSync};
 ghost use Rattle.shared_daemon.specs.contracts.daemon.Daemon.{the_row as daemon_row};
 ghost use Rattle.shared_daemon.specs.contracts.named.Named.{the_row as named_row};
+ghost use Rattle.plugin_trait.specs.Steps.{PluginSteps, steps_at};
 ghost use Rattle.client_plays.specs.Endings.{IsScriptItem};
 ghost use Rattle.client_plays.specs.Scripts.{items_of};
 ghost use Rattle.client_threads.specs.declared.clients.Client.{Client};
@@ -36,12 +37,15 @@ trait Player<K: Keeper, N: Naming, P: Shelf> {
     /// How many plugins there are.
     ghost plugins: { Self → ℕ };
 
+    /// What the steps of the plugin at each place give.
+    ghost work: { Self → ℕ → PluginSteps };
+
     /// The client plays its script.
     fn play(&self, daemon: &Daemon<K, N>, client: &mut Client<P>)
         requires may { MayPlay daemon.now.id N.name client.old }
         requires proper { All (All IsScriptItem) (all self.now) }
         requires served { length N.name.facts.vetoes ≤ plugins self.now }
-        ensures played { PlayedScript P.files P.faults daemon.now.id N.name (all self.now) client.old client.new };
+        ensures played { PlayedScript P.files (work self.now) P.faults daemon.now.id N.name (all self.now) client.old client.new };
 }
 
 // What all clients of a boot have.
@@ -68,11 +72,13 @@ impl<'a, R: Wait, K: Keeper, N: Naming, P: Shelf, G: Gate> Player<K, N, P> for S
 
     ghost plugins = { λ s. length s.plugins.now };
 
+    ghost work = { λ s. steps_at (λ p. (Plugin-box p).steps p.value) s.plugins.now };
+
     fn play(&self, daemon: &Daemon<K, N>, client: &mut Client<P>)
         requires may { MayPlay daemon.now.id N.name client.old }
         requires proper { All (All IsScriptItem) self.now.of_boot.now }
         requires served { length N.name.facts.vetoes ≤ length self.now.plugins.now }
-        ensures played { PlayedScript P.files P.faults daemon.now.id N.name self.now.of_boot.now client.old client.new }
+        ensures played { PlayedScript P.files (steps_at (λ p. steps p) self.now.plugins.now) P.faults daemon.now.id N.name self.now.of_boot.now client.old client.new }
     {
         let items = script_of(self.of_boot, client.pass.number() as usize - 1);
         client.wanting = play_script(
@@ -100,7 +106,7 @@ fn play_each<
     requires may { All (MayPlay daemon.now.id N.name) clients.old }
     requires proper { All (All IsScriptItem) (S.all player.now) }
     requires served { length N.name.facts.vetoes ≤ S.plugins player.now }
-    ensures played { (i : ℕ) (d : Client P) → i < length clients.old → PlayedScript P.files P.faults daemon.now.id N.name (S.all player.now) (slice_index_or clients.old i d) (slice_index_or clients.new i d) }
+    ensures played { (i : ℕ) (d : Client P) → i < length clients.old → PlayedScript P.files (S.work player.now) P.faults daemon.now.id N.name (S.all player.now) (slice_index_or clients.old i d) (slice_index_or clients.new i d) }
 {
     let threads = clients.len();
     thread::for_each_mut(
@@ -109,7 +115,7 @@ fn play_each<
         threads,
         &|_, client: &mut Client<P>|
             requires { MayPlay daemon.now.id N.name client.now × All (All IsScriptItem) (S.all player.now) × (length N.name.facts.vetoes ≤ S.plugins player.now) }
-            ensures { PlayedScript P.files P.faults daemon.entry.now.id N.name (S.all player.entry.now) client.entry.now client.exit.now }
+            ensures { PlayedScript P.files (S.work player.entry.now) P.faults daemon.entry.now.id N.name (S.all player.entry.now) client.entry.now client.exit.now }
         { player.play(daemon, client) },
     );
 }
@@ -144,7 +150,7 @@ fn play_shared<
     requires may { All (MayPlay daemon.now.id N.name) clients.old }
     requires proper { All (All IsScriptItem) of_boot.now }
     requires served { length N.name.facts.vetoes ≤ length plugins.now }
-    ensures played { (i : ℕ) (d : Client P) → i < length clients.old → PlayedScript P.files P.faults daemon.now.id N.name of_boot.now (slice_index_or clients.old i d) (slice_index_or clients.new i d) }
+    ensures played { (i : ℕ) (d : Client P) → i < length clients.old → PlayedScript P.files (steps_at (λ p. steps p) plugins.now) P.faults daemon.now.id N.name of_boot.now (slice_index_or clients.old i d) (slice_index_or clients.new i d) }
 {
     shares::<Daemon<K, N>>();
     let stage = Stage {
@@ -176,7 +182,7 @@ pub(crate) fn play_all<
     requires proper { All (All IsScriptItem) of_boot.now }
     requires served { length N.name.facts.vetoes ≤ length plugins.now }
     ensures count { length clients.new.items ≡ length clients.old.items }
-    ensures played { (i : ℕ) (d : Client P) → i < length clients.old.items → PlayedScript P.files P.faults daemon.now.id N.name of_boot.now (slice_index_or clients.old.items i d) (slice_index_or clients.new.items i d) }
+    ensures played { (i : ℕ) (d : Client P) → i < length clients.old.items → PlayedScript P.files (steps_at (λ p. steps p) plugins.now) P.faults daemon.now.id N.name of_boot.now (slice_index_or clients.old.items i d) (slice_index_or clients.new.items i d) }
 {
     crosses::<House<K>>();
     crosses::<Named<K, N>>();

@@ -1,12 +1,13 @@
 //! The boots of a campaign, one after the other.
 ghost use Rattle.std.specs.Prelude.{◌≡◌, ◌≤◌, ◌<◌, ◌+◌, ◌-◌, ◌^◌, [], false, All, length};
+ghost use Rattle.plugin_trait.specs.Steps.{steps_at};
 ghost use Rattle.update_log.specs.Pasts.{boots};
 ghost use Rattle.daemon_core.specs.Housed.{past};
 ghost use Rattle.client_plays.specs.Endings.{IsCounted, IsFresh, IsIdle, IsScriptItem};
 ghost use Rattle.client_plays.specs.Faults.{ShelvesCount};
 ghost use Rattle.client_plays.specs.Has.{shelves_told, tools_of};
 ghost use Rattle.client_plays.specs.Scripts.{scripts_in};
-ghost use Rattle.client_plays.specs.Shelves.{files_for};
+ghost use Rattle.client_plays.specs.Shelves.{means_for};
 ghost use Rattle.client_plays.specs.Tools.{Serves, ShelvesStay};
 ghost use Rattle.campaign_runs.specs.Runs.{BootMore, CampaignRan, ReadLast};
 
@@ -45,7 +46,7 @@ fn play_next<R: Threads + Wait + Sync, K: Keeper + Send, P: Shelf + Send, G: Gat
     requires few { length of_boot.now ≤ 16 }
     requires serves { Serves (tools_of P.files P.faults (length plugins.now) shelves.old.items) house.annals.facts (length of_boot.now) }
     ensures unread { house.annals.loaded ≡ false → result.0 ≡ house }
-    ensures more { BootMore K.faults result.1 wanting (files_for (shelves_told P.files P.faults shelves.old.items)) of_boot.now house result.0 }
+    ensures more { BootMore K.faults result.1 wanting (means_for (steps_at (λ p. steps p) plugins.now) (shelves_told P.files P.faults shelves.old.items)) of_boot.now house result.0 }
     ensures kept { ShelvesStay (shelves_told P.files P.faults shelves.old.items) (shelves_told P.files P.faults shelves.new.items) }
     ensures told { ShelvesCount (past house) (past result.0) (shelves_told P.files P.faults shelves.old.items) (shelves_told P.files P.faults shelves.new.items) }
 {
@@ -90,7 +91,7 @@ pub(crate) fn run_boots<
     requires clients { All (λ of_boot. length of_boot ≤ 16) scripts.now }
     requires serves { Serves (tools_of P.files P.faults (length plugins.now) shelves.old.items) house.annals.facts 0 }
     requires shelves { All (λ of_boot. length of_boot ≤ length (shelves_told P.files P.faults shelves.old.items)) scripts.now }
-    ensures ran { CampaignRan K.rows K.faults result.1.ending result.1.wanting (files_for (shelves_told P.files P.faults shelves.old.items)) plans.now scripts.now house result.0 }
+    ensures ran { CampaignRan K.rows K.faults result.1.ending result.1.wanting (means_for (steps_at (λ p. steps p) plugins.now) (shelves_told P.files P.faults shelves.old.items)) plans.now scripts.now house result.0 }
     ensures kept { ShelvesStay (shelves_told P.files P.faults shelves.old.items) (shelves_told P.files P.faults shelves.new.items) }
     ensures told { ShelvesCount (past house) (past result.0) (shelves_told P.files P.faults shelves.old.items) (shelves_told P.files P.faults shelves.new.items) }
 {

@@ -1,5 +1,6 @@
 //! The daemon's own tasks, with the shelf that it shares with the first client.
 ghost use Rattle.std.specs.Prelude.{◌≡◌, ◌≤◌, ◌<◌, length};
+ghost use Rattle.plugin_trait.specs.Steps.{steps_at};
 ghost use Rattle.update_log.specs.Pasts.{boots};
 ghost use Rattle.daemon_core.specs.Housed.{past, rows_before};
 ghost use Rattle.client_plays.specs.Endings.{HouseWent, IsFresh, IsIdle};
@@ -8,7 +9,7 @@ ghost use Rattle.client_plays.specs.Has.{shelves_told};
 ghost use Rattle.client_plays.specs.Moments.{began};
 ghost use Rattle.client_plays.specs.Plays.{TaskPlays};
 ghost use Rattle.client_plays.specs.Scripts.{tasks};
-ghost use Rattle.client_plays.specs.Shelves.{files_for};
+ghost use Rattle.client_plays.specs.Shelves.{means_for};
 ghost use Rattle.client_plays.specs.Tools.{ShelvesStay};
 
 use daemon_core::House;
@@ -31,7 +32,7 @@ pub(crate) fn do_tasks_first<K: Keeper, P: Shelf>(
     requires fresh { IsFresh (past house.old) }
     requires shelf { 0 < length shelves.old.items }
     requires served { length house.old.annals.facts.vetoes ≤ length plugins.now }
-    ensures went { HouseWent K.faults result 0 (TaskPlays house.old.annals.facts (files_for (shelves_told P.files P.faults shelves.old.items) 0)) (tasks house.old.annals.facts (rows_before house.old.annals) (began (past house.old))) house.old house.new }
+    ensures went { HouseWent K.faults result 0 (TaskPlays house.old.annals.facts (rows_before house.old.annals) (means_for (steps_at (λ p. steps p) plugins.now) (shelves_told P.files P.faults shelves.old.items) 0)) (tasks house.old.annals.facts (rows_before house.old.annals) (began (past house.old))) house.old house.new }
     ensures kept { ShelvesStay (shelves_told P.files P.faults shelves.old.items) (shelves_told P.files P.faults shelves.new.items) }
     ensures told { ShelvesCount (past house.old) (past house.new) (shelves_told P.files P.faults shelves.old.items) (shelves_told P.files P.faults shelves.new.items) }
 {

@@ -14,6 +14,3 @@ pub use check::{Sections, write_check};
 pub use ids::write_ids;
 pub use remotes::write_remotes;
 pub use stop::OutputStop;
-
-#[cfg(test)]
-mod tests;

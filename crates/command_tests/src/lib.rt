@@ -14,6 +14,10 @@ mod help;
 #[cfg(test)]
 mod identifiers;
 #[cfg(test)]
+mod outputs;
+#[cfg(test)]
 mod remotes;
 #[cfg(test)]
 mod statuses;
+#[cfg(test)]
+mod words;

@@ -14,6 +14,3 @@ mod values;
 pub use command::{Command, WordsFault};
 pub use reading::read_words;
 pub use text::Text;
-
-#[cfg(test)]
-mod tests;

@@ -3,6 +3,8 @@ use Rattle.std.proofs.Common.{◌≡◌, ℕ, ◌≤◌, ◌+◌, Bool, false, L
 use Rattle.std.specs.Prelude.{Option, Some, None, Ok, Err}
 use Rattle.std.specs.List.{AllByRecursion}
 use Rattle.update_log.specs.declared.answer.ResumeAnswer.{ResumeAnswer}
+use Rattle.plugin_trait.specs.Steps.{PluginSteps}
+use Rattle.history_keeper.specs.declared.row.Row.{Row}
 use Rattle.update_log.specs.declared.event.Event.{Event}
 use Rattle.update_log.specs.declared.event.Stored.{Stored}
 use Rattle.update_log.specs.declared.facts.Facts.{Facts}
@@ -17,14 +19,14 @@ use Rattle.daemon_core.specs.declared.resumed.ResumeStop.{ResumeStop}
 use Rattle.daemon_core.specs.declared.stop.Stop.{Stop}
 use Rattle.daemon_core.specs.Annals.{Appended}
 use Rattle.daemon_core.specs.Holds.{back_of}
-use Rattle.daemon_core.specs.Housed.{Annalled, Housed, past, past_in}
+use Rattle.daemon_core.specs.Housed.{Annalled, Housed, past, past_in, rows_before}
 use Rattle.daemon_core.specs.Resumes.{ResumeTurned, StoppedBy, note_in}
 use Rattle.client_plays.specs.declared.played.Played.{Played}
 use Rattle.client_plays.specs.Endings.{HouseWent, SoFar}
 use Rattle.client_plays.specs.Faults.{faults_in, faults_noted, is_noted_fault, tells_shelf_fault}
 use Rattle.client_plays.specs.Moments.{Did, at, mine}
 use Rattle.client_plays.specs.Plays.{Task, TaskPlays, ToJudge, UpdatePlays}
-use Rattle.client_plays.specs.Tools.{Files}
+use Rattle.client_plays.specs.Tools.{Means}
 use Rattle.client_plays.proofs.FaultLaws.{TellsNone, faults-event, faults-same, quiet-all, quiet-ends, quiet-judge, quiet-one, quiet-so, quiet-update}
 use Rattle.daemon_tasks.specs.Ends.{TakenPlayed}
 use Rattle.daemon_tasks.specs.Resumed.{WasGivenUp}
@@ -59,12 +61,12 @@ more-same noted a b c x y = omega arith
 none-more : (noted a b c : ℕ) → b ≡ a → c ≡ b → c ≤ a + noted
 none-more noted a b c x y = omega arith
 
-pub resumed-told : {K : Type 0} (faults : K → ℕ) (entry : ℕ) (held : Option (Ticket × Fetched)) (taken : Taken) (played : Played) (old new last : Housed K) → ResumeTurned entry (note_in held) (Ok (Claimed.Taken taken)) old.annals new.annals → TakenPlayed faults played 0 taken.entry taken.board new last
+pub resumed-told : {K : Type 0} (faults : K → ℕ) (plugins : ℕ → PluginSteps) (entry : ℕ) (held : Option (Ticket × Fetched)) (taken : Taken) (played : Played) (old new last : Housed K) → ResumeTurned entry (note_in held) (Ok (Claimed.Taken taken)) old.annals new.annals → TakenPlayed faults plugins played 0 taken.entry taken.board new last
     → faults_in (mine 0 (past last)) ≤ faults_in (mine 0 (past old)) + faults_noted (note_in held)
-resumed-told faults entry held taken played old new last t p =
+resumed-told faults plugins entry held taken played old new last t p =
     more-same (faults_noted (note_in held)) (told_in (past old)) (told_in (past new)) (told_in (past last))
     (appended-noted (Event.Resume 0 entry (note_in held) ResumeAnswer.Begun Stored.Yes) (note_in held) old.annals new.annals (record { no_boot = refl; own = refl }) refl t.1)
-    (faults-same p.ended.moments (mine 0 (past new)) (mine 0 (past last)) p.ended.did.own (quiet-ends played 0 (UpdatePlays 0 taken.entry) (past last) (quiet-update 0 taken.entry) p.ended.moments p.ended.ends))
+    (faults-same p.ended.moments (mine 0 (past new)) (mine 0 (past last)) p.ended.did.own (quiet-ends played 0 (UpdatePlays new.annals.facts (rows_before new.annals) plugins 0 taken.entry (past new)) (past last) (quiet-update new.annals.facts (rows_before new.annals) plugins 0 taken.entry (past new)) p.ended.moments p.ended.ends))
 
 pub refused-told : (entry : ℕ) (held : Option (Ticket × Fetched)) (refusal : Refusal) (old new : Annalled) → ResumeTurned entry (note_in held) (Ok (Claimed.Refused refusal)) old new → faults_in (mine 0 (past_in new)) ≤ faults_in (mine 0 (past_in old)) + faults_noted (note_in held)
 refused-told entry held refusal old new t =
@@ -90,18 +92,18 @@ unfetched a b c x y = omega arith
 
 -- ---- rows that are judged
 
-judge-tells_none : (facts : Facts) (files : Files) (entries : List ℕ) → AllByRecursion (λ task. TellsNone (TaskPlays facts files task)) (map ToJudge entries)
-judge-tells_none facts files [] = tt
-judge-tells_none facts files (entry ∷ entries) = (quiet-judge facts files entry, judge-tells_none facts files entries)
+judge-tells_none : (facts : Facts) (opening : List Row) (means : Means) (entries : List ℕ) → AllByRecursion (λ task. TellsNone (TaskPlays facts opening means task)) (map ToJudge entries)
+judge-tells_none facts opening means [] = tt
+judge-tells_none facts opening means (entry ∷ entries) = (quiet-judge facts opening means entry, judge-tells_none facts opening means entries)
 
-pub judged-told : {K : Type 0} (faults : K → ℕ) (wanting : Bool) (facts : Facts) (files : Files) (entries : List ℕ) (old new : Housed K) → SoFar faults wanting 0 (TaskPlays facts files) (map ToJudge entries) old new → faults_in (mine 0 (past new)) ≡ faults_in (mine 0 (past old))
-judged-told faults wanting facts files entries old new s =
+pub judged-told : {K : Type 0} (faults : K → ℕ) (wanting : Bool) (facts : Facts) (opening : List Row) (means : Means) (entries : List ℕ) (old new : Housed K) → SoFar faults wanting 0 (TaskPlays facts opening means) (map ToJudge entries) old new → faults_in (mine 0 (past new)) ≡ faults_in (mine 0 (past old))
+judged-told faults wanting facts opening means entries old new s =
     faults-same s.moments (mine 0 (past old)) (mine 0 (past new)) s.did.own
-    (quiet-all wanting 0 (TaskPlays facts files) (map ToJudge entries) (judge-tells_none facts files entries) s.moments s.plays)
+    (quiet-all wanting 0 (TaskPlays facts opening means) (map ToJudge entries) (judge-tells_none facts opening means entries) s.moments s.plays)
 
-pub judged-off : {K : Type 0} (faults : K → ℕ) (wanting : Bool) (facts : Facts) (files : Files) (entries : List ℕ) (old new : Housed K) → HouseWent faults wanting 0 (TaskPlays facts files) (map ToJudge entries ++ []) old new → faults_in (mine 0 (past new)) ≡ faults_in (mine 0 (past old))
-judged-off faults wanting facts files entries old new h =
+pub judged-off : {K : Type 0} (faults : K → ℕ) (wanting : Bool) (facts : Facts) (opening : List Row) (means : Means) (entries : List ℕ) (old new : Housed K) → HouseWent faults wanting 0 (TaskPlays facts opening means) (map ToJudge entries ++ []) old new → faults_in (mine 0 (past new)) ≡ faults_in (mine 0 (past old))
+judged-off faults wanting facts opening means entries old new h =
     faults-same h.went.moments (mine 0 (past old)) (mine 0 (past new)) h.went.did.own
-    (quiet-so wanting 0 (TaskPlays facts files) (off (past new)) (map ToJudge entries ++ [])
-    (subst (λ (tasks : List Task). AllByRecursion (λ task. TellsNone (TaskPlays facts files task)) tasks) (sym (append-nil (map ToJudge entries))) (judge-tells_none facts files entries))
+    (quiet-so wanting 0 (TaskPlays facts opening means) (off (past new)) (map ToJudge entries ++ [])
+    (subst (λ (tasks : List Task). AllByRecursion (λ task. TellsNone (TaskPlays facts opening means task)) tasks) (sym (append-nil (map ToJudge entries))) (judge-tells_none facts opening means entries))
     h.went.moments h.went.plays)

@@ -21,7 +21,7 @@ use Rattle.client_plays.specs.Endings.{HouseWent, IsIdle, SoFar}
 use Rattle.client_plays.specs.Moments.{Moment}
 use Rattle.client_plays.specs.Plays.{Task, TaskPlays, ToJudge}
 use Rattle.client_plays.specs.Scripts.{PlayedSo, PlaysAll, PlaysUntil, is_judgeable}
-use Rattle.client_plays.specs.Tools.{Files}
+use Rattle.client_plays.specs.Tools.{Means}
 use Rattle.client_plays.proofs.BootLaws.{so-told}
 use Rattle.client_plays.proofs.ListLaws.{taken-here, taken-more}
 use Rattle.client_plays.proofs.MomentLaws.{did-both}
@@ -127,54 +127,54 @@ stays-more entries entry old mid new s t =
 -- ---- so far
 
 -- These entries were gone through.
-pub record JudgedSoFar {K : Type 0} (faults : K → ℕ) (facts : Facts) (files : Files) (wanting : Bool) (entries : List ℕ) (old new : Housed K) : Type 0 where
-  pub so_far : SoFar faults wanting 0 (TaskPlays facts files) (to_judge_in old.annals entries) old new
+pub record JudgedSoFar {K : Type 0} (faults : K → ℕ) (facts : Facts) (opening : List Row) (means : Means) (wanting : Bool) (entries : List ℕ) (old new : Housed K) : Type 0 where
+  pub so_far : SoFar faults wanting 0 (TaskPlays facts opening means) (to_judge_in old.annals entries) old new
   pub stays : JudgeStays entries old.annals new.annals
 
-pub judged-none : {K : Type 0} (faults : K → ℕ) (facts : Facts) (files : Files) (wanting : Bool) (h : Housed K) → IsIdle (past h) → JudgedSoFar faults facts files wanting [] h h
-judged-none faults facts files wanting h i =
-    record { so_far = so_far-nothing faults wanting 0 (TaskPlays facts files) h i; stays = record { rows = λ other n. refl; views = refl; finished = λ n. refl } }
+pub judged-none : {K : Type 0} (faults : K → ℕ) (facts : Facts) (opening : List Row) (means : Means) (wanting : Bool) (h : Housed K) → IsIdle (past h) → JudgedSoFar faults facts opening means wanting [] h h
+judged-none faults facts opening means wanting h i =
+    record { so_far = so_far-nothing faults wanting 0 (TaskPlays facts opening means) h i; stays = record { rows = λ other n. refl; views = refl; finished = λ n. refl } }
 
 told-so : (now wanting : Bool) → (now ≡ true) ⊎ (now ≡ wanting) → wanting ≡ true → now ≡ true
 told-so now wanting (inl e) w = e
 told-so now wanting (inr e) w = e ∙ w
 
 -- One entry more was.
-pub judged-more : {K : Type 0} (faults : K → ℕ) (facts : Facts) (files : Files) (now wanting : Bool) (entries : List ℕ) (entry : ℕ) (old mid new : Housed K) → IsIdle (past old) → list_any (λ e. e == entry) entries ≡ false → JudgedSoFar faults facts files wanting entries old mid
-    → HouseTried faults facts files (Some now) wanting (to_judge_in mid.annals (entry ∷ [])) mid new → JudgeStays (entry ∷ []) mid.annals new.annals → JudgedSoFar faults facts files now (entries ++ entry ∷ []) old new
-judged-more faults facts files now wanting entries entry old mid new i n s t stays =
+pub judged-more : {K : Type 0} (faults : K → ℕ) (facts : Facts) (opening : List Row) (means : Means) (now wanting : Bool) (entries : List ℕ) (entry : ℕ) (old mid new : Housed K) → IsIdle (past old) → list_any (λ e. e == entry) entries ≡ false → JudgedSoFar faults facts opening means wanting entries old mid
+    → HouseTried faults facts opening means (Some now) wanting (to_judge_in mid.annals (entry ∷ [])) mid new → JudgeStays (entry ∷ []) mid.annals new.annals → JudgedSoFar faults facts opening means now (entries ++ entry ∷ []) old new
+judged-more faults facts opening means now wanting entries entry old mid new i n s t stays =
     let same = one-same entries old.annals mid.annals entry i.no_live s.so_far.rest.idle.no_live s.stays n in
-    let one : PlaysAll now 0 (TaskPlays facts files) (to_judge_in old.annals (entry ∷ [])) t.moments = subst (λ (ts : List Task). PlaysAll now 0 (TaskPlays facts files) ts t.moments) same t.more.1 in
-    let before : PlaysAll now 0 (TaskPlays facts files) (to_judge_in old.annals entries) s.so_far.moments = so-told false wanting now 0 (TaskPlays facts files) (to_judge_in old.annals entries) s.so_far.moments (told-so now wanting t.more.0) s.so_far.plays in
+    let one : PlaysAll now 0 (TaskPlays facts opening means) (to_judge_in old.annals (entry ∷ [])) t.moments = subst (λ (ts : List Task). PlaysAll now 0 (TaskPlays facts opening means) ts t.moments) same t.more.1 in
+    let before : PlaysAll now 0 (TaskPlays facts opening means) (to_judge_in old.annals entries) s.so_far.moments = so-told false wanting now 0 (TaskPlays facts opening means) (to_judge_in old.annals entries) s.so_far.moments (told-so now wanting t.more.0) s.so_far.plays in
     record {
       so_far = record {
         moments = s.so_far.moments ++ t.moments;
         did = did-both 0 s.so_far.moments t.moments (past old) (past mid) (past new) s.so_far.did t.did;
-        plays = subst (λ (ts : List Task). PlaysAll now 0 (TaskPlays facts files) ts (s.so_far.moments ++ t.moments)) (sym (judge-append old.annals.facts (rows_before old.annals) (past old) entries (entry ∷ [])))
-            (all-append now 0 (TaskPlays facts files) (to_judge_in old.annals entries) (to_judge_in old.annals (entry ∷ [])) s.so_far.moments t.moments before one);
+        plays = subst (λ (ts : List Task). PlaysAll now 0 (TaskPlays facts opening means) ts (s.so_far.moments ++ t.moments)) (sym (judge-append old.annals.facts (rows_before old.annals) (past old) entries (entry ∷ [])))
+            (all-append now 0 (TaskPlays facts opening means) (to_judge_in old.annals entries) (to_judge_in old.annals (entry ∷ [])) s.so_far.moments t.moments before one);
         rest = rest-both faults old mid new s.so_far.rest t.rest;
       };
       stays = stays-more entries entry old.annals mid.annals new.annals s.stays stays;
     }
 
 -- The boot is off.
-pub judged-off : {K : Type 0} (faults : K → ℕ) (facts : Facts) (files : Files) (wanting : Bool) (entries others all : List ℕ) (more : List Task) (old mid new : Housed K) → entries ++ others ≡ all → JudgedSoFar faults facts files wanting entries old mid
-    → (tasks : List Task) → HouseTried faults facts files None wanting tasks mid new → HouseWent faults wanting 0 (TaskPlays facts files) (to_judge_in old.annals all ++ more) old new
-judged-off faults facts files wanting entries others all more old mid new e s tasks t =
+pub judged-off : {K : Type 0} (faults : K → ℕ) (facts : Facts) (opening : List Row) (means : Means) (wanting : Bool) (entries others all : List ℕ) (more : List Task) (old mid new : Housed K) → entries ++ others ≡ all → JudgedSoFar faults facts opening means wanting entries old mid
+    → (tasks : List Task) → HouseTried faults facts opening means None wanting tasks mid new → HouseWent faults wanting 0 (TaskPlays facts opening means) (to_judge_in old.annals all ++ more) old new
+judged-off faults facts opening means wanting entries others all more old mid new e s tasks t =
     let rest = to_judge_in old.annals others ++ more in
     let split : to_judge_in old.annals all ++ more ≡ to_judge_in old.annals entries ++ rest =
     ap (λ (es : List ℕ). to_judge_in old.annals es ++ more) (sym e)
     ∙ ap (λ (ts : List Task). ts ++ more) (judge-append old.annals.facts (rows_before old.annals) (past old) entries others)
     ∙ append_assoc (to_judge_in old.annals entries) (to_judge_in old.annals others) more
     in
-    let none : PlaysUntil wanting 0 (TaskPlays facts files) rest t.moments = subst (λ (m : List Moment). PlaysUntil wanting 0 (TaskPlays facts files) rest m) (sym t.more.0) (until-nothing wanting 0 (TaskPlays facts files) rest (task-unplayed facts files 0)) in
+    let none : PlaysUntil wanting 0 (TaskPlays facts opening means) rest t.moments = subst (λ (m : List Moment). PlaysUntil wanting 0 (TaskPlays facts opening means) rest m) (sym t.more.0) (until-nothing wanting 0 (TaskPlays facts opening means) rest (task-unplayed facts opening means 0)) in
     record {
       went = record {
         moments = s.so_far.moments ++ t.moments;
         did = did-both 0 s.so_far.moments t.moments (past old) (past mid) (past new) s.so_far.did t.did;
-        plays = subst (λ (ts : List Task). PlayedSo (off (past new)) wanting 0 (TaskPlays facts files) ts (s.so_far.moments ++ t.moments)) (sym split)
-            (so-left (off (past new)) wanting 0 (TaskPlays facts files) (to_judge_in old.annals entries ++ rest) (s.so_far.moments ++ t.moments) t.more.1
-            (until-append wanting 0 (TaskPlays facts files) (to_judge_in old.annals entries) rest s.so_far.moments t.moments s.so_far.plays none));
+        plays = subst (λ (ts : List Task). PlayedSo (off (past new)) wanting 0 (TaskPlays facts opening means) ts (s.so_far.moments ++ t.moments)) (sym split)
+            (so-left (off (past new)) wanting 0 (TaskPlays facts opening means) (to_judge_in old.annals entries ++ rest) (s.so_far.moments ++ t.moments) t.more.1
+            (until-append wanting 0 (TaskPlays facts opening means) (to_judge_in old.annals entries) rest s.so_far.moments t.moments s.so_far.plays none));
       };
       rest = rest-both faults old mid new s.so_far.rest t.rest;
     }
@@ -207,19 +207,19 @@ known-turn entries i old mid lt a k s =
     let r = turn-known old (take i entries) (get_or entries i 0) (drop (suc i) entries) (subst (AllKnown old) (sym e) k) in
     (r.0, s.rows (get_or entries i 0) n ∙ r.1)
 
-pub judged-turn : {K : Type 0} (faults : K → ℕ) (facts : Facts) (files : Files) (now wanting : Bool) (entries : List ℕ) (i : ℕ) (old mid new : Housed K) → i < length entries → AreApart entries → IsIdle (past old) → JudgedSoFar faults facts files wanting (take i entries) old mid
-    → HouseTried faults facts files (Some now) wanting (to_judge_in mid.annals (get_or entries i 0 ∷ [])) mid new → JudgeStays (get_or entries i 0 ∷ []) mid.annals new.annals → JudgedSoFar faults facts files now (take (i + 1) entries) old new
-judged-turn faults facts files now wanting entries i old mid new lt a idle s t stays =
+pub judged-turn : {K : Type 0} (faults : K → ℕ) (facts : Facts) (opening : List Row) (means : Means) (now wanting : Bool) (entries : List ℕ) (i : ℕ) (old mid new : Housed K) → i < length entries → AreApart entries → IsIdle (past old) → JudgedSoFar faults facts opening means wanting (take i entries) old mid
+    → HouseTried faults facts opening means (Some now) wanting (to_judge_in mid.annals (get_or entries i 0 ∷ [])) mid new → JudgeStays (get_or entries i 0 ∷ []) mid.annals new.annals → JudgedSoFar faults facts opening means now (take (i + 1) entries) old new
+judged-turn faults facts opening means now wanting entries i old mid new lt a idle s t stays =
     let n = not-before (take i entries) (get_or entries i 0) (drop (suc i) entries) entries (taken-here entries i 0 lt) a in
-    subst (λ (es : List ℕ). JudgedSoFar faults facts files now es old new) (taken-more entries i 0 lt)
-    (judged-more faults facts files now wanting (take i entries) (get_or entries i 0) old mid new idle n s t stays)
+    subst (λ (es : List ℕ). JudgedSoFar faults facts opening means now es old new) (taken-more entries i 0 lt)
+    (judged-more faults facts opening means now wanting (take i entries) (get_or entries i 0) old mid new idle n s t stays)
 
-pub off-turn : {K : Type 0} (faults : K → ℕ) (facts : Facts) (files : Files) (wanting : Bool) (entries : List ℕ) (i : ℕ) (old mid new : Housed K) → i < length entries → JudgedSoFar faults facts files wanting (take i entries) old mid → (tasks : List Task) → HouseTried faults facts files None wanting tasks mid new
-    → (more : List Task) → HouseWent faults wanting 0 (TaskPlays facts files) (to_judge_in old.annals entries ++ more) old new
-off-turn faults facts files wanting entries i old mid new lt s tasks t more =
-    judged-off faults facts files wanting (take i entries) (get_or entries i 0 ∷ drop (suc i) entries) entries more old mid new (taken-here entries i 0 lt) s tasks t
+pub off-turn : {K : Type 0} (faults : K → ℕ) (facts : Facts) (opening : List Row) (means : Means) (wanting : Bool) (entries : List ℕ) (i : ℕ) (old mid new : Housed K) → i < length entries → JudgedSoFar faults facts opening means wanting (take i entries) old mid → (tasks : List Task) → HouseTried faults facts opening means None wanting tasks mid new
+    → (more : List Task) → HouseWent faults wanting 0 (TaskPlays facts opening means) (to_judge_in old.annals entries ++ more) old new
+off-turn faults facts opening means wanting entries i old mid new lt s tasks t more =
+    judged-off faults facts opening means wanting (take i entries) (get_or entries i 0 ∷ drop (suc i) entries) entries more old mid new (taken-here entries i 0 lt) s tasks t
 
-pub judged-end : {K : Type 0} (faults : K → ℕ) (facts : Facts) (files : Files) (wanting : Bool) (entries : List ℕ) (i : ℕ) (old new : Housed K) → length entries ≤ i → JudgedSoFar faults facts files wanting (take i entries) old new → SoFar faults wanting 0 (TaskPlays facts files) (to_judge_in old.annals entries) old new × RowsStay entries old.annals new.annals
-judged-end faults facts files wanting entries i old new le s =
-    let whole : JudgedSoFar faults facts files wanting entries old new = subst (λ (es : List ℕ). JudgedSoFar faults facts files wanting es old new) (take_all i entries le) s in
+pub judged-end : {K : Type 0} (faults : K → ℕ) (facts : Facts) (opening : List Row) (means : Means) (wanting : Bool) (entries : List ℕ) (i : ℕ) (old new : Housed K) → length entries ≤ i → JudgedSoFar faults facts opening means wanting (take i entries) old new → SoFar faults wanting 0 (TaskPlays facts opening means) (to_judge_in old.annals entries) old new × RowsStay entries old.annals new.annals
+judged-end faults facts opening means wanting entries i old new le s =
+    let whole : JudgedSoFar faults facts opening means wanting entries old new = subst (λ (es : List ℕ). JudgedSoFar faults facts opening means wanting es old new) (take_all i entries le) s in
     (whole.so_far, whole.stays.rows)

@@ -33,7 +33,7 @@ use Rattle.client_plays.specs.Endings.{IsIdle}
 use Rattle.client_plays.specs.Moments.{Moment, at}
 use Rattle.client_plays.specs.Plays.{Task, TaskPlays, ToJudge}
 use Rattle.client_plays.specs.Scripts.{PlaysAll, is_judgeable}
-use Rattle.client_plays.specs.Tools.{Files}
+use Rattle.client_plays.specs.Tools.{Means}
 use Rattle.client_plays.proofs.PlayLaws.{leaves-whole, task-unplayed}
 use Rattle.client_plays.proofs.RestLaws.{before-same}
 use Rattle.daemon_tasks.specs.Judged.{HouseTried, JudgeStays, Tried, can_judge, to_judge, to_judge_in, told_by}
@@ -147,17 +147,17 @@ one-plays true client Play x moments p = record { first = moments; rest = []; ar
 one-plays false client Play x moments p = record { first = moments; rest = []; are = refl; first_is = p; rest_is = refl }
 
 -- Whatever there was to do was left.
-pub all-nothing : (facts : Facts) (files : Files) (tasks : List Task) → PlaysAll true 0 (TaskPlays facts files) tasks []
-all-nothing facts files [] = refl
-all-nothing facts files (t ∷ tasks) = record { first = []; rest = []; are = refl; first_is = task-unplayed facts files 0 t; rest_is = all-nothing facts files tasks }
+pub all-nothing : (facts : Facts) (opening : List Row) (means : Means) (tasks : List Task) → PlaysAll true 0 (TaskPlays facts opening means) tasks []
+all-nothing facts opening means [] = refl
+all-nothing facts opening means (t ∷ tasks) = record { first = []; rest = []; are = refl; first_is = task-unplayed facts opening means 0 t; rest_is = all-nothing facts opening means tasks }
 
-module _ {K : Type 0} (faults : K → ℕ) (facts : Facts) (files : Files) (entry : ℕ) (row : Row) (wanting : Bool) (old new : Housed K)
+module _ {K : Type 0} (faults : K → ℕ) (facts : Facts) (opening : List Row) (means : Means) (entry : ℕ) (row : Row) (wanting : Bool) (old new : Housed K)
     (k : IsAnnals old.annals) (i : IsIdle (past old)) (r : row_of (rows_at old.annals) entry ≡ Some row)
     (counted : FaultsCounted faults old new) (counts : faults old.keeper ≤ faults new.keeper) (keeps : KeepsPlans old.places new.places) where
   tasks : List Task
   tasks = to_judge_in old.annals (entry ∷ [])
 
-  quiet : (stop : Stop) (told : Option Bool) → Halted stop old.annals new.annals → Tried facts files told wanting (to_judge_in old.annals (entry ∷ [])) (past new) [] → HouseTried faults facts files told wanting (to_judge_in old.annals (entry ∷ [])) old new
+  quiet : (stop : Stop) (told : Option Bool) → Halted stop old.annals new.annals → Tried facts opening means told wanting (to_judge_in old.annals (entry ∷ [])) (past new) [] → HouseTried faults facts opening means told wanting (to_judge_in old.annals (entry ∷ [])) old new
   quiet stop told h m =
       record {
         moments = [];
@@ -172,13 +172,13 @@ module _ {K : Type 0} (faults : K → ℕ) (facts : Facts) (files : Files) (entr
         };
       }
 
-  unjudged : (s : Standing) → standing_of old.annals entry ≡ Some s → IsUnjudged s → Unchanged old.annals new.annals → HouseTried faults facts files (Some wanting) wanting (to_judge_in old.annals (entry ∷ [])) old new
+  unjudged : (s : Standing) → standing_of old.annals entry ≡ Some s → IsUnjudged s → Unchanged old.annals new.annals → HouseTried faults facts opening means (Some wanting) wanting (to_judge_in old.annals (entry ∷ [])) old new
   unjudged s h n u =
       let none = one-not old.annals.facts (rows_before old.annals) (past old) entry (can-not old.annals entry row s k i.no_live r h n) in
       quiet Stop.NoMemory (Some wanting) (halted-memory old.annals new.annals u)
-      (inr refl, subst (λ (ts : List Task). PlaysAll wanting 0 (TaskPlays facts files) ts []) (sym none) refl)
+      (inr refl, subst (λ (ts : List Task). PlaysAll wanting 0 (TaskPlays facts opening means) ts []) (sym none) refl)
 
-  judged : (version : List ℕ) (state : RowState) (stored : Stored) → standing_of old.annals entry ≡ Some (Standing.Judged version state) → Appended 0 (Event.Judge 0 entry version state stored) old.annals new.annals → HouseTried faults facts files (Some wanting) wanting (to_judge_in old.annals (entry ∷ [])) old new
+  judged : (version : List ℕ) (state : RowState) (stored : Stored) → standing_of old.annals entry ≡ Some (Standing.Judged version state) → Appended 0 (Event.Judge 0 entry version state stored) old.annals new.annals → HouseTried faults facts opening means (Some wanting) wanting (to_judge_in old.annals (entry ∷ [])) old new
   judged version state stored h a =
       let event = Event.Judge 0 entry version state stored in
       let one = one-can old.annals.facts (rows_before old.annals) (past old) entry (can-so old.annals entry version state k h) in
@@ -187,8 +187,8 @@ module _ {K : Type 0} (faults : K → ℕ) (facts : Facts) (files : Files) (entr
         did = did-appended 0 event old.annals new.annals (record { no_boot = refl; own = refl }) a;
         more = (
           inr refl,
-          subst (λ (ts : List Task). PlaysAll wanting 0 (TaskPlays facts files) ts (at (past old) event ∷ [])) (sym one)
-              (one-plays wanting 0 (TaskPlays facts files) (ToJudge entry) (at (past old) event ∷ []) (version, state, stored, refl)),
+          subst (λ (ts : List Task). PlaysAll wanting 0 (TaskPlays facts opening means) ts (at (past old) event ∷ [])) (sym one)
+              (one-plays wanting 0 (TaskPlays facts opening means) (ToJudge entry) (at (past old) event ∷ []) (version, state, stored, refl)),
         );
         rest = record {
           idle = subst IsIdle (sym (appended-past 0 event old.annals new.annals a)) (record { no_hold = i.no_hold; no_live = i.no_live });
@@ -199,13 +199,13 @@ module _ {K : Type 0} (faults : K → ℕ) (facts : Facts) (files : Files) (entr
         };
       }
 
-  pub tried : (outcome : Result Judged Stop) → JudgeTurned 0 entry outcome old.annals new.annals → HouseTried faults facts files (told_by outcome wanting) wanting (to_judge_in old.annals (entry ∷ [])) old new
+  pub tried : (outcome : Result Judged Stop) → JudgeTurned 0 entry outcome old.annals new.annals → HouseTried faults facts opening means (told_by outcome wanting) wanting (to_judge_in old.annals (entry ∷ [])) old new
   tried (Ok (Judged.Done state stored)) t = judged t.1.0 state stored t.1.1 t.1.2
   tried (Ok Judged.Absent) t = unjudged Standing.Absent t.1 tt t.2
   tried (Ok Judged.Waits) t = unjudged Standing.Waits t.1 tt t.2
   tried (Ok Judged.Settled) t = unjudged Standing.Settled t.1 tt t.2
   tried (Err Stop.NoMemory) t =
-      quiet Stop.NoMemory (Some true) (halted-memory old.annals new.annals t.1) (inl refl, all-nothing facts files (to_judge_in old.annals (entry ∷ [])))
+      quiet Stop.NoMemory (Some true) (halted-memory old.annals new.annals t.1) (inl refl, all-nothing facts opening means (to_judge_in old.annals (entry ∷ [])))
   tried (Err Stop.Off) t =
       let h = halted-off 0 old.annals new.annals t in quiet Stop.Off None h (refl, h.is_off refl)
 

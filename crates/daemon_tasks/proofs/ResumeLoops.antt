@@ -3,14 +3,17 @@ use Rattle.std.proofs.Common.{◌≡◌, ◌⊎◌, ℕ, ◌<◌, ◌≤◌, ◌
 use Rattle.std.proofs.Math.Seq.{drop-cons}
 use Rattle.std.proofs.lemmas.List.{map-append, take_all}
 use Rattle.std.specs.Prelude.{Option, Some, None}
+use Rattle.plugin_trait.specs.Steps.{PluginSteps}
+use Rattle.history_keeper.specs.declared.row.Row.{Row}
 use Rattle.update_log.specs.declared.facts.Facts.{Facts}
-use Rattle.daemon_core.specs.Housed.{Annalled, Housed}
+use Rattle.daemon_core.specs.Annals.{SameFacts}
+use Rattle.daemon_core.specs.Housed.{Annalled, Housed, rows_before}
 use Rattle.client_plays.specs.Endings.{HouseMore, HouseOnceMore, SoFar}
 use Rattle.client_plays.specs.Moments.{Moment}
 use Rattle.client_plays.specs.Plays.{Task, TaskPlays, ToResume}
-use Rattle.client_plays.specs.Tools.{Files}
+use Rattle.client_plays.specs.Tools.{Files, means_of}
 use Rattle.client_plays.proofs.ListLaws.{taken-here, taken-more}
-use Rattle.client_plays.proofs.RestLaws.{so_far-more, went-all, went-left}
+use Rattle.client_plays.proofs.RestLaws.{before-same, so_far-more, went-all, went-left}
 use Rattle.daemon_tasks.specs.Judged.{AllWait, WaitsIn}
 use Rattle.daemon_tasks.specs.Stays.{AreApart, OthersStay}
 use Rattle.daemon_tasks.proofs.TaskLists.{all-wait_others}
@@ -42,11 +45,13 @@ resumed-more entries i lt = sym (map-append ToResume (take i entries) (get_or en
 resumed-here : (entries : List ℕ) (i : ℕ) → i < length entries → map ToResume (take i entries) ++ ToResume (get_or entries i 0) ∷ map ToResume (drop (suc i) entries) ≡ map ToResume entries
 resumed-here entries i lt = sym (map-append ToResume (take i entries) (get_or entries i 0 ∷ drop (suc i) entries)) ∙ ap (map ToResume) (taken-here entries i 0 lt)
 
--- The facts are the same all along, and so are the files of the daemon's shelf.
-pub same-task : {K : Type 0} (faults : K → ℕ) (told : Option Bool) (wanting : Bool) (task : Task) (facts later : Facts) (files now : Files) (old new : Housed K) → later ≡ facts → now ≡ files → HouseOnceMore faults told wanting 0 (TaskPlays later now task) old new → HouseOnceMore faults told wanting 0 (TaskPlays facts files task) old new
-same-task faults told wanting task facts later files now old new f s m =
-    subst (λ (x : Files). HouseOnceMore faults told wanting 0 (TaskPlays facts x task) old new) s
-    (subst (λ (x : Facts). HouseOnceMore faults told wanting 0 (TaskPlays x now task) old new) f m)
+-- Facts and rows are the same all along, and so are the files of the daemon's shelf.
+pub same-task : {K : Type 0} (faults : K → ℕ) (told : Option Bool) (wanting : Bool) (task : Task) (plugins : ℕ → PluginSteps) (a later : Annalled) (files now : Files) (old new : Housed K) → SameFacts a later → now ≡ files → HouseOnceMore faults told wanting 0 (TaskPlays later.facts (rows_before later) (means_of now plugins) task) old new
+    → HouseOnceMore faults told wanting 0 (TaskPlays a.facts (rows_before a) (means_of files plugins) task) old new
+same-task faults told wanting task plugins a later files now old new f s m =
+    subst (λ (x : Files). HouseOnceMore faults told wanting 0 (TaskPlays a.facts (rows_before a) (means_of x plugins) task) old new) s
+    (subst (λ (x : List Row). HouseOnceMore faults told wanting 0 (TaskPlays a.facts x (means_of now plugins) task) old new) (before-same a later f)
+    (subst (λ (x : Facts). HouseOnceMore faults told wanting 0 (TaskPlays x (rows_before later) (means_of now plugins) task) old new) f.facts m))
 
 -- One more was resumed.
 pub resumed-turn : {K : Type 0} (faults : K → ℕ) (Play : Task → List Moment → Type 0) (now wanting : Bool) (entries : List ℕ) (i : ℕ) (old mid new : Housed K) → i < length entries → SoFar faults wanting 0 Play (map ToResume (take i entries)) old mid → HouseOnceMore faults (Some now) wanting 0 (Play (ToResume (get_or entries i 0))) mid new

@@ -3,6 +3,7 @@ use Rattle.std.proofs.Common.{◌≡◌, ℕ, ◌<◌, ◌≤◌, Bool, true, fa
 use Rattle.std.specs.Prelude.{Option, Some, None, Ok, Err, unwrap_or}
 use Rattle.emulated_boards.specs.Boards.{BoardState}
 use Rattle.emulated_boards.specs.declared.fault.PlannedFault.{PlannedFault}
+use Rattle.plugin_trait.specs.Steps.{PluginSteps}
 use Rattle.history_keeper.specs.declared.row.Row.{Row}
 use Rattle.history_keeper.specs.declared.row.RowState.{RowState}
 use Rattle.update_log.proofs.Lists.{by_test}
@@ -39,10 +40,10 @@ use Rattle.daemon_core.specs.Turns.{FaultsCounted}
 use Rattle.client_plays.specs.declared.played.Played.{Played}
 use Rattle.client_plays.specs.Endings.{HousePlayed, IsIdle}
 use Rattle.client_plays.specs.Moments.{Moment, at}
-use Rattle.client_plays.specs.Plays.{ResumeFetches, ResumePlays, TaskPlays, ToResume, UpdatePlays}
-use Rattle.client_plays.specs.Tools.{Files}
+use Rattle.client_plays.specs.Plays.{IsOwnPlugin, ResumeFetches, ResumePlays, TaskPlays, ToResume, UpdatePlays}
+use Rattle.client_plays.specs.Tools.{Means}
 use Rattle.client_plays.proofs.PlayLaws.{leaves-nothing, task-unplayed}
-use Rattle.client_plays.proofs.RestLaws.{counted-both}
+use Rattle.client_plays.proofs.RestLaws.{before-same, counted-both}
 use Rattle.client_plays.proofs.TurnLaws.{counted-same, counts-same}
 use Rattle.daemon_core.specs.Planned.{HasPlan, HavePlans, KeepsPlans}
 use Rattle.install_engine.specs.RunsIn.{RunsIn, parts_taken}
@@ -79,8 +80,9 @@ out-halted (Some held) stop old new h o = held-halted 0 held.0 (block_count held
 -- ---- the entry that begins
 
 -- What its run did, but for the boards.
-played-home : {K : Type 0} (faults : K → ℕ) (played : Played) (client entry : ℕ) (board : BoardState) (old new : Housed K) → TakenPlayed faults played client entry board old new → HousePlayed faults played client (UpdatePlays client entry) (record old { places = new.places }) new
-played-home faults played client entry board old new p =
+played-home : {K : Type 0} (faults : K → ℕ) (plugins : ℕ → PluginSteps) (played : Played) (client entry : ℕ) (board : BoardState) (old new : Housed K) → TakenPlayed faults plugins played client entry board old new
+    → HousePlayed faults played client (UpdatePlays old.annals.facts (rows_before old.annals) plugins client entry (past old)) (record old { places = new.places }) new
+played-home faults plugins played client entry board old new p =
     record {
       ended = p.ended;
       rest = record { idle = p.idle; same = p.same; counted = p.counted; counts = p.counts; plans = keeps-here new.places };
@@ -115,6 +117,9 @@ module _ {K : Type 0} (entry : ℕ) (held : Option (Ticket × Fetched)) (taken :
   resumed-plugin count l =
       plugin-within new.annals.facts g.3.0 taken.plugin count g.3.1.served (subst (λ (f : Facts). length f.vetoes ≤ count) (sym t.1.same.facts) l)
 
+  pub resumed-own : IsOwnPlugin new.annals.facts (rows_before new.annals) (past new) taken.entry taken.plugin
+  resumed-own = record { number = g.3.0; board_is = g.3.1.comes.board; served = g.3.1.served }
+
   pub resumed-alone : IsOut held (past old) → RunsAlone taken.entry (past new)
   unfolding event
   resumed-alone o =
@@ -135,13 +140,29 @@ module _ {K : Type 0} (entry : ℕ) (held : Option (Ticket × Fetched)) (taken :
         own = subst (λ (i : ℕ). HasPlan plans i taken.board) (sym number) (taken-planned plans old.places g.3.0 taken h g.3.3);
       }
 
-  pub resume-played : (faults : K → ℕ) (files : Files) (asked : AskAnswer) (played : Played) (last : Housed K) → ResumeFetches old.annals.facts files asked (note_in held) → FaultsCounted faults old new → faults old.keeper ≤ faults new.keeper → TakenPlayed faults played 0 taken.entry taken.board new last → HousePlayed faults played 0 (ResumePlays old.annals.facts files entry asked) old last
+  -- What the update is read from, is that of the log behind the resumption.
+  update-so : (faults : K → ℕ) (plugins : ℕ → PluginSteps) (played : Played) (a last : Housed K)
+      → HousePlayed faults played 0 (UpdatePlays new.annals.facts (rows_before new.annals) plugins 0 taken.entry (past new)) a last
+      → HousePlayed faults played 0 (UpdatePlays old.annals.facts (rows_before old.annals) plugins 0 entry (event ∷ past old)) a last
   unfolding event
-  resume-played faults files asked played last f counted counts p =
+  update-so faults plugins played a last h =
+      let f = t.1.same.facts in
+      let o : rows_before new.annals ≡ rows_before old.annals = before-same old.annals new.annals t.1.same in
+      let p : past new ≡ event ∷ past old = appended-past 0 event old.annals new.annals t.1 in
+      subst (λ (x : List Event). HousePlayed faults played 0 (UpdatePlays old.annals.facts (rows_before old.annals) plugins 0 entry x) a last) p
+      (subst (λ (x : List Row). HousePlayed faults played 0 (UpdatePlays old.annals.facts x plugins 0 entry (past new)) a last) o
+      (subst (λ (x : Facts). HousePlayed faults played 0 (UpdatePlays x (rows_before new.annals) plugins 0 entry (past new)) a last) f
+      (subst (λ (e : ℕ). HousePlayed faults played 0 (UpdatePlays new.annals.facts (rows_before new.annals) plugins 0 e (past new)) a last) g.0 h)))
+
+  pub resume-played : (faults : K → ℕ) (means : Means) (asked : AskAnswer) (played : Played) (last : Housed K) → ResumeFetches old.annals.facts means.files asked (note_in held) → FaultsCounted faults old new → faults old.keeper ≤ faults new.keeper
+      → TakenPlayed faults means.plugins played 0 taken.entry taken.board new last → HousePlayed faults played 0 (ResumePlays old.annals.facts (rows_before old.annals) means entry asked) old last
+  unfolding event
+  resume-played faults means asked played last f counted counts p =
       let between : Housed K = record new { places = last.places } in
-      played-behind faults played 0 event (ResumePlays old.annals.facts files entry asked) (UpdatePlays 0 entry) old between last (record { no_boot = refl; own = refl })
+      let update = UpdatePlays old.annals.facts (rows_before old.annals) means.plugins 0 entry (event ∷ past old) in
+      played-behind faults played 0 event (ResumePlays old.annals.facts (rows_before old.annals) means entry asked) update old between last (record { no_boot = refl; own = refl })
       (λ ms u. (note_in held, ResumeAnswer.Begun, Stored.Yes, refl, f, u)) t.1 counted counts (λ plans h. p.home plans (taken-out plans h))
-      (subst (λ (e : ℕ). HousePlayed faults played 0 (UpdatePlays 0 e) between last) g.0 (played-home faults played 0 taken.entry taken.board new last p))
+      (update-so faults means.plugins played between last (played-home faults means.plugins played 0 taken.entry taken.board new last p))
 
   pub resume-others : (last : Housed K) → OthersStay taken.entry new.annals last.annals → OthersStay entry old.annals last.annals
   unfolding event
@@ -151,11 +172,11 @@ module _ {K : Type 0} (entry : ℕ) (held : Option (Ticket × Fetched)) (taken :
 
 -- ---- a resumption that was refused
 
-pub resume-refused : {K : Type 0} (faults : K → ℕ) (files : Files) (asked : AskAnswer) (entry : ℕ) (held : Option (Ticket × Fetched)) (refusal : Refusal) (old new : Housed K) → ResumeFetches old.annals.facts files asked (note_in held) → IsOut held (past old) → ResumeTurned entry (note_in held) (Ok (Claimed.Refused refusal)) old.annals new.annals → ResumeGave entry held (Ok (Claimed.Refused refusal)) old new → FaultsCounted faults old new → faults old.keeper ≤ faults new.keeper
-    → HousePlayed faults Played.Done 0 (ResumePlays old.annals.facts files entry asked) old new
-resume-refused faults files asked entry held refusal old new f o t g counted counts =
+pub resume-refused : {K : Type 0} (faults : K → ℕ) (means : Means) (asked : AskAnswer) (entry : ℕ) (held : Option (Ticket × Fetched)) (refusal : Refusal) (old new : Housed K) → ResumeFetches old.annals.facts means.files asked (note_in held) → IsOut held (past old) → ResumeTurned entry (note_in held) (Ok (Claimed.Refused refusal)) old.annals new.annals → ResumeGave entry held (Ok (Claimed.Refused refusal)) old new → FaultsCounted faults old new → faults old.keeper ≤ faults new.keeper
+    → HousePlayed faults Played.Done 0 (ResumePlays old.annals.facts (rows_before old.annals) means entry asked) old new
+resume-refused faults means asked entry held refusal old new f o t g counted counts =
     let stored = t.1.0 in
-    played-last faults 0 (Event.Resume 0 entry (note_in held) (ResumeAnswer.Refused refusal) stored) (ResumePlays old.annals.facts files entry asked) old new (record { no_boot = refl; own = refl })
+    played-last faults 0 (Event.Resume 0 entry (note_in held) (ResumeAnswer.Refused refusal) stored) (ResumePlays old.annals.facts (rows_before old.annals) means entry asked) old new (record { no_boot = refl; own = refl })
     (note_in held, ResumeAnswer.Refused refusal, stored, refl, f, refl) (record { no_hold = out-unheld held (past old) o; no_live = out-dead held (past old) o }) t.1.2 counted counts
     (λ plans. resume-plans plans entry held (Ok (Claimed.Refused refusal)) old new g)
 
@@ -186,17 +207,17 @@ module _ {K : Type 0} (entry : ℕ) (held : Option (Ticket × Fetched)) (stopped
   left-plans : (new : Housed K) → new.places ≡ mid.places → KeepsPlans old.places new.places
   left-plans new s = keeps-both old.places mid.places new.places (λ plans. resume-plans plans entry held (Err stopped) old mid g) (keeps-same mid.places new.places s)
 
-  left : (faults : K → ℕ) (files : Files) (asked : AskAnswer) → ResumeFetches old.annals.facts files asked (note_in held) → (kept : Option (Ticket × Fetched)) (new : Housed K) → IsOut kept (past mid) → IsOut kept (past old) → FaultsCounted faults old mid → faults old.keeper ≤ faults mid.keeper
-      → WasGivenUp kept mid.annals new.annals → new.keeper ≡ mid.keeper → new.places ≡ mid.places → HousePlayed faults (ends.stopped_by stopped.stop) 0 (ResumePlays old.annals.facts files entry asked) old new
+  left : (faults : K → ℕ) (means : Means) (asked : AskAnswer) → ResumeFetches old.annals.facts means.files asked (note_in held) → (kept : Option (Ticket × Fetched)) (new : Housed K) → IsOut kept (past mid) → IsOut kept (past old) → FaultsCounted faults old mid → faults old.keeper ≤ faults mid.keeper
+      → WasGivenUp kept mid.annals new.annals → new.keeper ≡ mid.keeper → new.places ≡ mid.places → HousePlayed faults (ends.stopped_by stopped.stop) 0 (ResumePlays old.annals.facts (rows_before old.annals) means entry asked) old new
   unfolding some-resume
-  left faults files asked f None new o was counted counts w k s =
+  left faults means asked f None new o was counted counts w k s =
       let h : Halted stopped.stop old.annals new.annals = subst (λ (a : Annalled). Halted stopped.stop old.annals a) (sym w) halted in
       let e : keeper_faults (past new) ≡ keeper_faults (past mid) = ap (λ (a : Annalled). keeper_faults (past_in a)) w in
-      played-stopped faults stopped.stop 0 (ResumePlays old.annals.facts files entry asked) old new
-      (leaves-nothing 0 (ResumePlays old.annals.facts files entry asked) (some-resume entry (note_in held)) (note_in held, ResumeAnswer.Refused Refusal.NoDevice, Stored.Yes, refl, f, refl))
+      played-stopped faults stopped.stop 0 (ResumePlays old.annals.facts (rows_before old.annals) means entry asked) old new
+      (leaves-nothing 0 (ResumePlays old.annals.facts (rows_before old.annals) means entry asked) (some-resume entry (note_in held)) (note_in held, ResumeAnswer.Refused Refusal.NoDevice, Stored.Yes, refl, f, refl))
       was h (counted-both faults old mid new counted (counted-same faults mid new e k) (counts-same faults mid new k)) (le-both (faults old.keeper) (faults mid.keeper) (faults new.keeper) counts (counts-same faults mid new k)) (left-plans new s)
-  left faults files asked f (Some x) new o was counted counts w k s =
-      played-back faults stopped.stop 0 (back_of x.0.pending x.0.request) (ResumePlays old.annals.facts files entry asked) (some-resume entry (note_in held)) old mid new
+  left faults means asked f (Some x) new o was counted counts w k s =
+      played-back faults stopped.stop 0 (back_of x.0.pending x.0.request) (ResumePlays old.annals.facts (rows_before old.annals) means entry asked) (some-resume entry (note_in held)) old mid new
       (note_in held, ResumeAnswer.Refused Refusal.NoDevice, Stored.Yes, refl, f, refl) halted w
       (idle-back 0 x.0 (block_count x.1) x.0.pending x.0.request (past mid) o) counted counts k (left-plans new s)
 
@@ -204,11 +225,11 @@ module _ {K : Type 0} (entry : ℕ) (held : Option (Ticket × Fetched)) (stopped
   left-others None new w = λ other n. ap (λ (a : Annalled). row_of (rows_at a) other) w
   left-others (Some x) new w = others-appended 0 entry (Event.GiveBack 0 (back_of x.0.pending x.0.request)) mid.annals new.annals tt w
 
-  pub resume-stopped : (faults : K → ℕ) (files : Files) (asked : AskAnswer) (told : Played) (new : Housed K) → ResumeFetches old.annals.facts files asked (note_in held) → told ≡ ends.stopped_by stopped.stop → IsOut held (past old) → FaultsCounted faults old mid → faults old.keeper ≤ faults mid.keeper
-      → WasGivenUp stopped.held mid.annals new.annals → new.keeper ≡ mid.keeper → new.places ≡ mid.places → HousePlayed faults told 0 (ResumePlays old.annals.facts files entry asked) old new
-  resume-stopped faults files asked told new f e o counted counts w k s =
-      subst (λ (x : Played). HousePlayed faults x 0 (ResumePlays old.annals.facts files entry asked) old new) (sym e)
-      (left faults files asked f stopped.held new (stopped-out o) (subst (λ (h : Option (Ticket × Fetched)). IsOut h (past old)) (sym g.2) o) counted counts w k s)
+  pub resume-stopped : (faults : K → ℕ) (means : Means) (asked : AskAnswer) (told : Played) (new : Housed K) → ResumeFetches old.annals.facts means.files asked (note_in held) → told ≡ ends.stopped_by stopped.stop → IsOut held (past old) → FaultsCounted faults old mid → faults old.keeper ≤ faults mid.keeper
+      → WasGivenUp stopped.held mid.annals new.annals → new.keeper ≡ mid.keeper → new.places ≡ mid.places → HousePlayed faults told 0 (ResumePlays old.annals.facts (rows_before old.annals) means entry asked) old new
+  resume-stopped faults means asked told new f e o counted counts w k s =
+      subst (λ (x : Played). HousePlayed faults x 0 (ResumePlays old.annals.facts (rows_before old.annals) means entry asked) old new) (sym e)
+      (left faults means asked f stopped.held new (stopped-out o) (subst (λ (h : Option (Ticket × Fetched)). IsOut h (past old)) (sym g.2) o) counted counts w k s)
 
   pub stopped-others : (new : Housed K) → WasGivenUp stopped.held mid.annals new.annals → OthersStay entry old.annals new.annals
   stopped-others new w = others-both entry old.annals mid.annals new.annals (others-halted entry stopped.stop old.annals mid.annals halted) (left-others stopped.held new w)
@@ -282,21 +303,22 @@ pending-not_kept entry kept state request old new k a =
     cc
 
 -- The resumption behind the ask.
-pub pending-behind : {K : Type 0} (faults : K → ℕ) (files : Files) (entry : ℕ) (request : Request) (answer : AskAnswer) (played : Played) (old mid new : Housed K) → mid.keeper ≡ old.keeper → mid.places ≡ old.places → Appended 0 (Event.Ask 0 request (Some entry) answer) old.annals mid.annals → HousePlayed faults played 0 (ResumePlays mid.annals.facts files entry answer) mid new
-    → HousePlayed faults played 0 (TaskPlays old.annals.facts files (ToResume entry)) old new
-pending-behind faults files entry request answer played old mid new k s a p =
+pub pending-behind : {K : Type 0} (faults : K → ℕ) (means : Means) (entry : ℕ) (request : Request) (answer : AskAnswer) (played : Played) (old mid new : Housed K) → mid.keeper ≡ old.keeper → mid.places ≡ old.places → Appended 0 (Event.Ask 0 request (Some entry) answer) old.annals mid.annals → HousePlayed faults played 0 (ResumePlays mid.annals.facts (rows_before mid.annals) means entry answer) mid new
+    → HousePlayed faults played 0 (TaskPlays old.annals.facts (rows_before old.annals) means (ToResume entry)) old new
+pending-behind faults means entry request answer played old mid new k s a p =
     let event = Event.Ask 0 request (Some entry) answer in
-    played-behind faults played 0 event (TaskPlays old.annals.facts files (ToResume entry)) (ResumePlays old.annals.facts files entry answer) old mid new (record { no_boot = refl; own = refl })
+    played-behind faults played 0 event (TaskPlays old.annals.facts (rows_before old.annals) means (ToResume entry)) (ResumePlays old.annals.facts (rows_before old.annals) means entry answer) old mid new (record { no_boot = refl; own = refl })
     (λ ms u. (request, answer, refl, u))
     a (counted-same faults old mid (faults-appended 0 event old.annals mid.annals refl a) k) (counts-same faults old mid k) (keeps-same old.places mid.places s)
-    (subst (λ (f : Facts). HousePlayed faults played 0 (ResumePlays f files entry answer) mid new) a.same.facts p)
+    (subst (λ (o : List Row). HousePlayed faults played 0 (ResumePlays old.annals.facts o means entry answer) mid new) (before-same old.annals mid.annals a.same)
+    (subst (λ (f : Facts). HousePlayed faults played 0 (ResumePlays f (rows_before mid.annals) means entry answer) mid new) a.same.facts p))
 
 pub pending-others : (entry : ℕ) (request : Request) (answer : AskAnswer) (old mid new : Annalled) → Appended 0 (Event.Ask 0 request (Some entry) answer) old mid → OthersStay entry mid new → OthersStay entry old new
 pending-others entry request answer old mid new a o = others-both entry old mid new (others-appended 0 entry (Event.Ask 0 request (Some entry) answer) old mid tt a) o
 
 -- It was stopped at its ask.
-pub pending-stopped : {K : Type 0} (faults : K → ℕ) (files : Files) (entry : ℕ) (told : Played) (stop : Stop) (old new : Housed K) → told ≡ ends.stopped_by stop → IsIdle (past old) → Halted stop old.annals new.annals → new.keeper ≡ old.keeper → new.places ≡ old.places
-    → HousePlayed faults told 0 (TaskPlays old.annals.facts files (ToResume entry)) old new
-pending-stopped faults files entry told stop old new e i h k s =
-    subst (λ (x : Played). HousePlayed faults x 0 (TaskPlays old.annals.facts files (ToResume entry)) old new) (sym e)
-    (stopped-alone faults stop 0 (TaskPlays old.annals.facts files (ToResume entry)) old new (task-unplayed old.annals.facts files 0 (ToResume entry)) i h k s)
+pub pending-stopped : {K : Type 0} (faults : K → ℕ) (means : Means) (entry : ℕ) (told : Played) (stop : Stop) (old new : Housed K) → told ≡ ends.stopped_by stop → IsIdle (past old) → Halted stop old.annals new.annals → new.keeper ≡ old.keeper → new.places ≡ old.places
+    → HousePlayed faults told 0 (TaskPlays old.annals.facts (rows_before old.annals) means (ToResume entry)) old new
+pending-stopped faults means entry told stop old new e i h k s =
+    subst (λ (x : Played). HousePlayed faults x 0 (TaskPlays old.annals.facts (rows_before old.annals) means (ToResume entry)) old new) (sym e)
+    (stopped-alone faults stop 0 (TaskPlays old.annals.facts (rows_before old.annals) means (ToResume entry)) old new (task-unplayed old.annals.facts (rows_before old.annals) means 0 (ToResume entry)) i h k s)

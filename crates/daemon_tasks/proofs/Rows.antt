@@ -19,6 +19,8 @@ use Rattle.daemon_core.specs.Annals.{Appended, SameFacts}
 use Rattle.daemon_core.specs.Housed.{Annalled, past_in, rows_before}
 use Rattle.daemon_core.specs.declared.stop.Stop.{Stop}
 use Rattle.client_plays.proofs.RestLaws.{before-same}
+use Rattle.plugin_trait.specs.Steps.{PluginSteps}
+use Rattle.device_claims.specs.declared.claim.Parts.{Parts}
 use Rattle.plain_runs.specs.declared.outcome.Outcome.{Outcome}
 use Rattle.plain_runs.specs.Ran.{Gained, Ran, StepMade, cut_events, start_events, step_events}
 use Rattle.plain_runs.proofs.Pasts.{grown, past-gained}
@@ -146,11 +148,12 @@ spare-back client entry true = (tt, (tt, tt))
 spare-back client entry false = (tt, tt)
 
 -- The run of an entry.
-pub others-ran : (client entry : ℕ) (outcome : Outcome) (old new : Annalled) → Ran client entry outcome old new → OthersStay entry old new
-others-ran client entry (Outcome.Finished finished) old new (steps, g) =
-    others-gained entry (step_events client entry steps ++ Event.Finish client entry finished.state finished.stored ∷ []) old new
-    (spare-append entry (step_events client entry steps) (Event.Finish client entry finished.state finished.stored ∷ []) (spare-steps client entry steps) (refl, tt)) g
-others-ran client entry Outcome.Off old new k =
+pub others-ran : (by : PluginSteps) (client entry : ℕ) (was : Parts) (outcome : Outcome) (old new : Annalled) → Ran by client entry was outcome old new → OthersStay entry old new
+others-ran by client entry was (Outcome.Finished finished) old new k =
+    let steps = step_events client entry k.steps in
+    let last = Event.Finish client entry finished.state finished.stored ∷ [] in
+    others-gained entry (steps ++ last) old new (spare-append entry steps last (spare-steps client entry k.steps) (refl, tt)) k.gained
+others-ran by client entry was Outcome.Off old new k =
     let last = cut_events k.cut ++ Event.GiveBack client (Back.Entry entry) ∷ [] in
     others-gained entry (step_events client entry k.steps ++ (start_events client entry k.started ++ last)) old new
     (spare-append entry (step_events client entry k.steps) (start_events client entry k.started ++ last) (spare-steps client entry k.steps)

@@ -1,8 +1,11 @@
 -- The run of an entry, as its events in a row.
 use Rattle.std.proofs.Common.{◌≡◌, ℕ, ◌≤◌, Bool, true, false, List, [], ◌∷◌, ◌++◌, append_assoc, refl, ap, sym, ◌∙◌, subst}
-use Rattle.std.specs.Prelude.{Option, Some, None, Ok, ◌==◌}
+use Rattle.std.specs.Prelude.{Option, Some, None, ◌==◌}
+use Rattle.block_pool.specs.Views.{SealedBytes}
 use Rattle.fw_facts.specs.declared.seen.Seen.{Seen}
 use Rattle.emulated_boards.specs.Boards.{BoardState}
+use Rattle.emulated_boards.specs.Conditions.{view_of}
+use Rattle.plugin_trait.specs.Steps.{PluginSteps}
 use Rattle.history_keeper.specs.declared.row.RowState.{RowState}
 use Rattle.update_log.proofs.Lists.{eqb-self}
 use Rattle.update_log.specs.declared.event.Back.{Back}
@@ -13,15 +16,21 @@ use Rattle.update_log.specs.declared.live.LiveEntry.{LiveEntry}
 use Rattle.update_log.specs.Holding.{live, without_entry}
 use Rattle.update_log.specs.Pasts.{client_of, is_boot, off}
 use Rattle.daemon_core.specs.Annals.{SameFacts}
-use Rattle.daemon_core.specs.Housed.{Annalled, Housed, past, past_in}
+use Rattle.daemon_core.specs.declared.claimed.Taken.{Taken}
+use Rattle.daemon_core.specs.Housed.{Annalled, Housed, past, past_in, rows_before}
 use Rattle.daemon_core.specs.Turns.{FaultsCounted}
 use Rattle.client_plays.specs.declared.played.Played.{Played}
 use Rattle.client_plays.specs.Moments.{Did, Moment, at}
-use Rattle.client_plays.specs.Plays.{UpdatePlays}
+use Rattle.device_claims.specs.Claims.{StepGives}
+use Rattle.device_claims.specs.declared.claim.Parts.{Parts}
+use Rattle.install_engine.specs.RunsIn.{RunsIn, parts_taken}
+use Rattle.client_plays.specs.Plays.{IsOwnPlugin, StepsPlay, UpdatePlays}
 use Rattle.client_plays.specs.Endings.{EndsSo, IsIdle}
 use Rattle.client_plays.proofs.MomentLaws.{did-both, did-nobody, did-nothing, did-one}
+use Rattle.client_plays.proofs.UpdateLaws.{runs-update}
+use Rattle.client_plays.proofs.WiderLaws.{ends-wider}
 use Rattle.plain_runs.specs.declared.outcome.Outcome.{Outcome}
-use Rattle.plain_runs.specs.Ran.{BroughtHome, GaveBack, Ran, StepMade, cut_events, start_events, step_events}
+use Rattle.plain_runs.specs.Ran.{AreMade, BroughtHome, GaveBack, IsBegun, Ran, StepMade, cut_events, start_events, step_events}
 use Rattle.plain_runs.proofs.Pasts.{grown, grown-append, past-gained}
 use Rattle.daemon_tasks.specs.Ends.{TakenPlayed, ended_by}
 use Rattle.daemon_tasks.specs.Stays.{RunsAlone}
@@ -57,29 +66,36 @@ did-all client past (event ∷ events) o =
 
 -- ---- the play
 
--- Steps and the finish are an update.
-update-plays : (client entry : ℕ) (past : List Event) (steps : List StepMade) (state : RowState) (stored : Stored) → UpdatePlays client entry (moments_of past (step_events client entry steps ++ Event.Finish client entry state stored ∷ []))
-update-plays client entry past [] state stored = (state, stored, refl)
-update-plays client entry past (s ∷ steps) state stored = (
-  record { op = s.op; outcome = s.outcome; told = s.told; seen = s.seen; started_is = refl; ended_is = refl },
-  update-plays client entry _ steps state stored,
+-- Steps that a plugin made, and the finish, are an update.
+update-plays : (by : PluginSteps) (client entry : ℕ) (payload : SealedBytes) (past : List Event) (was last : BoardState) (steps : List StepMade) (state : RowState) (stored : Stored) → AreMade by entry payload was steps last
+    → StepsPlay by client entry payload was (moments_of past (step_events client entry steps ++ Event.Finish client entry state stored ∷ []))
+update-plays by client entry payload past was last [] state stored m = (state, stored, refl)
+update-plays by client entry payload past was last (s ∷ steps) state stored m = (
+  m.0,
+  record { op = s.op; outcome = s.outcome; told = s.told; started_is = refl; ended_is = ap (λ (v : Seen). Event.End client entry s.op s.outcome s.told v) m.2; made = m.1 },
+  update-plays by client entry payload _ m.0 last steps state stored m.3,
 )
 
--- What an update would do yet.
-abbrev update_rest : ℕ → ℕ → Option Op → List Moment
-update_rest client entry None = at [] (Event.Finish client entry RowState.Failed Stored.Yes) ∷ []
-update_rest client entry (Some op) = at [] (Event.End client entry op (Ok tt) [] Seen.Gone) ∷ at [] (Event.Finish client entry RowState.Failed Stored.Yes) ∷ []
+-- What an update would do yet: the step that was started is ended, and the entry finished.
+pub update_rest : (by : PluginSteps) (client entry : ℕ) (payload : SealedBytes) (board : BoardState) (started : Option Op) → IsBegun by entry payload board started → List Moment
+update_rest by client entry payload board None b = at [] (Event.Finish client entry RowState.Failed Stored.Yes) ∷ []
+update_rest by client entry payload board (Some op) b =
+    at [] (Event.End client entry op b.0 [] (view_of b.1.condition)) ∷ at [] (Event.Finish client entry RowState.Failed Stored.Yes) ∷ []
 
 -- Steps, and the start of one more perhaps, begin an update.
-update-begins : (client entry : ℕ) (past : List Event) (steps : List StepMade) (started : Option Op) → UpdatePlays client entry (moments_of past (step_events client entry steps ++ start_events client entry started) ++ update_rest client entry started)
-update-begins client entry past [] None = (RowState.Failed, Stored.Yes, refl)
-update-begins client entry past [] (Some op) = (
-  record { op = op; outcome = Ok tt; told = []; seen = Seen.Gone; started_is = refl; ended_is = refl },
+update-begins : (by : PluginSteps) (client entry : ℕ) (payload : SealedBytes) (past : List Event) (was last : BoardState) (steps : List StepMade) (started : Option Op) → AreMade by entry payload was steps last → (b : IsBegun by entry payload last started)
+    → StepsPlay by client entry payload was (moments_of past (step_events client entry steps ++ start_events client entry started) ++ update_rest by client entry payload last started b)
+unfolding update_rest
+update-begins by client entry payload past was last [] None m b = (RowState.Failed, Stored.Yes, refl)
+update-begins by client entry payload past was last [] (Some op) m b = (
+  b.1,
+  record { op = op; outcome = b.0; told = []; started_is = refl; ended_is = refl; made = subst (λ (x : BoardState). StepGives by op entry payload x b.0 b.1) m b.2 },
   (RowState.Failed, Stored.Yes, refl),
 )
-update-begins client entry past (s ∷ steps) started = (
-  record { op = s.op; outcome = s.outcome; told = s.told; seen = s.seen; started_is = refl; ended_is = refl },
-  update-begins client entry _ steps started,
+update-begins by client entry payload past was last (s ∷ steps) started m b = (
+  m.0,
+  record { op = s.op; outcome = s.outcome; told = s.told; started_is = refl; ended_is = ap (λ (v : Seen). Event.End client entry s.op s.outcome s.told v) m.2; made = m.1 },
+  update-begins by client entry payload _ m.0 last steps started m.3 b,
 )
 
 -- ---- what is out
@@ -114,102 +130,112 @@ idle-back client entry past r = record { no_hold = rw r.no_hold refl; no_live = 
 -- ---- the run
 
 -- Of a run: what the client did, how it ends, and that nothing is out.
-pub record RunPlayed (played : Played) (client entry : ℕ) (old new : List Event) : Type 0 where
+pub record RunPlayed (played : Played) (client : ℕ) (Play : List Moment → Type 0) (old new : List Event) : Type 0 where
   pub moments : List Moment
   pub did : Did client moments old new
-  pub ends : EndsSo played client (UpdatePlays client entry) new moments
+  pub ends : EndsSo played client Play new moments
   pub idle : IsIdle new
 
-finished-run : (client entry : ℕ) (past : List Event) (steps : List StepMade) (state : RowState) (stored : Stored) → RunsAlone entry past
-    → RunPlayed Played.Done client entry past (grown past (step_events client entry steps ++ Event.Finish client entry state stored ∷ []))
-finished-run client entry past steps state stored r =
-    let last = Event.Finish client entry state stored in
-    let events = step_events client entry steps ++ last ∷ [] in
-    record {
-      moments = moments_of past events;
-      did = did-all client past events (own-append client (step_events client entry steps) (last ∷ []) (own-steps client entry steps) (refl, refl, tt));
-      ends = update-plays client entry past steps state stored;
-      idle = subst IsIdle (sym (grown-append past (step_events client entry steps) (last ∷ [])))
-          (idle-finish client entry (grown past (step_events client entry steps)) state stored (runs-steps client entry past steps r));
-    }
+module _ (by : PluginSteps) (client entry : ℕ) (was : Parts) where
+  finished-run : (past : List Event) (steps : List StepMade) (last : BoardState) (state : RowState) (stored : Stored) → RunsAlone entry past → AreMade by entry was.payload was.board steps last
+      → RunPlayed Played.Done client (StepsPlay by client entry was.payload was.board) past (grown past (step_events client entry steps ++ Event.Finish client entry state stored ∷ []))
+  finished-run past steps last state stored r m =
+      let end = Event.Finish client entry state stored in
+      let events = step_events client entry steps ++ end ∷ [] in
+      record {
+        moments = moments_of past events;
+        did = did-all client past events (own-append client (step_events client entry steps) (end ∷ []) (own-steps client entry steps) (refl, refl, tt));
+        ends = update-plays by client entry was.payload past was.board last steps state stored m;
+        idle = subst IsIdle (sym (grown-append past (step_events client entry steps) (end ∷ [])))
+            (idle-finish client entry (grown past (step_events client entry steps)) state stored (runs-steps client entry past steps r));
+      }
 
-cut-done : (client : ℕ) (past : List Event) (cut : Bool) → Did client [] past (grown past (cut_events cut))
-cut-done client past true = did-nobody client past Event.Cut refl refl
-cut-done client past false = did-nothing client past
+  cut-done : (past : List Event) (cut : Bool) → Did client [] past (grown past (cut_events cut))
+  cut-done past true = did-nobody client past Event.Cut refl refl
+  cut-done past false = did-nothing client past
 
-left-run : (client entry : ℕ) (past : List Event) (steps : List StepMade) (started : Option Op) (cut : Bool) → RunsAlone entry past → (new : List Event)
-    → new ≡ Event.GiveBack client (Back.Entry entry) ∷ grown (grown past (step_events client entry steps ++ start_events client entry started)) (cut_events cut) → off new ≡ true
-    → RunPlayed Played.Off client entry past new
-left-run client entry past steps started cut r new e o =
-    let front = step_events client entry steps ++ start_events client entry started in
-    let mid = grown past front in
-    let late = grown mid (cut_events cut) in
-    let last = Event.GiveBack client (Back.Entry entry) in
-    let m = at late last ∷ [] in
-    let runs : RunsAlone entry mid =
-    subst (RunsAlone entry) (sym (grown-append past (step_events client entry steps) (start_events client entry started)))
-    (runs-start client entry (grown past (step_events client entry steps)) started (runs-steps client entry past steps r))
-    in
-    let did : Did client (moments_of past front ++ ([] ++ m)) past (last ∷ late) =
-    did-both client (moments_of past front) ([] ++ m) past mid (last ∷ late)
-    (did-all client past front (own-append client (step_events client entry steps) (start_events client entry started) (own-steps client entry steps) (own-start client entry started)))
-    (did-both client [] m mid late (last ∷ late) (cut-done client mid cut) (did-one client late last refl refl))
-    in
-    record {
-      moments = moments_of past front ++ m;
-      did = subst (λ (p : List Event). Did client (moments_of past front ++ m) past p) (sym e) did;
-      ends = (
-        record {
-          front = moments_of past front;
-          rest = update_rest client entry started;
-          back = m;
-          play = update-begins client entry past steps started;
-          gave = (Back.Entry entry, refl);
-          are = refl;
-        },
-        o,
-      );
-      idle = subst IsIdle (sym e) (idle-back client entry late (runs-cut entry mid cut runs));
-    }
+  left-run : (past : List Event) (steps : List StepMade) (started : Option Op) (cut : Bool) (end : BoardState) → RunsAlone entry past → AreMade by entry was.payload was.board steps end → IsBegun by entry was.payload end started → (new : List Event)
+      → new ≡ Event.GiveBack client (Back.Entry entry) ∷ grown (grown past (step_events client entry steps ++ start_events client entry started)) (cut_events cut) → off new ≡ true
+      → RunPlayed Played.Off client (StepsPlay by client entry was.payload was.board) past new
+  left-run past steps started cut end r made begun new e o =
+      let front = step_events client entry steps ++ start_events client entry started in
+      let mid = grown past front in
+      let late = grown mid (cut_events cut) in
+      let last = Event.GiveBack client (Back.Entry entry) in
+      let m = at late last ∷ [] in
+      let runs : RunsAlone entry mid =
+      subst (RunsAlone entry) (sym (grown-append past (step_events client entry steps) (start_events client entry started)))
+      (runs-start client entry (grown past (step_events client entry steps)) started (runs-steps client entry past steps r))
+      in
+      let did : Did client (moments_of past front ++ ([] ++ m)) past (last ∷ late) =
+      did-both client (moments_of past front) ([] ++ m) past mid (last ∷ late)
+      (did-all client past front (own-append client (step_events client entry steps) (start_events client entry started) (own-steps client entry steps) (own-start client entry started)))
+      (did-both client [] m mid late (last ∷ late) (cut-done mid cut) (did-one client late last refl refl))
+      in
+      record {
+        moments = moments_of past front ++ m;
+        did = subst (λ (p : List Event). Did client (moments_of past front ++ m) past p) (sym e) did;
+        ends = (
+          record {
+            front = moments_of past front;
+            rest = update_rest by client entry was.payload end started begun;
+            back = m;
+            play = update-begins by client entry was.payload past was.board end steps started made begun;
+            gave = (Back.Entry entry, refl);
+            are = refl;
+          },
+          o,
+        );
+        idle = subst IsIdle (sym e) (idle-back client entry late (runs-cut entry mid cut runs));
+      }
 
-behind-cut : (past : List Event) (cut : Bool) (last : Event) → grown past (cut_events cut ++ last ∷ []) ≡ last ∷ grown past (cut_events cut)
-behind-cut past true last = refl
-behind-cut past false last = refl
+  behind-cut : (past : List Event) (cut : Bool) (last : Event) → grown past (cut_events cut ++ last ∷ []) ≡ last ∷ grown past (cut_events cut)
+  behind-cut past true last = refl
+  behind-cut past false last = refl
 
-given-back : (client entry : ℕ) (old new : Annalled) → RunsAlone entry (past_in old) → GaveBack client entry old new → RunPlayed Played.Off client entry (past_in old) (past_in new)
-given-back client entry old new r k =
-    let steps = step_events client entry k.steps in
-    let start = start_events client entry k.started in
-    let last = Event.GiveBack client (Back.Entry entry) in
-    let tail = cut_events k.cut ++ last ∷ [] in
-    let e : past_in new ≡ last ∷ grown (grown (past_in old) (steps ++ start)) (cut_events k.cut) =
-    past-gained (steps ++ (start ++ tail)) old new k.gained
-    ∙ ap (λ (l : List Event). grown (past_in old) l) (sym (append_assoc steps start tail))
-    ∙ grown-append (past_in old) (steps ++ start) tail
-    ∙ behind-cut (grown (past_in old) (steps ++ start)) k.cut last
-    in
-    left-run client entry (past_in old) k.steps k.started k.cut r (past_in new) e k.is_off
+  given-back : (old new : Annalled) → RunsAlone entry (past_in old) → GaveBack by client entry was old new → RunPlayed Played.Off client (StepsPlay by client entry was.payload was.board) (past_in old) (past_in new)
+  given-back old new r k =
+      let steps = step_events client entry k.steps in
+      let start = start_events client entry k.started in
+      let last = Event.GiveBack client (Back.Entry entry) in
+      let tail = cut_events k.cut ++ last ∷ [] in
+      let e : past_in new ≡ last ∷ grown (grown (past_in old) (steps ++ start)) (cut_events k.cut) =
+      past-gained (steps ++ (start ++ tail)) old new k.gained
+      ∙ ap (λ (l : List Event). grown (past_in old) l) (sym (append_assoc steps start tail))
+      ∙ grown-append (past_in old) (steps ++ start) tail
+      ∙ behind-cut (grown (past_in old) (steps ++ start)) k.cut last
+      in
+      left-run (past_in old) k.steps k.started k.cut k.last r k.made k.begun (past_in new) e k.is_off
 
-pub ran-so : (client entry : ℕ) (outcome : Outcome) (old new : Annalled) → RunsAlone entry (past_in old) → Ran client entry outcome old new → RunPlayed (ended_by outcome) client entry (past_in old) (past_in new)
-ran-so client entry (Outcome.Finished finished) old new r (steps, g) =
-    let last = Event.Finish client entry finished.state finished.stored in
-    subst (RunPlayed Played.Done client entry (past_in old)) (sym (past-gained (step_events client entry steps ++ last ∷ []) old new g))
-    (finished-run client entry (past_in old) steps finished.state finished.stored r)
-ran-so client entry Outcome.Off old new r k = given-back client entry old new r k
+  pub ran-so : (outcome : Outcome) (old new : Annalled) → RunsAlone entry (past_in old) → Ran by client entry was outcome old new → RunPlayed (ended_by outcome) client (StepsPlay by client entry was.payload was.board) (past_in old) (past_in new)
+  ran-so (Outcome.Finished finished) old new r k =
+      let last = Event.Finish client entry finished.state finished.stored in
+      subst (RunPlayed Played.Done client (StepsPlay by client entry was.payload was.board) (past_in old)) (sym (past-gained (step_events client entry k.steps ++ last ∷ []) old new k.gained))
+      (finished-run (past_in old) k.steps k.last finished.state finished.stored r k.made)
+  ran-so Outcome.Off old new r k = given-back old new r k
 
-ran-same : (client entry : ℕ) (outcome : Outcome) (old new : Annalled) → Ran client entry outcome old new → SameFacts old new
-ran-same client entry (Outcome.Finished finished) old new (steps, g) = g.same
-ran-same client entry Outcome.Off old new k = k.gained.same
+  pub ran-same : (outcome : Outcome) (old new : Annalled) → Ran by client entry was outcome old new → SameFacts old new
+  ran-same (Outcome.Finished finished) old new k = k.gained.same
+  ran-same Outcome.Off old new k = k.gained.same
 
-pub run-played : {K : Type 0} (faults : K → ℕ) (client entry : ℕ) (board : BoardState) (outcome : Outcome) (told : Played) (old new : Housed K) → told ≡ ended_by outcome → RunsAlone entry (past old) → Ran client entry outcome old.annals new.annals → FaultsCounted faults old new → faults old.keeper ≤ faults new.keeper
-    → BroughtHome entry board old new → TakenPlayed faults told client entry board old new
-run-played faults client entry board outcome told old new e r ran counted counts home =
-    let p = ran-so client entry outcome old.annals new.annals r ran in
-    subst (λ (x : Played). TakenPlayed faults x client entry board old new) (sym e)
+-- An entry that was taken runs: what its run did, where the plugin of its board made the steps.
+pub run-played : {K : Type 0} (faults : K → ℕ) (plugins : ℕ → PluginSteps) (client : ℕ) (taken : Taken) (outcome : Outcome) (told : Played) (old new : Housed K) → RunsIn old.annals client (parts_taken taken) None
+    → IsOwnPlugin old.annals.facts (rows_before old.annals) (past old) taken.entry taken.plugin → told ≡ ended_by outcome → RunsAlone taken.entry (past old) → Ran (plugins taken.plugin) client taken.entry (parts_taken taken) outcome old.annals new.annals
+    → FaultsCounted faults old new → faults old.keeper ≤ faults new.keeper → BroughtHome taken.entry taken.board old new → TakenPlayed faults plugins told client taken.entry taken.board old new
+run-played faults plugins client taken outcome told old new runs own e r ran counted counts home =
+    let a = old.annals in
+    let p = ran-so (plugins taken.plugin) client taken.entry (parts_taken taken) outcome a new.annals r ran in
+    subst (λ (x : Played). TakenPlayed faults plugins x client taken.entry taken.board old new) (sym e)
     (record {
-      ended = record { moments = p.moments; did = p.did; ends = p.ends };
+      ended = record {
+        moments = p.moments;
+        did = p.did;
+        ends = ends-wider (ended_by outcome) client (UpdatePlays a.facts (rows_before a) plugins client taken.entry (past old)) (StepsPlay (plugins taken.plugin) client taken.entry taken.payload taken.board) (past new)
+            (runs-update a.facts a.first (rows_before a) (past old) plugins client taken.plugin (parts_taken taken) runs.number runs.l runs.runs own)
+            p.moments p.ends;
+      };
       idle = p.idle;
-      same = ran-same client entry outcome old.annals new.annals ran;
+      same = ran-same (plugins taken.plugin) client taken.entry (parts_taken taken) outcome a new.annals ran;
       counted = counted;
       counts = counts;
       home = home;

@@ -20,7 +20,7 @@ use Rattle.client_plays.specs.Endings.{HouseMore, HouseWent, IsFresh, IsIdle, So
 use Rattle.client_plays.specs.Moments.{Moment, began}
 use Rattle.client_plays.specs.Plays.{Task, TaskPlays, ToJudge, ToResume}
 use Rattle.client_plays.specs.Scripts.{is_judgeable, tasks}
-use Rattle.client_plays.specs.Tools.{Files}
+use Rattle.client_plays.specs.Tools.{Means}
 use Rattle.client_plays.proofs.MomentLaws.{did-both, did-nothing}
 use Rattle.client_plays.proofs.RestLaws.{rest-both, rest-here}
 use Rattle.client_plays.proofs.ScriptLaws.{so-all}
@@ -234,9 +234,9 @@ went-both faults Play wanting told first others old mid new s m =
     }
 
 -- Memory was wanting before anything was done.
-pub went-nothing : {K : Type 0} (faults : K → ℕ) (facts : Facts) (files : Files) (list : List Task) (h : Housed K) → IsIdle (past h) → HouseWent faults true 0 (TaskPlays facts files) list h h
-went-nothing faults facts files list h i =
+pub went-nothing : {K : Type 0} (faults : K → ℕ) (facts : Facts) (opening : List Row) (means : Means) (list : List Task) (h : Housed K) → IsIdle (past h) → HouseWent faults true 0 (TaskPlays facts opening means) list h h
+went-nothing faults facts opening means list h i =
     record {
-      went = record { moments = []; did = did-nothing 0 (past h); plays = so-all (off (past h)) true 0 (TaskPlays facts files) list [] (all-nothing facts files list) };
+      went = record { moments = []; did = did-nothing 0 (past h); plays = so-all (off (past h)) true 0 (TaskPlays facts opening means) list [] (all-nothing facts opening means list) };
       rest = rest-here faults h i;
     }

@@ -1,9 +1,10 @@
 -- How a play ended, and what the run of an entry did.
 use Rattle.std.specs.Prelude.{◌≤◌, ℕ}
 use Rattle.emulated_boards.specs.Boards.{BoardState}
+use Rattle.plugin_trait.specs.Steps.{PluginSteps}
 use Rattle.daemon_core.specs.declared.stop.Stop.{Stop}
 use Rattle.daemon_core.specs.Annals.{SameFacts}
-use Rattle.daemon_core.specs.Housed.{Housed, past}
+use Rattle.daemon_core.specs.Housed.{Housed, past, rows_before}
 use Rattle.daemon_core.specs.Turns.{FaultsCounted}
 use Rattle.client_plays.specs.declared.played.Played.{Played}
 use Rattle.client_plays.specs.Endings.{Ended, IsIdle}
@@ -21,11 +22,12 @@ abbrev pub stopped_by : Stop → Played
 stopped_by Stop.Off = Played.Off
 stopped_by Stop.NoMemory = Played.NoMemory
 
--- What the run of an entry did to a house, which this board of the entry was taken from: the play ended so;
+-- What the run of an entry did to a house, which this board of the entry was taken from: its update ended so, which
+-- the plugin of its board made, of those at their places;
 -- nobody has anything out, what no event but a boot changes is as before, and each fault of the keeper that
 -- the log tells was counted; and the board came home, with the faults planned that its number has.
-pub record TakenPlayed {K : Type 0} (faults : K → ℕ) (played : Played) (client entry : ℕ) (board : BoardState) (old new : Housed K) : Type 0 where
-  pub ended : Ended played client (UpdatePlays client entry) (past old) (past new)
+pub record TakenPlayed {K : Type 0} (faults : K → ℕ) (plugins : ℕ → PluginSteps) (played : Played) (client entry : ℕ) (board : BoardState) (old new : Housed K) : Type 0 where
+  pub ended : Ended played client (UpdatePlays old.annals.facts (rows_before old.annals) plugins client entry (past old)) (past old) (past new)
   pub idle : IsIdle (past new)
   pub same : SameFacts old.annals new.annals
   pub counted : FaultsCounted faults old new

@@ -13,7 +13,7 @@ use Rattle.client_plays.specs.Endings.{AtRest, HouseWent, SoFar}
 use Rattle.client_plays.specs.Moments.{Did, Moment}
 use Rattle.client_plays.specs.Plays.{Task, TaskPlays, ToJudge}
 use Rattle.client_plays.specs.Scripts.{PlaysAll, is_judgeable}
-use Rattle.client_plays.specs.Tools.{Files}
+use Rattle.client_plays.specs.Tools.{Means}
 use Rattle.daemon_tasks.specs.Stays.{RowsStay, rows_at}
 use Rattle.daemon_tasks.specs.declared.judging.Went.{Went}
 
@@ -46,25 +46,25 @@ abbrev pub AllKnown : Annalled → List ℕ → Type 0
 AllKnown a [] = Unit {0}
 AllKnown a (entry ∷ entries) = ((row : Row) × (row_of (rows_at a) entry ≡ Some row)) × AllKnown a entries
 
--- What was tried of these tasks, whose plays go by these facts and the files of the daemon's shelf: they were played, or left for want of memory, and that is told; or the boot
--- is off, and nothing was done.
-abbrev pub Tried : Facts → Files → Option Bool → Bool → List Task → List Event → List Moment → Type 0
-Tried facts files (Some now) wanting tasks new moments = ((now ≡ true) ⊎ (now ≡ wanting)) × PlaysAll now 0 (TaskPlays facts files) tasks moments
-Tried facts files None wanting tasks new moments = (moments ≡ []) × (off new ≡ true)
+-- What was tried of these tasks, whose plays go by these facts and means: they were played, or left for want of
+-- memory, and that is told; or the boot is off, and nothing was done.
+abbrev pub Tried : Facts → List Row → Means → Option Bool → Bool → List Task → List Event → List Moment → Type 0
+Tried facts opening means (Some now) wanting tasks new moments = ((now ≡ true) ⊎ (now ≡ wanting)) × PlaysAll now 0 (TaskPlays facts opening means) tasks moments
+Tried facts opening means None wanting tasks new moments = (moments ≡ []) × (off new ≡ true)
 
-pub record HouseTried {K : Type 0} (faults : K → ℕ) (facts : Facts) (files : Files) (told : Option Bool) (wanting : Bool) (tasks : List Task) (old new : Housed K) : Type 0 where
+pub record HouseTried {K : Type 0} (faults : K → ℕ) (facts : Facts) (opening : List Row) (means : Means) (told : Option Bool) (wanting : Bool) (tasks : List Task) (old new : Housed K) : Type 0 where
   pub moments : List Moment
   pub did : Did 0 moments (past old) (past new)
-  pub more : Tried facts files told wanting tasks (past new) moments
+  pub more : Tried facts opening means told wanting tasks (past new) moments
   pub rest : AtRest faults old new
 
 -- All entries were gone through; or the boot is off, and then these and whatever else was to be done were
 -- played as far as they came.
-abbrev pub JudgedAll : {K : Type 0} → (K → ℕ) → Facts → Files → Went → List ℕ → Housed K → Housed K → Type 0
-JudgedAll faults facts files (Went.Through wanting) entries old new =
-    SoFar faults wanting 0 (TaskPlays facts files) (to_judge_in old.annals entries) old new × RowsStay entries old.annals new.annals
-JudgedAll faults facts files (Went.Off wanting) entries old new =
-    (more : List Task) → HouseWent faults wanting 0 (TaskPlays facts files) (to_judge_in old.annals entries ++ more) old new
+abbrev pub JudgedAll : {K : Type 0} → (K → ℕ) → Facts → List Row → Means → Went → List ℕ → Housed K → Housed K → Type 0
+JudgedAll faults facts opening means (Went.Through wanting) entries old new =
+    SoFar faults wanting 0 (TaskPlays facts opening means) (to_judge_in old.annals entries) old new × RowsStay entries old.annals new.annals
+JudgedAll faults facts opening means (Went.Off wanting) entries old new =
+    (more : List Task) → HouseWent faults wanting 0 (TaskPlays facts opening means) (to_judge_in old.annals entries ++ more) old new
 
 -- The entry's row is put off.
 pub record WaitsIn (a : Annalled) (entry : ℕ) : Type 0 where

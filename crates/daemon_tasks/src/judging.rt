@@ -1,12 +1,12 @@
 //! The rows that wait for the daemon to judge them.
-ghost use Rattle.std.specs.Prelude.{◌≡◌, ◌<◌, ◌∷◌, [], Some};
+ghost use Rattle.std.specs.Prelude.{◌≡◌, ◌<◌, ◌∷◌, List, [], Some};
 ghost use Rattle.history_keeper.specs.declared.row.Row.{Row};
 ghost use Rattle.update_log.specs.declared.facts.Facts.{Facts};
 ghost use Rattle.update_log.specs.Known.{row_of};
 ghost use Rattle.update_log.specs.Pasts.{boots};
 ghost use Rattle.daemon_core.specs.Housed.{past};
 ghost use Rattle.client_plays.specs.Endings.{IsIdle};
-ghost use Rattle.client_plays.specs.Tools.{Files};
+ghost use Rattle.client_plays.specs.Tools.{Files, files_alone};
 ghost use Rattle.daemon_tasks.specs.Judged.{AllKnown, HouseTried, JudgeStays, JudgedAll, to_judge_in, told_by};
 ghost use Rattle.daemon_tasks.specs.Stays.{AreApart, rows_at};
 
@@ -38,7 +38,7 @@ fn judge_next<K: Keeper>(house: &mut House<K>, entry: u32, wanting: bool) -> Opt
     requires booted { 0 < boots (past house.old) }
     requires idle { IsIdle (past house.old) }
     requires row { (row : Row) × (row_of (rows_at house.old.annals) entry ≡ Some row) }
-    ensures more { (facts : Facts) (files : Files) → HouseTried K.faults facts files result wanting (to_judge_in house.old.annals (entry ∷ [])) house.old house.new }
+    ensures more { (facts : Facts) (opening : List Row) (files : Files) → HouseTried K.faults facts opening (files_alone files) result wanting (to_judge_in house.old.annals (entry ∷ [])) house.old house.new }
     ensures stays { JudgeStays (entry ∷ []) house.old.annals house.new.annals }
 {
     house.known();
@@ -52,7 +52,7 @@ pub(crate) fn judge_all<K: Keeper>(house: &mut House<K>, entries: &[u32]) -> Wen
     requires idle { IsIdle (past house.old) }
     requires rows { AllKnown house.old.annals entries.now }
     requires apart { AreApart entries.now }
-    ensures { (facts : Facts) (files : Files) → JudgedAll K.faults facts files result entries.now house.old house.new }
+    ensures { (facts : Facts) (opening : List Row) (files : Files) → JudgedAll K.faults facts opening (files_alone files) result entries.now house.old house.new }
 {
     let mut wanting = false;
     for entry in entries {

@@ -1,17 +1,18 @@
 //! The entries that were put off: each is asked for, fetched, resumed and run.
 ghost use Rattle.std.specs.Prelude.{◌≡◌, ◌≤◌, ◌<◌, ◌+◌, Some, length, map, true};
+ghost use Rattle.plugin_trait.specs.Steps.{steps_at};
 ghost use Rattle.update_log.specs.declared.answer.AskAnswer.{AskAnswer};
 ghost use Rattle.update_log.specs.declared.request.Request.{Request};
 ghost use Rattle.update_log.specs.Pasts.{boots};
 ghost use Rattle.daemon_core.specs.Fetches.{IsFetchOf, block_count};
 ghost use Rattle.daemon_core.specs.Holds.{IsHoldFor};
-ghost use Rattle.daemon_core.specs.Housed.{past};
+ghost use Rattle.daemon_core.specs.Housed.{past, rows_before};
 ghost use Rattle.daemon_core.specs.Resumes.{ComesIn, IsPutOff, note_in};
 ghost use Rattle.client_plays.specs.Endings.{HouseMore, HouseOnceMore, HousePlayed, IsIdle};
 ghost use Rattle.client_plays.specs.Faults.{FaultsTold, faults_in, faults_noted};
 ghost use Rattle.client_plays.specs.Moments.{mine};
 ghost use Rattle.client_plays.specs.Plays.{ResumeFetches, ResumePlays, TaskPlays, ToResume};
-ghost use Rattle.client_plays.specs.Tools.{Files};
+ghost use Rattle.client_plays.specs.Tools.{Files, means_of};
 ghost use Rattle.daemon_tasks.specs.Ends.{stopped_by};
 ghost use Rattle.daemon_tasks.specs.Judged.{AllWait, WaitsIn};
 ghost use Rattle.daemon_tasks.specs.Resumed.{IsOut, WasGivenUp};
@@ -55,7 +56,7 @@ fn resume_with<K: Keeper>(
     requires comes { ComesIn house.old.annals entry held }
     requires out { IsOut held (past house.old) }
     requires served { length house.old.annals.facts.vetoes ≤ length plugins.now }
-    ensures played { (files : Files) (asked : AskAnswer) → ResumeFetches house.old.annals.facts files asked (note_in held) → HousePlayed K.faults result 0 (ResumePlays house.old.annals.facts files entry asked) house.old house.new }
+    ensures played { (files : Files) (asked : AskAnswer) → ResumeFetches house.old.annals.facts files asked (note_in held) → HousePlayed K.faults result 0 (ResumePlays house.old.annals.facts (rows_before house.old.annals) (means_of files (steps_at (λ p. steps p) plugins.now)) entry asked) house.old house.new }
     ensures others { OthersStay entry house.old.annals house.new.annals }
     ensures told { faults_in (mine 0 (past house.new)) ≤ faults_in (mine 0 (past house.old)) + faults_noted (note_in held) }
 {
@@ -83,7 +84,7 @@ fn resume_held<K: Keeper, P: Shelf>(
     requires held { HoldsAlone 0 hold.ticket hold.blocks.count (past house.old) }
     requires hold { (request : Request) × IsHoldFor house.old.annals.facts 0 request (Some entry) hold }
     requires served { length house.old.annals.facts.vetoes ≤ length plugins.now }
-    ensures played { HousePlayed K.faults result 0 (ResumePlays house.old.annals.facts (P.files shelf.old) entry (AskAnswer.Hold hold.blocks.count hold.ticket.release)) house.old house.new }
+    ensures played { HousePlayed K.faults result 0 (ResumePlays house.old.annals.facts (rows_before house.old.annals) (means_of (P.files shelf.old) (steps_at (λ p. steps p) plugins.now)) entry (AskAnswer.Hold hold.blocks.count hold.ticket.release)) house.old house.new }
     ensures others { OthersStay entry house.old.annals house.new.annals }
     ensures files { P.files shelf.new ≡ P.files shelf.old }
     ensures counts { P.faults shelf.old ≤ P.faults shelf.new }
@@ -104,7 +105,7 @@ fn resume_entry<K: Keeper, P: Shelf>(
     requires idle { IsIdle (past house.old) }
     requires waits { WaitsIn house.old.annals entry }
     requires served { length house.old.annals.facts.vetoes ≤ length plugins.now }
-    ensures played { HousePlayed K.faults result 0 (TaskPlays house.old.annals.facts (P.files shelf.old) (ToResume entry)) house.old house.new }
+    ensures played { HousePlayed K.faults result 0 (TaskPlays house.old.annals.facts (rows_before house.old.annals) (means_of (P.files shelf.old) (steps_at (λ p. steps p) plugins.now)) (ToResume entry)) house.old house.new }
     ensures others { OthersStay entry house.old.annals house.new.annals }
     ensures files { P.files shelf.new ≡ P.files shelf.old }
     ensures counts { P.faults shelf.old ≤ P.faults shelf.new }
@@ -140,7 +141,7 @@ fn resume_next<K: Keeper, P: Shelf>(
     requires idle { IsIdle (past house.old) }
     requires waits { WaitsIn house.old.annals entry }
     requires served { length house.old.annals.facts.vetoes ≤ length plugins.now }
-    ensures more { HouseOnceMore K.faults result wanting 0 (TaskPlays house.old.annals.facts (P.files shelf.old) (ToResume entry)) house.old house.new }
+    ensures more { HouseOnceMore K.faults result wanting 0 (TaskPlays house.old.annals.facts (rows_before house.old.annals) (means_of (P.files shelf.old) (steps_at (λ p. steps p) plugins.now)) (ToResume entry)) house.old house.new }
     ensures others { OthersStay entry house.old.annals house.new.annals }
     ensures files { P.files shelf.new ≡ P.files shelf.old }
     ensures counts { P.faults shelf.old ≤ P.faults shelf.new }
@@ -167,7 +168,7 @@ pub(crate) fn resume_all<K: Keeper, P: Shelf>(
     requires waits { AllWait house.old.annals entries.now }
     requires apart { AreApart entries.now }
     requires served { length house.old.annals.facts.vetoes ≤ length plugins.now }
-    ensures more { HouseMore K.faults result before 0 (TaskPlays house.old.annals.facts (P.files shelf.old)) (map ToResume entries.now) house.old house.new }
+    ensures more { HouseMore K.faults result before 0 (TaskPlays house.old.annals.facts (rows_before house.old.annals) (means_of (P.files shelf.old) (steps_at (λ p. steps p) plugins.now))) (map ToResume entries.now) house.old house.new }
     ensures files { P.files shelf.new ≡ P.files shelf.old }
     ensures counts { P.faults shelf.old ≤ P.faults shelf.new }
     ensures told { FaultsTold (mine 0 (past house.old)) (mine 0 (past house.new)) (P.faults shelf.old) (P.faults shelf.new) }

@@ -1,6 +1,8 @@
 //! The run of an entry that was taken.
 ghost use Rattle.std.specs.Prelude.{◌≡◌, ◌≤◌, ◌<◌, [], None, length};
-ghost use Rattle.daemon_core.specs.Housed.{past};
+ghost use Rattle.daemon_core.specs.Housed.{past, rows_before};
+ghost use Rattle.plugin_trait.specs.Steps.{steps_at};
+ghost use Rattle.client_plays.specs.Plays.{IsOwnPlugin};
 ghost use Rattle.install_engine.specs.RunsIn.{RunsIn, parts_taken};
 ghost use Rattle.daemon_tasks.specs.Ends.{TakenPlayed, ended_by, stopped_by};
 ghost use Rattle.daemon_tasks.specs.Stays.{OthersStay, RunsAlone};
@@ -22,8 +24,9 @@ pub(crate) fn run_taken<K: Keeper>(
     requires no_steps { taken.trace.steps ≡ [] }
     requires marks { 8 ≤ taken.board.room }
     requires served { taken.plugin < length plugins.now }
+    requires own { IsOwnPlugin house.old.annals.facts (rows_before house.old.annals) (past house.old) taken.entry taken.plugin }
     requires alone { RunsAlone taken.entry (past house.old) }
-    ensures played { TakenPlayed K.faults result client taken.entry taken.board house.old house.new }
+    ensures played { TakenPlayed K.faults (steps_at (λ p. steps p) plugins.now) result client taken.entry taken.board house.old house.new }
     ensures others { OthersStay taken.entry house.old.annals house.new.annals }
 {
     let outcome = run_claim(house, client, taken, plugins);

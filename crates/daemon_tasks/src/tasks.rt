@@ -1,5 +1,6 @@
 //! What the daemon does by itself as a boot begins.
 ghost use Rattle.std.specs.Prelude.{◌≡◌, ◌≤◌, ◌<◌, length};
+ghost use Rattle.plugin_trait.specs.Steps.{steps_at};
 ghost use Rattle.update_log.specs.Pasts.{boots};
 ghost use Rattle.daemon_core.specs.Housed.{past, rows_before};
 ghost use Rattle.client_plays.specs.Endings.{HouseWent, IsFresh, IsIdle};
@@ -7,6 +8,7 @@ ghost use Rattle.client_plays.specs.Faults.{FaultsTold};
 ghost use Rattle.client_plays.specs.Moments.{began, mine};
 ghost use Rattle.client_plays.specs.Plays.{TaskPlays};
 ghost use Rattle.client_plays.specs.Scripts.{tasks};
+ghost use Rattle.client_plays.specs.Tools.{means_of};
 ghost use Rattle.offline_updates.specs.Waiting.{entries_where, is_pending, is_to_judge};
 
 use crate::judging::{Went, judge_all};
@@ -33,7 +35,7 @@ fn go_through<K: Keeper, P: Shelf>(
     requires judged { judged.now ≡ entries_where is_to_judge house.old.annals.core.rows }
     requires waiting { waiting.now ≡ entries_where is_pending house.old.annals.core.rows }
     requires served { length house.old.annals.facts.vetoes ≤ length plugins.now }
-    ensures went { HouseWent K.faults result 0 (TaskPlays house.old.annals.facts (P.files shelf.old)) (tasks house.old.annals.facts (rows_before house.old.annals) (began (past house.old))) house.old house.new }
+    ensures went { HouseWent K.faults result 0 (TaskPlays house.old.annals.facts (rows_before house.old.annals) (means_of (P.files shelf.old) (steps_at (λ p. steps p) plugins.now))) (tasks house.old.annals.facts (rows_before house.old.annals) (began (past house.old))) house.old house.new }
     ensures files { P.files shelf.new ≡ P.files shelf.old }
     ensures counts { P.faults shelf.old ≤ P.faults shelf.new }
     ensures told { FaultsTold (mine 0 (past house.old)) (mine 0 (past house.new)) (P.faults shelf.old) (P.faults shelf.new) }
@@ -56,7 +58,7 @@ pub fn do_tasks<K: Keeper, P: Shelf>(
     requires idle { IsIdle (past house.old) }
     requires fresh { IsFresh (past house.old) }
     requires served { length house.old.annals.facts.vetoes ≤ length plugins.now }
-    ensures went { HouseWent K.faults result 0 (TaskPlays house.old.annals.facts (P.files shelf.old)) (tasks house.old.annals.facts (rows_before house.old.annals) (began (past house.old))) house.old house.new }
+    ensures went { HouseWent K.faults result 0 (TaskPlays house.old.annals.facts (rows_before house.old.annals) (means_of (P.files shelf.old) (steps_at (λ p. steps p) plugins.now))) (tasks house.old.annals.facts (rows_before house.old.annals) (began (past house.old))) house.old house.new }
     ensures files { P.files shelf.new ≡ P.files shelf.old }
     ensures counts { P.faults shelf.old ≤ P.faults shelf.new }
     ensures told { FaultsTold (mine 0 (past house.old)) (mine 0 (past house.new)) (P.faults shelf.old) (P.faults shelf.new) }

@@ -12,6 +12,3 @@ pub mod steps;
 
 pub use claim::{Claim, Parts};
 pub use state::{Begun, Closed, Flashed, Joined, Loose, Ready, Reloaded, State};
-
-#[cfg(test)]
-mod tests;

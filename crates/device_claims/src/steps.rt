@@ -8,7 +8,7 @@ ghost use Rattle.emulated_boards.specs.declared.condition.Presence.TheVariants.{
 ghost use Rattle.plugin_trait.specs.Steps.{Plain, Detached, Attached, Written};
 ghost use Rattle.update_log.specs.Steps.{next_step, with_step};
 ghost use Rattle.device_claims.specs.States.{IsNext};
-ghost use Rattle.device_claims.specs.Claims.{Noted};
+ghost use Rattle.device_claims.specs.Claims.{Noted, StepGives};
 
 use crate::claim::{Claim, Parts};
 use crate::state::{
@@ -26,7 +26,7 @@ impl Parts {
     fn write(&mut self, plugin: &dyn Plugin) -> Result<(), BoardFault>
         requires home { self.old.board.condition.presence ≡ Home }
         requires room { 2 ≤ self.old.board.room }
-        ensures call { write_gives plugin.now self.old.entry self.old.payload self.old.board result self.new.board }
+        ensures call { (steps plugin.now).write self.old.entry self.old.payload self.old.board result self.new.board }
         ensures board { Written self.old.entry (payload_image self.old.payload) self.old.board result self.new.board }
         ensures others { self.new ≡ record self.old { board = self.new.board } }
     {
@@ -71,7 +71,7 @@ impl Claim<BegunState> {
 
     /// Prepares the board.
     pub fn prepare(self, plugin: &dyn Plugin) -> (Ready, Result<(), BoardFault>)
-        ensures call { prepare_gives plugin.now self.board result.1 result.0.board }
+        ensures call { StepGives (steps plugin.now) Op.Prepare self.entry self.payload self.board result.1 result.0.board }
         ensures board { Plain self.board result.1 result.0.board }
         ensures noted { Noted Op.Prepare self result.1 result.0 }
     {
@@ -97,7 +97,7 @@ impl Claim<ReadyState> {
     /// Detaches the board.
     pub fn detach(self, plugin: &dyn Plugin) -> (Loose, Result<(), BoardFault>)
         requires { IsNext Op.Detach self.trace }
-        ensures call { detach_gives plugin.now self.board result.1 result.0.board }
+        ensures call { StepGives (steps plugin.now) Op.Detach self.entry self.payload self.board result.1 result.0.board }
         ensures board { Detached self.board result.1 result.0.board }
         ensures noted { Noted Op.Detach self result.1 result.0 }
     {
@@ -133,7 +133,7 @@ impl Claim<LooseState> {
     /// Writes the payload to the board.
     pub fn write(self, plugin: &dyn Plugin) -> (Flashed, Result<(), BoardFault>)
         requires { IsNext Op.Write self.trace }
-        ensures call { write_gives plugin.now self.entry self.payload self.board result.1 result.0.board }
+        ensures call { StepGives (steps plugin.now) Op.Write self.entry self.payload self.board result.1 result.0.board }
         ensures board { Written self.entry (payload_image self.payload) self.board result.1 result.0.board }
         ensures noted { Noted Op.Write self result.1 result.0 }
     {
@@ -169,7 +169,7 @@ impl Claim<FlashedState> {
     /// Attaches the board.
     pub fn attach(self, plugin: &dyn Plugin) -> (Joined, Result<(), BoardFault>)
         requires { IsNext Op.Attach self.trace }
-        ensures call { attach_gives plugin.now self.board result.1 result.0.board }
+        ensures call { StepGives (steps plugin.now) Op.Attach self.entry self.payload self.board result.1 result.0.board }
         ensures board { Attached self.board result.1 result.0.board }
         ensures noted { Noted Op.Attach self result.1 result.0 }
         ensures next { IsNext Op.Reload result.0.trace }
@@ -199,7 +199,7 @@ impl Claim<FlashedState> {
 impl Claim<JoinedState> {
     /// Looks at the board again.
     pub fn reload(self, plugin: &dyn Plugin) -> (Reloaded, Result<(), BoardFault>)
-        ensures call { reload_gives plugin.now self.board result.1 result.0.board }
+        ensures call { StepGives (steps plugin.now) Op.Reload self.entry self.payload self.board result.1 result.0.board }
         ensures board { Plain self.board result.1 result.0.board }
         ensures noted { Noted Op.Reload self result.1 result.0 }
         ensures next { IsNext Op.Cleanup result.0.trace }
@@ -218,7 +218,7 @@ impl Claim<JoinedState> {
 impl Claim<ReloadedState> {
     /// Ends the update.
     pub fn cleanup(self, plugin: &dyn Plugin) -> (Closed, Result<(), BoardFault>)
-        ensures call { cleanup_gives plugin.now self.board result.1 result.0.board }
+        ensures call { StepGives (steps plugin.now) Op.Cleanup self.entry self.payload self.board result.1 result.0.board }
         ensures board { Plain self.board result.1 result.0.board }
         ensures noted { Noted Op.Cleanup self result.1 result.0 }
         ensures done { next_step result.0.trace ≡ None }

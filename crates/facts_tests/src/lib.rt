@@ -19,3 +19,5 @@ mod keepers;
 mod orders;
 #[cfg(test)]
 mod quirks;
+#[cfg(test)]
+mod waiting;

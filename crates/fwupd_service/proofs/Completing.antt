@@ -17,8 +17,8 @@ use Rattle.update_log.specs.declared.facts.PluginVetoes.{PluginVetoes}
 use Rattle.update_log.specs.Pasts.{past_of}
 use Rattle.daemon_core.specs.House.{shown_by}
 use Rattle.daemon_core.specs.Keeping.{keeper_faults}
-use Rattle.client_plays.specs.Shelves.{files_for}
-use Rattle.client_plays.specs.Tools.{Files, ShelfTold}
+use Rattle.client_plays.specs.Shelves.{means_for}
+use Rattle.client_plays.specs.Tools.{ShelfTold}
 use Rattle.campaign_runs.specs.Planned.{with_plans}
 use Rattle.site_types.specs.declared.campaign.Campaign.{Campaign}
 use Rattle.site_types.specs.declared.site.Site.{Site}
@@ -37,6 +37,7 @@ use Rattle.fwupd_service.specs.Campaigns.{IsBadHistory, IsOpening}
 use Rattle.fwupd_service.specs.Complete.{GivesSite, HistoryHeld, MakeDone, RunDone, SiteWentWhole}
 use Rattle.fwupd_service.specs.Ends.{CampaignEnds}
 use Rattle.fwupd_service.specs.Makes.{BlamesNoHistory, MadeOrNothing, MakeBegan, MakeEnds, order_status, own_shelves}
+use Rattle.fwupd_service.specs.Plugged.{AreStarted, PluginWords, work_of}
 use Rattle.fwupd_service.specs.Telling.{any_fault}
 use Rattle.fwupd_service.specs.Tops.{CampaignTold, Left, RunEnds, Went, stop_status}
 use Rattle.fwupd_service.proofs.FaultsTold.{counted-none, no-fault-told}
@@ -98,7 +99,7 @@ valid-opening (Some all) opening log v (inr (e, none)) = subst IsHistory (sym e)
 too-many : (asked asked' most shelves : ℕ) → asked ≡ asked' → asked' ≤ most → (shelves ≡ most) × (most < asked) → ⊥
 too-many asked asked' most shelves e w h = let m : most < asked = h.1 in omega (arith, e, w, m)
 
-module _ {K : Type 0} (told : K → Option (List Row)) (doubted : K → Option Change) (faults : K → ℕ) where
+module _ {K : Type 0} (told : K → Option (List Row)) where
   -- A run that stopped before its campaign had a cause that the input, the shelves or the plugins show.
   pub stopped : (Complete : Type 0) (shelves : ℕ) (sheets : List PluginSheet) (keeper : K) (old new : Option (List ℕ)) (site : Site) (stop : OpenStop)
       → HasStopped (limits.Shelves shelves) sheets stop old new → GivesSite shelves old site → CanBeArranged sheets → RunDone told keeper Complete (stop_status stop)
@@ -113,54 +114,55 @@ module _ {K : Type 0} (told : K → Option (List Row)) (doubted : K → Option C
       too-many asked (asked_for site) shelves most (h.stops.asked_is ∙ ap asked_for same) given.clients h.stops.passed
   stopped Complete shelves sheets keeper old new site (stops.Plugins fault) h given can = arranged-well sheets fault can h.stops.cause
 
+module _ {K Q : Type 0} (told : K → Option (List Row)) (doubted : K → Option Change) (faults : K → ℕ) (words : PluginWords Q) where
   -- What a campaign came to that was played.
-  ended : (files : ℕ → Files) (sheets : List PluginSheet) (vetoes : MachineFacts → List PluginVetoes) (site : Site) (campaign : Campaign) (left : Left K) (text : Campaign → List ℕ) (before after : Option (List ℕ)) (status : Status)
-      → IsCampaignOf site sheets (vetoes site.machine) campaign → IsHistory left.opening → any_fault left.log ≡ false
-      → CampaignEnds told files status (with_plans campaign.facts (map shown_by campaign.boards.items) campaign.boots) left.opening campaign.scripts left.log left.keeper (text campaign) before after
-      → RunDone told left.keeper (SiteWentWhole files sheets vetoes site left text before after) status
-  ended files sheets vetoes site campaign left text before after statuses.Done s valid quiet e = record { campaign = campaign; settled = s; whole = e.1 }
-  ended files sheets vetoes site campaign left text before after statuses.KeeperFault s valid quiet e =
+  ended : (shelves : List ShelfTold) (sheets : List PluginSheet) (vetoes : MachineFacts → List PluginVetoes) (started : List Q) (site : Site) (campaign : Campaign) (left : Left K) (text : Campaign → List ℕ) (before after : Option (List ℕ)) (status : Status)
+      → AreStarted words sheets campaign.facts started → IsCampaignOf site sheets (vetoes site.machine) campaign → IsHistory left.opening → any_fault left.log ≡ false
+      → CampaignEnds told (means_for (work_of words started) shelves) status (with_plans campaign.facts (map shown_by campaign.boards.items) campaign.boots) left.opening campaign.scripts left.log left.keeper (text campaign) before after
+      → RunDone told left.keeper (SiteWentWhole shelves sheets vetoes words site left text before after) status
+  ended shelves sheets vetoes started site campaign left text before after statuses.Done a s valid quiet e = record { campaign = campaign; settled = s; started = started; started_are = a; whole = e.1 }
+  ended shelves sheets vetoes started site campaign left text before after statuses.KeeperFault a s valid quiet e =
       let bad : true ≡ false = sym e.0 ∙ quiet in cc
-  ended files sheets vetoes site campaign left text before after (statuses.BadHistory entry) s valid quiet e = bad e.bad
+  ended shelves sheets vetoes started site campaign left text before after (statuses.BadHistory entry) a s valid quiet e = bad e.bad
     where
       bad : IsBadHistory told entry campaign.facts left.opening left.log left.keeper → told left.keeper ≡ None
       bad (inl (all, b)) = absurd (b.faulty.breaks (history_front left.opening (b.at + 1) valid))
       bad (inr (v, silent, others)) = silent
-  ended files sheets vetoes site campaign left text before after statuses.SinkFault s valid quiet e = tt
-  ended files sheets vetoes site campaign left text before after statuses.NoMemory s valid quiet e = tt
-  ended files sheets vetoes site campaign left text before after statuses.SourceFault s valid quiet e = tt
-  ended files sheets vetoes site campaign left text before after _ s valid quiet e = absurd e
+  ended shelves sheets vetoes started site campaign left text before after statuses.SinkFault a s valid quiet e = tt
+  ended shelves sheets vetoes started site campaign left text before after statuses.NoMemory a s valid quiet e = tt
+  ended shelves sheets vetoes started site campaign left text before after statuses.SourceFault a s valid quiet e = tt
+  ended shelves sheets vetoes started site campaign left text before after _ a s valid quiet e = absurd e
 
   pub run-complete : (shelves now : List ShelfTold) (sheets : List PluginSheet) (vetoes : MachineFacts → List PluginVetoes) (status : Status) (keeper : K) (left : Left K) (old new before after : Option (List ℕ)) (site : Site)
-      → RunEnds told doubted faults shelves now sheets vetoes status keeper left old new before after
+      → RunEnds told doubted faults shelves now sheets vetoes words status keeper left old new before after
       → GivesSite (length shelves) old site → CanBeArranged sheets → HistoryHeld told faults keeper left
-      → RunDone told left.keeper (SiteWentWhole (files_for shelves) sheets vetoes site left (λ campaign. report campaign.facts left.opening left.log) before after) status
+      → RunDone told left.keeper (SiteWentWhole shelves sheets vetoes words site left (λ campaign. report campaign.facts left.opening left.log) before after) status
   run-complete shelves now sheets vetoes status keeper left old new before after site ends given can held = at ends
     where
       Complete : Type 0
-      Complete = SiteWentWhole (files_for shelves) sheets vetoes site left (λ campaign. report campaign.facts left.opening left.log) before after
+      Complete = SiteWentWhole shelves sheets vetoes words site left (λ campaign. report campaign.facts left.opening left.log) before after
 
-      Told : Campaign → Type 0
-      Told campaign = CampaignTold told doubted faults shelves now status campaign keeper left (report campaign.facts left.opening left.log) before after
+      Told : List Q → Campaign → Type 0
+      Told started campaign = CampaignTold told doubted faults shelves now (work_of words started) status campaign keeper left (report campaign.facts left.opening left.log) before after
 
-      valid : (campaign : Campaign) → Told campaign → IsHistory left.opening
-      valid campaign w = valid-opening (told keeper) left.opening left.log held.valid w.keeper_stands.opening_is
+      valid : (started : List Q) (campaign : Campaign) → Told started campaign → IsHistory left.opening
+      valid started campaign w = valid-opening (told keeper) left.opening left.log held.valid w.keeper_stands.opening_is
 
-      quiet : (campaign : Campaign) → Told campaign → any_fault left.log ≡ false
-      quiet campaign w =
+      quiet : (started : List Q) (campaign : Campaign) → Told started campaign → any_fault left.log ≡ false
+      quiet started campaign w =
           no-fault-told (with_plans campaign.facts (map shown_by campaign.boards.items) campaign.boots) left.opening left.log w.true_log.legal
           (counted-none (2 ^ 64 - 1) (keeper_faults (past_of left.log)) (faults keeper) (faults left.keeper) w.keeper_stands.counted held.no_fault held.counting)
 
-      went : (campaign : Campaign) → IsOpened (limits.Shelves (length shelves)) sheets vetoes old new campaign → Went told doubted faults shelves now status campaign keeper left (report campaign.facts left.opening left.log) before after → RunDone told left.keeper Complete status
-      went campaign o (inl w) =
+      went : (started : List Q) (campaign : Campaign) → AreStarted words sheets campaign.facts started → IsOpened (limits.Shelves (length shelves)) sheets vetoes old new campaign → Went told doubted faults shelves now (work_of words started) status campaign keeper left (report campaign.facts left.opening left.log) before after → RunDone told left.keeper Complete status
+      went started campaign a o (inl w) =
           let same : o.site ≡ site = site-same (length shelves) sheets old new site given o.bytes o.site o.came o.states.read o.states.stated in
           let settled : IsCampaignOf site sheets (vetoes site.machine) campaign = subst (λ (x : Site). IsCampaignOf x sheets (vetoes x.machine) campaign) same o.settled in
-          ended (files_for shelves) sheets vetoes site campaign left (λ c. report c.facts left.opening left.log) before after status settled (valid campaign w) (quiet campaign w) w.ends
-      went campaign o (inr (e, nothing)) = subst (RunDone told left.keeper Complete) (sym e) tt
+          ended shelves sheets vetoes started site campaign left (λ c. report c.facts left.opening left.log) before after status a settled (valid started campaign w) (quiet started campaign w) w.ends
+      went started campaign a o (inr (e, nothing)) = subst (RunDone told left.keeper Complete) (sym e) tt
 
-      at : RunEnds told doubted faults shelves now sheets vetoes status keeper left old new before after → RunDone told left.keeper Complete status
-      at (inl s) = subst (RunDone told left.keeper Complete) (sym s.status_is) (stopped Complete (length shelves) sheets left.keeper old new site s.stop s.stopped given can)
-      at (inr w) = went w.campaign w.opened w.went
+      at : RunEnds told doubted faults shelves now sheets vetoes words status keeper left old new before after → RunDone told left.keeper Complete status
+      at (inl s) = subst (RunDone told left.keeper Complete) (sym s.status_is) (stopped told Complete (length shelves) sheets left.keeper old new site s.stop s.stopped given can)
+      at (inr w) = went w.started w.campaign w.started_are w.opened w.went
 
 -- How plugins that can be arranged are told.
 fault-status : (sheets : List PluginSheet) (Complete : Type 0) (fault : OrderFault) → CanBeArranged sheets → HasCause sheets fault → MakeDone Complete (order_status fault)
@@ -169,32 +171,32 @@ fault-status sheets Complete (faults.Cycle shown) can h = arranged-well sheets (
 fault-status sheets Complete faults.NoMemory can h = tt
 
 -- The same of `make`, whose status blames no history.
-module _ {K : Type 0} (boards clients : ℕ) (sheets : List PluginSheet) (vetoes : MachineFacts → List PluginVetoes) where
+module _ {K Q : Type 0} (boards clients : ℕ) (sheets : List PluginSheet) (vetoes : MachineFacts → List PluginVetoes) (words : PluginWords Q) where
   -- A generated campaign that was played came to no more than that.
-  summed : (status : Status) (campaign : Campaign) (left : Left K) (own : List Row) (before after : Option (List ℕ)) → IsCampaignOf (made_site boards clients) sheets (vetoes (made_site boards clients).machine) campaign → BlamesNoHistory status
-      → CampaignEnds (λ (rows : List Row). Some rows) (files_for (own_shelves clients)) status (with_plans campaign.facts (map shown_by campaign.boards.items) campaign.boots) left.opening campaign.scripts left.log own (summary boards clients left.log) before after
-      → MakeDone (SiteWentWhole (files_for (own_shelves clients)) sheets vetoes (made_site boards clients) left (λ _. summary boards clients left.log) before after) status
-  summed statuses.Done campaign left own before after s n e = record { campaign = campaign; settled = s; whole = e.1 }
-  summed statuses.KeeperFault campaign left own before after s n e = absurd n
-  summed (statuses.BadHistory entry) campaign left own before after s n e = absurd n
-  summed statuses.SinkFault campaign left own before after s n e = tt
-  summed statuses.NoMemory campaign left own before after s n e = tt
-  summed _ campaign left own before after s n e = absurd e
+  summed : (status : Status) (started : List Q) (campaign : Campaign) (left : Left K) (own : List Row) (before after : Option (List ℕ)) → AreStarted words sheets campaign.facts started → IsCampaignOf (made_site boards clients) sheets (vetoes (made_site boards clients).machine) campaign → BlamesNoHistory status
+      → CampaignEnds (λ (rows : List Row). Some rows) (means_for (work_of words started) (own_shelves clients)) status (with_plans campaign.facts (map shown_by campaign.boards.items) campaign.boots) left.opening campaign.scripts left.log own (summary boards clients left.log) before after
+      → MakeDone (SiteWentWhole (own_shelves clients) sheets vetoes words (made_site boards clients) left (λ _. summary boards clients left.log) before after) status
+  summed statuses.Done started campaign left own before after a s n e = record { campaign = campaign; settled = s; started = started; started_are = a; whole = e.1 }
+  summed statuses.KeeperFault started campaign left own before after a s n e = absurd n
+  summed (statuses.BadHistory entry) started campaign left own before after a s n e = absurd n
+  summed statuses.SinkFault started campaign left own before after a s n e = tt
+  summed statuses.NoMemory started campaign left own before after a s n e = tt
+  summed _ started campaign left own before after a s n e = absurd e
 
-  pub make-complete : (status : Status) (keeper : K) (left : Left K) (before after : Option (List ℕ)) → MakeEnds boards clients sheets vetoes status keeper left before after → CanBeArranged sheets
-      → MakeDone (SiteWentWhole (files_for (own_shelves clients)) sheets vetoes (made_site boards clients) left (λ _. summary boards clients left.log) before after) status
+  pub make-complete : (status : Status) (keeper : K) (left : Left K) (before after : Option (List ℕ)) → MakeEnds boards clients sheets vetoes words status keeper left before after → CanBeArranged sheets
+      → MakeDone (SiteWentWhole (own_shelves clients) sheets vetoes words (made_site boards clients) left (λ _. summary boards clients left.log) before after) status
   make-complete status keeper left before after ends can = at ends
     where
       Complete : Type 0
-      Complete = SiteWentWhole (files_for (own_shelves clients)) sheets vetoes (made_site boards clients) left (λ _. summary boards clients left.log) before after
+      Complete = SiteWentWhole (own_shelves clients) sheets vetoes words (made_site boards clients) left (λ _. summary boards clients left.log) before after
 
-      began : (b : MakeBegan boards clients sheets vetoes status keeper left before after) → MakeDone Complete status
+      began : (b : MakeBegan boards clients sheets vetoes words status keeper left before after) → MakeDone Complete status
       began b = of b.went
         where
-          of : MadeOrNothing boards clients status b.campaign keeper left before after → MakeDone Complete status
-          of (inl w) = summed status b.campaign left w.own before after b.settled w.no_blame w.told.ends
+          of : MadeOrNothing boards clients (work_of words b.started) status b.campaign keeper left before after → MakeDone Complete status
+          of (inl w) = summed status b.started b.campaign left w.own before after b.started_are b.settled w.no_blame w.told.ends
           of (inr (e, nothing)) = subst (MakeDone Complete) (sym e) tt
 
-      at : MakeEnds boards clients sheets vetoes status keeper left before after → MakeDone Complete status
+      at : MakeEnds boards clients sheets vetoes words status keeper left before after → MakeDone Complete status
       at (inl s) = subst (MakeDone Complete) (sym s.status_is) (fault-status sheets Complete s.fault can s.cause)
       at (inr b) = began b

@@ -31,7 +31,7 @@ use Rattle.daemon_core.specs.Turns.{FaultsCounted}
 use Rattle.daemon_core.proofs.BootOpenings.{legal-over, place-over, said-over}
 use Rattle.client_scripts.specs.declared.item.Item.{Item}
 use Rattle.client_plays.specs.Scripts.{BootPlayed, EarlierPlayed, scripts_in}
-use Rattle.client_plays.specs.Tools.{Files}
+use Rattle.client_plays.specs.Tools.{Means}
 use Rattle.campaign_runs.specs.declared.ending.Ending.{Ending}
 use Rattle.campaign_runs.specs.declared.ending.Ran.{Ran}
 use Rattle.campaign_runs.specs.Planned.{with_plans}
@@ -95,8 +95,8 @@ map-get f [] n y e = cc
 map-get f (x ∷ xs) zero y e = record { x = x; there = refl; is = cc }
 map-get f (x ∷ xs) (suc n) y e = let m = map-get f xs n y e in record { x = m.x; there = m.there; is = m.is }
 
-module _ {K : Type 0} (told : K → Option (List Row)) (doubted : K → Option Change) (faults : K → ℕ) (files : ℕ → Files) (ran : Ran) (plans : List BootPlan) (scripts : List (List (List Item))) (old h : Housed K)
-    (r : CampaignRan told faults ran.ending ran.wanting files plans scripts old h)
+module _ {K : Type 0} (told : K → Option (List Row)) (doubted : K → Option Change) (faults : K → ℕ) (means : ℕ → Means) (ran : Ran) (plans : List BootPlan) (scripts : List (List (List Item))) (old h : Housed K)
+    (r : CampaignRan told faults ran.ending ran.wanting means plans scripts old h)
     (a : IsAnnals h.annals) (k : IsHouse told doubted h) where
   abbrev facts : Facts
   facts = h.annals.facts
@@ -203,14 +203,14 @@ module _ {K : Type 0} (told : K → Option (List Row)) (doubted : K → Option C
 
   -- ---- what was played
 
-  played-opening : PlayedBoots ran.wanting c opening files scripts r.count h.annals.core.log
+  played-opening : PlayedBoots ran.wanting c opening means scripts r.count h.annals.core.log
   played-opening = record {
     boots_are = r.ran.count_is;
     played =
-        let B = λ (o : List Row). BootPlayed ran.wanting facts o files (scripts_in scripts (boots (past h))) (past h) in (
-          lift h.annals B (λ f. faults-played ran.wanting facts opening files scripts (past h) (all-faults f))
-              (subst (λ (n : ℕ). BootPlayed ran.wanting facts (rows_before h.annals) files (scripts_in scripts n) (past h)) (sym r.ran.count_is) r.ran.played),
-          lift h.annals (λ (o : List Row). EarlierPlayed ran.wanting facts o files scripts (past h)) (λ f. faults-earlier ran.wanting facts opening files scripts (past h) (all-faults f)) r.ran.earlier,
+        let B = λ (o : List Row). BootPlayed ran.wanting facts o means (scripts_in scripts (boots (past h))) (past h) in (
+          lift h.annals B (λ f. faults-played ran.wanting facts opening means scripts (past h) (all-faults f))
+              (subst (λ (n : ℕ). BootPlayed ran.wanting facts (rows_before h.annals) means (scripts_in scripts n) (past h)) (sym r.ran.count_is) r.ran.played),
+          lift h.annals (λ (o : List Row). EarlierPlayed ran.wanting facts o means scripts (past h)) (λ f. faults-earlier ran.wanting facts opening means scripts (past h) (all-faults f)) r.ran.earlier,
         );
   }
 
@@ -242,7 +242,7 @@ module _ {K : Type 0} (told : K → Option (List Row)) (doubted : K → Option C
   ends-so Ending.NoMemory e = e
 
   played-here : AtMostOnce → TakenOnce → HistoryStays → old.annals.core.log ≡ [] → (boards : List BoardState) → BoardsOf h boards
-      → WasPlayed told doubted faults files ran c scripts opening h.annals.core.log boards old.keeper h.keeper
+      → WasPlayed told doubted faults means ran c scripts opening h.annals.core.log boards old.keeper h.keeper
   played-here law_once law_taken law_stays n boards of = record {
     true_log = true-log law_once law_taken law_stays boards of;
     keeper = keeper-stands n;
@@ -252,9 +252,9 @@ module _ {K : Type 0} (told : K → Option (List Row)) (doubted : K → Option C
   }
 
   pub was-played : AtMostOnce → TakenOnce → HistoryStays → old.annals.core.log ≡ [] → (boards : List BoardState) → BoardsOf h boards
-      → WasPlayed told doubted faults files ran (with_plans old.annals.facts old.annals.first plans) scripts opening h.annals.core.log boards old.keeper h.keeper
+      → WasPlayed told doubted faults means ran (with_plans old.annals.facts old.annals.first plans) scripts opening h.annals.core.log boards old.keeper h.keeper
   was-played law_once law_taken law_stays n boards of =
-      let W = λ (x : Campaign). WasPlayed told doubted faults files ran x scripts opening h.annals.core.log boards old.keeper h.keeper in
+      let W = λ (x : Campaign). WasPlayed told doubted faults means ran x scripts opening h.annals.core.log boards old.keeper h.keeper in
       let e : with_plans h.annals.facts h.annals.first plans ≡ with_plans old.annals.facts old.annals.first plans =
       ap (λ (x : Facts). with_plans x h.annals.first plans) r.ran.facts ∙ ap (λ (x : List Seen). with_plans old.annals.facts x plans) r.ran.first in
       subst W e (played-here law_once law_taken law_stays n boards of)

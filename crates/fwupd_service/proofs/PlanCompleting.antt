@@ -15,8 +15,8 @@ use Rattle.daemon_core.specs.Boots.{BreaksAt}
 use Rattle.daemon_core.specs.House.{shown_by}
 use Rattle.daemon_core.specs.Keeping.{keeper_faults}
 use Rattle.daemon_core.specs.Reading.{AreTold}
-use Rattle.client_plays.specs.Shelves.{files_for}
-use Rattle.client_plays.specs.Tools.{Files, ShelfTold}
+use Rattle.client_plays.specs.Shelves.{means_for}
+use Rattle.client_plays.specs.Tools.{ShelfTold}
 use Rattle.campaign_runs.specs.Planned.{with_plans}
 use Rattle.site_types.specs.declared.campaign.Campaign.{Campaign}
 use Rattle.site_types.specs.declared.site.Site.{Site}
@@ -34,6 +34,7 @@ use Rattle.fwupd_service.specs.declared.loading.LoadStop.TheVariants as loads
 use Rattle.fwupd_service.specs.Campaigns.{IsBadHistory}
 use Rattle.fwupd_service.specs.Complete.{GivesSite, HistoryHeld, PlanDone, RunDone, SitePlanned, SiteUpdated, SiteWentWhole}
 use Rattle.fwupd_service.specs.Ends.{CampaignEnds}
+use Rattle.fwupd_service.specs.Plugged.{AreStarted, PluginWords, work_of}
 use Rattle.fwupd_service.specs.Loads.{LoadSays, WasLoaded, load_status}
 use Rattle.fwupd_service.specs.Telling.{any_fault}
 use Rattle.fwupd_service.specs.Tops.{CampaignTold, Left, RunStopped, Went, stop_status}
@@ -70,13 +71,13 @@ module _ {K : Type 0} (told : K → Option (List Row)) (doubted : K → Option C
   plan-stopped Complete shelves sheets keeper old new site stops.SourceFault h given can = tt
   plan-stopped Complete shelves sheets keeper old new site stops.NoMemory h given can = tt
   plan-stopped Complete shelves sheets keeper old new site stops.TooLong h given can =
-      absurd (stopped told doubted faults ⊥ shelves sheets keeper old new site stops.TooLong h given can)
+      absurd (stopped told ⊥ shelves sheets keeper old new site stops.TooLong h given can)
   plan-stopped Complete shelves sheets keeper old new site (stops.Document place reason) h given can =
-      absurd (stopped told doubted faults ⊥ shelves sheets keeper old new site (stops.Document place reason) h given can)
+      absurd (stopped told ⊥ shelves sheets keeper old new site (stops.Document place reason) h given can)
   plan-stopped Complete shelves sheets keeper old new site (stops.TooManyClients asked most) h given can =
-      absurd (stopped told doubted faults ⊥ shelves sheets keeper old new site (stops.TooManyClients asked most) h given can)
+      absurd (stopped told ⊥ shelves sheets keeper old new site (stops.TooManyClients asked most) h given can)
   plan-stopped Complete shelves sheets keeper old new site (stops.Plugins fault) h given can =
-      absurd (stopped told doubted faults ⊥ shelves sheets keeper old new site (stops.Plugins fault) h given can)
+      absurd (stopped told ⊥ shelves sheets keeper old new site (stops.Plugins fault) h given can)
 
   -- ---- `plan`
 
@@ -108,71 +109,72 @@ module _ {K : Type 0} (told : K → Option (List Row)) (doubted : K → Option C
       at (inl s) = subst (PlanDone Complete) (sym s.status_is) (plan-stopped Complete shelves sheets left.keeper old new site s.stop s.stopped given can)
       at (inr w) = went w.campaign w.opened w.goes
 
-  -- ---- `update`
+-- ---- `update`
 
+module _ {K Q : Type 0} (told : K → Option (List Row)) (doubted : K → Option Change) (faults : K → ℕ) (words : PluginWords Q) where
   -- What the campaign of the plan came to that was played.
-  update-ended : (files : ℕ → Files) (sheets : List PluginSheet) (vetoes : MachineFacts → List PluginVetoes) (tag : List ℕ) (site : Site) (campaign made : Campaign) (rows : List Row) (keeper : K) (left : Left K) (before after : Option (List ℕ)) (status : Status)
-      → IsCampaignOf site sheets (vetoes site.machine) campaign → AreTold (told keeper) rows → Plays (planned_items campaign rows tag) campaign made
+  update-ended : (shelves : List ShelfTold) (sheets : List PluginSheet) (vetoes : MachineFacts → List PluginVetoes) (started : List Q) (tag : List ℕ) (site : Site) (campaign made : Campaign) (rows : List Row) (keeper : K) (left : Left K) (before after : Option (List ℕ)) (status : Status)
+      → AreStarted words sheets campaign.facts started → IsCampaignOf site sheets (vetoes site.machine) campaign → AreTold (told keeper) rows → Plays (planned_items campaign rows tag) campaign made
       → IsHistory left.opening → any_fault left.log ≡ false
-      → CampaignEnds told files status (with_plans made.facts (map shown_by made.boards.items) made.boots) left.opening made.scripts left.log left.keeper (report made.facts left.opening left.log) before after
-      → RunDone told left.keeper (SiteUpdated told files sheets vetoes tag site keeper left before after) status
-  update-ended files sheets vetoes tag site campaign made rows keeper left before after statuses.Done s t p valid quiet e =
-      record { campaign = campaign; settled = s; rows = rows; told_are = t; made = made; plays = p; whole = e.1 }
-  update-ended files sheets vetoes tag site campaign made rows keeper left before after statuses.KeeperFault s t p valid quiet e =
+      → CampaignEnds told (means_for (work_of words started) shelves) status (with_plans made.facts (map shown_by made.boards.items) made.boots) left.opening made.scripts left.log left.keeper (report made.facts left.opening left.log) before after
+      → RunDone told left.keeper (SiteUpdated told shelves sheets vetoes words tag site keeper left before after) status
+  update-ended shelves sheets vetoes started tag site campaign made rows keeper left before after statuses.Done a s t p valid quiet e =
+      record { campaign = campaign; settled = s; started = started; started_are = a; rows = rows; told_are = t; made = made; plays = p; whole = e.1 }
+  update-ended shelves sheets vetoes started tag site campaign made rows keeper left before after statuses.KeeperFault a s t p valid quiet e =
       let bad = sym e.0 ∙ quiet in cc
-  update-ended files sheets vetoes tag site campaign made rows keeper left before after (statuses.BadHistory entry) s t p valid quiet e = bad e.bad
+  update-ended shelves sheets vetoes started tag site campaign made rows keeper left before after (statuses.BadHistory entry) a s t p valid quiet e = bad e.bad
     where
       bad : IsBadHistory told entry made.facts left.opening left.log left.keeper → told left.keeper ≡ None
       bad (inl (all, b)) = absurd (b.faulty.breaks (history_front left.opening (b.at + 1) valid))
       bad (inr (v, silent, others)) = silent
-  update-ended files sheets vetoes tag site campaign made rows keeper left before after statuses.SinkFault s t p valid quiet e = tt
-  update-ended files sheets vetoes tag site campaign made rows keeper left before after statuses.NoMemory s t p valid quiet e = tt
-  update-ended files sheets vetoes tag site campaign made rows keeper left before after statuses.SourceFault s t p valid quiet e = tt
-  update-ended files sheets vetoes tag site campaign made rows keeper left before after _ s t p valid quiet e = absurd e
+  update-ended shelves sheets vetoes started tag site campaign made rows keeper left before after statuses.SinkFault a s t p valid quiet e = tt
+  update-ended shelves sheets vetoes started tag site campaign made rows keeper left before after statuses.NoMemory a s t p valid quiet e = tt
+  update-ended shelves sheets vetoes started tag site campaign made rows keeper left before after statuses.SourceFault a s t p valid quiet e = tt
+  update-ended shelves sheets vetoes started tag site campaign made rows keeper left before after _ a s t p valid quiet e = absurd e
 
   pub update-complete : (shelves now : List ShelfTold) (sheets : List PluginSheet) (vetoes : MachineFacts → List PluginVetoes) (tag : List ℕ) (status : Status) (keeper : K) (left : Left K) (old new before after : Option (List ℕ)) (site : Site)
-      → UpdateEnds told doubted faults shelves now sheets vetoes tag status keeper left old new before after
+      → UpdateEnds told doubted faults shelves now sheets vetoes words tag status keeper left old new before after
       → GivesSite (length shelves) old site → CanBeArranged sheets → HistoryHeld told faults keeper left
-      → RunDone told left.keeper (SiteUpdated told (files_for shelves) sheets vetoes tag site keeper left before after) status
+      → RunDone told left.keeper (SiteUpdated told shelves sheets vetoes words tag site keeper left before after) status
   update-complete shelves now sheets vetoes tag status keeper left old new before after site ends given can held = at ends
     where
       Complete : Type 0
-      Complete = SiteUpdated told (files_for shelves) sheets vetoes tag site keeper left before after
+      Complete = SiteUpdated told shelves sheets vetoes words tag site keeper left before after
 
       -- the keeper between the load and the first boot counted no fault either, and tells the same rows
       quiet-middle : (middle : K) → faults keeper ≤ faults middle → faults middle ≤ faults left.keeper → faults left.keeper ≡ faults middle
       quiet-middle middle before after = let same = held.no_fault in omega (arith, before, after, same)
 
-      Told : Campaign → K → Type 0
-      Told made middle = CampaignTold told doubted faults shelves now status made middle left (report made.facts left.opening left.log) before after
+      Told : List Q → Campaign → K → Type 0
+      Told started made middle = CampaignTold told doubted faults shelves now (work_of words started) status made middle left (report made.facts left.opening left.log) before after
 
-      valid : (made : Campaign) (middle : K) → told middle ≡ told keeper → Told made middle → IsHistory left.opening
-      valid made middle same w =
+      valid : (started : List Q) (made : Campaign) (middle : K) → told middle ≡ told keeper → Told started made middle → IsHistory left.opening
+      valid started made middle same w =
           valid-opening (told middle) left.opening left.log (subst (λ (o : Option (List Row)). MatchOption o (IsHistory left.opening) IsHistory) (sym same) held.valid) w.keeper_stands.opening_is
 
-      quiet : (made : Campaign) (middle : K) → faults keeper ≤ faults middle → Told made middle → any_fault left.log ≡ false
-      quiet made middle counts w =
+      quiet : (started : List Q) (made : Campaign) (middle : K) → faults keeper ≤ faults middle → Told started made middle → any_fault left.log ≡ false
+      quiet started made middle counts w =
           let same : faults left.keeper ≡ faults middle = quiet-middle middle counts w.keeper_stands.counts in
           let counting : faults middle < 2 ^ 64 - 1 = (let n = held.no_fault in let m = held.counting in omega (arith, n, m, same)) in
           no-fault-told (with_plans made.facts (map shown_by made.boards.items) made.boots) left.opening left.log w.true_log.legal
           (counted-none (2 ^ 64 - 1) (keeper_faults (past_of left.log)) (faults middle) (faults left.keeper) w.keeper_stands.counted same counting)
 
-      played : (campaign : Campaign) → IsCampaignOf site sheets (vetoes site.machine) campaign → PlanPlayed told doubted faults shelves now tag campaign status keeper left before after → RunDone told left.keeper Complete status
-      played campaign settled p = of p.went
+      played : (started : List Q) (campaign : Campaign) → AreStarted words sheets campaign.facts started → IsCampaignOf site sheets (vetoes site.machine) campaign → PlanPlayed told doubted faults shelves now (work_of words started) tag campaign status keeper left before after → RunDone told left.keeper Complete status
+      played started campaign a settled p = of p.went
         where
-          of : Went told doubted faults shelves now status p.made p.middle left (report p.made.facts left.opening left.log) before after → RunDone told left.keeper Complete status
+          of : Went told doubted faults shelves now (work_of words started) status p.made p.middle left (report p.made.facts left.opening left.log) before after → RunDone told left.keeper Complete status
           of (inl w) =
-              update-ended (files_for shelves) sheets vetoes tag site campaign p.made p.rows keeper left before after status settled p.loaded.says.0 p.plays
-              (valid p.made p.middle p.loaded.told_stay w) (quiet p.made p.middle p.loaded.counts w) w.ends
+              update-ended shelves sheets vetoes started tag site campaign p.made p.rows keeper left before after status a settled p.loaded.says.0 p.plays
+              (valid started p.made p.middle p.loaded.told_stay w) (quiet started p.made p.middle p.loaded.counts w) w.ends
           of (inr (e, nothing)) = subst (RunDone told left.keeper Complete) (sym e) tt
 
-      went : (campaign : Campaign) → IsOpened (limits.Shelves (length shelves)) sheets vetoes old new campaign → UpdateGoes told doubted faults shelves now tag campaign status keeper left before after → RunDone told left.keeper Complete status
-      went campaign o (inl n) = subst (RunDone told left.keeper Complete) (sym n.status_is) (load-held (RunDone told left.keeper Complete) n.stop keeper left tt held n.only.loaded)
-      went campaign o (inr (inl n)) = subst (RunDone told left.keeper Complete) (sym n.status_is) tt
-      went campaign o (inr (inr p)) =
+      went : (started : List Q) (campaign : Campaign) → AreStarted words sheets campaign.facts started → IsOpened (limits.Shelves (length shelves)) sheets vetoes old new campaign → UpdateGoes told doubted faults shelves now (work_of words started) tag campaign status keeper left before after → RunDone told left.keeper Complete status
+      went started campaign a o (inl n) = subst (RunDone told left.keeper Complete) (sym n.status_is) (load-held told doubted faults (RunDone told left.keeper Complete) n.stop keeper left tt held n.only.loaded)
+      went started campaign a o (inr (inl n)) = subst (RunDone told left.keeper Complete) (sym n.status_is) tt
+      went started campaign a o (inr (inr p)) =
           let same : o.site ≡ site = site-same (length shelves) sheets old new site given o.bytes o.site o.came o.states.read o.states.stated in
-          played campaign (subst (λ (x : Site). IsCampaignOf x sheets (vetoes x.machine) campaign) same o.settled) p
+          played started campaign a (subst (λ (x : Site). IsCampaignOf x sheets (vetoes x.machine) campaign) same o.settled) p
 
-      at : UpdateEnds told doubted faults shelves now sheets vetoes tag status keeper left old new before after → RunDone told left.keeper Complete status
-      at (inl s) = subst (RunDone told left.keeper Complete) (sym s.status_is) (stopped told doubted faults Complete (length shelves) sheets left.keeper old new site s.stop s.stopped given can)
-      at (inr w) = went w.campaign w.opened w.goes
+      at : UpdateEnds told doubted faults shelves now sheets vetoes words tag status keeper left old new before after → RunDone told left.keeper Complete status
+      at (inl s) = subst (RunDone told left.keeper Complete) (sym s.status_is) (stopped told Complete (length shelves) sheets left.keeper old new site s.stop s.stopped given can)
+      at (inr w) = went w.started w.campaign w.started_are w.opened w.goes

@@ -6,7 +6,8 @@ use Rattle.history_keeper.specs.declared.change.Change.{Change}
 use Rattle.history_keeper.specs.declared.row.Row.{Row}
 use Rattle.update_log.specs.declared.event.Event.{Event}
 use Rattle.daemon_core.specs.House.{shown_by}
-use Rattle.client_plays.specs.Shelves.{files_for}
+use Rattle.client_plays.specs.Shelves.{means_for}
+use Rattle.plugin_trait.specs.Steps.{PluginSteps}
 use Rattle.client_plays.specs.Tools.{ShelfTold, ShelvesStay}
 use Rattle.campaign_runs.specs.declared.ending.Ran.{Ran}
 use Rattle.campaign_runs.specs.Planned.{with_plans}
@@ -44,10 +45,10 @@ pub stay-same : (shelves : List ShelfTold) → ShelvesStay shelves shelves
 stay-same [] = tt
 stay-same (shelf ∷ shelves) = (record { files = refl; counts = omega arith }, stay-same shelves)
 
-module _ {K : Type 0} (told : K → Option (List Row)) (doubted : K → Option Change) (faults : K → ℕ) (shelves now : List ShelfTold) (ran : Ran) (campaign : Campaign) (opening : List Row) (log : List Event) (boards : List BoardState) (old new : K) (text : List ℕ) (before after : Option (List ℕ)) where
-  pub campaign-told : (status : Status) → ShelvesStand log shelves now → map (λ (b : BoardState). b.plan) boards ≡ map (λ (b : BoardState). b.plan) campaign.boards.items → WasPlayed told doubted faults (files_for shelves) ran (with_plans campaign.facts (map shown_by campaign.boards.items) campaign.boots) campaign.scripts opening log boards old new
+module _ {K : Type 0} (told : K → Option (List Row)) (doubted : K → Option Change) (faults : K → ℕ) (shelves now : List ShelfTold) (plugins : ℕ → PluginSteps) (ran : Ran) (campaign : Campaign) (opening : List Row) (log : List Event) (boards : List BoardState) (old new : K) (text : List ℕ) (before after : Option (List ℕ)) where
+  pub campaign-told : (status : Status) → ShelvesStand log shelves now → map (λ (b : BoardState). b.plan) boards ≡ map (λ (b : BoardState). b.plan) campaign.boards.items → WasPlayed told doubted faults (means_for plugins shelves) ran (with_plans campaign.facts (map shown_by campaign.boards.items) campaign.boots) campaign.scripts opening log boards old new
       → IsReported status ran.ending ran.wanting log text before after
-      → CampaignTold told doubted faults shelves now status campaign old (record { log = log; opening = opening; boards = Some boards; keeper = new }) text before after
+      → CampaignTold told doubted faults shelves now plugins status campaign old (record { log = log; opening = opening; boards = Some boards; keeper = new }) text before after
   campaign-told status s plans p r = record {
     boards = boards;
     boards_are = refl;
@@ -55,5 +56,5 @@ module _ {K : Type 0} (told : K → Option (List Row)) (doubted : K → Option C
     board_plans = plans;
     keeper_stands = p.keeper;
     shelves_stand = s;
-    ends = campaign-ends told doubted faults (files_for shelves) (with_plans campaign.facts (map shown_by campaign.boards.items) campaign.boots) campaign.scripts opening log boards old new text before after status ran p r;
+    ends = campaign-ends told doubted faults (means_for plugins shelves) (with_plans campaign.facts (map shown_by campaign.boards.items) campaign.boots) campaign.scripts opening log boards old new text before after status ran p r;
   }

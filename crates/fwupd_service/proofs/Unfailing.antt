@@ -9,8 +9,9 @@ use Rattle.daemon_core.specs.Boots.{BreaksAt}
 use Rattle.daemon_core.specs.House.{shown_by}
 use Rattle.daemon_core.specs.Keeping.{keeper_faults}
 use Rattle.client_scripts.specs.declared.item.Item.{Item}
-use Rattle.client_plays.specs.Shelves.{files_for}
-use Rattle.client_plays.specs.Tools.{Files, ShelfTold}
+use Rattle.client_plays.specs.Shelves.{means_for}
+use Rattle.plugin_trait.specs.Steps.{PluginSteps}
+use Rattle.client_plays.specs.Tools.{Means, ShelfTold}
 use Rattle.campaign_runs.specs.Planned.{with_plans}
 use Rattle.site_types.specs.declared.campaign.Campaign as sites
 use Rattle.made_outputs.specs.Summed.{summary}
@@ -43,19 +44,19 @@ none-bad : {K : Type 0} (told : K → Option (List Row)) (keeper : K) (all : Lis
 none-bad told keeper all entry c opening log t o (inl (faults, b)) = none-breaks entry opening o b
 none-bad told keeper all entry c opening log t o (inr (valid, silent, others)) = cc
 
-no-blame : {K : Type 0} (told : K → Option (List Row)) (keeper : K) (all : List Row) (files : ℕ → Files) (status : Status) (c : Campaign) (opening : List Row) (scripts : List (List (List Item))) (log : List Event) (text : List ℕ) (before after : Option (List ℕ))
-    → told keeper ≡ Some all → opening ≡ [] → any_fault log ≡ false → CampaignEnds told files status c opening scripts log keeper text before after → BlamesNoHistory status
-no-blame told keeper all files statuses.KeeperFault c opening scripts log text before after t o f e = let bad : true ≡ false = sym e.0 ∙ f in cc
-no-blame told keeper all files (statuses.BadHistory entry) c opening scripts log text before after t o f e = none-bad told keeper all entry c opening log t o e.bad
-no-blame told keeper all files _ c opening scripts log text before after t o f e = tt
+no-blame : {K : Type 0} (told : K → Option (List Row)) (keeper : K) (all : List Row) (means : ℕ → Means) (status : Status) (c : Campaign) (opening : List Row) (scripts : List (List (List Item))) (log : List Event) (text : List ℕ) (before after : Option (List ℕ))
+    → told keeper ≡ Some all → opening ≡ [] → any_fault log ≡ false → CampaignEnds told means status c opening scripts log keeper text before after → BlamesNoHistory status
+no-blame told keeper all means statuses.KeeperFault c opening scripts log text before after t o f e = let bad : true ≡ false = sym e.0 ∙ f in cc
+no-blame told keeper all means (statuses.BadHistory entry) c opening scripts log text before after t o f e = none-bad told keeper all entry c opening log t o e.bad
+no-blame told keeper all means _ c opening scripts log text before after t o f e = tt
 
 -- ---- the generated campaign
 
-pub made-went : {K : Type 0} (boards clients : ℕ) (status : Status) (campaign : sites.Campaign) (keeper : K) (left : Left K) (own : List Row) (kept : List ShelfTold) (before after : Option (List ℕ)) → left.keeper ≡ keeper
-    → CampaignTold (λ (rows : List Row). Some rows) (λ _. None) (λ _. 0) (own_shelves clients) kept status campaign []
+pub made-went : {K : Type 0} (boards clients : ℕ) (plugins : ℕ → PluginSteps) (status : Status) (campaign : sites.Campaign) (keeper : K) (left : Left K) (own : List Row) (kept : List ShelfTold) (before after : Option (List ℕ)) → left.keeper ≡ keeper
+    → CampaignTold (λ (rows : List Row). Some rows) (λ _. None) (λ _. 0) (own_shelves clients) kept plugins status campaign []
     (record { log = left.log; opening = left.opening; boards = left.boards; keeper = own }) (summary boards clients left.log) before after
-    → MadeWent boards clients status campaign keeper left before after
-made-went boards clients status campaign keeper left own kept before after k told =
+    → MadeWent boards clients plugins status campaign keeper left before after
+made-went boards clients plugins status campaign keeper left own kept before after k told =
     let c = with_plans campaign.facts (map shown_by campaign.boards.items) campaign.boots in
     let stands = told.keeper_stands in
     let no_rows : left.opening ≡ [] = none-opened left.opening left.log stands.opening_is in
@@ -67,6 +68,6 @@ made-went boards clients status campaign keeper left own kept before after k tol
       no_rows = no_rows;
       no_fault = no_fault;
       no_blame =
-          no-blame (λ (rows : List Row). Some rows) own own (files_for (own_shelves clients)) status c left.opening campaign.scripts left.log (summary boards clients left.log) before after refl no_rows no_fault told.ends;
+          no-blame (λ (rows : List Row). Some rows) own own (means_for plugins (own_shelves clients)) status c left.opening campaign.scripts left.log (summary boards clients left.log) before after refl no_rows no_fault told.ends;
       told = told;
     }

@@ -19,7 +19,7 @@ use Rattle.daemon_core.specs.Keeping.{HasRows, WasReopened, keeper_faults, last_
 use Rattle.daemon_core.specs.Reading.{AreOthers}
 use Rattle.client_scripts.specs.declared.item.Item.{Item}
 use Rattle.client_plays.specs.Faults.{shelf_faults}
-use Rattle.client_plays.specs.Tools.{Files, ShelfTold, ShelvesStay}
+use Rattle.client_plays.specs.Tools.{Means, ShelfTold, ShelvesStay}
 use Rattle.campaign_runs.specs.declared.ending.Ending.{Ending}
 use Rattle.campaign_runs.specs.declared.ending.Ran.{Ran}
 use Rattle.campaign_runs.specs.Promises.{PlayedBoots}
@@ -86,11 +86,11 @@ EndsAt told Ending.Whole c opening log keeper count = count ≡ length c.plans
 EndsAt told (Ending.BadHistory entry) c opening log keeper count = (count < length c.plans) × IsBadHistory told entry c.facts opening log keeper
 EndsAt told Ending.NoMemory c opening log keeper count = count < length c.plans
 
--- A campaign was played: so many of its boots, each by its plan, with the scripts. `files` has the files of
--- each client's shelf.
-pub record WasPlayed {K : Type 0} (told : K → Option (List Row)) (doubted : K → Option Change) (faults : K → ℕ) (files : ℕ → Files) (ran : Ran) (c : Campaign) (scripts : List (List (List Item))) (opening : List Row) (log : List Event) (boards : List BoardState) (old new : K) : Type 0 where
+-- A campaign was played: so many of its boots, each by its plan, with the scripts. `means` has those of each
+-- client.
+pub record WasPlayed {K : Type 0} (told : K → Option (List Row)) (doubted : K → Option Change) (faults : K → ℕ) (means : ℕ → Means) (ran : Ran) (c : Campaign) (scripts : List (List (List Item))) (opening : List Row) (log : List Event) (boards : List BoardState) (old new : K) : Type 0 where
   pub true_log : IsTrueLog c opening log boards
   pub keeper : KeeperStands told doubted faults c opening log old new
   pub count : ℕ
-  pub played : PlayedBoots ran.wanting c opening files scripts count log
+  pub played : PlayedBoots ran.wanting c opening means scripts count log
   pub ends : EndsAt told ran.ending c opening log new count

@@ -17,6 +17,7 @@ use Rattle.document_commands.specs.Explains.{ExplainEnds}
 use Rattle.run_status.specs.declared.status.Status.{Status}
 use Rattle.run_status.specs.declared.status.Status.TheVariants as statuses
 use Rattle.fwupd_service.specs.Makes.{MakeEnds}
+use Rattle.fwupd_service.specs.Plugged.{PluginWords}
 use Rattle.update_plans.specs.Tags.{IsTag}
 use Rattle.fwupd_service.specs.Tops.{Left, NothingBegan, RunEnds}
 use Rattle.fwupd_service.specs.Updates.{PlanEnds, UpdateEnds}
@@ -120,29 +121,29 @@ CommandFits (commands.Explain port version) = Unit {0}
 CommandFits (commands.Ids texts) = Unit {0}
 
 -- The command ends so.
-abbrev pub CommandEnds : {K : Type 0} → (K → Option (List Row)) → (K → Option Change) → (K → ℕ) → List ShelfTold → List ShelfTold → List PluginSheet → (MachineFacts → List PluginVetoes) → Command → Status → K → Left K → Option (List ℕ) → Option (List ℕ) → Option (List ℕ) → Option (List ℕ) → Type 0
-CommandEnds told doubted faults shelves now sheets vetoes commands.Run status keeper left old new before after =
-    RunEnds told doubted faults shelves now sheets vetoes status keeper left old new before after
-CommandEnds told doubted faults shelves now sheets vetoes (commands.Make boards clients) status keeper left old new before after =
-    (new ≡ old) × MakeEnds boards clients sheets vetoes status keeper left before after
-CommandEnds told doubted faults shelves now sheets vetoes (commands.Plan tag) status keeper left old new before after =
+abbrev pub CommandEnds : {K Q : Type 0} → (K → Option (List Row)) → (K → Option Change) → (K → ℕ) → List ShelfTold → List ShelfTold → List PluginSheet → (MachineFacts → List PluginVetoes) → PluginWords Q → Command → Status → K → Left K → Option (List ℕ) → Option (List ℕ) → Option (List ℕ) → Option (List ℕ) → Type 0
+CommandEnds told doubted faults shelves now sheets vetoes words commands.Run status keeper left old new before after =
+    RunEnds told doubted faults shelves now sheets vetoes words status keeper left old new before after
+CommandEnds told doubted faults shelves now sheets vetoes words (commands.Make boards clients) status keeper left old new before after =
+    (new ≡ old) × MakeEnds boards clients sheets vetoes words status keeper left before after
+CommandEnds told doubted faults shelves now sheets vetoes words (commands.Plan tag) status keeper left old new before after =
     PlanEnds told doubted faults (length shelves) sheets vetoes tag status keeper left old new before after
-CommandEnds told doubted faults shelves now sheets vetoes (commands.Update tag) status keeper left old new before after =
-    UpdateEnds told doubted faults shelves now sheets vetoes tag status keeper left old new before after
-CommandEnds told doubted faults shelves now sheets vetoes commands.Check status keeper left old new before after =
+CommandEnds told doubted faults shelves now sheets vetoes words (commands.Update tag) status keeper left old new before after =
+    UpdateEnds told doubted faults shelves now sheets vetoes words tag status keeper left old new before after
+CommandEnds told doubted faults shelves now sheets vetoes words commands.Check status keeper left old new before after =
     Checked status keeper left old new before after
-CommandEnds told doubted faults shelves now sheets vetoes commands.Remotes status keeper left old new before after =
+CommandEnds told doubted faults shelves now sheets vetoes words commands.Remotes status keeper left old new before after =
     RemotesTold status keeper left old new before after
-CommandEnds told doubted faults shelves now sheets vetoes (commands.Explain port version) status keeper left old new before after =
+CommandEnds told doubted faults shelves now sheets vetoes words (commands.Explain port version) status keeper left old new before after =
     Explained sheets vetoes port version status keeper left old new before after
-CommandEnds told doubted faults shelves now sheets vetoes (commands.Ids texts) status keeper left old new before after =
+CommandEnds told doubted faults shelves now sheets vetoes words (commands.Ids texts) status keeper left old new before after =
     Identified texts status keeper left old new before after
 
 -- Words that are no command do nothing; those that are one do what it does, unless there was no memory to
 -- read them.
-abbrev pub WordsEnd : {K : Type 0} → (K → Option (List Row)) → (K → Option Change) → (K → ℕ) → List ShelfTold → List ShelfTold → List PluginSheet → (MachineFacts → List PluginVetoes) → Option Command → Status → K → Left K → Option (List ℕ) → Option (List ℕ) → Option (List ℕ) → Option (List ℕ) → Type 0
-WordsEnd told doubted faults shelves now sheets vetoes None status keeper left old new before after =
+abbrev pub WordsEnd : {K Q : Type 0} → (K → Option (List Row)) → (K → Option Change) → (K → ℕ) → List ShelfTold → List ShelfTold → List PluginSheet → (MachineFacts → List PluginVetoes) → PluginWords Q → Option Command → Status → K → Left K → Option (List ℕ) → Option (List ℕ) → Option (List ℕ) → Option (List ℕ) → Type 0
+WordsEnd told doubted faults shelves now sheets vetoes words None status keeper left old new before after =
     (status ≡ statuses.Usage) × NothingDone keeper left old new before after
-WordsEnd told doubted faults shelves now sheets vetoes (Some command) status keeper left old new before after =
-    CommandEnds told doubted faults shelves now sheets vetoes command status keeper left old new before after
+WordsEnd told doubted faults shelves now sheets vetoes words (Some command) status keeper left old new before after =
+    CommandEnds told doubted faults shelves now sheets vetoes words command status keeper left old new before after
     ⊎ ((status ≡ statuses.NoMemory) × NothingDone keeper left old new before after)

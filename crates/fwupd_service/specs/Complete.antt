@@ -19,8 +19,8 @@ use Rattle.update_plans.specs.Plans.{release_at, request_of, scene}
 use Rattle.update_plans.specs.declared.plan.PlanStep.{PlanStep}
 use Rattle.daemon_core.specs.Reading.{AreTold}
 use Rattle.daemon_core.specs.House.{shown_by}
-use Rattle.client_plays.specs.Shelves.{files_for}
-use Rattle.client_plays.specs.Tools.{Files, ShelfTold}
+use Rattle.client_plays.specs.Shelves.{means_for}
+use Rattle.client_plays.specs.Tools.{ShelfTold}
 use Rattle.campaign_runs.specs.Planned.{with_plans}
 use Rattle.site_types.specs.declared.campaign.Campaign.{Campaign}
 use Rattle.site_types.specs.declared.site.Site.{Site}
@@ -36,6 +36,7 @@ use Rattle.run_status.specs.declared.status.Status.{Status}
 use Rattle.run_status.specs.declared.status.Status.TheVariants as statuses
 use Rattle.fwupd_service.specs.Ends.{WentWhole}
 use Rattle.fwupd_service.specs.Makes.{MakeEnds, own_shelves}
+use Rattle.fwupd_service.specs.Plugged.{AreStarted, PluginWords, work_of}
 use Rattle.fwupd_service.specs.Tops.{Left, RunEnds}
 use Rattle.fwupd_service.specs.Updates.{PlanEnds, UpdateEnds, planned_items, printed_plan}
 
@@ -55,12 +56,14 @@ pub record HistoryHeld {K : Type 0} (told : K → Option (List Row)) (faults : K
   pub no_fault : faults left.keeper ≡ faults keeper
   pub counting : faults keeper < 2 ^ 64 - 1
 
--- The campaign of that site was played whole: all its boots were run, each script was played, as far as its
--- boot didn't go off, and the text of its log was written whole.
-pub record SiteWentWhole {K : Type 0} (files : ℕ → Files) (sheets : List PluginSheet) (vetoes : MachineFacts → List PluginVetoes) (site : Site) (left : Left K) (text : Campaign → List ℕ) (before after : Option (List ℕ)) : Type 0 where
+-- The campaign of that site was played whole, over these shelves, by the plugins that were started: all its boots
+-- were run, each script was played, as far as its boot didn't go off, and the text of its log was written whole.
+pub record SiteWentWhole {K Q : Type 0} (shelves : List ShelfTold) (sheets : List PluginSheet) (vetoes : MachineFacts → List PluginVetoes) (words : PluginWords Q) (site : Site) (left : Left K) (text : Campaign → List ℕ) (before after : Option (List ℕ)) : Type 0 where
   pub campaign : Campaign
   pub settled : IsCampaignOf site sheets (vetoes site.machine) campaign
-  pub whole : WentWhole files (with_plans campaign.facts (map shown_by campaign.boards.items) campaign.boots) left.opening campaign.scripts left.log (text campaign) before after
+  pub started : List Q
+  pub started_are : AreStarted words sheets campaign.facts started
+  pub whole : WentWhole (means_for (work_of words started) shelves) (with_plans campaign.facts (map shown_by campaign.boards.items) campaign.boots) left.opening campaign.scripts left.log (text campaign) before after
 
 -- All was done, or else memory was wanting, or the input or the output failed; or, where the keeper doesn't
 -- tell its rows, a later boot read other rows than the log's.
@@ -74,12 +77,12 @@ RunDone told keeper Complete _ = ⊥
 
 -- `run` is complete: whatever it came to, where the input gives a site, the plugins can be arranged and the
 -- history held, the campaign of that site was played whole and its report was written, but for those causes.
-abbrev pub RunCompletes : {K : Type 0} → (K → Option (List Row)) → (K → Option Change) → (K → ℕ) → Type 0
-RunCompletes {K = K} told doubted faults =
+abbrev pub RunCompletes : {K Q : Type 0} → (K → Option (List Row)) → (K → Option Change) → (K → ℕ) → PluginWords Q → Type 0
+RunCompletes {K = K} told doubted faults words =
     (shelves now : List ShelfTold) (sheets : List PluginSheet) (vetoes : MachineFacts → List PluginVetoes) (status : Status) (keeper : K) (left : Left K) (old new before after : Option (List ℕ)) (site : Site)
-    → RunEnds told doubted faults shelves now sheets vetoes status keeper left old new before after
+    → RunEnds told doubted faults shelves now sheets vetoes words status keeper left old new before after
     → GivesSite (length shelves) old site → CanBeArranged sheets → HistoryHeld told faults keeper left
-    → RunDone told left.keeper (SiteWentWhole (files_for shelves) sheets vetoes site left (λ campaign. report campaign.facts left.opening left.log) before after) status
+    → RunDone told left.keeper (SiteWentWhole shelves sheets vetoes words site left (λ campaign. report campaign.facts left.opening left.log) before after) status
 
 -- The plan of that site's first boot was printed whole.
 pub record SitePlanned {K : Type 0} (sheets : List PluginSheet) (vetoes : MachineFacts → List PluginVetoes) (tag : List ℕ) (site : Site) (left : Left K) (before after : Option (List ℕ)) : Type 0 where
@@ -106,23 +109,25 @@ PlanCompletes {K = K} told doubted faults =
 
 -- The plan of that site's first boot, over the rows that the keeper told, was played whole: the boot was run, the
 -- script of the planned installs was played, as far as the boot didn't go off, and the report was written whole.
-pub record SiteUpdated {K : Type 0} (told : K → Option (List Row)) (files : ℕ → Files) (sheets : List PluginSheet) (vetoes : MachineFacts → List PluginVetoes) (tag : List ℕ) (site : Site) (keeper : K) (left : Left K) (before after : Option (List ℕ)) : Type 0 where
+pub record SiteUpdated {K Q : Type 0} (told : K → Option (List Row)) (shelves : List ShelfTold) (sheets : List PluginSheet) (vetoes : MachineFacts → List PluginVetoes) (words : PluginWords Q) (tag : List ℕ) (site : Site) (keeper : K) (left : Left K) (before after : Option (List ℕ)) : Type 0 where
   pub campaign : Campaign
   pub settled : IsCampaignOf site sheets (vetoes site.machine) campaign
+  pub started : List Q
+  pub started_are : AreStarted words sheets campaign.facts started
   pub rows : List Row
   pub told_are : AreTold (told keeper) rows
   pub made : Campaign
   pub plays : Plays (planned_items campaign rows tag) campaign made
-  pub whole : WentWhole files (with_plans made.facts (map shown_by made.boards.items) made.boots) left.opening made.scripts left.log (report made.facts left.opening left.log) before after
+  pub whole : WentWhole (means_for (work_of words started) shelves) (with_plans made.facts (map shown_by made.boards.items) made.boots) left.opening made.scripts left.log (report made.facts left.opening left.log) before after
 
 -- `update` is complete: where the input gives a site, the plugins can be arranged and the history held, the plan of
 -- that site's first boot was played whole and its report was written, but for the causes of `run`.
-abbrev pub UpdateCompletes : {K : Type 0} → (K → Option (List Row)) → (K → Option Change) → (K → ℕ) → Type 0
-UpdateCompletes {K = K} told doubted faults =
+abbrev pub UpdateCompletes : {K Q : Type 0} → (K → Option (List Row)) → (K → Option Change) → (K → ℕ) → PluginWords Q → Type 0
+UpdateCompletes {K = K} told doubted faults words =
     (shelves now : List ShelfTold) (sheets : List PluginSheet) (vetoes : MachineFacts → List PluginVetoes) (tag : List ℕ) (status : Status) (keeper : K) (left : Left K) (old new before after : Option (List ℕ)) (site : Site)
-    → UpdateEnds told doubted faults shelves now sheets vetoes tag status keeper left old new before after
+    → UpdateEnds told doubted faults shelves now sheets vetoes words tag status keeper left old new before after
     → GivesSite (length shelves) old site → CanBeArranged sheets → HistoryHeld told faults keeper left
-    → RunDone told left.keeper (SiteUpdated told (files_for shelves) sheets vetoes tag site keeper left before after) status
+    → RunDone told left.keeper (SiteUpdated told shelves sheets vetoes words tag site keeper left before after) status
 
 -- The answer to an ask is that it holds blocks.
 abbrev pub IsHeld : AskAnswer → Type 0
@@ -154,8 +159,8 @@ MakeDone Complete _ = ⊥
 
 -- `make` is complete: where the plugins can be arranged, the campaign of the generated site was played whole
 -- and its summary was written, but for those causes. Its history is in its own memory, and holds.
-abbrev pub MakeCompletes : Type 0 → Type 0
-MakeCompletes K =
+abbrev pub MakeCompletes : {Q : Type 0} → Type 0 → PluginWords Q → Type 0
+MakeCompletes K words =
     (boards clients : ℕ) (sheets : List PluginSheet) (vetoes : MachineFacts → List PluginVetoes) (status : Status) (keeper : K) (left : Left K) (before after : Option (List ℕ))
-    → MakeEnds boards clients sheets vetoes status keeper left before after → CanBeArranged sheets
-    → MakeDone (SiteWentWhole (files_for (own_shelves clients)) sheets vetoes (made_site boards clients) left (λ campaign. summary boards clients left.log) before after) status
+    → MakeEnds boards clients sheets vetoes words status keeper left before after → CanBeArranged sheets
+    → MakeDone (SiteWentWhole (own_shelves clients) sheets vetoes words (made_site boards clients) left (λ campaign. summary boards clients left.log) before after) status

@@ -6,7 +6,7 @@ use Rattle.history_keeper.specs.declared.row.Row.{Row}
 use Rattle.update_log.specs.declared.event.Event.{Event}
 use Rattle.update_log.specs.Shows.{Campaign}
 use Rattle.client_scripts.specs.declared.item.Item.{Item}
-use Rattle.client_plays.specs.Tools.{Files}
+use Rattle.client_plays.specs.Tools.{Means}
 use Rattle.campaign_runs.specs.declared.ending.Ending.{Ending}
 use Rattle.campaign_runs.specs.Promises.{PlayedBoots, PlayedWhole}
 use Rattle.run_status.specs.declared.status.Status.{Status}
@@ -52,41 +52,41 @@ pub record IsLeft {P K : Type 0} (log : List Event) (opening : List Row) (boards
   pub keeper_is : keeper' ≡ keeper
   pub shelves_are : shelves' ≡ shelves
 
--- All boots were run, and each script was played whole, as far as its boot didn't go off: `files` has the
--- files of each client's shelf, which its fetches show. Nothing was left for want of memory, and the output
--- was written whole.
-pub record WentWhole (files : ℕ → Files) (c : Campaign) (opening : List Row) (scripts : List (List (List Item))) (log : List Event) (text : List ℕ) (before after : Option (List ℕ)) : Type 0 where
-  pub played : PlayedWhole false c opening files scripts log
+-- All boots were run, and each script was played whole, as far as its boot didn't go off: `means` has those
+-- of each client, which its fetches and its steps show. Nothing was left for want of memory, and the output was
+-- written whole.
+pub record WentWhole (means : ℕ → Means) (c : Campaign) (opening : List Row) (scripts : List (List (List Item))) (log : List Event) (text : List ℕ) (before after : Option (List ℕ)) : Type 0 where
+  pub played : PlayedWhole false c opening means scripts log
   pub no_want : any_want log ≡ false
   pub took : Took text before after
 
 -- A boot read no history that could be the log's. The boots before were played so, and the output was
 -- written whole.
-pub record WentBad {K : Type 0} (told : K → Option (List Row)) (files : ℕ → Files) (entry : ℕ) (c : Campaign) (opening : List Row) (scripts : List (List (List Item))) (log : List Event) (keeper : K) (text : List ℕ) (before after : Option (List ℕ)) : Type 0 where
+pub record WentBad {K : Type 0} (told : K → Option (List Row)) (means : ℕ → Means) (entry : ℕ) (c : Campaign) (opening : List Row) (scripts : List (List (List Item))) (log : List Event) (keeper : K) (text : List ℕ) (before after : Option (List ℕ)) : Type 0 where
   pub count : ℕ
   pub fewer : count < length c.plans
-  pub played : PlayedBoots false c opening files scripts count log
+  pub played : PlayedBoots false c opening means scripts count log
   pub no_want : any_want log ≡ false
   pub bad : IsBadHistory told entry c.facts opening log keeper
   pub took : Took text before after
 
 -- So many boots were run, and what they played was left at most for want of memory. A front of the output
 -- was written, or all of it.
-pub record WentSome (files : ℕ → Files) (c : Campaign) (opening : List Row) (scripts : List (List (List Item))) (log : List Event) (text : List ℕ) (before after : Option (List ℕ)) : Type 0 where
+pub record WentSome (means : ℕ → Means) (c : Campaign) (opening : List Row) (scripts : List (List (List Item))) (log : List Event) (text : List ℕ) (before after : Option (List ℕ)) : Type 0 where
   pub wanting : Bool
   pub count : ℕ
   pub within : count ≤ length c.plans
-  pub played : PlayedBoots wanting c opening files scripts count log
+  pub played : PlayedBoots wanting c opening means scripts count log
   pub took : TookFront text before after
 
 -- What a status says of a campaign with this log, and of what the sink took of its output.
-abbrev pub CampaignEnds : {K : Type 0} → (K → Option (List Row)) → (ℕ → Files) → Status → Campaign → List Row → List (List (List Item)) → List Event → K → List ℕ → Option (List ℕ) → Option (List ℕ) → Type 0
-CampaignEnds told files statuses.Done c opening scripts log keeper text before after =
-    (any_fault log ≡ false) × WentWhole files c opening scripts log text before after
-CampaignEnds told files statuses.KeeperFault c opening scripts log keeper text before after =
-    (any_fault log ≡ true) × WentWhole files c opening scripts log text before after
-CampaignEnds told files (statuses.BadHistory entry) c opening scripts log keeper text before after =
-    WentBad told files entry c opening scripts log keeper text before after
-CampaignEnds told files statuses.SinkFault c opening scripts log keeper text before after = WentSome files c opening scripts log text before after
-CampaignEnds told files statuses.NoMemory c opening scripts log keeper text before after = WentSome files c opening scripts log text before after
-CampaignEnds told files _ c opening scripts log keeper text before after = ⊥
+abbrev pub CampaignEnds : {K : Type 0} → (K → Option (List Row)) → (ℕ → Means) → Status → Campaign → List Row → List (List (List Item)) → List Event → K → List ℕ → Option (List ℕ) → Option (List ℕ) → Type 0
+CampaignEnds told means statuses.Done c opening scripts log keeper text before after =
+    (any_fault log ≡ false) × WentWhole means c opening scripts log text before after
+CampaignEnds told means statuses.KeeperFault c opening scripts log keeper text before after =
+    (any_fault log ≡ true) × WentWhole means c opening scripts log text before after
+CampaignEnds told means (statuses.BadHistory entry) c opening scripts log keeper text before after =
+    WentBad told means entry c opening scripts log keeper text before after
+CampaignEnds told means statuses.SinkFault c opening scripts log keeper text before after = WentSome means c opening scripts log text before after
+CampaignEnds told means statuses.NoMemory c opening scripts log keeper text before after = WentSome means c opening scripts log text before after
+CampaignEnds told means _ c opening scripts log keeper text before after = ⊥

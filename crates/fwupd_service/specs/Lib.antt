@@ -2,6 +2,7 @@ pub mod Telling
 pub mod Begins
 pub mod Campaigns
 pub mod Ends
+pub mod Plugged
 pub mod Tops
 pub mod Makes
 pub mod Loads

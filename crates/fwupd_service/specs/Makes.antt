@@ -3,6 +3,7 @@ use Rattle.std.specs.Prelude.{◌≡◌, ◌⊎◌, ℕ, false, List, [], ◌∷
 use Rattle.fw_facts.specs.declared.machine.MachineFacts.{MachineFacts}
 use Rattle.history_keeper.specs.declared.row.Row.{Row}
 use Rattle.plugin_order.specs.declared.sheet.PluginSheet.{PluginSheet}
+use Rattle.plugin_trait.specs.Steps.{PluginSteps}
 use Rattle.plugin_order.specs.declared.arrangement.OrderFault.{OrderFault}
 use Rattle.plugin_order.specs.declared.arrangement.OrderFault.TheVariants as faults
 use Rattle.plugin_order.specs.Arranged.{HasCause}
@@ -16,6 +17,7 @@ use Rattle.campaign_inputs.specs.Settled.{IsCampaignOf}
 use Rattle.made_outputs.specs.Summed.{summary}
 use Rattle.run_status.specs.declared.status.Status.{Status}
 use Rattle.run_status.specs.declared.status.Status.TheVariants as statuses
+use Rattle.fwupd_service.specs.Plugged.{AreStarted, PluginWords, work_of}
 use Rattle.fwupd_service.specs.Telling.{any_fault}
 use Rattle.fwupd_service.specs.Tops.{CampaignTold, Left, NothingBegan}
 
@@ -48,19 +50,19 @@ BlamesNoHistory _ = Unit {0}
 -- no doubt and counts no fault, and over shelves of its own; its output is the summary. So there are no rows
 -- before the log, it tells no fault of a keeper, and the status blames no history. `own` is the rows of that
 -- keeper afterwards, and `kept` what is known of those shelves. The keeper that came is as it was.
-pub record MadeWent {K : Type 0} (boards clients : ℕ) (status : Status) (campaign : Campaign) (keeper : K) (left : Left K) (before after : Option (List ℕ)) : Type 0 where
+pub record MadeWent {K : Type 0} (boards clients : ℕ) (plugins : ℕ → PluginSteps) (status : Status) (campaign : Campaign) (keeper : K) (left : Left K) (before after : Option (List ℕ)) : Type 0 where
   pub own : List Row
   pub kept : List ShelfTold
   pub keeper_is : left.keeper ≡ keeper
   pub no_rows : left.opening ≡ []
   pub no_fault : any_fault left.log ≡ false
   pub no_blame : BlamesNoHistory status
-  pub told : CampaignTold (λ (rows : List Row). Some rows) (λ _. None) (λ _. 0) (own_shelves clients) kept status campaign []
+  pub told : CampaignTold (λ (rows : List Row). Some rows) (λ _. None) (λ _. 0) (own_shelves clients) kept plugins status campaign []
       (record { log = left.log; opening = left.opening; boards = left.boards; keeper = own }) (summary boards clients left.log) before after
 
-abbrev pub MadeOrNothing : {K : Type 0} → ℕ → ℕ → Status → Campaign → K → Left K → Option (List ℕ) → Option (List ℕ) → Type 0
-MadeOrNothing boards clients status campaign keeper left before after =
-    MadeWent boards clients status campaign keeper left before after
+abbrev pub MadeOrNothing : {K : Type 0} → ℕ → ℕ → (ℕ → PluginSteps) → Status → Campaign → K → Left K → Option (List ℕ) → Option (List ℕ) → Type 0
+MadeOrNothing boards clients plugins status campaign keeper left before after =
+    MadeWent boards clients plugins status campaign keeper left before after
     ⊎ ((status ≡ statuses.NoMemory) × NothingBegan keeper left before after)
 
 -- The plugins can't be arranged, or there was no memory to do so.
@@ -70,13 +72,15 @@ pub record MakeStopped {K : Type 0} (sheets : List PluginSheet) (status : Status
   pub cause : HasCause sheets fault
   pub nothing : NothingBegan keeper left before after
 
--- The campaign is that of the generated site.
-pub record MakeBegan {K : Type 0} (boards clients : ℕ) (sheets : List PluginSheet) (vetoes : MachineFacts → List PluginVetoes) (status : Status) (keeper : K) (left : Left K) (before after : Option (List ℕ)) : Type 0 where
+-- The campaign is that of the generated site, and the plugins that were started make the steps.
+pub record MakeBegan {K Q : Type 0} (boards clients : ℕ) (sheets : List PluginSheet) (vetoes : MachineFacts → List PluginVetoes) (words : PluginWords Q) (status : Status) (keeper : K) (left : Left K) (before after : Option (List ℕ)) : Type 0 where
   pub campaign : Campaign
   pub settled : IsCampaignOf (made_site boards clients) sheets (vetoes (made_site boards clients).machine) campaign
-  pub went : MadeOrNothing boards clients status campaign keeper left before after
+  pub started : List Q
+  pub started_are : AreStarted words sheets campaign.facts started
+  pub went : MadeOrNothing boards clients (work_of words started) status campaign keeper left before after
 
-abbrev pub MakeEnds : {K : Type 0} → ℕ → ℕ → List PluginSheet → (MachineFacts → List PluginVetoes) → Status → K → Left K → Option (List ℕ) → Option (List ℕ) → Type 0
-MakeEnds boards clients sheets vetoes status keeper left before after =
+abbrev pub MakeEnds : {K Q : Type 0} → ℕ → ℕ → List PluginSheet → (MachineFacts → List PluginVetoes) → PluginWords Q → Status → K → Left K → Option (List ℕ) → Option (List ℕ) → Type 0
+MakeEnds boards clients sheets vetoes words status keeper left before after =
     MakeStopped sheets status keeper left before after
-    ⊎ MakeBegan boards clients sheets vetoes status keeper left before after
+    ⊎ MakeBegan boards clients sheets vetoes words status keeper left before after

@@ -4,6 +4,7 @@ use Rattle.fw_facts.specs.declared.machine.MachineFacts.{MachineFacts}
 use Rattle.history_keeper.specs.declared.change.Change.{Change}
 use Rattle.history_keeper.specs.declared.row.Row.{Row}
 use Rattle.plugin_order.specs.declared.sheet.PluginSheet.{PluginSheet}
+use Rattle.plugin_trait.specs.Steps.{PluginSteps}
 use Rattle.update_log.specs.declared.facts.PluginVetoes.{PluginVetoes}
 use Rattle.outer_traits.specs.Sinks.{Took, TookFront}
 use Rattle.daemon_core.specs.House.{shown_by}
@@ -21,6 +22,7 @@ use Rattle.run_status.specs.declared.status.Status.{Status}
 use Rattle.run_status.specs.declared.status.Status.TheVariants as statuses
 use Rattle.fwupd_service.specs.declared.loading.LoadStop.{LoadStop}
 use Rattle.fwupd_service.specs.Loads.{WasLoaded, load_status}
+use Rattle.fwupd_service.specs.Plugged.{AreStarted, PluginWords, work_of}
 use Rattle.fwupd_service.specs.Tops.{Left, RunStopped, Went}
 
 -- What a text was written under a status: all of it, a front of it, or nothing.
@@ -78,14 +80,14 @@ PlanEnds told doubted faults shelves sheets vetoes tag status keeper left old ne
 -- ---- `update`
 
 -- The installs that are planned over the rows of the history are the one script of the first boot, and that
--- campaign was played over the keeper as the load left it.
-pub record PlanPlayed {K : Type 0} (told : K → Option (List Row)) (doubted : K → Option Change) (faults : K → ℕ) (shelves now : List ShelfTold) (tag : List ℕ) (campaign : Campaign) (status : Status) (keeper : K) (left : Left K) (before after : Option (List ℕ)) : Type 0 where
+-- campaign was played over the keeper as the load left it, by the plugins that were started.
+pub record PlanPlayed {K : Type 0} (told : K → Option (List Row)) (doubted : K → Option Change) (faults : K → ℕ) (shelves now : List ShelfTold) (plugins : ℕ → PluginSteps) (tag : List ℕ) (campaign : Campaign) (status : Status) (keeper : K) (left : Left K) (before after : Option (List ℕ)) : Type 0 where
   pub rows : List Row
   pub middle : K
   pub loaded : WasLoaded told doubted faults None rows keeper middle
   pub made : Campaign
   pub plays : Plays (planned_items campaign rows tag) campaign made
-  pub went : Went told doubted faults shelves now status made middle left (report made.facts left.opening left.log) before after
+  pub went : Went told doubted faults shelves now plugins status made middle left (report made.facts left.opening left.log) before after
 
 -- There was no memory for the plan.
 pub record PlanWanted {K : Type 0} (told : K → Option (List Row)) (doubted : K → Option Change) (faults : K → ℕ) (status : Status) (keeper : K) (left : Left K) (before after : Option (List ℕ)) : Type 0 where
@@ -93,20 +95,22 @@ pub record PlanWanted {K : Type 0} (told : K → Option (List Row)) (doubted : K
   pub only : OnlyLoaded told doubted faults None keeper left
   pub nothing : after ≡ before
 
-abbrev pub UpdateGoes : {K : Type 0} → (K → Option (List Row)) → (K → Option Change) → (K → ℕ) → List ShelfTold → List ShelfTold → List ℕ → Campaign → Status → K → Left K → Option (List ℕ) → Option (List ℕ) → Type 0
-UpdateGoes told doubted faults shelves now tag campaign status keeper left before after =
+abbrev pub UpdateGoes : {K : Type 0} → (K → Option (List Row)) → (K → Option Change) → (K → ℕ) → List ShelfTold → List ShelfTold → (ℕ → PluginSteps) → List ℕ → Campaign → Status → K → Left K → Option (List ℕ) → Option (List ℕ) → Type 0
+UpdateGoes told doubted faults shelves now plugins tag campaign status keeper left before after =
     NotPlanned told doubted faults status keeper left before after
     ⊎ (PlanWanted told doubted faults status keeper left before after
-    ⊎ PlanPlayed told doubted faults shelves now tag campaign status keeper left before after)
+    ⊎ PlanPlayed told doubted faults shelves now plugins tag campaign status keeper left before after)
 
 -- The campaign is that of the site which the input states.
-pub record UpdateWent {K : Type 0} (told : K → Option (List Row)) (doubted : K → Option Change) (faults : K → ℕ) (shelves now : List ShelfTold) (sheets : List PluginSheet) (vetoes : MachineFacts → List PluginVetoes) (tag : List ℕ) (status : Status) (keeper : K) (left : Left K) (old new before after : Option (List ℕ)) : Type 0 where
+pub record UpdateWent {K Q : Type 0} (told : K → Option (List Row)) (doubted : K → Option Change) (faults : K → ℕ) (shelves now : List ShelfTold) (sheets : List PluginSheet) (vetoes : MachineFacts → List PluginVetoes) (words : PluginWords Q) (tag : List ℕ) (status : Status) (keeper : K) (left : Left K) (old new before after : Option (List ℕ)) : Type 0 where
   pub campaign : Campaign
   pub opened : IsOpened (limits.Shelves (length shelves)) sheets vetoes old new campaign
-  pub goes : UpdateGoes told doubted faults shelves now tag campaign status keeper left before after
+  pub started : List Q
+  pub started_are : AreStarted words sheets campaign.facts started
+  pub goes : UpdateGoes told doubted faults shelves now (work_of words started) tag campaign status keeper left before after
 
 -- `update`: there is no campaign, as under `run`; or its plan is played.
-abbrev pub UpdateEnds : {K : Type 0} → (K → Option (List Row)) → (K → Option Change) → (K → ℕ) → List ShelfTold → List ShelfTold → List PluginSheet → (MachineFacts → List PluginVetoes) → List ℕ → Status → K → Left K → Option (List ℕ) → Option (List ℕ) → Option (List ℕ) → Option (List ℕ) → Type 0
-UpdateEnds told doubted faults shelves now sheets vetoes tag status keeper left old new before after =
+abbrev pub UpdateEnds : {K Q : Type 0} → (K → Option (List Row)) → (K → Option Change) → (K → ℕ) → List ShelfTold → List ShelfTold → List PluginSheet → (MachineFacts → List PluginVetoes) → PluginWords Q → List ℕ → Status → K → Left K → Option (List ℕ) → Option (List ℕ) → Option (List ℕ) → Option (List ℕ) → Type 0
+UpdateEnds told doubted faults shelves now sheets vetoes words tag status keeper left old new before after =
     RunStopped (length shelves) sheets status keeper left old new before after
-    ⊎ UpdateWent told doubted faults shelves now sheets vetoes tag status keeper left old new before after
+    ⊎ UpdateWent told doubted faults shelves now sheets vetoes words tag status keeper left old new before after

@@ -5,6 +5,8 @@ ghost use Rattle.site_making.specs.Settled.{vetoes_of};
 ghost use Rattle.fwupd_service.specs.Begins.{CanBePlayed, IsReadyFor};
 ghost use Rattle.made_outputs.specs.Summed.{summary};
 ghost use Rattle.fwupd_service.specs.Ends.{IsLeft, IsReported};
+ghost use Rattle.fwupd_service.specs.Plugged.{plugin_words};
+ghost use Rattle.plugin_trait.specs.Steps.{steps_at};
 ghost use Rattle.fwupd_service.specs.Makes.{MadeOrNothing, MakeEnds, order_status, own_memory};
 
 use crate::own_keeper::OwnKeeper;
@@ -44,7 +46,8 @@ pub(crate) fn make<R: Threads + Wait + Sync, P, K, T: Sink, G: Gate + Sync>(
     requires few_clients { clients ≤ 16 }
     requires few_plugins { length plugins.items ≤ 64 }
     ensures ends { MakeEnds boards clients (map (λ p. own_sheet p) plugins.items)
-        (λ machine. map (λ p. vetoes_of (own_sheet p) (vetoes_on p machine)) plugins.items) result.status keeper
+        (λ machine. map (λ p. vetoes_of (own_sheet p) (vetoes_on p machine)) plugins.items)
+        (plugin_words (λ p. own_sheet p) (λ p. own_vetoes p) (λ p. steps p)) result.status keeper
         (record { log = result.log; opening = result.opening; boards = result.boards; keeper = result.keeper })
         (T.taken out.old) (T.taken out.new) }
     ensures sink_fault { result.status ≡ Status.SinkFault → Rose (T.faults out.old) (T.faults out.new) }
@@ -104,7 +107,7 @@ fn make_ready<R: Threads + Wait + Sync, P, K, T: Sink, G: Gate + Sync>(
 ) -> Ran<P, K>
     requires ready { CanBePlayed ready.campaign }
     requires shelves { IsReadyFor clients (length ready.plugins.items) ready.campaign }
-    ensures went { MadeOrNothing boards clients result.status ready.campaign keeper
+    ensures went { MadeOrNothing boards clients (steps_at (λ p. steps p) ready.plugins.items) result.status ready.campaign keeper
         (record { log = result.log; opening = result.opening; boards = result.boards; keeper = result.keeper })
         (T.taken out.old) (T.taken out.new) }
     ensures sink_fault { result.status ≡ Status.SinkFault → Rose (T.faults out.old) (T.faults out.new) }

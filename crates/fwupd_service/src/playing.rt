@@ -4,7 +4,8 @@ ghost use Rattle.emulated_boards.specs.Boards.{BoardState};
 ghost use Rattle.daemon_core.specs.House.{IsNewBoard, shown_by};
 ghost use Rattle.daemon_core.specs.Planned.{plans_in};
 ghost use Rattle.client_plays.specs.Endings.{IsScriptItem};
-ghost use Rattle.client_plays.specs.Shelves.{files_for};
+ghost use Rattle.client_plays.specs.Shelves.{means_for};
+ghost use Rattle.plugin_trait.specs.Steps.{steps_at};
 ghost use Rattle.client_plays.specs.Tools.{Serves};
 ghost use Rattle.client_plays.specs.Has.{shelves_told, tools_of};
 ghost use Rattle.campaign_runs.specs.Planned.{with_plans};
@@ -60,7 +61,7 @@ fn play_house<R: Threads + Wait + Sync, P: Shelf + Send, K: Keeper + Send, G: Ga
     requires proper { All (All (All IsScriptItem)) scripts.now }
     requires clients { All (λ of_boot. length of_boot ≤ 16) scripts.now }
     requires shelves { All (λ of_boot. length of_boot ≤ length (shelves_told P.files P.faults shelves.items)) scripts.now }
-    ensures played { WasPlayed K.rows K.doubt K.faults (files_for (shelves_told P.files P.faults shelves.items)) result.0.ran (with_plans house.annals.facts house.annals.first plans.now)
+    ensures played { WasPlayed K.rows K.doubt K.faults (means_for (steps_at (λ p. steps p) plugins.items) (shelves_told P.files P.faults shelves.items)) result.0.ran (with_plans house.annals.facts house.annals.first plans.now)
         scripts.now result.0.opening result.0.log result.0.boards house.keeper result.0.keeper }
     ensures plans { map (λ b. b.plan) result.0.boards ≡ plans_in house.places }
     ensures facts { result.0.facts ≡ house.annals.facts }
@@ -130,7 +131,7 @@ pub(crate) fn play<R: Threads + Wait + Sync, P: Shelf + Send, K: Keeper + Send, 
     requires ready { CanBePlayed ready.campaign }
     requires shelves { IsReadyFor (length shelves.items) (length ready.plugins.items) ready.campaign }
     requires no_doubt { K.doubt keeper ≡ None }
-    ensures played { IfOk result.0 (λ played. WasPlayed K.rows K.doubt K.faults (files_for (shelves_told P.files P.faults shelves.items)) played.ran
+    ensures played { IfOk result.0 (λ played. WasPlayed K.rows K.doubt K.faults (means_for (steps_at (λ p. steps p) ready.plugins.items) (shelves_told P.files P.faults shelves.items)) played.ran
         (with_plans ready.campaign.facts (map shown_by ready.campaign.boards.items) ready.campaign.boots)
         ready.campaign.scripts played.opening played.log played.boards keeper played.keeper) }
     ensures plans { IfOk result.0 (λ played. map (λ b. b.plan) played.boards ≡ map (λ b. b.plan) ready.campaign.boards.items) }

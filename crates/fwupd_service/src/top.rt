@@ -6,6 +6,7 @@ ghost use Rattle.client_plays.specs.Has.{shelves_told};
 ghost use Rattle.site_making.specs.Settled.{vetoes_of};
 ghost use Rattle.command_words.specs.Commands.{command_of};
 ghost use Rattle.fwupd_service.specs.Commands.{CommandEnds, CommandFits, KeepsShelves, WordsEnd};
+ghost use Rattle.fwupd_service.specs.Plugged.{plugin_words};
 
 use crate::make::make;
 use crate::others::{run_check, run_explain, run_ids, run_remotes};
@@ -54,6 +55,7 @@ pub fn run_campaign<
     // that are returned, how the keeper and the shelves stand to them, and what was written.
     ensures ends { WordsEnd K.rows K.doubt K.faults (shelves_told P.files P.faults shelves.items) (shelves_told P.files P.faults result.shelves.items) (map (λ p. own_sheet p) plugins.items)
         (λ machine. map (λ p. vetoes_of (own_sheet p) (vetoes_on p machine)) plugins.items)
+        (plugin_words (λ p. own_sheet p) (λ p. own_vetoes p) (λ p. steps p))
         (command_of (map (λ word. word.now) words.now)) result.status keeper
         (record { log = result.log; opening = result.opening; boards = result.boards; keeper = result.keeper })
         (S.left source.old) (S.left source.new) (T.taken out.old) (T.taken out.new) }
@@ -100,6 +102,7 @@ fn obey<
     requires no_doubt { K.doubt keeper ≡ None }
     ensures ends { CommandEnds K.rows K.doubt K.faults (shelves_told P.files P.faults shelves.items) (shelves_told P.files P.faults result.shelves.items) (map (λ p. own_sheet p) plugins.items)
         (λ machine. map (λ p. vetoes_of (own_sheet p) (vetoes_on p machine)) plugins.items)
+        (plugin_words (λ p. own_sheet p) (λ p. own_vetoes p) (λ p. steps p))
         command.now result.status keeper
         (record { log = result.log; opening = result.opening; boards = result.boards; keeper = result.keeper })
         (S.left source.old) (S.left source.new) (T.taken out.old) (T.taken out.new) }

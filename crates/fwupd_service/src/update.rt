@@ -7,7 +7,9 @@ ghost use Rattle.site_making.specs.Settled.{vetoes_of};
 ghost use Rattle.campaign_inputs.specs.Begin.{CanBegin};
 ghost use Rattle.update_plans.specs.Tags.{IsTag};
 ghost use Rattle.fwupd_service.specs.Begins.{CanBePlayed, IsReadyFor};
+ghost use Rattle.fwupd_service.specs.Plugged.{plugin_words};
 ghost use Rattle.fwupd_service.specs.Updates.{UpdateEnds, UpdateGoes};
+ghost use Rattle.plugin_trait.specs.Steps.{steps_at};
 
 use crate::loading::{Loaded, load, load_status};
 use crate::ran::Ran;
@@ -47,7 +49,8 @@ pub(crate) fn update<
     requires no_doubt { K.doubt keeper ≡ None }
     requires tag { IsTag tag }
     ensures ends { UpdateEnds K.rows K.doubt K.faults (shelves_told P.files P.faults shelves.items) (shelves_told P.files P.faults result.shelves.items) (map (λ p. own_sheet p) plugins.items)
-        (λ machine. map (λ p. vetoes_of (own_sheet p) (vetoes_on p machine)) plugins.items) tag result.status keeper
+        (λ machine. map (λ p. vetoes_of (own_sheet p) (vetoes_on p machine)) plugins.items)
+        (plugin_words (λ p. own_sheet p) (λ p. own_vetoes p) (λ p. steps p)) tag result.status keeper
         (record { log = result.log; opening = result.opening; boards = result.boards; keeper = result.keeper })
         (S.left source.old) (S.left source.new) (T.taken out.old) (T.taken out.new) }
     ensures source_fault { result.status ≡ Status.SourceFault → Rose (S.faults source.old) (S.faults source.new) }
@@ -87,7 +90,7 @@ fn update_campaign<
     requires shelves { IsReadyFor (length shelves.items) (length ready.plugins.items) ready.campaign }
     requires no_doubt { K.doubt keeper ≡ None }
     requires tag { IsTag tag }
-    ensures goes { UpdateGoes K.rows K.doubt K.faults (shelves_told P.files P.faults shelves.items) (shelves_told P.files P.faults result.shelves.items) tag ready.campaign result.status keeper
+    ensures goes { UpdateGoes K.rows K.doubt K.faults (shelves_told P.files P.faults shelves.items) (shelves_told P.files P.faults result.shelves.items) (steps_at (λ p. steps p) ready.plugins.items) tag ready.campaign result.status keeper
         (record { log = result.log; opening = result.opening; boards = result.boards; keeper = result.keeper })
         (T.taken out.old) (T.taken out.new) }
     ensures sink_fault { result.status ≡ Status.SinkFault → Rose (T.faults out.old) (T.faults out.new) }

@@ -1,16 +1,15 @@
-//! The program: makes the real input, output, shelves, history and plugins, hands them to the top call, and
-//! ends with its status.
+//! The program: makes the real input, output and history, hands them to the top call over the program's own
+//! plugins and shelves, and ends with its status.
 #![tactic(auto)]
 
 ghost use Rattle.std.specs.Prelude.{◌≡◌, None};
 
-use board_plugins::{Capsule, Flash, Loader, Power};
 use fw_base::NoMemory;
-use fwupd_service::{Ran, Status, keeps_history, run_campaign};
+use fwupd_service::{Ran, Status, keeps_history};
 use history_keeper::{Keeper, KeeperRefusal, MemoryKeeper};
 use history_sqlite::FileKeeper;
-use outer_traits::{FolderShelf, NoGate, ReadSource, WriteSink};
-use plugin_trait::Plugin;
+use host_service::run_over_folder;
+use outer_traits::{ReadSource, WriteSink};
 use std::io::{BufWriter, IsTerminal, Write};
 use std::process::ExitCode;
 use std::rt::{HostRuntime, Runtime};
@@ -27,9 +26,6 @@ const HISTORY: &str = "history.db";
 
 /// How many bytes of the output are gathered before they are handed on.
 const GATHERED: usize = 65_536;
-
-/// How many shelves there are, one for each client.
-const SHELVES: u32 = 16;
 
 /// Runs the command of the command line, over the history where it is one that keeps it. `host` is the same
 /// runtime, of which the history's file and the shelves are made. `NoMemory` comes only where the words, the
@@ -86,9 +82,9 @@ fn run_over_nothing<R: Runtime + AllocGlobal + Threads + Wait + Sync>(
     run_over(rt, host, words, unused)
 }
 
-/// Hands the words and a keeper to the top call, with the real input, output, shelves and plugins. The output is
-/// gathered, so that a long report takes few calls of the system; what can't be handed on at the end is a fault
-/// of writing, whatever came before.
+/// Hands the words and a keeper to the top call, with the real input and output. The output is gathered, so that
+/// a long report takes few calls of the system; what can't be handed on at the end is a fault of writing, whatever
+/// came before.
 fn run_over<R: Runtime + AllocGlobal + Threads + Wait + Sync, K: Keeper + Send + Drop>(
     rt: &R,
     host: &HostRuntime,
@@ -97,29 +93,12 @@ fn run_over<R: Runtime + AllocGlobal + Threads + Wait + Sync, K: Keeper + Send +
 ) -> Result<Status, NoMemory>
     requires no_doubt { K.doubt keeper ≡ None }
 {
-    let alloc = rt.alloc();
-    let mut plugins: Vec<Box<dyn Plugin>> = Vec::new(alloc);
-    plugins.push(Box::new(alloc, Flash::new(alloc)?)?)?;
-    plugins.push(Box::new(alloc, Loader::new(alloc)?)?)?;
-    plugins.push(Box::new(alloc, Capsule::new(alloc)?)?)?;
-    plugins.push(Box::new(alloc, Power::new(alloc)?)?)?;
-    let shelves = shelves(host)?;
     let mut source = ReadSource::new(rt.reader());
-    let Ok(mut gathered) = BufWriter::with_capacity(alloc, GATHERED, io::writer(rt)) else {
+    let Ok(mut gathered) = BufWriter::with_capacity(rt.alloc(), GATHERED, io::writer(rt)) else {
         return Err(NoMemory);
     };
     let mut sink = WriteSink::new(&mut gathered);
-    let ran = run_campaign(
-        rt,
-        alloc,
-        words,
-        &mut source,
-        shelves,
-        keeper,
-        plugins,
-        &NoGate,
-        &mut sink,
-    );
+    let ran = run_over_folder(rt, host, words, &mut source, SHELF, keeper, &mut sink)?;
     let Ran {
         status,
         log: _,
@@ -132,16 +111,6 @@ fn run_over<R: Runtime + AllocGlobal + Threads + Wait + Sync, K: Keeper + Send +
         Ok(()) => Ok(status),
         Err(_) => Ok(Status::SinkFault),
     }
-}
-
-/// The shelves, all over one folder.
-fn shelves(host: &HostRuntime) -> Result<Vec<FolderShelf<HostRuntime>>, NoMemory> {
-    let mut shelves = Vec::new(host.alloc());
-    for _ in 0..SHELVES {
-        let folder = String::from_str(host.alloc(), SHELF)?;
-        shelves.push(FolderShelf::new(host.clone()?, folder))?;
-    }
-    Ok(shelves)
 }
 
 /// Tells how a run ended that didn't end well: in one line, and at a terminal with the help for it.

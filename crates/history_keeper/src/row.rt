@@ -41,4 +41,10 @@ pub struct Row {
     pub time_added: u64,
     /// The time of the boot that last changed it.
     pub time_changed: u64,
+    /// How long an install takes by the device's sheet, in seconds. 0 where the sheet doesn't say.
+    pub duration: u32,
+    /// The protocol by which the device is updated, where its sheet names one.
+    pub protocol: Option<Name>,
+    /// The entry of the failed row whose install this one tries again, where it tries one again.
+    pub retry_of: Option<u32>,
 }

@@ -1,39 +1,49 @@
--- The three statements, and why a call that runs them is a fault.
-use Rattle.std.specs.Prelude.{◌≡◌, ◌⊎◌, ℕ, List, [], codes, Option, Some, None, Err, map, Any}
+-- The statements on the rows, and why a call that runs them is a fault.
+use Rattle.std.specs.Prelude.{◌≡◌, ◌⊎◌, ℕ, List, [], codes, Option, Some, None, Err, map, Any, IsTrue}
 use Rattle.sqlite.specs.declared.types.Value.{Value}
 use Rattle.sqlite.specs.declared.error.Error.{Error}
 use Rattle.sqlite.specs.Store.{Ghosts}
 use Rattle.sqlite.specs.Held.{Held, state}
-use Rattle.sqlite.specs.State.{State, HasCleanDisk, Executes, FailsToQuery, Shown}
+use Rattle.sqlite.specs.State.{State, HasCleanDisk, Executes, ExecutesInside, FailsToQuery, Shown}
+use Rattle.sqlite.specs.Steps.{FailsToCommit}
 use Rattle.history_keeper.specs.declared.row.Row.{Row}
 use Rattle.history_keeper.specs.declared.refusal.KeeperRefusal.TheVariants.{Fault}
 use Rattle.history_keeper.specs.declared.change.Change.{Change}
 use Rattle.history_keeper.specs.declared.change.Change.TheVariants.{Add, Advance}
 use Rattle.history_keeper.specs.declared.plan.Doubt.{Doubt}
-use Rattle.history_sqlite.specs.Columns.{columns_of, row_read, values_of}
-use Rattle.history_sqlite.specs.Finding.{FailsToOpen}
+use Rattle.history_sqlite.specs.declared.finding.Found.TheVariants.{Other}
+use Rattle.history_sqlite.specs.Columns.{columns_of, row_read, older_row_read, values_of}
+use Rattle.history_sqlite.specs.Tables.{create_history_text}
+use Rattle.history_sqlite.specs.Finding.{IsFound, IsNumberless, IsNotMade}
 use Rattle.history_sqlite.specs.Refusals.{refusal_of}
 
 abbrev pub insert_text : List ℕ
-insert_text = codes "INSERT INTO history VALUES (?1, ?2, ?3, ?4, ?5, ?6, ?7, ?8, ?9, ?10, ?11, ?12, ?13)"
+insert_text = codes "INSERT INTO history2 VALUES (?1, ?2, ?3, ?4, ?5, ?6, ?7, ?8, ?9, ?10, ?11, ?12, ?13, ?14, ?15, ?16)"
 
 abbrev pub update_text : List ℕ
-update_text = codes "UPDATE history SET state = ?2, reason = ?3, time_changed = ?4 WHERE entry = ?1"
+update_text = codes "UPDATE history2 SET state = ?2, reason = ?3, time_changed = ?4 WHERE entry = ?1"
 
 abbrev pub select_text : List ℕ
-select_text = codes "SELECT entry, tag, client, device, component, version_old, version_new, digest, flags, state, reason, time_added, time_changed FROM history ORDER BY entry"
+select_text = codes "SELECT entry, tag, client, device, component, version_old, version_new, digest, flags, state, reason, time_added, time_changed, duration, protocol, retry_of FROM history2 ORDER BY entry"
+
+-- The rows of schema 1 are read once, as they are taken over.
+abbrev pub older_select_text : List ℕ
+older_select_text = codes "SELECT entry, tag, client, device, component, version_old, version_new, digest, flags, state, reason, time_added, time_changed FROM history ORDER BY entry"
+
+abbrev pub renumber_text : List ℕ
+renumber_text = codes "UPDATE schema SET number = 2"
 
 -- The database refused the statement with these values, and not for want of memory.
 abbrev pub IsRefused : List ℕ → List Value → State → State → Type 0
 IsRefused sql values old new = (e : Error) × (refusal_of e ≡ Fault) × Executes sql values old new (Err e)
 
--- It refused the select, and not for want of memory.
-abbrev pub IsUnanswered : State → State → Type 0
-IsUnanswered old new = (e : Error) × (refusal_of e ≡ Fault) × FailsToQuery select_text [] old new e
+-- It refused the question, and not for want of memory.
+abbrev pub IsUnanswered : List ℕ → State → State → Type 0
+IsUnanswered sql old new = (e : Error) × (refusal_of e ≡ Fault) × FailsToQuery sql [] old new e
 
 -- It gave columns that no row has.
-abbrev pub IsStrange : State → State → Type 0
-IsStrange old new = (shown : List (List Value)) × Shown select_text [] old new shown × Any (λ columns. row_read columns ≡ None) shown
+abbrev pub IsStrange : List ℕ → (List Value → Option Row) → State → State → Type 0
+IsStrange sql read old new = (shown : List (List Value)) × Shown sql [] old new shown × Any (λ columns. read columns ≡ None) shown
 
 -- The select was run, and these are the rows that it showed.
 abbrev pub IsRead : State → State → List Row → Type 0
@@ -45,7 +55,11 @@ IsReadAgain {D} store old = (mid : Held D) × (rows : List Row) × IsRead (state
 
 -- Why a load is a fault.
 abbrev pub FailsToLoad : State → State → Type 0
-FailsToLoad old new = IsUnanswered old new ⊎ IsStrange old new
+FailsToLoad old new = IsUnanswered select_text old new ⊎ IsStrange select_text row_read old new
+
+-- Why the rows of schema 1 can't be read.
+abbrev pub FailsToLoadOlder : State → State → Type 0
+FailsToLoadOlder old new = IsUnanswered older_select_text old new ⊎ IsStrange older_select_text older_row_read old new
 
 -- Why a change is a fault.
 abbrev pub FailsToMake : Change → State → State → Type 0
@@ -58,10 +72,36 @@ abbrev pub FailsToSettle : {D : Type 0} → Ghosts D → Held D → Held D → O
 FailsToSettle {D} store old new doubt =
     FailsToLoad (state store old) (state store new) ⊎ ((it : Doubt) × (doubt ≡ Some it) × (mid : Held D) × FailsToMake it.change (state store mid) (state store new))
 
--- Why the adopting of a connection is a fault: its tables could not be opened, or its rows could not be read.
-abbrev pub FailsToAdopt : {D : Type 0} → Ghosts D → Held D → Held D → Type 0
-FailsToAdopt {D} store old new = FailsToOpen store old new ⊎ ((mid : Held D) × FailsToLoad (state store mid) (state store new))
+-- A statement by which rows are taken over, with its values: the making of the table, the insert of a row, or the new number.
+abbrev pub IsTakingStatement : List ℕ → List Value → Type 0
+IsTakingStatement sql values =
+    ((sql ≡ create_history_text) × (values ≡ [])) ⊎ (((row : Row) × (sql ≡ insert_text) × (values ≡ columns_of row)) ⊎ ((sql ≡ renumber_text) × (values ≡ [])))
 
--- The connection that a refused adopting let go of, and why it was refused.
-abbrev pub IsUnadopted : {D : Type 0} → Ghosts D → Held D → Type 0
-IsUnadopted {D} store old = (last : Held D) × (HasCleanDisk (state store last) → FailsToAdopt store old last)
+module _ {D : Type 0} (store : Ghosts D) where
+  -- A statement by which rows are taken over was refused.
+  abbrev pub IsNotWritten : Error → Type 0
+  IsNotWritten e = (sql : List ℕ) × (values : List Value) × IsTakingStatement sql values × (before : Held D) × (after : Held D) × ExecutesInside 0 sql values (state store before) (state store after) (Err e)
+
+  -- Why rows that were read are not taken over: a transaction was open, or a statement or the commit was refused.
+  abbrev pub IsNotCopied : Held D → Error → Type 0
+  IsNotCopied old e = IsTrue old.in_transaction ⊎ (IsNotWritten e ⊎ ((before : Held D) × (after : Held D) × FailsToCommit (state store before) (state store after) e))
+
+  -- Why the taking over is a fault: the rows can't be read, or can't be written to the new table.
+  abbrev pub FailsToTakeOver : Held D → Type 0
+  FailsToTakeOver old = (mid : Held D) × (FailsToLoadOlder (state store old) (state store mid) ⊎ ((e : Error) × (refusal_of e ≡ Fault) × IsNotCopied mid e))
+
+  -- Why an opening is a fault: a transaction is open, the tables are other ones, or the database refused to show the number, to make the
+  -- tables, or to have the rows of schema 1 taken over.
+  abbrev pub FailsToOpen : Held D → Held D → Type 0
+  FailsToOpen old new =
+      IsTrue old.in_transaction
+      ⊎ (IsFound (state store old) (state store new) Other
+      ⊎ (IsNumberless (state store old) (state store new) ⊎ (((e : Error) × (refusal_of e ≡ Fault) × IsNotMade store old e) ⊎ ((mid : Held D) × FailsToTakeOver mid))))
+
+  -- Why the adopting of a connection is a fault: its tables could not be opened, or its rows could not be read.
+  abbrev pub FailsToAdopt : Held D → Held D → Type 0
+  FailsToAdopt old new = FailsToOpen old new ⊎ ((mid : Held D) × FailsToLoad (state store mid) (state store new))
+
+  -- The connection that a refused adopting let go of, and why it was refused.
+  abbrev pub IsUnadopted : Held D → Type 0
+  IsUnadopted old = (last : Held D) × (HasCleanDisk (state store last) → FailsToAdopt old last)

@@ -1,11 +1,12 @@
 -- A row as the columns of the table, and back.
-use Rattle.std.specs.Prelude.{◌≡◌, ℕ, pos, nat_lt, ◌==◌, ◌^◌, if◌then◌else◌, List, [], ◌∷◌, length, Option, Some, None, Ok}
+use Rattle.std.specs.Prelude.{◌≡◌, ℕ, pos, nat_lt, ◌==◌, ◌^◌, if◌then◌else◌, List, [], ◌∷◌, ◌++◌, length, Option, Some, None, option_map, Ok, IfSome}
 use Rattle.std.specs.Result.{result_ok}
 use Rattle.fw_base.specs.Names.{name_read}
 use Rattle.version_formats.specs.Versions.{version_read}
 use Rattle.sqlite.specs.declared.types.Value.{Value}
-use Rattle.sqlite.specs.declared.types.Value.TheVariants.{Int, Text, Blob}
+use Rattle.sqlite.specs.declared.types.Value.TheVariants.{Null, Int, Text, Blob}
 use Rattle.sqlite.specs.Order.{column}
+use Rattle.sqlite.specs.Values.{or_null}
 use Rattle.history_keeper.specs.declared.row.Row.{Row}
 use Rattle.history_keeper.specs.declared.row.RowState.{RowState}
 use Rattle.history_keeper.specs.declared.row.RowState.TheVariants.{Pending, Success, Failed, NeedsReboot, Begun}
@@ -18,11 +19,19 @@ state_number Failed = 3
 state_number NeedsReboot = 4
 state_number Begun = 100
 
--- The columns of a row, in the order of the table.
-abbrev pub columns_of : Row → List Value
-columns_of row =
+-- The columns of a row in a table of schema 1, in the order of that table.
+abbrev pub older_columns_of : Row → List Value
+older_columns_of row =
     Int (pos row.entry) ∷ Text row.tag ∷ Int (pos row.client) ∷ Blob row.device ∷ Text row.component ∷ Text row.version_old ∷ Text row.version_new
     ∷ Blob row.digest ∷ Int (pos row.flags) ∷ Int (pos (state_number row.state)) ∷ Int (pos row.reason) ∷ Int (pos row.time_added) ∷ Int (pos row.time_changed) ∷ []
+
+-- The columns of a row, in the order of the table: those of schema 1, and three more. What is missing is NULL.
+abbrev pub columns_of : Row → List Value
+columns_of row = older_columns_of row ++ Int (pos row.duration) ∷ or_null Text row.protocol ∷ or_null (λ entry. Int (pos entry)) row.retry_of ∷ []
+
+-- The row as it is taken over from schema 1, which tells no duration, no protocol and no row that was tried again.
+abbrev pub taken_over : Row → Row
+taken_over row = record row { duration = 0; protocol = None; retry_of = None }
 
 -- What the update is given: the entry of a row, and what it gets.
 abbrev pub values_of : ℕ → RowState → ℕ → ℕ → List Value
@@ -74,9 +83,14 @@ state_numbered n =
 abbrev pub state_in : Value → Option RowState
 state_in v = integer_in v >>= state_numbered
 
--- The row that has these columns, where there is one.
-abbrev pub row_read : List Value → Option Row
-row_read columns = do
+-- A value that may be missing, by the reader of one that is there.
+abbrev pub optional : {A : Type 0} → (Value → Option A) → Value → Option (Option A)
+optional read Null = Some None
+optional read v = option_map Some (read v)
+
+-- The row that has these columns of a table of schema 1, where there is one.
+abbrev pub older_row_read : List Value → Option Row
+older_row_read columns = do
   entry ← number_in (2 ^ 32) (column columns 0)
   tag ← name_in (column columns 1)
   client ← number_in (2 ^ 32) (column columns 2)
@@ -90,11 +104,21 @@ row_read columns = do
   reason ← number_in (2 ^ 8) (column columns 10)
   time_added ← number_in (2 ^ 64) (column columns 11)
   time_changed ← number_in (2 ^ 64) (column columns 12)
-  Some (record { entry = entry; tag = tag; client = client; device = device; component = component; version_old = version_old; version_new = version_new; digest = digest; flags = flags; state = state; reason = reason; time_added = time_added; time_changed = time_changed })
+  Some (record { entry = entry; tag = tag; client = client; device = device; component = component; version_old = version_old; version_new = version_new; digest = digest; flags = flags; state = state; reason = reason; time_added = time_added; time_changed = time_changed; duration = 0; protocol = None; retry_of = None })
 
--- A row's tag and component are names, and its versions are versions: each reader gives back what it reads.
+-- The row that has these columns, where there is one.
+abbrev pub row_read : List Value → Option Row
+row_read columns = do
+  row ← older_row_read columns
+  duration ← number_in (2 ^ 32) (column columns 13)
+  protocol ← optional name_in (column columns 14)
+  retry_of ← optional (number_in (2 ^ 32)) (column columns 15)
+  Some (record row { duration = duration; protocol = protocol; retry_of = retry_of })
+
+-- A row's tag, component and protocol are names, and its versions are versions: each reader gives back what it reads.
 pub record HasTexts (row : Row) : Type 0 where
   pub tag : name_read row.tag ≡ Ok row.tag
   pub component : name_read row.component ≡ Ok row.component
   pub version_old : version_read row.version_old ≡ Ok row.version_old
   pub version_new : version_read row.version_new ≡ Ok row.version_new
+  pub protocol : IfSome row.protocol (λ name. name_read name ≡ Ok name)

@@ -1,8 +1,9 @@
 -- What a keeper over a database tells.
-use Rattle.std.specs.Prelude.{◌≡◌, ℕ, pos, Bool, true, false, List, map, Option, Some, None, IsTrue, unwrap_or}
+use Rattle.std.specs.Prelude.{◌≡◌, ℕ, pos, Bool, true, false, List, map, codes, Option, Some, None, option_map, IsTrue, unwrap_or}
 use Rattle.sqlite.specs.declared.types.Value.{Value}
 use Rattle.sqlite.specs.declared.types.Value.TheVariants.{Int}
 use Rattle.sqlite.specs.Order.{column}
+use Rattle.sqlite.specs.Schema.{Schema}
 use Rattle.sqlite_value.specs.Order.{bytes}
 use Rattle.sqlite.specs.Store.{Ghosts}
 use Rattle.history_keeper.specs.declared.plan.KeeperPlan.{KeeperPlan}
@@ -13,7 +14,8 @@ use Rattle.history_keeper.specs.declared.row.RowState.TheVariants.{Begun}
 use Rattle.history_keeper.specs.declared.plan.Doubt.{Doubt}
 use Rattle.history_keeper.specs.Changes.{Suits}
 use Rattle.history_keeper.specs.Memories.{kept}
-use Rattle.history_sqlite.specs.Columns.{state_in}
+use Rattle.history_sqlite.specs.Columns.{state_in, text_in, integer_in}
+use Rattle.history_sqlite.specs.Finding.{table_with}
 use Rattle.history_sqlite.specs.Tables.{HoldsRows}
 use Rattle.history_sqlite.specs.Keeping.{Keeping}
 
@@ -37,11 +39,18 @@ row_in r = record {
   reason = whole (column r 11);
   time_added = whole (column r 12);
   time_changed = whole (column r 13);
+  duration = whole (column r 14);
+  protocol = text_in (column r 15);
+  retry_of = integer_in (column r 16);
 }
+
+-- The tree of the table of the rows, which is found by its name.
+abbrev pub tree_of_rows : Schema → ℕ
+tree_of_rows schema = unwrap_or (option_map (λ t. t.tree) (table_with (codes "history2") schema.tables)) 0
 
 -- The rows of the table.
 abbrev pub rows_in : State → List Row
-rows_in s = map row_in (s.now.trees 1)
+rows_in s = map row_in (s.now.trees (tree_of_rows s.now.schema))
 
 -- The rows, where they are told.
 abbrev pub told : Bool → State → Option (List Row)

@@ -1,9 +1,9 @@
 //! A row as the columns of the table, and back.
-ghost use Rattle.std.specs.Prelude.{◌≡◌, ◌+◌, pos};
+ghost use Rattle.std.specs.Prelude.{◌≡◌, ◌+◌, ◌-◌, ◌^◌, ◌≤◌, pos, IsTrue, IfSome, ◌↔◌};
 ghost use Rattle.std.specs.Option.{option_copied};
-ghost use Rattle.sqlite.specs.declared.types.Value.TheVariants.{Int};
+ghost use Rattle.sqlite.specs.declared.types.Value.TheVariants.{Int, Null};
 ghost use Rattle.sqlite.specs.Order.{column};
-ghost use Rattle.history_sqlite.specs.Columns.{state_number, number_in, integer_in, text_in, blob_in, bytes_in, name_in, version_in, state_in, state_numbered, row_read};
+ghost use Rattle.history_sqlite.specs.Columns.{state_number, number_in, integer_in, text_in, blob_in, bytes_in, name_in, version_in, state_in, state_numbered, optional, older_row_read, row_read};
 
 use fw_base::{Digest, Name};
 use guid_ids::DeviceId;
@@ -14,6 +14,25 @@ use version_formats::Version;
 /// The row that has these columns, in the order of the table. `None` where no row has them.
 pub fn read_row(columns: &sqlite::Row) -> Option<Row>
     ensures { result ≡ row_read columns.now }
+{
+    let row = read_older_row(columns)?;
+    let duration = number_at(columns, 13, u32::MAX as u64)? as u32;
+    let protocol = protocol_at(columns, 14)?;
+    let retry_of = link_at(columns, 15)?;
+    Some(Row {
+        duration,
+        protocol,
+        retry_of,
+        ..row
+    })
+}
+
+/// The row that has these columns of a table of schema 1, which tells no duration, no protocol and no
+/// row that was tried again. `None` where no row has them.
+pub fn read_older_row(columns: &sqlite::Row) -> Option<Row>
+    ensures read { result ≡ older_row_read columns.now }
+    ensures added { IfSome result (λ row. row.time_added ≤ 2 ^ 63 - 1) }
+    ensures changed { IfSome result (λ row. row.time_changed ≤ 2 ^ 63 - 1) }
 {
     let entry = number_at(columns, 0, u32::MAX as u64)? as u32;
     let tag = name_at(columns, 1)?;
@@ -42,6 +61,9 @@ pub fn read_row(columns: &sqlite::Row) -> Option<Row>
         reason,
         time_added,
         time_changed,
+        duration: 0,
+        protocol: None,
+        retry_of: None,
     })
 }
 
@@ -60,7 +82,8 @@ pub fn number_of(state: RowState) -> i64
 
 // The integer in a column, where it has one from 0 on.
 pub(crate) fn integer_at(columns: &sqlite::Row, at: usize) -> Option<u64>
-    ensures { result ≡ integer_in (column columns.now at) }
+    ensures read { result ≡ integer_in (column columns.now at) }
+    ensures signed { IfSome result (λ number. number ≤ 2 ^ 63 - 1) }
 {
     match columns.get_ref(at) {
         Ok(ValueRef::Int(number)) => natural(number),
@@ -70,7 +93,8 @@ pub(crate) fn integer_at(columns: &sqlite::Row, at: usize) -> Option<u64>
 }
 
 fn natural(number: i64) -> Option<u64>
-    ensures { result ≡ integer_in (Int number) }
+    ensures read { result ≡ integer_in (Int number) }
+    ensures signed { IfSome result (λ number. number ≤ 2 ^ 63 - 1) }
 {
     if number < 0 {
         None
@@ -81,7 +105,8 @@ fn natural(number: i64) -> Option<u64>
 
 // The integer in a column, where it has one from 0 to the most.
 fn number_at(columns: &sqlite::Row, at: usize, most: u64) -> Option<u64>
-    ensures { result ≡ number_in (most + 1) (column columns.now at) }
+    ensures read { result ≡ number_in (most + 1) (column columns.now at) }
+    ensures signed { IfSome result (λ number. number ≤ 2 ^ 63 - 1) }
 {
     let number = integer_at(columns, at)?;
     if number <= most { Some(number) } else { None }
@@ -113,6 +138,38 @@ fn name_at(columns: &sqlite::Row, at: usize) -> Option<Name>
     match text_at(columns, at) {
         Some(text) => Name::read(text).ok(),
         None => None,
+    }
+}
+
+// The name in a column that may be NULL.
+fn protocol_at(columns: &sqlite::Row, at: usize) -> Option<Option<Name>>
+    ensures { result ≡ optional name_in (column columns.now at) }
+{
+    if is_null_at(columns, at) {
+        return Some(None);
+    }
+    let protocol = name_at(columns, at)?;
+    Some(Some(protocol))
+}
+
+// The entry in a column that may be NULL.
+fn link_at(columns: &sqlite::Row, at: usize) -> Option<Option<u32>>
+    ensures { result ≡ optional (number_in (2 ^ 32)) (column columns.now at) }
+{
+    if is_null_at(columns, at) {
+        return Some(None);
+    }
+    let entry = number_at(columns, at, u32::MAX as u64)? as u32;
+    Some(Some(entry))
+}
+
+fn is_null_at(columns: &sqlite::Row, at: usize) -> bool
+    ensures { IsTrue result ↔ (column columns.now at ≡ Null) }
+{
+    match columns.get_ref(at) {
+        Ok(ValueRef::Null) => true,
+        Ok(ValueRef::Int(_) | ValueRef::Real(_) | ValueRef::Text(_) | ValueRef::Blob(_)) => false,
+        Err(_) => true,
     }
 }
 

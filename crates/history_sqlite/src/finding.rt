@@ -1,10 +1,10 @@
-//! What a database has of the two tables, before anything is written.
-ghost use Rattle.std.specs.Prelude.{◌≡◌, ◌↔◌, ◌∷◌, [], map, find, false, IsTrue, IfOk, IsErr};
+//! What a database has of the history's tables, before anything is written.
+ghost use Rattle.std.specs.Prelude.{◌≡◌, ◌↔◌, ◌⊎◌, ◌∷◌, [], map, find, false, IsTrue, IfOk, IsErr, Some};
 ghost use Rattle.std.specs.Option.{option_copied};
 ghost use Rattle.sqlite.specs.Held.{state};
 ghost use Rattle.sqlite.specs.State.{HasCleanDisk};
-ghost use Rattle.history_sqlite.specs.Finding.{column_of, table_with, number_shown, HasNeither, HasBoth, IsMadeAs, IsFound, IsNumberless, ShowsNumber};
-ghost use Rattle.history_sqlite.specs.Tables.{schema_table, history_table, Keeps};
+ghost use Rattle.history_sqlite.specs.Finding.{column_of, table_with, number_shown, HasNone, HasBoth, HasOlder, IsMadeAs, IsFound, IsMisnumbered, IsNumberless, ShowsNumber};
+ghost use Rattle.history_sqlite.specs.Tables.{schema_table, history_table, older_table, KeepsAny};
 
 use crate::columns::integer_at;
 use crate::refusal::refusal_of_error;
@@ -16,16 +16,21 @@ use sqlite_schema::schema::{Column, Kind, Schema, Table};
 use sqlite_value::keys::Collation;
 
 /// The number of the schema that this crate writes and reads.
-pub const SCHEMA_NUMBER: u64 = 1;
+pub const SCHEMA_NUMBER: u64 = 2;
 
-/// What a database has of the two tables.
+/// The number of the schema whose rows are taken over.
+pub const OLDER_NUMBER: u64 = 1;
+
+/// What a database has of the history's tables.
 #[derive(Clone, Copy, Debug, PartialEq, Eq)]
 pub enum Found {
-    /// Neither of them.
+    /// None of them.
     Empty,
-    /// Both, as this crate makes them, with the number of its schema.
+    /// Those of the number and of the rows, as this crate makes them, with the number of its schema.
     Ours,
-    /// One of them, other columns, keys or rules, or another number.
+    /// Those of schema 1, with its number. Nothing was taken over from them.
+    Older,
+    /// Some of them, other columns, keys or rules, or another number.
     Other,
 }
 
@@ -37,25 +42,44 @@ pub struct WantedColumn {
     pub is_required: bool,
 }
 
-/// What the database has of the two tables. Nothing is written. The rows are left, and an empty database
-/// is left as it is.
+/// What the database has of the history's tables. Nothing is written. The rows are left, and an empty
+/// database is left as it is.
 pub fn find_tables<D: Alter>(connection: &mut Connection<D>) -> Result<Found, KeeperRefusal>
     ensures found { HasCleanDisk (state D.Store connection.new) → IfOk result (IsFound (state D.Store connection.old) (state D.Store connection.new)) }
-    ensures keeps { HasCleanDisk (state D.Store connection.new) → IsTrue (state D.Store connection.new).is_open → Keeps (state D.Store connection.old) (state D.Store connection.new) }
+    ensures keeps { HasCleanDisk (state D.Store connection.new) → IsTrue (state D.Store connection.new).is_open → KeepsAny (state D.Store connection.old) (state D.Store connection.new) }
     ensures empty { result ≡ Ok Found.Empty → connection.new ≡ connection.old }
-    ensures asked { IsErr result → HasBoth connection.old.schema }
+    ensures asked { IsErr result → HasBoth connection.old.schema ⊎ HasOlder connection.old.schema }
     ensures cause { HasCleanDisk (state D.Store connection.new) → result ≡ Err KeeperRefusal.Fault → IsNumberless (state D.Store connection.old) (state D.Store connection.new) }
     ensures mode { connection.old.in_transaction ≡ false → connection.new.in_transaction ≡ false }
     ensures clean { HasCleanDisk (state D.Store connection.new) → HasCleanDisk (state D.Store connection.old) }
 {
-    if has_neither(connection.schema()) {
+    if has_none(connection.schema()) {
         return Ok(Found::Empty);
     }
-    if !has_both(connection.schema()) {
-        return Ok(Found::Other);
+    if has_both(connection.schema()) {
+        return find_by_number(connection, SCHEMA_NUMBER, Found::Ours);
     }
+    if has_older(connection.schema()) {
+        return find_by_number(connection, OLDER_NUMBER, Found::Older);
+    }
+    Ok(Found::Other)
+}
+
+// What is wanted, where the schema has the number that is wanted.
+fn find_by_number<D: Alter>(
+    connection: &mut Connection<D>,
+    number: u64,
+    wanted: Found,
+) -> Result<Found, KeeperRefusal>
+    ensures found { HasCleanDisk (state D.Store connection.new) → IfOk result (λ found. ((found ≡ wanted) × ShowsNumber (state D.Store connection.old) (state D.Store connection.new) (Some number)) ⊎ ((found ≡ Found.Other) × IsMisnumbered (state D.Store connection.old) (state D.Store connection.new) number)) }
+    ensures either { IfOk result (λ found. (found ≡ wanted) ⊎ (found ≡ Found.Other)) }
+    ensures keeps { HasCleanDisk (state D.Store connection.new) → IsTrue (state D.Store connection.new).is_open → KeepsAny (state D.Store connection.old) (state D.Store connection.new) }
+    ensures cause { HasCleanDisk (state D.Store connection.new) → result ≡ Err KeeperRefusal.Fault → IsNumberless (state D.Store connection.old) (state D.Store connection.new) }
+    ensures mode { connection.old.in_transaction ≡ false → connection.new.in_transaction ≡ false }
+    ensures clean { HasCleanDisk (state D.Store connection.new) → HasCleanDisk (state D.Store connection.old) }
+{
     match read_number(connection)? {
-        Some(SCHEMA_NUMBER) => Ok(Found::Ours),
+        Some(shown) if shown == number => Ok(wanted),
         _ => Ok(Found::Other),
     }
 }
@@ -63,7 +87,7 @@ pub fn find_tables<D: Alter>(connection: &mut Connection<D>) -> Result<Found, Ke
 // The number of the schema. There is none where the table has no row, more than one, or no integer.
 fn read_number<D: Alter>(connection: &mut Connection<D>) -> Result<Option<u64>, KeeperRefusal>
     ensures shown { HasCleanDisk (state D.Store connection.new) → IfOk result (ShowsNumber (state D.Store connection.old) (state D.Store connection.new)) }
-    ensures keeps { HasCleanDisk (state D.Store connection.new) → IsTrue (state D.Store connection.new).is_open → Keeps (state D.Store connection.old) (state D.Store connection.new) }
+    ensures keeps { HasCleanDisk (state D.Store connection.new) → IsTrue (state D.Store connection.new).is_open → KeepsAny (state D.Store connection.old) (state D.Store connection.new) }
     ensures cause { HasCleanDisk (state D.Store connection.new) → result ≡ Err KeeperRefusal.Fault → IsNumberless (state D.Store connection.old) (state D.Store connection.new) }
     ensures mode { connection.old.in_transaction ≡ false → connection.new.in_transaction ≡ false }
     ensures clean { HasCleanDisk (state D.Store connection.new) → HasCleanDisk (state D.Store connection.old) }
@@ -83,19 +107,35 @@ fn number_of_rows(rows: &[sqlite::Row]) -> Option<u64>
     }
 }
 
-fn has_neither(schema: &Schema) -> bool
-    ensures { IsTrue result ↔ HasNeither schema.now }
+fn has_none(schema: &Schema) -> bool
+    ensures { IsTrue result ↔ HasNone schema.now }
 {
     let tables = schema.tables.as_slice();
-    table_of(tables, b"schema").is_none() && table_of(tables, b"history").is_none()
+    table_of(tables, b"schema").is_none()
+        && table_of(tables, b"history2").is_none()
+        && table_of(tables, b"history").is_none()
 }
 
 fn has_both(schema: &Schema) -> bool
     ensures { IsTrue result ↔ HasBoth schema.now }
 {
     let tables = schema.tables.as_slice();
-    match (table_of(tables, b"schema"), table_of(tables, b"history")) {
+    match (table_of(tables, b"schema"), table_of(tables, b"history2")) {
         (Some(numbers), Some(rows)) => is_number_table(numbers) && is_row_table(rows),
+        _ => false,
+    }
+}
+
+fn has_older(schema: &Schema) -> bool
+    ensures { IsTrue result ↔ HasOlder schema.now }
+{
+    let tables = schema.tables.as_slice();
+    match (table_of(tables, b"schema"), table_of(tables, b"history")) {
+        (Some(numbers), Some(rows)) => {
+            is_number_table(numbers)
+                && is_older_table(rows)
+                && table_of(tables, b"history2").is_none()
+        }
         _ => false,
     }
 }
@@ -119,6 +159,34 @@ fn is_number_table(table: &Table) -> bool
 
 fn is_row_table(table: &Table) -> bool
     ensures { IsTrue result ↔ IsMadeAs history_table table.now }
+{
+    are_columns(
+        table.columns.as_slice(),
+        &[
+            wanted(b"entry", Kind::Integer, false),
+            wanted(b"tag", Kind::Text, true),
+            wanted(b"client", Kind::Integer, true),
+            wanted(b"device", Kind::Blob, true),
+            wanted(b"component", Kind::Text, true),
+            wanted(b"version_old", Kind::Text, true),
+            wanted(b"version_new", Kind::Text, true),
+            wanted(b"digest", Kind::Blob, true),
+            wanted(b"flags", Kind::Integer, true),
+            wanted(b"state", Kind::Integer, true),
+            wanted(b"reason", Kind::Integer, true),
+            wanted(b"time_added", Kind::Integer, true),
+            wanted(b"time_changed", Kind::Integer, true),
+            wanted(b"duration", Kind::Integer, true),
+            wanted(b"protocol", Kind::Text, false),
+            wanted(b"retry_of", Kind::Integer, false),
+        ],
+    ) && table.key == Some(0)
+        && is_lone_tag(&table.uniques)
+        && has_no_rules(table)
+}
+
+fn is_older_table(table: &Table) -> bool
+    ensures { IsTrue result ↔ IsMadeAs older_table table.now }
 {
     are_columns(
         table.columns.as_slice(),

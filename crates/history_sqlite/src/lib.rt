@@ -14,6 +14,7 @@ pub mod refusal;
 pub mod sql_keeper;
 pub mod statements;
 pub mod tables;
+pub mod taking_over;
 #[cfg(test)]
 mod tests;
 

@@ -10,7 +10,7 @@ ghost use Rattle.history_keeper.specs.Keepers.{Committed, Reopened};
 ghost use Rattle.outer_traits.specs.Faults.{Rose};
 ghost use Rattle.outer_traits.specs.Plans.{one_more};
 ghost use Rattle.history_sqlite.specs.Causes.{IsRead, IsReadAgain, FailsToLoad, FailsToMake, FailsToSettle, IsUnadopted};
-ghost use Rattle.history_sqlite.specs.Finding.{HasNeither, IsOurs};
+ghost use Rattle.history_sqlite.specs.Finding.{IsAdopted};
 ghost use Rattle.history_sqlite.specs.Keeping.{planned, doubtful, after_fault};
 ghost use Rattle.history_sqlite.specs.Tables.{Keeps, Loads, Makes, Opens};
 ghost use Rattle.history_sqlite.specs.Telling.{database, told_by, Settles, IsUnused};
@@ -88,9 +88,9 @@ impl SqlKeeper<MemStore> {
 }
 
 impl SqlKeeper<FileStore<File>> {
-    /// A keeper over the file at the path, which is made where it isn't there. It is a fault where the
-    /// file can't be opened, is no database, has another schema number, or has a row that stands
-    /// for none. Such a file is left as it was.
+    /// A keeper over the file at the path, which is made where it isn't there. A file of schema 1 is taken
+    /// over, as `adopt` says. It is a fault where the file can't be opened, is no database, has another
+    /// schema number, or has a row that stands for none. Such a file is left as it was.
     pub fn file(rt: &HostRuntime, path: &str) -> Result<SqlKeeper<FileStore<File>>, KeeperRefusal>
         ensures { IfOk result (λ keeper. IsUnused over_files None [] keeper) }
     {
@@ -100,14 +100,17 @@ impl SqlKeeper<FileStore<File>> {
 }
 
 impl<D: Lasting + Drop> SqlKeeper<D> {
-    /// A keeper over an open connection, whose database is empty or has the tables and the number. It tells
-    /// no rows. The rows are left, and an empty database has the tables, their number and no rows, while the
-    /// disk returns what was written. It is a fault where a transaction is open, the tables are other ones,
-    /// a row stands for none, or the database refuses a statement. A refusal lets go of the connection.
+    /// A keeper over an open connection, whose database is empty, or has the tables and the number of this
+    /// schema or of schema 1. It tells no rows. The rows are left. Those of schema 1 are taken over into the
+    /// table of this schema, in one transaction, with duration 0, no protocol and no row that is tried again.
+    /// An empty database has the tables, their number and no rows. All this holds while the disk returns what
+    /// was written. It is a fault where a transaction is open, the tables are other ones, a row stands for
+    /// none, or the database refuses a statement. A refusal lets go of the connection, and leaves a database
+    /// of schema 1 as it was.
     pub fn adopt(alloc: Global, connection: Connection<D>) -> Result<SqlKeeper<D>, KeeperRefusal>
         ensures unused { IfOk result (λ keeper. IsUnused D.Store None [] keeper) }
         ensures opens { IfOk result (λ keeper. HasCleanDisk (database D.Store keeper) → Opens (state D.Store connection) (database D.Store keeper)) }
-        ensures ours { IfOk result (λ keeper. HasCleanDisk (database D.Store keeper) → HasNeither connection.schema ⊎ IsOurs D.Store (record connection { step_limit = None })) }
+        ensures adopted { IfOk result (λ keeper. HasCleanDisk (database D.Store keeper) → IsAdopted D.Store (record connection { step_limit = None })) }
         ensures cause { result ≡ Err KeeperRefusal.Fault → IsUnadopted D.Store (record connection { step_limit = None }) }
     {
         SqlKeeper::adopt_planned(alloc, connection, Vec::new(alloc))
@@ -121,12 +124,12 @@ impl<D: Lasting + Drop> SqlKeeper<D> {
     ) -> Result<SqlKeeper<D>, KeeperRefusal>
         ensures unused { IfOk result (λ keeper. IsUnused D.Store None plan.items keeper) }
         ensures opens { IfOk result (λ keeper. HasCleanDisk (database D.Store keeper) → Opens (state D.Store connection) (database D.Store keeper)) }
-        ensures ours { IfOk result (λ keeper. HasCleanDisk (database D.Store keeper) → HasNeither connection.schema ⊎ IsOurs D.Store (record connection { step_limit = None })) }
+        ensures adopted { IfOk result (λ keeper. HasCleanDisk (database D.Store keeper) → IsAdopted D.Store (record connection { step_limit = None })) }
         ensures cause { result ≡ Err KeeperRefusal.Fault → IsUnadopted D.Store (record connection { step_limit = None }) }
     {
         let mut connection = connection;
         connection.set_step_limit(None);
-        open_tables(&mut connection)?;
+        open_tables(&mut connection, alloc)?;
         let _rows = load_rows(&mut connection, alloc)?;
         Ok(SqlKeeper {
             connection,

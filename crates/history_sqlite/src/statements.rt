@@ -1,8 +1,10 @@
 //! The three statements on the table. Each is one call, outside any transaction.
-ghost use Rattle.std.specs.Prelude.{◌≡◌, ◌≤◌, ◌^◌, ◌-◌, None, [], IsTrue, map, Any, IfOk, OnOk, OnErr};
+ghost use Rattle.std.specs.Prelude.{pos, ◌≡◌, ◌≤◌, ◌^◌, ◌-◌, None, [], IsTrue, map, Any, IfOk, OnOk, OnErr};
 ghost use Rattle.sqlite.specs.Held.{state};
 ghost use Rattle.sqlite.specs.State.{HasCleanDisk, Shown};
-ghost use Rattle.sqlite.specs.Values.{bound};
+ghost use Rattle.sqlite.specs.declared.types.Value.TheVariants.{Int, Text};
+ghost use Rattle.sqlite.specs.Values.{bound, bound_value, or_null};
+ghost use Rattle.sqlite_value.specs.Value.{owned};
 ghost use Rattle.history_sqlite.specs.Causes.{insert_text, update_text, select_text, IsRefused, IsUnanswered, IsRead, FailsToLoad, FailsToMake};
 ghost use Rattle.history_sqlite.specs.Columns.{columns_of, row_read, values_of};
 ghost use Rattle.history_sqlite.specs.Tables.{Adds, Advances, Makes, Keeps, Gives, Loads};
@@ -48,7 +50,7 @@ pub fn insert<D: Alter>(connection: &mut Connection<D>, row: &Row) -> Result<(),
 {
     let columns = columns_of_row(row);
     match connection.execute(
-        "INSERT INTO history VALUES (?1, ?2, ?3, ?4, ?5, ?6, ?7, ?8, ?9, ?10, ?11, ?12, ?13)",
+        "INSERT INTO history2 VALUES (?1, ?2, ?3, ?4, ?5, ?6, ?7, ?8, ?9, ?10, ?11, ?12, ?13, ?14, ?15, ?16)",
         &columns,
     ) {
         Ok(_) => Ok(()),
@@ -57,7 +59,7 @@ pub fn insert<D: Alter>(connection: &mut Connection<D>, row: &Row) -> Result<(),
 }
 
 /// The columns of a row, in the order of the table.
-pub fn columns_of_row(row: &Row) -> [ValueRef<'_>; 13]
+pub fn columns_of_row(row: &Row) -> [ValueRef<'_>; 16]
     requires added { row.now.time_added ≤ 2 ^ 63 - 1 }
     requires changed { row.now.time_changed ≤ 2 ^ 63 - 1 }
     ensures { bound result ≡ columns_of row.now }
@@ -76,7 +78,30 @@ pub fn columns_of_row(row: &Row) -> [ValueRef<'_>; 13]
         ValueRef::Int(row.reason as i64),
         ValueRef::Int(row.time_added as i64),
         ValueRef::Int(row.time_changed as i64),
+        ValueRef::Int(row.duration as i64),
+        protocol_of(row),
+        link_of(row),
     ]
+}
+
+// The protocol of a row, and NULL where it has none.
+fn protocol_of(row: &Row) -> ValueRef<'_>
+    ensures { bound_value (owned result) ≡ or_null Text row.now.protocol }
+{
+    match &row.protocol {
+        Some(protocol) => ValueRef::Text(protocol.bytes()),
+        None => ValueRef::Null,
+    }
+}
+
+// The entry that a row tries again, and NULL where it tries none.
+fn link_of(row: &Row) -> ValueRef<'_>
+    ensures { bound_value (owned result) ≡ or_null (λ entry. Int (pos entry)) row.now.retry_of }
+{
+    match row.retry_of {
+        Some(entry) => ValueRef::Int(entry as i64),
+        None => ValueRef::Null,
+    }
 }
 
 /// Gives the row with that entry another state. Where it is told `Ok`, that row alone is changed. A
@@ -96,7 +121,7 @@ pub fn update<D: Alter>(
 {
     let values = values_of_state(entry, reached, reason, time);
     match connection.execute(
-        "UPDATE history SET state = ?2, reason = ?3, time_changed = ?4 WHERE entry = ?1",
+        "UPDATE history2 SET state = ?2, reason = ?3, time_changed = ?4 WHERE entry = ?1",
         &values,
     ) {
         Ok(_) => Ok(()),
@@ -127,12 +152,12 @@ pub fn values_of_state(
 pub fn select<D: Alter>(connection: &mut Connection<D>) -> Result<Vec<sqlite::Row>, KeeperRefusal>
     ensures gives { HasCleanDisk (state D.Store connection.new) → IfOk result (λ shown. Gives (state D.Store connection.old) (state D.Store connection.new) shown.items) }
     ensures refused { HasCleanDisk (state D.Store connection.new) → IsTrue (state D.Store connection.new).is_open → OnErr result (Keeps (state D.Store connection.old) (state D.Store connection.new)) }
-    ensures cause { HasCleanDisk (state D.Store connection.new) → result ≡ Err KeeperRefusal.Fault → IsUnanswered (state D.Store connection.old) (state D.Store connection.new) }
+    ensures cause { HasCleanDisk (state D.Store connection.new) → result ≡ Err KeeperRefusal.Fault → IsUnanswered select_text (state D.Store connection.old) (state D.Store connection.new) }
     ensures shown { HasCleanDisk (state D.Store connection.new) → IfOk result (λ shown. Shown select_text [] (state D.Store connection.old) (state D.Store connection.new) shown.items) }
     ensures clean { HasCleanDisk (state D.Store connection.new) → HasCleanDisk (state D.Store connection.old) }
 {
     match connection.query_all(
-        "SELECT entry, tag, client, device, component, version_old, version_new, digest, flags, state, reason, time_added, time_changed FROM history ORDER BY entry",
+        "SELECT entry, tag, client, device, component, version_old, version_new, digest, flags, state, reason, time_added, time_changed, duration, protocol, retry_of FROM history2 ORDER BY entry",
         &[],
     ) {
         Ok(rows) => Ok(rows),

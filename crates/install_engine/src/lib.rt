@@ -6,7 +6,5 @@
 #![tactic(auto)]
 
 mod fetching;
-#[cfg(test)]
-mod tests;
 
 pub use fetching::{fetch, fetch_blocks};

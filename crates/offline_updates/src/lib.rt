@@ -6,6 +6,3 @@
 mod entries;
 
 pub use entries::{pending, to_judge};
-
-#[cfg(test)]
-mod tests;

@@ -10,7 +10,9 @@ use Rattle.update_log.specs.Pasts.{past_of}
 use Rattle.daemon_core.specs.Housed.{Annalled, Housed, past, past_in}
 use Rattle.daemon_core.specs.Keeping.{keeper_faults, met_fault}
 use Rattle.daemon_core.specs.Turns.{FaultsCounted}
-use Rattle.plain_runs.specs.Ran.{Gained, GaveBack, MadeSteps, StepMade, cut_events, start_events, step_events}
+use Rattle.device_claims.specs.declared.claim.Parts.{Parts}
+use Rattle.plugin_trait.specs.Steps.{PluginSteps}
+use Rattle.plain_runs.specs.Ran.{CameBack, Gained, GaveBack, MadeSteps, StepMade, cut_events, start_events, step_events}
 
 -- The past behind these events.
 abbrev pub grown : List Event → List Event → List Event
@@ -60,11 +62,16 @@ none-back client entry false = (refl, tt)
 faults-same : (events : List Event) (old new : Annalled) → MetNone events → Gained events old new → keeper_faults (past_in new) ≡ keeper_faults (past_in old)
 faults-same events old new m g = ap keeper_faults (past-gained events old new g) ∙ met-none (past_in old) events m
 
-made-faults : (client entry : ℕ) (old new : Annalled) → MadeSteps client entry old new → keeper_faults (past_in new) ≡ keeper_faults (past_in old)
-made-faults client entry old new m = faults-same (step_events client entry m.0) old new (none-steps client entry m.0) m.1
+made-faults : (by : PluginSteps) (client entry : ℕ) (was is : Parts) (old new : Annalled) → MadeSteps by client entry was is old new → keeper_faults (past_in new) ≡ keeper_faults (past_in old)
+made-faults by client entry was is old new m = faults-same (step_events client entry m.steps) old new (none-steps client entry m.steps) m.gained
 
-back-faults : (client entry : ℕ) (old new : Annalled) → GaveBack client entry old new → keeper_faults (past_in new) ≡ keeper_faults (past_in old)
-back-faults client entry old new k =
+-- What is given back met none either, also without any step.
+came-faults : (client entry : ℕ) (old new : Annalled) → CameBack client entry old new → keeper_faults (past_in new) ≡ keeper_faults (past_in old)
+came-faults client entry old new k =
+    faults-same (cut_events k.cut ++ Event.GiveBack client (Back.Entry entry) ∷ []) old new (none-back client entry k.cut) k.gained
+
+back-faults : (by : PluginSteps) (client entry : ℕ) (was : Parts) (old new : Annalled) → GaveBack by client entry was old new → keeper_faults (past_in new) ≡ keeper_faults (past_in old)
+back-faults by client entry was old new k =
     let last = cut_events k.cut ++ Event.GiveBack client (Back.Entry entry) ∷ [] in
     faults-same (step_events client entry k.steps ++ (start_events client entry k.started ++ last)) old new
     (none-append (step_events client entry k.steps) (start_events client entry k.started ++ last) (none-steps client entry k.steps)
@@ -87,13 +94,16 @@ counted-both faults old mid new a b c =
     ]
 
 -- A claim that was given back.
-pub back-counted : {K : Type 0} (faults : K → ℕ) (client entry : ℕ) (old new : Housed K) → GaveBack client entry old.annals new.annals → new.keeper ≡ old.keeper → FaultsCounted faults old new
-back-counted faults client entry old new g k = counted-same faults old new (back-faults client entry old.annals new.annals g) k
+pub came-counted : {K : Type 0} (faults : K → ℕ) (client entry : ℕ) (old new : Housed K) → CameBack client entry old.annals new.annals → new.keeper ≡ old.keeper → FaultsCounted faults old new
+came-counted faults client entry old new g k = counted-same faults old new (came-faults client entry old.annals new.annals g) k
+
+pub back-counted : {K : Type 0} (faults : K → ℕ) (by : PluginSteps) (client entry : ℕ) (was : Parts) (old new : Housed K) → GaveBack by client entry was old.annals new.annals → new.keeper ≡ old.keeper → FaultsCounted faults old new
+back-counted faults by client entry was old new g k = counted-same faults old new (back-faults by client entry was old.annals new.annals g) k
 
 -- A finish behind steps.
-pub ran-counted : {K : Type 0} (faults : K → ℕ) (client entry : ℕ) (old mid new : Housed K) → MadeSteps client entry old.annals mid.annals → mid.keeper ≡ old.keeper → FaultsCounted faults mid new → faults mid.keeper ≤ faults new.keeper → FaultsCounted faults old new
-ran-counted faults client entry old mid new m k c l =
-    counted-both faults old mid new (counted-same faults old mid (made-faults client entry old.annals mid.annals m) k) c l
+pub ran-counted : {K : Type 0} (faults : K → ℕ) (by : PluginSteps) (client entry : ℕ) (was is : Parts) (old mid new : Housed K) → MadeSteps by client entry was is old.annals mid.annals → mid.keeper ≡ old.keeper → FaultsCounted faults mid new → faults mid.keeper ≤ faults new.keeper → FaultsCounted faults old new
+ran-counted faults by client entry was is old mid new m k c l =
+    counted-both faults old mid new (counted-same faults old mid (made-faults by client entry was is old.annals mid.annals m) k) c l
 
 pub ran-counts : {K : Type 0} (faults : K → ℕ) (old mid new : Housed K) → mid.keeper ≡ old.keeper → faults mid.keeper ≤ faults new.keeper → faults old.keeper ≤ faults new.keeper
 ran-counts faults old mid new k l = let same : faults mid.keeper ≡ faults old.keeper = ap faults k in omega arith

@@ -1,11 +1,14 @@
 -- What the run of a claim puts behind the log.
 use Rattle.std.specs.Prelude.{◌≡◌, ℕ, Bool, true, false, List, [], ◌∷◌, ◌++◌, Option, Some, None, Result, ⊤}
+use Rattle.block_pool.specs.Views.{SealedBytes}
 use Rattle.fw_facts.specs.declared.seen.Seen.{Seen}
 use Rattle.emulated_boards.specs.Boards.{BoardState}
+use Rattle.emulated_boards.specs.Conditions.{view_of}
 use Rattle.emulated_boards.specs.declared.fault.BoardFault.{BoardFault}
 use Rattle.emulated_boards.specs.declared.fault.PlannedFault.{PlannedFault}
 use Rattle.emulated_boards.specs.declared.mark.Mark.{Mark}
 use Rattle.emulated_boards.specs.Images.{payload_image}
+use Rattle.plugin_trait.specs.Steps.{PluginSteps}
 use Rattle.update_log.specs.declared.event.Back.{Back}
 use Rattle.update_log.specs.declared.event.Event.{Event}
 use Rattle.update_log.specs.declared.event.Op.{Op}
@@ -14,7 +17,7 @@ use Rattle.daemon_core.specs.Annals.{SameFacts}
 use Rattle.daemon_core.specs.Housed.{Annalled, Housed, past, past_in, rows_before}
 use Rattle.daemon_core.specs.Returns.{number_of}
 use Rattle.daemon_core.specs.declared.finished.Finished.{Finished}
-use Rattle.device_claims.specs.Claims.{Noted}
+use Rattle.device_claims.specs.Claims.{Noted, StepGives}
 use Rattle.device_claims.specs.declared.claim.Parts.{Parts}
 use Rattle.daemon_core.specs.Planned.{HasPlan, HavePlans}
 use Rattle.install_engine.specs.Runs.{StepLeft}
@@ -44,6 +47,18 @@ abbrev pub cut_events : Bool → List Event
 cut_events true = Event.Cut ∷ []
 cut_events false = []
 
+-- A plugin made these steps of an entry, one after the other, with that payload: from the board as it was to the
+-- board as it is. The end of each shows the board as its step left it.
+abbrev pub AreMade : PluginSteps → ℕ → SealedBytes → BoardState → List StepMade → BoardState → Type 0
+AreMade by entry payload was [] is = is ≡ was
+AreMade by entry payload was (s ∷ rest) is =
+    (next : BoardState) × StepGives by s.op entry payload was s.outcome next × (s.seen ≡ view_of next.condition) × AreMade by entry payload next rest is
+
+-- It made a step more, where one was started, which wasn't ended.
+abbrev pub IsBegun : PluginSteps → ℕ → SealedBytes → BoardState → Option Op → Type 0
+IsBegun by entry payload board None = Unit {0}
+IsBegun by entry payload board (Some op) = (answer : Result ⊤ BoardFault) × (next : BoardState) × StepGives by op entry payload board answer next
+
 -- A step of the entry is open, and the plugin made it of the claim as it was before: this is its answer,
 -- and the claim as it is now.
 pub record StepToEnd (a : Annalled) (client entry : ℕ) (op : Op) (answer : Result ⊤ BoardFault) (now : Parts) : Type 0 where
@@ -58,9 +73,12 @@ pub record Gained (more : List Event) (old new : Annalled) : Type 0 where
   pub same : SameFacts old new
   pub log : new.core.log ≡ old.core.log ++ more
 
--- The client made steps of the entry, and nothing else.
-abbrev pub MadeSteps : ℕ → ℕ → Annalled → Annalled → Type 0
-MadeSteps client entry old new = (steps : List StepMade) × Gained (step_events client entry steps) old new
+-- The client made steps of the entry, and nothing else: the plugin took the claim from what it was to what it is.
+pub record MadeSteps (by : PluginSteps) (client entry : ℕ) (was is : Parts) (old new : Annalled) : Type 0 where
+  pub steps : List StepMade
+  pub gained : Gained (step_events client entry steps) old new
+  pub payload : is.payload ≡ was.payload
+  pub made : AreMade by entry was.payload was.board steps is.board
 
 -- The boot is off, and the entry was given back.
 pub record CameBack (client entry : ℕ) (old new : Annalled) : Type 0 where
@@ -69,21 +87,31 @@ pub record CameBack (client entry : ℕ) (old new : Annalled) : Type 0 where
   pub gained : Gained (cut_events cut ++ Event.GiveBack client (Back.Entry entry) ∷ []) old new
 
 -- The boot is off: behind such steps, and the start of one more perhaps, the entry was given back.
-pub record GaveBack (client entry : ℕ) (old new : Annalled) : Type 0 where
+pub record GaveBack (by : PluginSteps) (client entry : ℕ) (was : Parts) (old new : Annalled) : Type 0 where
   pub is_off : off (past_in new) ≡ true
   pub steps : List StepMade
   pub started : Option Op
   pub cut : Bool
   pub gained : Gained (step_events client entry steps ++ (start_events client entry started ++ (cut_events cut ++ Event.GiveBack client (Back.Entry entry) ∷ []))) old new
+  pub last : BoardState
+  pub made : AreMade by entry was.payload was.board steps last
+  pub begun : IsBegun by entry was.payload last started
 
 -- Behind such steps the entry was finished, in that state.
-abbrev pub Finishes : ℕ → ℕ → Finished → Annalled → Annalled → Type 0
-Finishes client entry finished old new =
-    (steps : List StepMade) × Gained (step_events client entry steps ++ Event.Finish client entry finished.state finished.stored ∷ []) old new
+pub record Finishes (by : PluginSteps) (client entry : ℕ) (was : Parts) (finished : Finished) (old new : Annalled) : Type 0 where
+  pub steps : List StepMade
+  pub gained : Gained (step_events client entry steps ++ Event.Finish client entry finished.state finished.stored ∷ []) old new
+  pub last : BoardState
+  pub made : AreMade by entry was.payload was.board steps last
 
-abbrev pub Ran : ℕ → ℕ → Outcome → Annalled → Annalled → Type 0
-Ran client entry (Outcome.Finished finished) old new = Finishes client entry finished old new
-Ran client entry Outcome.Off old new = GaveBack client entry old new
+abbrev pub Ran : PluginSteps → ℕ → ℕ → Parts → Outcome → Annalled → Annalled → Type 0
+Ran by client entry was (Outcome.Finished finished) old new = Finishes by client entry was finished old new
+Ran by client entry was Outcome.Off old new = GaveBack by client entry was old new
+
+-- The entry was finished, or given back, and nothing else happened.
+abbrev pub Closes : ℕ → ℕ → Outcome → Annalled → Annalled → Type 0
+Closes client entry (Outcome.Finished finished) old new = Gained (Event.Finish client entry finished.state finished.stored ∷ []) old new
+Closes client entry Outcome.Off old new = CameBack client entry old new
 
 -- The boards at home have the faults planned that their numbers have, and so has this board of an entry,
 -- which is out.

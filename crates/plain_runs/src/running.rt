@@ -1,11 +1,12 @@
 //! The whole run of a claim.
 ghost use Rattle.std.specs.Prelude.{◌≡◌, ◌≤◌, ◌<◌, length, None, Some, IfOk, OnErr, OnOk, [], slice_get};
+ghost use Rattle.plugin_trait.specs.Steps.{steps_at};
 ghost use Rattle.update_log.specs.Steps.{next_step};
 ghost use Rattle.update_log.specs.declared.event.Op.{Op};
 ghost use Rattle.daemon_core.specs.Turns.{FaultsCounted};
 ghost use Rattle.device_claims.specs.States.{IsNext};
 ghost use Rattle.install_engine.specs.RunsIn.{RunsIn, parts_taken};
-ghost use Rattle.plain_runs.specs.Ran.{BroughtHome, GaveBack, KeepsOut, MadeSteps, Ran};
+ghost use Rattle.plain_runs.specs.Ran.{BroughtHome, Closes, GaveBack, KeepsOut, MadeSteps, Ran};
 
 use crate::outcome::Outcome;
 use crate::steps::{attach, cleanup, detach, prepare, reload, write};
@@ -26,8 +27,8 @@ fn loosen<K: Keeper>(
     requires runs { RunsIn house.old.annals client claim None }
     ensures entry { IfOk result (λ next. next.entry ≡ entry) }
     ensures runs { IfOk result (λ next. RunsIn house.new.annals client next None) }
-    ensures made { OnOk result (MadeSteps client entry house.old.annals house.new.annals) }
-    ensures gone { OnErr result (GaveBack client entry house.old.annals house.new.annals) }
+    ensures made { IfOk result (λ next. MadeSteps (steps plugin.now) client entry claim next house.old.annals house.new.annals) }
+    ensures gone { OnErr result (GaveBack (steps plugin.now) client entry claim house.old.annals house.new.annals) }
     ensures planned { IfOk result (λ next. KeepsOut entry claim.board next.board house.old house.new) }
     ensures home { OnErr result (BroughtHome entry claim.board house.old house.new) }
     ensures keeper { house.new.keeper ≡ house.old.keeper }
@@ -51,8 +52,8 @@ fn flash<K: Keeper>(
     requires runs { RunsIn house.old.annals client claim None }
     ensures entry { IfOk result (λ next. next.entry ≡ entry) }
     ensures runs { IfOk result (λ next. RunsIn house.new.annals client next None) }
-    ensures made { OnOk result (MadeSteps client entry house.old.annals house.new.annals) }
-    ensures gone { OnErr result (GaveBack client entry house.old.annals house.new.annals) }
+    ensures made { IfOk result (λ next. MadeSteps (steps plugin.now) client entry claim next house.old.annals house.new.annals) }
+    ensures gone { OnErr result (GaveBack (steps plugin.now) client entry claim house.old.annals house.new.annals) }
     ensures planned { IfOk result (λ next. KeepsOut entry claim.board next.board house.old house.new) }
     ensures home { OnErr result (BroughtHome entry claim.board house.old house.new) }
     ensures keeper { house.new.keeper ≡ house.old.keeper }
@@ -77,8 +78,8 @@ fn join<K: Keeper>(
     ensures entry { IfOk result (λ next. next.entry ≡ entry) }
     ensures runs { IfOk result (λ next. RunsIn house.new.annals client next None) }
     ensures next { IfOk result (λ next. IsNext Op.Reload next.trace) }
-    ensures made { OnOk result (MadeSteps client entry house.old.annals house.new.annals) }
-    ensures gone { OnErr result (GaveBack client entry house.old.annals house.new.annals) }
+    ensures made { IfOk result (λ next. MadeSteps (steps plugin.now) client entry claim next house.old.annals house.new.annals) }
+    ensures gone { OnErr result (GaveBack (steps plugin.now) client entry claim house.old.annals house.new.annals) }
     ensures planned { IfOk result (λ next. KeepsOut entry claim.board next.board house.old house.new) }
     ensures home { OnErr result (BroughtHome entry claim.board house.old house.new) }
     ensures keeper { house.new.keeper ≡ house.old.keeper }
@@ -103,8 +104,8 @@ fn make_ready<K: Keeper>(
     requires next { IsNext Op.Prepare claim.trace }
     ensures entry { IfOk result (λ next. next.entry ≡ entry) }
     ensures runs { IfOk result (λ next. RunsIn house.new.annals client next None) }
-    ensures made { OnOk result (MadeSteps client entry house.old.annals house.new.annals) }
-    ensures gone { OnErr result (GaveBack client entry house.old.annals house.new.annals) }
+    ensures made { IfOk result (λ next. MadeSteps (steps plugin.now) client entry claim next house.old.annals house.new.annals) }
+    ensures gone { OnErr result (GaveBack (steps plugin.now) client entry claim house.old.annals house.new.annals) }
     ensures planned { IfOk result (λ next. KeepsOut entry claim.board next.board house.old house.new) }
     ensures home { OnErr result (BroughtHome entry claim.board house.old house.new) }
     ensures keeper { house.new.keeper ≡ house.old.keeper }
@@ -126,8 +127,8 @@ fn update<K: Keeper>(
     ensures entry { IfOk result (λ next. next.entry ≡ entry) }
     ensures runs { IfOk result (λ next. RunsIn house.new.annals client next None) }
     ensures next { IfOk result (λ next. IsNext Op.Reload next.trace) }
-    ensures made { OnOk result (MadeSteps client entry house.old.annals house.new.annals) }
-    ensures gone { OnErr result (GaveBack client entry house.old.annals house.new.annals) }
+    ensures made { IfOk result (λ next. MadeSteps (steps plugin.now) client entry claim next house.old.annals house.new.annals) }
+    ensures gone { OnErr result (GaveBack (steps plugin.now) client entry claim house.old.annals house.new.annals) }
     ensures planned { IfOk result (λ next. KeepsOut entry claim.board next.board house.old house.new) }
     ensures home { OnErr result (BroughtHome entry claim.board house.old house.new) }
     ensures keeper { house.new.keeper ≡ house.old.keeper }
@@ -150,8 +151,8 @@ fn look_and_end<K: Keeper>(
     ensures entry { IfOk result (λ next. next.entry ≡ entry) }
     ensures runs { IfOk result (λ next. RunsIn house.new.annals client next None) }
     ensures done { IfOk result (λ next. next_step next.trace ≡ None) }
-    ensures made { OnOk result (MadeSteps client entry house.old.annals house.new.annals) }
-    ensures gone { OnErr result (GaveBack client entry house.old.annals house.new.annals) }
+    ensures made { IfOk result (λ next. MadeSteps (steps plugin.now) client entry claim next house.old.annals house.new.annals) }
+    ensures gone { OnErr result (GaveBack (steps plugin.now) client entry claim house.old.annals house.new.annals) }
     ensures planned { IfOk result (λ next. KeepsOut entry claim.board next.board house.old house.new) }
     ensures home { OnErr result (BroughtHome entry claim.board house.old house.new) }
     ensures keeper { house.new.keeper ≡ house.old.keeper }
@@ -174,8 +175,8 @@ fn advance<K: Keeper>(
     ensures entry { IfOk result (λ next. next.entry ≡ entry) }
     ensures runs { IfOk result (λ next. RunsIn house.new.annals client next None) }
     ensures next { IfOk result (λ next. IsNext Op.Reload next.trace) }
-    ensures made { OnOk result (MadeSteps client entry house.old.annals house.new.annals) }
-    ensures gone { OnErr result (GaveBack client entry house.old.annals house.new.annals) }
+    ensures made { IfOk result (λ next. MadeSteps (steps plugin.now) client entry claim next house.old.annals house.new.annals) }
+    ensures gone { OnErr result (GaveBack (steps plugin.now) client entry claim house.old.annals house.new.annals) }
     ensures planned { IfOk result (λ next. KeepsOut entry claim.board next.board house.old house.new) }
     ensures home { OnErr result (BroughtHome entry claim.board house.old house.new) }
     ensures keeper { house.new.keeper ≡ house.old.keeper }
@@ -198,8 +199,8 @@ fn make_steps<K: Keeper>(
     ensures entry { IfOk result (λ next. next.entry ≡ entry) }
     ensures runs { IfOk result (λ next. RunsIn house.new.annals client next None) }
     ensures done { IfOk result (λ next. next_step next.trace ≡ None) }
-    ensures made { OnOk result (MadeSteps client entry house.old.annals house.new.annals) }
-    ensures gone { OnErr result (GaveBack client entry house.old.annals house.new.annals) }
+    ensures made { IfOk result (λ next. MadeSteps (steps plugin.now) client entry claim next house.old.annals house.new.annals) }
+    ensures gone { OnErr result (GaveBack (steps plugin.now) client entry claim house.old.annals house.new.annals) }
     ensures planned { IfOk result (λ next. KeepsOut entry claim.board next.board house.old house.new) }
     ensures home { OnErr result (BroughtHome entry claim.board house.old house.new) }
     ensures keeper { house.new.keeper ≡ house.old.keeper }
@@ -213,7 +214,7 @@ fn finish<K: Keeper>(house: &mut House<K>, client: u32, entry: u32, claim: Close
     requires entry { claim.entry ≡ entry }
     requires runs { RunsIn house.old.annals client claim None }
     requires done { next_step claim.trace ≡ None }
-    ensures ran { Ran client entry result house.old.annals house.new.annals }
+    ensures closed { Closes client entry result house.old.annals house.new.annals }
     ensures home { BroughtHome entry claim.board house.old house.new }
     ensures faults { FaultsCounted K.faults house.old house.new }
     ensures counts { K.faults house.old.keeper ≤ K.faults house.new.keeper }
@@ -231,7 +232,7 @@ fn finish<K: Keeper>(house: &mut House<K>, client: u32, entry: u32, claim: Close
 
 /// Runs a claim that was taken to its end: each step that is wanted, and the finish. The entry is the
 /// client's live one with no step yet, with the board, payload and trace that its taking gave; and the
-/// plugins are the enabled ones, in their order.
+/// plugins are the enabled ones, in their order. The one at the place that was taken makes each step.
 pub fn run_claim<K: Keeper>(
     house: &mut House<K>,
     client: u32,
@@ -242,7 +243,7 @@ pub fn run_claim<K: Keeper>(
     requires no_steps { taken.trace.steps ≡ [] }
     requires marks { 8 ≤ taken.board.room }
     requires served { taken.plugin < length plugins.now }
-    ensures ran { Ran client taken.entry result house.old.annals house.new.annals }
+    ensures ran { Ran (steps_at (λ p. steps p) plugins.now taken.plugin) client taken.entry (parts_taken taken) result house.old.annals house.new.annals }
     ensures home { BroughtHome taken.entry taken.board house.old house.new }
     ensures faults { FaultsCounted K.faults house.old house.new }
     ensures counts { K.faults house.old.keeper ≤ K.faults house.new.keeper }

@@ -100,8 +100,8 @@ pub(crate) fn prepare<K: Keeper>(
     requires next { IsNext Op.Prepare claim.trace }
     ensures entry { IfOk result (λ next. next.entry ≡ entry) }
     ensures runs { IfOk result (λ next. RunsIn house.new.annals client next None) }
-    ensures made { OnOk result (MadeSteps client entry house.old.annals house.new.annals) }
-    ensures gone { OnErr result (GaveBack client entry house.old.annals house.new.annals) }
+    ensures made { IfOk result (λ next. MadeSteps (steps plugin.now) client entry claim next house.old.annals house.new.annals) }
+    ensures gone { OnErr result (GaveBack (steps plugin.now) client entry claim house.old.annals house.new.annals) }
     ensures planned { IfOk result (λ next. KeepsOut entry claim.board next.board house.old house.new) }
     ensures home { OnErr result (BroughtHome entry claim.board house.old house.new) }
     ensures keeper { house.new.keeper ≡ house.old.keeper }
@@ -124,8 +124,8 @@ pub(crate) fn detach<K: Keeper>(
     requires next { IsNext Op.Detach claim.trace }
     ensures entry { IfOk result (λ next. next.entry ≡ entry) }
     ensures runs { IfOk result (λ next. RunsIn house.new.annals client next None) }
-    ensures made { OnOk result (MadeSteps client entry house.old.annals house.new.annals) }
-    ensures gone { OnErr result (GaveBack client entry house.old.annals house.new.annals) }
+    ensures made { IfOk result (λ next. MadeSteps (steps plugin.now) client entry claim next house.old.annals house.new.annals) }
+    ensures gone { OnErr result (GaveBack (steps plugin.now) client entry claim house.old.annals house.new.annals) }
     ensures planned { IfOk result (λ next. KeepsOut entry claim.board next.board house.old house.new) }
     ensures home { OnErr result (BroughtHome entry claim.board house.old house.new) }
     ensures keeper { house.new.keeper ≡ house.old.keeper }
@@ -148,8 +148,8 @@ pub(crate) fn write<K: Keeper>(
     requires next { IsNext Op.Write claim.trace }
     ensures entry { IfOk result (λ next. next.entry ≡ entry) }
     ensures runs { IfOk result (λ next. RunsIn house.new.annals client next None) }
-    ensures made { OnOk result (MadeSteps client entry house.old.annals house.new.annals) }
-    ensures gone { OnErr result (GaveBack client entry house.old.annals house.new.annals) }
+    ensures made { IfOk result (λ next. MadeSteps (steps plugin.now) client entry claim next house.old.annals house.new.annals) }
+    ensures gone { OnErr result (GaveBack (steps plugin.now) client entry claim house.old.annals house.new.annals) }
     ensures planned { IfOk result (λ next. KeepsOut entry claim.board next.board house.old house.new) }
     ensures home { OnErr result (BroughtHome entry claim.board house.old house.new) }
     ensures keeper { house.new.keeper ≡ house.old.keeper }
@@ -173,8 +173,8 @@ pub(crate) fn attach<K: Keeper>(
     ensures entry { IfOk result (λ next. next.entry ≡ entry) }
     ensures runs { IfOk result (λ next. RunsIn house.new.annals client next None) }
     ensures next { IfOk result (λ next. IsNext Op.Reload next.trace) }
-    ensures made { OnOk result (MadeSteps client entry house.old.annals house.new.annals) }
-    ensures gone { OnErr result (GaveBack client entry house.old.annals house.new.annals) }
+    ensures made { IfOk result (λ next. MadeSteps (steps plugin.now) client entry claim next house.old.annals house.new.annals) }
+    ensures gone { OnErr result (GaveBack (steps plugin.now) client entry claim house.old.annals house.new.annals) }
     ensures planned { IfOk result (λ next. KeepsOut entry claim.board next.board house.old house.new) }
     ensures home { OnErr result (BroughtHome entry claim.board house.old house.new) }
     ensures keeper { house.new.keeper ≡ house.old.keeper }
@@ -198,8 +198,8 @@ pub(crate) fn reload<K: Keeper>(
     ensures entry { IfOk result (λ next. next.entry ≡ entry) }
     ensures runs { IfOk result (λ next. RunsIn house.new.annals client next None) }
     ensures next { IfOk result (λ next. IsNext Op.Cleanup next.trace) }
-    ensures made { OnOk result (MadeSteps client entry house.old.annals house.new.annals) }
-    ensures gone { OnErr result (GaveBack client entry house.old.annals house.new.annals) }
+    ensures made { IfOk result (λ next. MadeSteps (steps plugin.now) client entry claim next house.old.annals house.new.annals) }
+    ensures gone { OnErr result (GaveBack (steps plugin.now) client entry claim house.old.annals house.new.annals) }
     ensures planned { IfOk result (λ next. KeepsOut entry claim.board next.board house.old house.new) }
     ensures home { OnErr result (BroughtHome entry claim.board house.old house.new) }
     ensures keeper { house.new.keeper ≡ house.old.keeper }
@@ -223,8 +223,8 @@ pub(crate) fn cleanup<K: Keeper>(
     ensures entry { IfOk result (λ next. next.entry ≡ entry) }
     ensures runs { IfOk result (λ next. RunsIn house.new.annals client next None) }
     ensures next { IfOk result (λ next. next_step next.trace ≡ None) }
-    ensures made { OnOk result (MadeSteps client entry house.old.annals house.new.annals) }
-    ensures gone { OnErr result (GaveBack client entry house.old.annals house.new.annals) }
+    ensures made { IfOk result (λ next. MadeSteps (steps plugin.now) client entry claim next house.old.annals house.new.annals) }
+    ensures gone { OnErr result (GaveBack (steps plugin.now) client entry claim house.old.annals house.new.annals) }
     ensures planned { IfOk result (λ next. KeepsOut entry claim.board next.board house.old house.new) }
     ensures home { OnErr result (BroughtHome entry claim.board house.old house.new) }
     ensures keeper { house.new.keeper ≡ house.old.keeper }

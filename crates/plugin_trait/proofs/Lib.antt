@@ -1,2 +1,3 @@
 pub mod BoardSteps
 pub mod InTurn
+pub mod PlacesAt

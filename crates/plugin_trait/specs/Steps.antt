@@ -1,5 +1,6 @@
 -- What a plugin's steps may do to a board.
-use Rattle.std.specs.Prelude.{◌≡◌, ℕ, ◌+◌, ◌≤◌, ◌<◌, ◌⊎◌, List, [], ◌∷◌, ◌++◌, length, Option, Some, None, Result, Ok, ⊤, OnOk, OnErr, IsErr}
+use Rattle.std.specs.Prelude.{◌≡◌, ℕ, ◌+◌, ◌≤◌, ◌<◌, ◌⊎◌, List, [], ◌∷◌, ◌++◌, length, Option, Some, None, Result, Ok, ⊤, OnOk, OnErr, IsErr, zero, suc}
+use Rattle.block_pool.specs.Views.{SealedBytes}
 use Rattle.fw_facts.specs.declared.seen.Mode.{Mode}
 use Rattle.fw_facts.specs.declared.seen.Mode.TheVariants.{Runtime, Bootloader}
 use Rattle.emulated_boards.specs.declared.fault.BoardFault.{BoardFault}
@@ -124,3 +125,33 @@ pub record Written (entry : ℕ) (payload : Image) (old : BoardState) (answer : 
 pub record Untouched (old : BoardState) (answer : Result ⊤ BoardFault) (new : BoardState) : Type 0 where
   pub board : new ≡ old
   pub well : answer ≡ Ok tt
+
+-- ---- what a plugin tells of itself
+
+-- What each step of a plugin gives: the board before, the answer, and the board after. A write gives it for
+-- an entry and a payload.
+pub record PluginSteps : Type 1 where
+  pub prepare : BoardState → Result ⊤ BoardFault → BoardState → Type 0
+  pub detach : BoardState → Result ⊤ BoardFault → BoardState → Type 0
+  pub write : ℕ → SealedBytes → BoardState → Result ⊤ BoardFault → BoardState → Type 0
+  pub attach : BoardState → Result ⊤ BoardFault → BoardState → Type 0
+  pub reload : BoardState → Result ⊤ BoardFault → BoardState → Type 0
+  pub cleanup : BoardState → Result ⊤ BoardFault → BoardState → Type 0
+
+-- Those of no plugin: it makes no step.
+abbrev pub no_steps : PluginSteps
+no_steps =
+    record {
+      prepare = λ old answer new. ⊥;
+      detach = λ old answer new. ⊥;
+      write = λ entry payload old answer new. ⊥;
+      attach = λ old answer new. ⊥;
+      reload = λ old answer new. ⊥;
+      cleanup = λ old answer new. ⊥;
+    }
+
+-- The steps of the plugin at a place of a list, where there is one.
+abbrev pub steps_at : {P : Type 0} → (P → PluginSteps) → List P → ℕ → PluginSteps
+steps_at steps [] place = no_steps
+steps_at steps (p ∷ plugins) zero = steps p
+steps_at steps (p ∷ plugins) (suc place) = steps_at steps plugins place

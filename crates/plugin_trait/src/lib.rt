@@ -11,6 +11,3 @@ pub mod startup;
 
 pub use plugin::Plugin;
 pub use startup::start_all;
-
-#[cfg(test)]
-mod tests;

@@ -64,9 +64,10 @@ impl Ord for ReleaseKey {
     ghost matches_eq = { λ x y. refl };
 
     fn cmp(&self, other: &ReleaseKey) -> Ordering {
-        self.id
-            .bytes()
-            .cmp(other.id.bytes())
-            .then(compare(&self.version, &other.version))
+        match self.id.bytes().cmp(other.id.bytes()) {
+            Ordering::Equal => compare(&self.version, &other.version),
+            Ordering::Less => Ordering::Less,
+            Ordering::Greater => Ordering::Greater,
+        }
     }
 }

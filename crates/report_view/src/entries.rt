@@ -6,7 +6,7 @@ ghost use Rattle.report_view.specs.Rows.{is_held, is_hold, is_known, is_listed_e
 use crate::event::{Event, line_at};
 use crate::line::Kind;
 use crate::row::{
-    Row, Standing, answered, claimed, cut_off, finished, is_of, judged, resumed, step_ended,
+    Row, Standing, answered, claimed, cut_off, finished, is_entry, judged, resumed, step_ended,
     step_started,
 };
 use crate::words::word;
@@ -23,26 +23,12 @@ fn is_held(standing: Standing) -> bool
 }
 
 /// Whether the row is the hold of this client, with the tag that the line at this place names.
-fn is_hold(lines: &[&[u8]], at: usize, client: u64, row: Row) -> bool
-    ensures { result ≡ is_hold (map (λ line. line.now) lines.now) at client row }
+fn is_hold(lines: &[&[u8]], at: usize, client: u64, row: &Row) -> bool
+    ensures { result ≡ is_hold (map (λ line. line.now) lines.now) at client row.now }
 {
     is_held(row.standing)
         && row.client == client
         && word(line_at(lines, row.at), 3) == word(line_at(lines, at), 3)
-}
-
-fn given_back(tagged: bool, lines: &[&[u8]], at: usize, client: u64, row: Row) -> Row
-    ensures { result ≡ row_after (map (λ line. line.now) lines.now) 0 at (Kind.GaveBack client tagged) row }
-{
-    if tagged && is_hold(lines, at, client, row) {
-        Row {
-            standing: Standing::GivenBack,
-            said: at,
-            ..row
-        }
-    } else {
-        row
-    }
 }
 
 /// The row of which the line at this place told how it stands.
@@ -52,64 +38,71 @@ fn said(at: usize, row: Row) -> Row
     Row { said: at, ..row }
 }
 
-/// The row after an event.
-fn row_after(lines: &[&[u8]], event: Event, row: Row) -> Row
-    ensures { result ≡ row_after (map (λ line. line.now) lines.now) event.number event.at event.kind row }
+fn give_back(tagged: bool, lines: &[&[u8]], at: usize, client: u64, row: &mut Row)
+    ensures { row.new ≡ row_after (map (λ line. line.now) lines.now) 0 at (Kind.GaveBack client tagged) row.old }
+{
+    if tagged && is_hold(lines, at, client, row) {
+        *row = Row {
+            standing: Standing::GivenBack,
+            said: at,
+            ..*row
+        };
+    }
+}
+
+/// Changes a row as an event leaves it. Nearly every event leaves nearly every row as it is, so what decides is looked
+/// at in its place.
+fn change_row(lines: &[&[u8]], event: Event, row: &mut Row)
+    ensures { row.new ≡ row_after (map (λ line. line.now) lines.now) event.number event.at event.kind row.old }
 {
     let number = event.number;
     match event.kind {
-        Kind::Cut => cut_off(number, row),
+        Kind::Cut => *row = cut_off(number, *row),
         Kind::Claim { client, answer } => {
             if is_hold(lines, event.at, client, row) {
-                return said(event.at, claimed(number, answer, row));
+                *row = said(event.at, claimed(number, answer, *row));
             }
-            row
         }
-        Kind::GaveBack { client, tagged } => given_back(tagged, lines, event.at, client, row),
+        Kind::GaveBack { client, tagged } => give_back(tagged, lines, event.at, client, row),
         Kind::Resume {
             entry,
             resumed: told,
             ..
         } => {
-            if is_of(entry, row) {
-                return said(event.at, resumed(number, told, row));
+            if is_entry(entry, row.entry) {
+                *row = said(event.at, resumed(number, told, *row));
             }
-            row
         }
         Kind::Start { entry, step } => {
-            if is_of(entry, row) {
-                return step_started(number, step, row);
+            if is_entry(entry, row.entry) {
+                *row = step_started(number, step, *row);
             }
-            row
         }
         Kind::End { entry, step, good } => {
-            if is_of(entry, row) {
-                return step_ended(number, step, good, row);
+            if is_entry(entry, row.entry) {
+                *row = step_ended(number, step, good, *row);
             }
-            row
         }
         Kind::Finish { entry, state } => {
-            if is_of(entry, row) {
-                return said(event.at, finished(number, state, row));
+            if is_entry(entry, row.entry) {
+                *row = said(event.at, finished(number, state, *row));
             }
-            row
         }
         Kind::Judge { entry, state } => {
-            if is_of(entry, row) {
-                return said(event.at, judged(state, row));
+            if is_entry(entry, row.entry) {
+                *row = said(event.at, judged(state, *row));
             }
-            row
         }
-        _ => row,
+        _ => {}
     }
 }
 
-/// Each row after an event.
+/// Changes each row as an event leaves it.
 fn change_rows(lines: &[&[u8]], event: Event, rows: &mut [Row])
     ensures { rows.new ≡ map (row_after (map (λ line. line.now) lines.now) event.number event.at event.kind) rows.old }
 {
     for row in rows.iter_mut() {
-        *row = row_after(lines, event, *row);
+        change_row(lines, event, row);
     }
 }
 
@@ -179,7 +172,7 @@ fn row_begun(event: Event) -> Option<Row>
 fn is_entry_listed(entry: u64, rows: &[Row]) -> bool
     ensures { result ≡ list_any (is_of entry) rows.now }
 {
-    rows.iter().any(|row| is_of(entry, *row))
+    rows.iter().any(|row| is_entry(entry, row.entry))
 }
 
 fn is_listed(entry: Option<u64>, rows: &[Row]) -> bool

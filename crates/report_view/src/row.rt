@@ -1,6 +1,6 @@
 //! What a page knows of a request and of its entry, and what an event changes of it.
 ghost use Rattle.std.specs.Prelude.{◌≡◌};
-ghost use Rattle.report_view.specs.Rows.{answered, claimed, cut_off, write_cut_off, finished, is_of, judged, resumed, standing_of, step_ended, step_started};
+ghost use Rattle.report_view.specs.Rows.{answered, claimed, cut_off, write_cut_off, finished, is_entry, judged, resumed, standing_of, step_ended, step_started};
 
 use crate::line::{Answer, Resumed, State, Step};
 
@@ -56,11 +56,11 @@ fn standing_of(state: State) -> Standing
     }
 }
 
-/// Whether the row is that of an entry.
-pub fn is_of(entry: u64, row: Row) -> bool
-    ensures { result ≡ is_of entry row }
+/// Whether this is the entry of a row.
+pub fn is_entry(entry: u64, own: Option<u64>) -> bool
+    ensures { result ≡ is_entry entry own }
 {
-    match row.entry {
+    match own {
         Some(own) => own == entry,
         None => false,
     }

@@ -11,6 +11,7 @@ use Rattle.client_plays.specs.declared.played.Played.{Played}
 use Rattle.client_plays.specs.Endings.{EndsSo, played_of}
 use Rattle.client_plays.specs.Moments.{Moment}
 use Rattle.client_plays.specs.Plays.{Leaves}
+use Rattle.client_plays.proofs.WiderLaws.{IsWider, ends-wider}
 use Rattle.turn_lock.specs.Shown.{LockId, PassView}
 use Rattle.shared_daemon.specs.declared.entry.Entry.{Entry}
 use Rattle.shared_daemon.specs.Calls.{FoundOff, Took, TurnedIn}
@@ -51,6 +52,11 @@ ended-behind played Play Rest m old mid new o s f e =
       ends = ends-behind played old.number Play Rest m (past_seen new.seen) e.moments f
           (subst (λ (n : ℕ). EndsSo played n Rest (past_seen new.seen) e.moments) s e.ends);
     }
+
+-- One that is also a play of a wider kind.
+pub ended-wider : (played : Played) (Wide Play : List Moment → Type 0) (old new : PassView Entry) → IsWider Wide Play → Ended played Play old new → Ended played Wide old new
+ended-wider played Wide Play old new w e =
+    record { moments = e.moments; did = e.did; ends = ends-wider played old.number Wide Play (past_seen new.seen) w e.moments e.ends }
 
 -- A play, behind what added nothing to the client's own.
 pub ended-after : (played : Played) (Play : List Moment → Type 0) (old mid new : PassView Entry) → own mid ≡ own old → mid.number ≡ old.number → Ended played Play mid new → Ended played Play old new

@@ -10,7 +10,8 @@ use Rattle.client_plays.specs.Endings.{OnceMore}
 use Rattle.client_plays.specs.Moments.{Moment}
 use Rattle.client_plays.specs.Plays.{Plays}
 use Rattle.client_plays.specs.Scripts.{PlayedSo, PlaysAll, PlaysUntil}
-use Rattle.client_plays.specs.Tools.{Files}
+use Rattle.client_plays.specs.Tools.{Files, means_of}
+use Rattle.plugin_trait.specs.Steps.{PluginSteps}
 use Rattle.client_plays.proofs.PlayLaws.{leaves-whole}
 use Rattle.client_plays.proofs.ScriptLaws.{all-more, all-push, so-all, until-left}
 use Rattle.turn_lock.specs.Shown.{PassView}
@@ -75,8 +76,8 @@ went-all wanting Play all old new s =
     record { moments = s.moments; did = s.did; plays = so-all (off (past_seen new.seen)) wanting old.number Play all s.moments s.plays }
 
 -- The same plays, by a pass and a shelf that are told the same of.
-pub same-plays : (facts : Facts) (opening : List Row) (told : Option Bool) (wanting : Bool) (item : Item) (files now : Files) (old mid new : PassView Entry) → now ≡ files → mid.number ≡ old.number → EndedMore told wanting (Plays facts opening now mid.number item) mid new
-    → EndedMore told wanting (Plays facts opening files old.number item) mid new
-same-plays facts opening told wanting item files now old mid new f n m =
-    subst (λ (k : ℕ). EndedMore told wanting (Plays facts opening files k item) mid new) n
-    (subst (λ (x : Files). EndedMore told wanting (Plays facts opening x mid.number item) mid new) f m)
+pub same-plays : (facts : Facts) (opening : List Row) (plugins : ℕ → PluginSteps) (told : Option Bool) (wanting : Bool) (item : Item) (files now : Files) (old mid new : PassView Entry) → now ≡ files → mid.number ≡ old.number → EndedMore told wanting (Plays facts opening (means_of now plugins) mid.number item) mid new
+    → EndedMore told wanting (Plays facts opening (means_of files plugins) old.number item) mid new
+same-plays facts opening plugins told wanting item files now old mid new f n m =
+    subst (λ (k : ℕ). EndedMore told wanting (Plays facts opening (means_of files plugins) k item) mid new) n
+    (subst (λ (x : Files). EndedMore told wanting (Plays facts opening (means_of x plugins) mid.number item) mid new) f m)

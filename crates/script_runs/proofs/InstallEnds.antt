@@ -25,8 +25,9 @@ use Rattle.client_plays.specs.declared.played.Played.{Played}
 use Rattle.client_plays.specs.Moments.{Moment, at}
 use Rattle.client_plays.specs.Plays.{AfterAsk, AfterClaim, Alone, ClaimPlays, InstallPlays, Plays, SchedulePlays, UpdatePlays}
 use Rattle.client_plays.specs.Shelves.{IsFetched}
-use Rattle.client_plays.specs.Tools.{Files}
+use Rattle.client_plays.specs.Tools.{Means, files_alone}
 use Rattle.client_plays.proofs.PlayLaws.{leaves-nothing}
+use Rattle.client_plays.proofs.WiderLaws.{claim-wider}
 use Rattle.turn_lock.specs.Shown.{LockId, PassView}
 use Rattle.shared_daemon.specs.declared.entry.Entry.{Entry}
 use Rattle.shared_daemon.specs.Calls.{Adds, AddsOn, Took, TurnedIn}
@@ -37,7 +38,7 @@ use Rattle.claim_runs.proofs.Clients.{hold-gone}
 use Rattle.claim_runs.proofs.Kept.{off-stay, past-added}
 use Rattle.script_runs.specs.Passes.{Ended, own}
 use Rattle.script_runs.proofs.DidLaws.{did-event, did-quiet}
-use Rattle.script_runs.proofs.EndedPlays.{ended-after, ended-back, ended-behind, ended-last, ended-stopped, stopped-did, stopped-off, stopped_as}
+use Rattle.script_runs.proofs.EndedPlays.{ended-after, ended-back, ended-behind, ended-last, ended-stopped, ended-wider, stopped-did, stopped-off, stopped_as}
 use Rattle.script_runs.proofs.OwnMoments.{own-event}
 
 -- A hold is for the request of its own ticket.
@@ -59,9 +60,10 @@ back-live : (client : ℕ) (pending : Option ℕ) (request : Request) (past : Li
 back-live client None request past = refl
 back-live client (Some entry) request past = refl
 
-online-plays : (facts : Facts) (files : Files) (client : ℕ) (request : Request) (offline : Bool) (moments : List Moment) → offline ≡ false → InstallPlays facts files client request moments → MatchBool offline (Alone (SchedulePlays client request) moments) (InstallPlays facts files client request moments)
-online-plays facts files client request true moments e p = cc
-online-plays facts files client request false moments e p = p
+online-plays : (facts : Facts) (opening : List Row) (means : Means) (client : ℕ) (request : Request) (offline : Bool) (moments : List Moment) → offline ≡ false → InstallPlays facts opening means client request moments
+    → MatchBool offline (Alone (SchedulePlays client request) moments) (InstallPlays facts opening means client request moments)
+online-plays facts opening means client request true moments e p = cc
+online-plays facts opening means client request false moments e p = p
 
 -- A claim that was stopped hands the ticket and what was fetched back.
 pub held-back : (stopped : ClaimStop) (ticket : Ticket) (fetched : Fetched) (out : Option Held) → stopped.ticket ≡ ticket → stopped.fetched ≡ fetched → out ≡ Some (held_by ticket (block_count fetched)) → out ≡ Some (held_by stopped.ticket (block_count stopped.fetched))
@@ -69,48 +71,53 @@ held-back stopped ticket fetched out t f h =
     subst (λ (x : Ticket). out ≡ Some (held_by x (block_count stopped.fetched))) (sym t)
     (subst (λ (y : Fetched). out ≡ Some (held_by ticket (block_count y))) (sym f) h)
 
-pub claim-stopped : (facts : Facts) (files : Files) (stopped : ClaimStop) (ticket : Ticket) (fetched : Fetched) (played : Played) (old mid new : PassView Entry) → stopped.ticket ≡ ticket → stopped.fetched ≡ fetched → own mid ≡ own old → mid.number ≡ old.number
-    → IsFetched facts files ticket.release (note_of fetched) → (IsFetched facts files stopped.ticket.release (note_of stopped.fetched) → Ended played (ClaimPlays facts files mid.number stopped.ticket.request stopped.ticket.release) mid new)
-    → Ended played (ClaimPlays facts files old.number ticket.request ticket.release) old new
-claim-stopped facts files stopped ticket fetched played old mid new t f o s is k =
-    let is' : IsFetched facts files stopped.ticket.release (note_of stopped.fetched) =
-    subst (λ (x : Ticket). IsFetched facts files x.release (note_of stopped.fetched)) (sym t)
-    (subst (λ (y : Fetched). IsFetched facts files ticket.release (note_of y)) (sym f) is)
+pub claim-stopped : (facts : Facts) (opening : List Row) (means : Means) (stopped : ClaimStop) (ticket : Ticket) (fetched : Fetched) (played : Played) (old mid new : PassView Entry) → stopped.ticket ≡ ticket → stopped.fetched ≡ fetched → own mid ≡ own old → mid.number ≡ old.number
+    → IsFetched facts means.files ticket.release (note_of fetched) → (IsFetched facts means.files stopped.ticket.release (note_of stopped.fetched) → Ended played (ClaimPlays facts opening (files_alone means.files) mid.number stopped.ticket.request stopped.ticket.release) mid new)
+    → Ended played (ClaimPlays facts opening means old.number ticket.request ticket.release) old new
+claim-stopped facts opening means stopped ticket fetched played old mid new t f o s is k =
+    let is' : IsFetched facts means.files stopped.ticket.release (note_of stopped.fetched) =
+    subst (λ (x : Ticket). IsFetched facts means.files x.release (note_of stopped.fetched)) (sym t)
+    (subst (λ (y : Fetched). IsFetched facts means.files ticket.release (note_of y)) (sym f) is)
     in
-    ended-after played (ClaimPlays facts files old.number ticket.request ticket.release) old mid new o s
-    (subst (λ (n : ℕ). Ended played (ClaimPlays facts files n ticket.request ticket.release) mid new) s
-    (subst (λ (x : Ticket). Ended played (ClaimPlays facts files mid.number x.request x.release) mid new) t (k is')))
+    let none : Ended played (ClaimPlays facts opening (files_alone means.files) mid.number ticket.request ticket.release) mid new =
+    subst (λ (x : Ticket). Ended played (ClaimPlays facts opening (files_alone means.files) mid.number x.request x.release) mid new) t (k is')
+    in
+    ended-after played (ClaimPlays facts opening means old.number ticket.request ticket.release) old mid new o s
+    (subst (λ (n : ℕ). Ended played (ClaimPlays facts opening means n ticket.request ticket.release) mid new) s
+    (ended-wider played (ClaimPlays facts opening means mid.number ticket.request ticket.release) (ClaimPlays facts opening (files_alone means.files) mid.number ticket.request ticket.release) mid new
+    (claim-wider facts opening means mid.number ticket.request ticket.release) none))
 
-module _ {did : List Entry → List Entry → Type 0} (name : Name) (lock : LockId) (files : Files) (request : Request) (old mid : PassView Entry) (p : IsPass lock name old) (same : mid.number ≡ old.number) (t : Took name did old mid) where
+module _ {did : List Entry → List Entry → Type 0} (name : Name) (lock : LockId) (means : Means) (request : Request) (old mid : PassView Entry) (p : IsPass lock name old) (same : mid.number ≡ old.number) (t : Took name did old mid) where
   -- ---- the claim
 
   -- It took an entry, whose update follows.
-  pub claim-behind : (release : ReleaseRef) (note : FetchNote) (entry : ℕ) (played : Played) (new : PassView Entry) → IsFetched name.facts files release note → AddsOn old.number (Event.Claim old.number request note (ClaimAnswer.Entry entry)) t.met mid.seen
-      → Ended played (UpdatePlays mid.number entry) mid new → Ended played (ClaimPlays name.facts files old.number request release) old new
+  pub claim-behind : (release : ReleaseRef) (note : FetchNote) (entry : ℕ) (played : Played) (new : PassView Entry) → IsFetched name.facts means.files release note → AddsOn old.number (Event.Claim old.number request note (ClaimAnswer.Entry entry)) t.met mid.seen
+      → Ended played (UpdatePlays name.facts name.opening means.plugins mid.number entry (past_seen mid.seen)) mid new → Ended played (ClaimPlays name.facts name.opening means old.number request release) old new
   claim-behind release note entry played new f a e =
       let event : Event = Event.Claim old.number request note (ClaimAnswer.Entry entry) in
-      ended-behind played (ClaimPlays name.facts files old.number request release) (UpdatePlays old.number entry) (at (past_seen t.met) event) old mid new
+      ended-behind played (ClaimPlays name.facts name.opening means old.number request release) (UpdatePlays name.facts name.opening means.plugins old.number entry (event ∷ past_seen t.met)) (at (past_seen t.met) event) old mid new
       (own-event {did = did} name lock old mid p same t event refl refl a.1) same (λ ms u. (note, ClaimAnswer.Entry entry, refl, f, u))
-      (subst (λ (n : ℕ). Ended played (UpdatePlays n entry) mid new) same e)
+      (subst (λ (w : List Event). Ended played (UpdatePlays name.facts name.opening means.plugins old.number entry w) mid new) (past-added old.number event t.met mid.seen a.1)
+      (subst (λ (n : ℕ). Ended played (UpdatePlays name.facts name.opening means.plugins n entry (past_seen mid.seen)) mid new) same e))
 
   -- It took none, and the hold is gone.
-  pub claim-ended : (release : ReleaseRef) (note : FetchNote) (answer : ClaimAnswer) (held : Held) → IsFetched name.facts files release note → AfterClaim old.number answer []
+  pub claim-ended : (release : ReleaseRef) (note : FetchNote) (answer : ClaimAnswer) (held : Held) → IsFetched name.facts means.files release note → AfterClaim name.facts name.opening means.plugins old.number (Event.Claim old.number request note answer ∷ past_seen t.met) answer []
       → ((past : List Event) → live (Event.Claim old.number request note answer ∷ past) ≡ live past) → hold (past_seen old.seen) old.number ≡ Some held → AddsOn old.number (Event.Claim old.number request note answer) t.met mid.seen
-      → Ended Played.Done (ClaimPlays name.facts files old.number request release) old mid
+      → Ended Played.Done (ClaimPlays name.facts name.opening means old.number request release) old mid
   claim-ended release note answer held f r l h a =
       let event : Event = Event.Claim old.number request note answer in
       let free : IsFreePass mid = hold-gone {did = did} name lock old mid p same t held event (λ past. refl) l h a.1 in
-      ended-last (ClaimPlays name.facts files old.number request release) (at (past_seen t.met) event) old mid (note, answer, refl, f, r)
+      ended-last (ClaimPlays name.facts name.opening means old.number request release) (at (past_seen t.met) event) old mid (note, answer, refl, f, r)
       (did-event {did = did} name lock old mid p same t event refl refl a.1 free)
 
   -- The hold of one that was stopped is given back.
-  pub claim-left : (release : ReleaseRef) (note : FetchNote) (stop : Stop) (pending : Option ℕ) (held : Held) → IsFetched name.facts files release note → (stop ≡ Stop.Off → off (past_seen old.seen) ≡ true)
-      → hold (past_seen old.seen) old.number ≡ Some held → Adds old.number (Event.GiveBack old.number (back_of pending request)) t.met mid.seen → Ended (stopped_as stop) (ClaimPlays name.facts files old.number request release) old mid
+  pub claim-left : (release : ReleaseRef) (note : FetchNote) (stop : Stop) (pending : Option ℕ) (held : Held) → IsFetched name.facts means.files release note → (stop ≡ Stop.Off → off (past_seen old.seen) ≡ true)
+      → hold (past_seen old.seen) old.number ≡ Some held → Adds old.number (Event.GiveBack old.number (back_of pending request)) t.met mid.seen → Ended (stopped_as stop) (ClaimPlays name.facts name.opening means old.number request release) old mid
   claim-left release note stop pending held f o h a =
       let event : Event = Event.GiveBack old.number (back_of pending request) in
       let free : IsFreePass mid = hold-gone {did = did} name lock old mid p same t held event (λ past. refl) (λ past. back-live old.number pending request past) h a in
       let late : stop ≡ Stop.Off → off (past_seen mid.seen) ≡ true = λ e. ap (λ (w : List Event). off w) (past-added old.number event t.met mid.seen a) ∙ off-stay name old.number old.seen t.met p.log t.meets (o e) in
-      ended-back stop (back_of pending request) (ClaimPlays name.facts files old.number request release) (at [] (Event.Claim old.number request note (ClaimAnswer.Refused Refusal.NoDevice)) ∷ []) (at (past_seen t.met) event) old mid
+      ended-back stop (back_of pending request) (ClaimPlays name.facts name.opening means old.number request release) (at [] (Event.Claim old.number request note (ClaimAnswer.Refused Refusal.NoDevice)) ∷ []) (at (past_seen t.met) event) old mid
       (note, ClaimAnswer.Refused Refusal.NoDevice, refl, f, refl) refl late
       (did-event {did = did} name lock old mid p same t event refl refl a free)
 
@@ -119,32 +126,32 @@ module _ {did : List Entry → List Entry → Type 0} (name : Name) (lock : Lock
   module _ (opening : List Row) (online : request.flags.offline ≡ false) where
     -- The install goes on behind its ask.
     pub install-behind : (given : Hold) (played : Played) (new : PassView Entry) → given.ticket.request ≡ request → AddsOn old.number (Event.Ask old.number request None (AskAnswer.Hold given.blocks.count given.ticket.release)) t.met mid.seen
-        → Ended played (ClaimPlays name.facts files mid.number given.ticket.request given.ticket.release) mid new → Ended played (Plays name.facts opening files old.number (Item.Install request)) old new
+        → Ended played (ClaimPlays name.facts opening means mid.number given.ticket.request given.ticket.release) mid new → Ended played (Plays name.facts opening means old.number (Item.Install request)) old new
     install-behind given played new r a e =
         let release : ReleaseRef = given.ticket.release in
         let answer : AskAnswer = AskAnswer.Hold given.blocks.count release in
         let event : Event = Event.Ask old.number request None answer in
-        ended-behind played (Plays name.facts opening files old.number (Item.Install request)) (ClaimPlays name.facts files old.number request release) (at (past_seen t.met) event) old mid new
+        ended-behind played (Plays name.facts opening means old.number (Item.Install request)) (ClaimPlays name.facts opening means old.number request release) (at (past_seen t.met) event) old mid new
         (own-event {did = did} name lock old mid p same t event refl refl a.1) same
-        (λ ms u. online-plays name.facts files old.number request request.flags.offline (at (past_seen t.met) event ∷ ms) online (answer, refl, u))
-        (subst (λ (n : ℕ). Ended played (ClaimPlays name.facts files n request release) mid new) same
-        (subst (λ (x : Request). Ended played (ClaimPlays name.facts files mid.number x release) mid new) r e))
+        (λ ms u. online-plays name.facts opening means old.number request request.flags.offline (at (past_seen t.met) event ∷ ms) online (answer, refl, u))
+        (subst (λ (n : ℕ). Ended played (ClaimPlays name.facts opening means n request release) mid new) same
+        (subst (λ (x : Request). Ended played (ClaimPlays name.facts opening means mid.number x release) mid new) r e))
 
     -- It ends with its ask.
-    pub install-asked : (answer : AskAnswer) → AfterAsk name.facts files old.number request answer [] → ((past : List Event) → holds (Event.Ask old.number request None answer ∷ past) ≡ holds past) → IsFreePass old
-        → AddsOn old.number (Event.Ask old.number request None answer) t.met mid.seen → Ended Played.Done (Plays name.facts opening files old.number (Item.Install request)) old mid
+    pub install-asked : (answer : AskAnswer) → AfterAsk name.facts opening means old.number request answer [] → ((past : List Event) → holds (Event.Ask old.number request None answer ∷ past) ≡ holds past) → IsFreePass old
+        → AddsOn old.number (Event.Ask old.number request None answer) t.met mid.seen → Ended Played.Done (Plays name.facts opening means old.number (Item.Install request)) old mid
     install-asked answer r h f a =
         let event : Event = Event.Ask old.number request None answer in
-        ended-last (Plays name.facts opening files old.number (Item.Install request)) (at (past_seen t.met) event) old mid
-        (online-plays name.facts files old.number request request.flags.offline (at (past_seen t.met) event ∷ []) online (answer, refl, r))
+        ended-last (Plays name.facts opening means old.number (Item.Install request)) (at (past_seen t.met) event) old mid
+        (online-plays name.facts opening means old.number request request.flags.offline (at (past_seen t.met) event ∷ []) online (answer, refl, r))
         (did-quiet {did = did} name lock old mid p same t event (record { no_boot = refl; own_is = refl; same_holds = h; same_live = λ past. refl }) f a)
 
     -- It was stopped at its ask.
-    pub install-stopped : {A : Type 0} (ask : A → Event) (stop : Stop) → IsFreePass old → TurnedIn old.number ask (Err stop) t.met mid.seen → Ended (stopped_as stop) (Plays name.facts opening files old.number (Item.Install request)) old mid
+    pub install-stopped : {A : Type 0} (ask : A → Event) (stop : Stop) → IsFreePass old → TurnedIn old.number ask (Err stop) t.met mid.seen → Ended (stopped_as stop) (Plays name.facts opening means old.number (Item.Install request)) old mid
     install-stopped ask stop f s =
-        let P : List Moment → Type 0 = λ ms. Plays name.facts opening files old.number (Item.Install request) ms in
+        let P : List Moment → Type 0 = λ ms. Plays name.facts opening means old.number (Item.Install request) ms in
         let some : List Moment = at [] (Event.Ask old.number request None (AskAnswer.Refused Refusal.NoDevice)) ∷ [] in
         ended-stopped stop P old mid
-        (leaves-nothing old.number P some (online-plays name.facts files old.number request request.flags.offline some online (AskAnswer.Refused Refusal.NoDevice, refl, refl)))
+        (leaves-nothing old.number P some (online-plays name.facts opening means old.number request request.flags.offline some online (AskAnswer.Refused Refusal.NoDevice, refl, refl)))
         (stopped-off old.number ask stop t.met mid.seen s)
         (stopped-did {did = did} name lock old mid p same t ask stop f s)

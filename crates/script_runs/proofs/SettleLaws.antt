@@ -24,7 +24,7 @@ use Rattle.client_plays.specs.declared.played.Played.{Played}
 use Rattle.client_plays.specs.Endings.{played_of}
 use Rattle.client_plays.specs.Moments.{Moment, at}
 use Rattle.client_plays.specs.Plays.{JudgesFound, Plays, is_row_of}
-use Rattle.client_plays.specs.Tools.{Files}
+use Rattle.client_plays.specs.Tools.{Means}
 use Rattle.client_plays.proofs.PlayLaws.{item-unplayed}
 use Rattle.turn_lock.specs.Shown.{LockId, PassView}
 use Rattle.shared_daemon.specs.declared.entry.Entry.{Entry}
@@ -95,9 +95,9 @@ judges-found name client device met entry version state stored e =
 quiet-judge : (client entry : ℕ) (version : List ℕ) (state : RowState) (stored : Stored) → IsQuiet client (Event.Judge client entry version state stored)
 quiet-judge client entry version state stored = record { no_boot = refl; own_is = refl; same_holds = λ past. refl; same_live = λ past. refl }
 
-module _ (name : Name) (lock : LockId) (old new : PassView Entry) (p : IsPass lock name old) (same : new.number ≡ old.number) (free : IsFreePass old) (device : Selector) (files : Files) where
+module _ (name : Name) (lock : LockId) (old new : PassView Entry) (p : IsPass lock name old) (same : new.number ≡ old.number) (free : IsFreePass old) (device : Selector) (means : Means) where
   abbrev Settles : List Moment → Type 0
-  Settles = Plays name.facts name.opening files old.number (Item.Settle device)
+  Settles = Plays name.facts name.opening means old.number (Item.Settle device)
 
   -- The question alone.
   asked-only : {did : List Entry → List Entry → Type 0} (t : Took name did old new) → AddsOn old.number (Event.Query old.number (Query.Settle device)) t.met new.seen → Ended Played.Done Settles old new
@@ -113,9 +113,9 @@ module _ (name : Name) (lock : LockId) (old new : PassView Entry) (p : IsPass lo
   settle-so (Ok (Settling.Waits entry)) t = asked-only {did = SettledIn name old.number device (Ok (Settling.Waits entry))} t t.does.2
   settle-so (Ok Settling.Nothing) t = asked-only {did = SettledIn name old.number device (Ok Settling.Nothing)} t t.does.1
   settle-so (Err Stop.Off) t =
-      ended-off {did = SettledIn name old.number device (Err Stop.Off)} name lock old new p same free t Settles (item-unplayed name.facts name.opening files old.number (Item.Settle device)) t.does
+      ended-off {did = SettledIn name old.number device (Err Stop.Off)} name lock old new p same free t Settles (item-unplayed name.facts name.opening means old.number (Item.Settle device)) t.does
   settle-so (Err Stop.NoMemory) t =
-      ended-wanting {did = SettledIn name old.number device (Err Stop.NoMemory)} name lock old new p same free t Settles (item-unplayed name.facts name.opening files old.number (Item.Settle device)) t.does
+      ended-wanting {did = SettledIn name old.number device (Err Stop.NoMemory)} name lock old new p same free t Settles (item-unplayed name.facts name.opening means old.number (Item.Settle device)) t.does
 
   pub settle-ended : (outcome : Result Settling Stop) (told : Played) → told ≡ played_of outcome → Took name (SettledIn name old.number device outcome) old new → Ended told Settles old new
   settle-ended outcome told e t = ended-told told (played_of outcome) Settles old new e (settle-so outcome t)

@@ -15,7 +15,9 @@ use Rattle.client_plays.specs.declared.played.Played.{Played}
 use Rattle.client_plays.specs.Endings.{IsQuestion, played_of}
 use Rattle.client_plays.specs.Moments.{Moment, at}
 use Rattle.client_plays.specs.Plays.{Alone, InstallPlays, Leaves, Plays, SchedulePlays}
-use Rattle.client_plays.specs.Tools.{Files}
+use Rattle.client_plays.specs.Tools.{Files, Means, files_alone}
+use Rattle.client_plays.proofs.WiderLaws.{item-wider}
+use Rattle.script_runs.proofs.EndedPlays.{ended-wider}
 use Rattle.client_plays.proofs.PlayLaws.{item-unplayed}
 use Rattle.turn_lock.specs.Shown.{LockId, PassView}
 use Rattle.shared_daemon.specs.declared.entry.Entry.{Entry}
@@ -51,9 +53,9 @@ pub quiet-plug : (client : ℕ) (device : Selector) (answer : PlugAnswer) → Is
 quiet-plug client device answer = record { no_boot = refl; own_is = refl; same_holds = λ past. refl; same_live = λ past. refl }
 
 -- An install that is put off.
-schedule-plays : (facts : Facts) (files : Files) (client : ℕ) (request : Request) (before : List Event) (answer : ClaimAnswer) → request.flags.offline ≡ true
-    → MatchBool request.flags.offline (Alone (SchedulePlays client request) (at before (Event.Schedule client request answer) ∷ [])) (InstallPlays facts files client request (at before (Event.Schedule client request answer) ∷ []))
-schedule-plays facts files client request before answer e = rw e (answer, refl)
+schedule-plays : (facts : Facts) (opening : List Row) (means : Means) (client : ℕ) (request : Request) (before : List Event) (answer : ClaimAnswer) → request.flags.offline ≡ true
+    → MatchBool request.flags.offline (Alone (SchedulePlays client request) (at before (Event.Schedule client request answer) ∷ [])) (InstallPlays facts opening means client request (at before (Event.Schedule client request answer) ∷ []))
+schedule-plays facts opening means client request before answer e = rw e (answer, refl)
 
 -- A turn.
 module _ {did : List Entry → List Entry → Type 0} (name : Name) (lock : LockId) (old new : PassView Entry) (p : IsPass lock name old) (same : new.number ≡ old.number) (free : IsFreePass old) (t : Took name did old new) where
@@ -85,42 +87,44 @@ module _ (name : Name) (lock : LockId) (old new : PassView Entry) (p : IsPass lo
       ended-wanting {did = TurnedIn old.number event (Err Stop.NoMemory)} name lock old new p same free t Play l t.does
 
   -- A question.
-  pub question-ended : (query : Query) (outcome : Result (Unit {0}) Stop) (told : Played) (files : Files) → told ≡ played_of outcome → Took name (TurnedIn old.number (λ _. Event.Query old.number query) outcome) old new
-      → Ended told (Plays name.facts name.opening files old.number (Item.Ask query)) old new
-  question-ended query outcome told files e t =
-      let Play : List Moment → Type 0 = Plays name.facts name.opening files old.number (Item.Ask query) in
+  pub question-ended : (query : Query) (outcome : Result (Unit {0}) Stop) (told : Played) (means : Means) → told ≡ played_of outcome → Took name (TurnedIn old.number (λ _. Event.Query old.number query) outcome) old new
+      → Ended told (Plays name.facts name.opening means old.number (Item.Ask query)) old new
+  question-ended query outcome told means e t =
+      let Play : List Moment → Type 0 = Plays name.facts name.opening means old.number (Item.Ask query) in
       ended-told told (played_of outcome) Play old new e
       (turn-any (λ (_ : Unit {0}). Event.Query old.number query) Play outcome (λ _. quiet-query old.number query) (λ _ before. refl)
-      (item-unplayed name.facts name.opening files old.number (Item.Ask query)) t)
+      (item-unplayed name.facts name.opening means old.number (Item.Ask query)) t)
 
   -- An install that is put off.
-  pub schedule-ended : (request : Request) (outcome : Result ClaimAnswer Stop) (told : Played) (files : Files) → told ≡ played_of outcome → request.flags.offline ≡ true → Took name (TurnedIn old.number (λ answer. Event.Schedule old.number request answer) outcome) old new
-      → Ended told (Plays name.facts name.opening files old.number (Item.Install request)) old new
-  schedule-ended request outcome told files e off t =
-      let Play : List Moment → Type 0 = Plays name.facts name.opening files old.number (Item.Install request) in
+  pub schedule-ended : (request : Request) (outcome : Result ClaimAnswer Stop) (told : Played) (means : Means) → told ≡ played_of outcome → request.flags.offline ≡ true → Took name (TurnedIn old.number (λ answer. Event.Schedule old.number request answer) outcome) old new
+      → Ended told (Plays name.facts name.opening means old.number (Item.Install request)) old new
+  schedule-ended request outcome told means e off t =
+      let Play : List Moment → Type 0 = Plays name.facts name.opening means old.number (Item.Install request) in
       ended-told told (played_of outcome) Play old new e
       (turn-any (λ (answer : ClaimAnswer). Event.Schedule old.number request answer) Play outcome (λ answer. quiet-schedule old.number request answer)
-      (λ answer before. schedule-plays name.facts files old.number request before answer off)
-      (item-unplayed name.facts name.opening files old.number (Item.Install request)) t)
+      (λ answer before. schedule-plays name.facts name.opening means old.number request before answer off)
+      (item-unplayed name.facts name.opening means old.number (Item.Install request)) t)
 
   -- A device that is unplugged, or plugged.
-  pub unplug-ended : (device : Selector) (outcome : Result PlugAnswer Stop) (told : Played) (files : Files) → told ≡ played_of outcome → Took name (TurnedIn old.number (λ answer. Event.Unplug old.number device answer) outcome) old new
-      → Ended told (Plays name.facts name.opening files old.number (Item.Unplug device)) old new
-  unplug-ended device outcome told files e t =
-      let Play : List Moment → Type 0 = Plays name.facts name.opening files old.number (Item.Unplug device) in
+  pub unplug-ended : (device : Selector) (outcome : Result PlugAnswer Stop) (told : Played) (means : Means) → told ≡ played_of outcome → Took name (TurnedIn old.number (λ answer. Event.Unplug old.number device answer) outcome) old new
+      → Ended told (Plays name.facts name.opening means old.number (Item.Unplug device)) old new
+  unplug-ended device outcome told means e t =
+      let Play : List Moment → Type 0 = Plays name.facts name.opening means old.number (Item.Unplug device) in
       ended-told told (played_of outcome) Play old new e
       (turn-any (λ (answer : PlugAnswer). Event.Unplug old.number device answer) Play outcome (λ answer. quiet-unplug old.number device answer) (λ answer before. (answer, refl))
-      (item-unplayed name.facts name.opening files old.number (Item.Unplug device)) t)
+      (item-unplayed name.facts name.opening means old.number (Item.Unplug device)) t)
 
-  pub plug-ended : (device : Selector) (outcome : Result PlugAnswer Stop) (told : Played) (files : Files) → told ≡ played_of outcome → Took name (TurnedIn old.number (λ answer. Event.Plug old.number device answer) outcome) old new
-      → Ended told (Plays name.facts name.opening files old.number (Item.Plug device)) old new
-  plug-ended device outcome told files e t =
-      let Play : List Moment → Type 0 = Plays name.facts name.opening files old.number (Item.Plug device) in
+  pub plug-ended : (device : Selector) (outcome : Result PlugAnswer Stop) (told : Played) (means : Means) → told ≡ played_of outcome → Took name (TurnedIn old.number (λ answer. Event.Plug old.number device answer) outcome) old new
+      → Ended told (Plays name.facts name.opening means old.number (Item.Plug device)) old new
+  plug-ended device outcome told means e t =
+      let Play : List Moment → Type 0 = Plays name.facts name.opening means old.number (Item.Plug device) in
       ended-told told (played_of outcome) Play old new e
       (turn-any (λ (answer : PlugAnswer). Event.Plug old.number device answer) Play outcome (λ answer. quiet-plug old.number device answer) (λ answer before. (answer, refl))
-      (item-unplayed name.facts name.opening files old.number (Item.Plug device)) t)
+      (item-unplayed name.facts name.opening means old.number (Item.Plug device)) t)
 
--- A play of an item, whatever files the shelf has, where that is the item.
-pub ended-for : (facts : Facts) (opening : List Row) (files : Files) (client : ℕ) (item now : Item) (told : Played) (old new : PassView Entry) → now ≡ item → ((any : Files) → Ended told (Plays facts opening any client item) old new)
-    → Ended told (Plays facts opening files client now) old new
-ended-for facts opening files client item now told old new e k = subst (λ (i : Item). Ended told (Plays facts opening files client i) old new) (sym e) (k files)
+-- A play of an item that needs no plugin, whatever files the shelf has, where that is the item.
+pub ended-for : (facts : Facts) (opening : List Row) (means : Means) (client : ℕ) (item now : Item) (told : Played) (old new : PassView Entry) → now ≡ item → ((any : Files) → Ended told (Plays facts opening (files_alone any) client item) old new)
+    → Ended told (Plays facts opening means client now) old new
+ended-for facts opening means client item now told old new e k =
+    subst (λ (i : Item). Ended told (Plays facts opening means client i) old new) (sym e)
+    (ended-wider told (Plays facts opening means client item) (Plays facts opening (files_alone means.files) client item) old new (item-wider facts opening means client item) (k means.files))

@@ -1,5 +1,6 @@
 //! An install: the ask, the fetch, the claim, and the run of the claim.
 ghost use Rattle.std.specs.Prelude.{◌≡◌, ◌≤◌, ◌<◌, ◌+◌, [], None, Some, Err, length, true, false};
+ghost use Rattle.plugin_trait.specs.Steps.{steps_at};
 ghost use Rattle.update_log.specs.Holding.{hold};
 ghost use Rattle.update_log.specs.Pasts.{off};
 ghost use Rattle.daemon_core.specs.declared.stop.Stop.{Stop};
@@ -9,9 +10,9 @@ ghost use Rattle.install_engine.specs.RunsIn.{parts_taken};
 ghost use Rattle.client_scripts.specs.declared.item.Item.{Item};
 ghost use Rattle.client_plays.specs.Endings.{played_of};
 ghost use Rattle.client_plays.specs.Faults.{FaultsTold, faults_in, faults_noted};
-ghost use Rattle.client_plays.specs.Plays.{ClaimPlays, Plays, UpdatePlays};
+ghost use Rattle.client_plays.specs.Plays.{ClaimPlays, IsOwnPlugin, Plays, UpdatePlays};
 ghost use Rattle.client_plays.specs.Shelves.{IsFetched};
-ghost use Rattle.client_plays.specs.Tools.{Files};
+ghost use Rattle.client_plays.specs.Tools.{Files, files_alone, means_of};
 ghost use Rattle.shared_daemon.specs.Closings.{IsFreePass};
 ghost use Rattle.shared_daemon.specs.Entries.{past_seen};
 ghost use Rattle.shared_daemon.specs.Names.{IsPass};
@@ -50,7 +51,7 @@ fn give_back<R: Wait, K: Keeper, N: Naming>(
     requires held { hold (past_seen pass.old.seen) pass.old.number ≡ Some (held_by stopped.ticket (block_count stopped.fetched)) }
     requires halted { stopped.stop ≡ Stop.Off → off (past_seen pass.old.seen) ≡ true }
     ensures pass { IsPass daemon.now.id N.name pass.new }
-    ensures ended { (files : Files) → IsFetched N.name.facts files stopped.ticket.release (note_of stopped.fetched) → Ended result (ClaimPlays N.name.facts files pass.old.number stopped.ticket.request stopped.ticket.release) pass.old pass.new }
+    ensures ended { (files : Files) → IsFetched N.name.facts files stopped.ticket.release (note_of stopped.fetched) → Ended result (ClaimPlays N.name.facts N.name.opening (files_alone files) pass.old.number stopped.ticket.request stopped.ticket.release) pass.old pass.new }
     ensures told { faults_in (own pass.new) ≡ faults_in (own pass.old) }
 {
     let ClaimStop {
@@ -76,8 +77,9 @@ fn run_taken<R: Wait, K: Keeper, N: Naming, G: Gate>(
     requires no_steps { taken.trace.steps ≡ [] }
     requires marks { 8 ≤ taken.board.room }
     requires served { taken.plugin < length plugins.now }
+    requires own { IsOwnPlugin N.name.facts N.name.opening (past_seen pass.old.seen) taken.entry taken.plugin }
     ensures pass { IsPass daemon.now.id N.name pass.new }
-    ensures ended { Ended result (UpdatePlays pass.old.number taken.entry) pass.old pass.new }
+    ensures ended { Ended result (UpdatePlays N.name.facts N.name.opening (steps_at (λ p. steps p) plugins.now) pass.old.number taken.entry (past_seen pass.old.seen)) pass.old pass.new }
 {
     match run_claim(rt, daemon, pass, taken, plugins, gate) {
         Outcome::Finished(_) => Played::Done,
@@ -101,7 +103,7 @@ fn claim_fetched<R: Wait, K: Keeper, N: Naming, G: Gate>(
     requires whole { IsFetchOf N.name.facts ticket.release fetched }
     requires served { length N.name.facts.vetoes ≤ length plugins.now }
     ensures pass { IsPass daemon.now.id N.name pass.new }
-    ensures ended { (files : Files) → IsFetched N.name.facts files ticket.release (note_of fetched) → Ended result (ClaimPlays N.name.facts files pass.old.number ticket.request ticket.release) pass.old pass.new }
+    ensures ended { (files : Files) → IsFetched N.name.facts files ticket.release (note_of fetched) → Ended result (ClaimPlays N.name.facts N.name.opening (means_of files (steps_at (λ p. steps p) plugins.now)) pass.old.number ticket.request ticket.release) pass.old pass.new }
     ensures told { faults_in (own pass.new) ≤ faults_in (own pass.old) + faults_noted (Some (note_of fetched)) }
 {
     match daemon.claim(rt, pass, ticket, fetched) {
@@ -127,7 +129,7 @@ fn install_held<R: Wait, K: Keeper, N: Naming, P: Shelf, G: Gate>(
     requires hold { IsHoldFor N.name.facts pass.old.number given.ticket.request None given }
     requires served { length N.name.facts.vetoes ≤ length plugins.now }
     ensures pass { IsPass daemon.now.id N.name pass.new }
-    ensures ended { Ended result (ClaimPlays N.name.facts (P.files shelf.old) pass.old.number given.ticket.request given.ticket.release) pass.old pass.new }
+    ensures ended { Ended result (ClaimPlays N.name.facts N.name.opening (means_of (P.files shelf.old) (steps_at (λ p. steps p) plugins.now)) pass.old.number given.ticket.request given.ticket.release) pass.old pass.new }
     ensures files { P.files shelf.new ≡ P.files shelf.old }
     ensures counts { P.faults shelf.old ≤ P.faults shelf.new }
     ensures told { FaultsTold (own pass.old) (own pass.new) (P.faults shelf.old) (P.faults shelf.new) }
@@ -152,7 +154,7 @@ pub(crate) fn play_install<R: Wait, K: Keeper, N: Naming, P: Shelf, G: Gate>(
     requires online { request.now.flags.offline ≡ false }
     requires served { length N.name.facts.vetoes ≤ length plugins.now }
     ensures pass { IsPass daemon.now.id N.name pass.new }
-    ensures ended { Ended result (Plays N.name.facts N.name.opening (P.files shelf.old) pass.old.number (Item.Install request.now)) pass.old pass.new }
+    ensures ended { Ended result (Plays N.name.facts N.name.opening (means_of (P.files shelf.old) (steps_at (λ p. steps p) plugins.now)) pass.old.number (Item.Install request.now)) pass.old pass.new }
     ensures files { P.files shelf.new ≡ P.files shelf.old }
     ensures counts { P.faults shelf.old ≤ P.faults shelf.new }
     ensures told { FaultsTold (own pass.old) (own pass.new) (P.faults shelf.old) (P.faults shelf.new) }

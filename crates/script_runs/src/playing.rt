@@ -3,7 +3,7 @@ ghost use Rattle.std.specs.Prelude.{◌≡◌, true};
 ghost use Rattle.client_scripts.specs.declared.item.Item.{Item};
 ghost use Rattle.client_plays.specs.Endings.{IsQuestion, played_of};
 ghost use Rattle.client_plays.specs.Plays.{Plays};
-ghost use Rattle.client_plays.specs.Tools.{Files};
+ghost use Rattle.client_plays.specs.Tools.{Files, files_alone};
 ghost use Rattle.shared_daemon.specs.Closings.{IsFreePass};
 ghost use Rattle.shared_daemon.specs.Names.{IsPass};
 ghost use Rattle.script_runs.specs.Passes.{Ended};
@@ -38,7 +38,7 @@ pub(crate) fn play_question<R: Wait, K: Keeper, N: Naming>(
     requires free { IsFreePass pass.old }
     requires question { IsQuestion query.now }
     ensures pass { IsPass daemon.now.id N.name pass.new }
-    ensures ended { (files : Files) → Ended result (Plays N.name.facts N.name.opening files pass.old.number (Item.Ask query.now)) pass.old pass.new }
+    ensures ended { (files : Files) → Ended result (Plays N.name.facts N.name.opening (files_alone files) pass.old.number (Item.Ask query.now)) pass.old pass.new }
 {
     let outcome = daemon.query(rt, pass, query);
     played(outcome)
@@ -55,7 +55,7 @@ pub(crate) fn play_schedule<R: Wait, K: Keeper, N: Naming>(
     requires free { IsFreePass pass.old }
     requires offline { request.now.flags.offline ≡ true }
     ensures pass { IsPass daemon.now.id N.name pass.new }
-    ensures ended { (files : Files) → Ended result (Plays N.name.facts N.name.opening files pass.old.number (Item.Install request.now)) pass.old pass.new }
+    ensures ended { (files : Files) → Ended result (Plays N.name.facts N.name.opening (files_alone files) pass.old.number (Item.Install request.now)) pass.old pass.new }
 {
     let outcome = daemon.schedule(rt, pass, request);
     played(outcome)
@@ -71,7 +71,7 @@ pub(crate) fn play_settle<R: Wait, K: Keeper, N: Naming>(
     requires pass { IsPass daemon.now.id N.name pass.old }
     requires free { IsFreePass pass.old }
     ensures pass { IsPass daemon.now.id N.name pass.new }
-    ensures ended { (files : Files) → Ended result (Plays N.name.facts N.name.opening files pass.old.number (Item.Settle device.now)) pass.old pass.new }
+    ensures ended { (files : Files) → Ended result (Plays N.name.facts N.name.opening (files_alone files) pass.old.number (Item.Settle device.now)) pass.old pass.new }
 {
     let outcome = daemon.settle(rt, pass, device);
     played(outcome)
@@ -87,7 +87,7 @@ pub(crate) fn play_unplug<R: Wait, K: Keeper, N: Naming>(
     requires pass { IsPass daemon.now.id N.name pass.old }
     requires free { IsFreePass pass.old }
     ensures pass { IsPass daemon.now.id N.name pass.new }
-    ensures ended { (files : Files) → Ended result (Plays N.name.facts N.name.opening files pass.old.number (Item.Unplug device.now)) pass.old pass.new }
+    ensures ended { (files : Files) → Ended result (Plays N.name.facts N.name.opening (files_alone files) pass.old.number (Item.Unplug device.now)) pass.old pass.new }
 {
     let outcome = daemon.unplug(rt, pass, device);
     played(outcome)
@@ -103,7 +103,7 @@ pub(crate) fn play_plug<R: Wait, K: Keeper, N: Naming>(
     requires pass { IsPass daemon.now.id N.name pass.old }
     requires free { IsFreePass pass.old }
     ensures pass { IsPass daemon.now.id N.name pass.new }
-    ensures ended { (files : Files) → Ended result (Plays N.name.facts N.name.opening files pass.old.number (Item.Plug device.now)) pass.old pass.new }
+    ensures ended { (files : Files) → Ended result (Plays N.name.facts N.name.opening (files_alone files) pass.old.number (Item.Plug device.now)) pass.old pass.new }
 {
     let outcome = daemon.plug(rt, pass, device);
     played(outcome)

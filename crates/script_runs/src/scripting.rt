@@ -3,6 +3,8 @@ ghost use Rattle.std.specs.Prelude.{◌≡◌, ◌≤◌, All, length};
 ghost use Rattle.client_plays.specs.Endings.{IsScriptItem};
 ghost use Rattle.client_plays.specs.Faults.{FaultsTold};
 ghost use Rattle.client_plays.specs.Plays.{Plays};
+ghost use Rattle.client_plays.specs.Tools.{means_of};
+ghost use Rattle.plugin_trait.specs.Steps.{steps_at};
 ghost use Rattle.shared_daemon.specs.Closings.{IsFreePass};
 ghost use Rattle.shared_daemon.specs.Names.{IsPass};
 ghost use Rattle.script_runs.specs.Passes.{Ended, EndedMore, Went, own};
@@ -32,7 +34,7 @@ fn play_item<R: Wait, K: Keeper, N: Naming, P: Shelf, G: Gate>(
     requires proper { IsScriptItem item.now }
     requires served { length N.name.facts.vetoes ≤ length plugins.now }
     ensures pass { IsPass daemon.now.id N.name pass.new }
-    ensures ended { Ended result (Plays N.name.facts N.name.opening (P.files shelf.old) pass.old.number item.now) pass.old pass.new }
+    ensures ended { Ended result (Plays N.name.facts N.name.opening (means_of (P.files shelf.old) (steps_at (λ p. steps p) plugins.now)) pass.old.number item.now) pass.old pass.new }
     ensures files { P.files shelf.new ≡ P.files shelf.old }
     ensures counts { P.faults shelf.old ≤ P.faults shelf.new }
     ensures told { FaultsTold (own pass.old) (own pass.new) (P.faults shelf.old) (P.faults shelf.new) }
@@ -68,7 +70,7 @@ fn play_next<R: Wait, K: Keeper, N: Naming, P: Shelf, G: Gate>(
     requires proper { IsScriptItem item.now }
     requires served { length N.name.facts.vetoes ≤ length plugins.now }
     ensures pass { IsPass daemon.now.id N.name pass.new }
-    ensures more { EndedMore result wanting (Plays N.name.facts N.name.opening (P.files shelf.old) pass.old.number item.now) pass.old pass.new }
+    ensures more { EndedMore result wanting (Plays N.name.facts N.name.opening (means_of (P.files shelf.old) (steps_at (λ p. steps p) plugins.now)) pass.old.number item.now) pass.old pass.new }
     ensures files { P.files shelf.new ≡ P.files shelf.old }
     ensures counts { P.faults shelf.old ≤ P.faults shelf.new }
     ensures told { FaultsTold (own pass.old) (own pass.new) (P.faults shelf.old) (P.faults shelf.new) }
@@ -96,7 +98,7 @@ pub fn play_script<R: Wait, K: Keeper, N: Naming, P: Shelf, G: Gate>(
     requires proper { All IsScriptItem items.now }
     requires served { length N.name.facts.vetoes ≤ length plugins.now }
     ensures pass { IsPass daemon.now.id N.name pass.new }
-    ensures went { Went result (Plays N.name.facts N.name.opening (P.files shelf.old) pass.old.number) items.now pass.old pass.new }
+    ensures went { Went result (Plays N.name.facts N.name.opening (means_of (P.files shelf.old) (steps_at (λ p. steps p) plugins.now)) pass.old.number) items.now pass.old pass.new }
     ensures files { P.files shelf.new ≡ P.files shelf.old }
     ensures counts { P.faults shelf.old ≤ P.faults shelf.new }
     ensures told { FaultsTold (own pass.old) (own pass.new) (P.faults shelf.old) (P.faults shelf.new) }

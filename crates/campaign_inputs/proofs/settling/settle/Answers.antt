@@ -31,3 +31,10 @@ returns-clause-settled g c =
 
 pub returns-clause-begins : goal.returns-clause-begins
 returns-clause-begins g c = λ few. can_begin c.args.site _ _ c.in_ok-campaign.campaign few (returns-clause-settled g c)
+
+pub returns-clause-running : goal.returns-clause-running
+returns-clause-running g c = record {
+  arrangement = c.in_ok-started.started.arrangement;
+  arranged = c.in_ok-started.ensures.enabled.arranged;
+  started_are = c.in_ok-started.ensures.sheets;
+}

@@ -3,10 +3,13 @@ use Rattle.claim_runs.proofs.Logs.{gone-after, made-after, on-err}
 use Rattle.claim_runs.proofs.running.update.Goals as goal
 
 pub returns-in_err-next-clause-gone : goal.returns-in_err-next-clause-gone
-returns-in_err-next-clause-gone g c = on-err c.from_residual.result (GaveBack c.args.entry c.args.pass.now c.flash.new.pass) c.in_err-next.ensures.gone
+returns-in_err-next-clause-gone g c =
+    on-err c.from_residual.result (GaveBack ((goal.Plugin-dyn g c.args.plugin.now).steps c.args.plugin.now.1) c.args.entry c.args.claim c.args.pass.now c.flash.new.pass) c.in_err-next.ensures.gone
 
 pub returns-clause-made : goal.returns-clause-made
-returns-clause-made g c = made-after c.join.result c.args.entry c.args.pass.now c.flash.new.pass c.join.new.pass c.in_ok-next.ensures.made c.join.ensures.made
+returns-clause-made g c =
+    made-after ((goal.Plugin-dyn g c.args.plugin.now).steps c.args.plugin.now.1) c.args.entry c.join.result c.args.claim c.in_ok-next.next c.args.pass.now c.flash.new.pass c.join.new.pass c.in_ok-next.ensures.made c.join.ensures.made
 
 pub returns-clause-gone : goal.returns-clause-gone
-returns-clause-gone g c = gone-after c.join.result c.args.entry c.args.pass.now c.flash.new.pass c.join.new.pass c.in_ok-next.ensures.made c.join.ensures.gone
+returns-clause-gone g c =
+    gone-after ((goal.Plugin-dyn g c.args.plugin.now).steps c.args.plugin.now.1) c.args.entry c.join.result c.args.claim c.in_ok-next.next c.args.pass.now c.flash.new.pass c.join.new.pass c.in_ok-next.ensures.made c.join.ensures.gone

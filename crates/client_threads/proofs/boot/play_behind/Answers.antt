@@ -1,7 +1,8 @@
 use Rattle.std.proofs.Common.{◌<◌, ◌+◌, ℕ, Bool, All, List, [], length, map, reverse, ap, sym, ◌∙◌, subst, arith}
 use Rattle.std.specs.List.{range_with_len}
 use Rattle.client_plays.specs.Has.{shelves_told}
-use Rattle.client_plays.specs.Shelves.{files_for}
+use Rattle.client_plays.specs.Shelves.{files_for, means_for}
+use Rattle.plugin_trait.specs.Steps.{steps_at}
 use Rattle.turn_lock.specs.Lists.{BeginsWith, beyond}
 use Rattle.turn_lock.specs.Shown.{HasItsEntries, PassView}
 use Rattle.shared_daemon.specs.declared.entry.Entry.{Entry}
@@ -42,53 +43,54 @@ play_all-requires-clause-may g c κs within =
 
 pub close-house-requires-clause-numbers : goal.close-house-requires-clause-numbers
 close-house-requires-clause-numbers g c =
-    let a : AllPlayed g.P.Shelf.files g.P.Shelf.faults c.args.daemon.id g.N.Naming.name c.args.of_boot.now c.deal_out-own.result c.deal_out-own.new.clients.items c.play_all.new.clients.items =
+    let a : AllPlayed g.P.Shelf.files (steps_at (λ b. (goal.Plugin-dyn g (b.vtable, b.value)).steps b.value) c.args.plugins.now) g.P.Shelf.faults c.args.daemon.id g.N.Naming.name c.args.of_boot.now c.deal_out-own.result c.deal_out-own.new.clients.items c.play_all.new.clients.items =
     record {
       dealt = dealt-so c.args.daemon.id g.N.Naming.name c.args.of_boot.now c.deal_out-own.result c.deal_out-own.new.clients.items c.args.passes.items c.deal_out-own.ensures.passes c.requires.numbers c.requires.passes c.requires.fresh;
       count = c.play_all.ensures.count;
       played = c.play_all.ensures.played;
     } in
     ap (map (λ (p : PassView Entry). p.number)) c.take_back-wanting.ensures.passes
-    ∙ closing-numbers g.P.Shelf.files g.P.Shelf.faults c.args.daemon.id g.N.Naming.name c.args.of_boot.now c.deal_out-own.result c.deal_out-own.new.clients.items c.play_all.new.clients.items a
+    ∙ closing-numbers g.P.Shelf.files (steps_at (λ b. (goal.Plugin-dyn g (b.vtable, b.value)).steps b.value) c.args.plugins.now) g.P.Shelf.faults c.args.daemon.id g.N.Naming.name c.args.of_boot.now c.deal_out-own.result c.deal_out-own.new.clients.items c.play_all.new.clients.items a
     ∙ ap (range_with_len 0) (sym c.requires.seats)
 
 pub close-house-requires-clause-passes : goal.close-house-requires-clause-passes
 close-house-requires-clause-passes g c =
-    let a : AllPlayed g.P.Shelf.files g.P.Shelf.faults c.args.daemon.id g.N.Naming.name c.args.of_boot.now c.deal_out-own.result c.deal_out-own.new.clients.items c.play_all.new.clients.items =
+    let a : AllPlayed g.P.Shelf.files (steps_at (λ b. (goal.Plugin-dyn g (b.vtable, b.value)).steps b.value) c.args.plugins.now) g.P.Shelf.faults c.args.daemon.id g.N.Naming.name c.args.of_boot.now c.deal_out-own.result c.deal_out-own.new.clients.items c.play_all.new.clients.items =
     record {
       dealt = dealt-so c.args.daemon.id g.N.Naming.name c.args.of_boot.now c.deal_out-own.result c.deal_out-own.new.clients.items c.args.passes.items c.deal_out-own.ensures.passes c.requires.numbers c.requires.passes c.requires.fresh;
       count = c.play_all.ensures.count;
       played = c.play_all.ensures.played;
     } in
     subst (λ (l : List (PassView Entry)). All (IsPass c.args.daemon.id g.N.Naming.name) l) (sym c.take_back-wanting.ensures.passes)
-    (closing-passes g.P.Shelf.files g.P.Shelf.faults c.args.daemon.id g.N.Naming.name c.args.of_boot.now c.deal_out-own.result c.deal_out-own.new.clients.items c.play_all.new.clients.items a)
+    (closing-passes g.P.Shelf.files (steps_at (λ b. (goal.Plugin-dyn g (b.vtable, b.value)).steps b.value) c.args.plugins.now) g.P.Shelf.faults c.args.daemon.id g.N.Naming.name c.args.of_boot.now c.deal_out-own.result c.deal_out-own.new.clients.items c.play_all.new.clients.items a)
 
 pub close-house-requires-clause-free : goal.close-house-requires-clause-free
 close-house-requires-clause-free g c =
-    let a : AllPlayed g.P.Shelf.files g.P.Shelf.faults c.args.daemon.id g.N.Naming.name c.args.of_boot.now c.deal_out-own.result c.deal_out-own.new.clients.items c.play_all.new.clients.items =
+    let a : AllPlayed g.P.Shelf.files (steps_at (λ b. (goal.Plugin-dyn g (b.vtable, b.value)).steps b.value) c.args.plugins.now) g.P.Shelf.faults c.args.daemon.id g.N.Naming.name c.args.of_boot.now c.deal_out-own.result c.deal_out-own.new.clients.items c.play_all.new.clients.items =
     record {
       dealt = dealt-so c.args.daemon.id g.N.Naming.name c.args.of_boot.now c.deal_out-own.result c.deal_out-own.new.clients.items c.args.passes.items c.deal_out-own.ensures.passes c.requires.numbers c.requires.passes c.requires.fresh;
       count = c.play_all.ensures.count;
       played = c.play_all.ensures.played;
     } in
     subst (λ (l : List (PassView Entry)). All IsFreePass l) (sym c.take_back-wanting.ensures.passes)
-    (closing-free g.P.Shelf.files g.P.Shelf.faults c.args.daemon.id g.N.Naming.name c.args.of_boot.now c.deal_out-own.result c.deal_out-own.new.clients.items c.play_all.new.clients.items a c.requires.nothing)
+    (closing-free g.P.Shelf.files (steps_at (λ b. (goal.Plugin-dyn g (b.vtable, b.value)).steps b.value) c.args.plugins.now) g.P.Shelf.faults c.args.daemon.id g.N.Naming.name c.args.of_boot.now c.deal_out-own.result c.deal_out-own.new.clients.items c.play_all.new.clients.items a c.requires.nothing)
 
 pub returns-clause-played : goal.returns-clause-played
 returns-clause-played g c =
     let name = g.N.Naming.name in
     let cs = c.deal_out-own.new.clients.items in
     let ds = c.play_all.new.clients.items in
-    let told = files_for (shelves_told g.P.Shelf.files g.P.Shelf.faults c.args.shelves.now.items) in
+    let shelves = shelves_told g.P.Shelf.files g.P.Shelf.faults c.args.shelves.now.items in
+    let told = files_for shelves in
     let log : List Entry = chronicle c.close-house.result in
-    let a : AllPlayed g.P.Shelf.files g.P.Shelf.faults c.args.daemon.id name c.args.of_boot.now c.deal_out-own.result cs ds =
+    let a : AllPlayed g.P.Shelf.files (steps_at (λ b. (goal.Plugin-dyn g (b.vtable, b.value)).steps b.value) c.args.plugins.now) g.P.Shelf.faults c.args.daemon.id name c.args.of_boot.now c.deal_out-own.result cs ds =
     record {
       dealt = dealt-so c.args.daemon.id name c.args.of_boot.now c.deal_out-own.result cs c.args.passes.items c.deal_out-own.ensures.passes c.requires.numbers c.requires.passes c.requires.fresh;
       count = c.play_all.ensures.count;
       played = c.play_all.ensures.played;
     } in
-    subst (λ (w : Bool). PlayedBehind w name told c.args.of_boot.now log) (sym c.take_back-wanting.ensures.wanting)
-    (played-behind g.P.Shelf.files g.P.Shelf.faults c.args.daemon.id name c.args.of_boot.now c.deal_out-own.result cs ds told log a c.close-house.ensures.log
+    subst (λ (w : Bool). PlayedBehind w name (means_for (steps_at (λ b. (goal.Plugin-dyn g (b.vtable, b.value)).steps b.value) c.args.plugins.now) shelves) c.args.of_boot.now log) (sym c.take_back-wanting.ensures.wanting)
+    (played-behind g.P.Shelf.files (steps_at (λ b. (goal.Plugin-dyn g (b.vtable, b.value)).steps b.value) c.args.plugins.now) g.P.Shelf.faults c.args.daemon.id name c.args.of_boot.now c.deal_out-own.result cs ds told log a c.close-house.ensures.log
     (subst (λ (l : List (PassView Entry)). All (λ (p : PassView Entry). BeginsWith log p.seen) l) c.take_back-wanting.ensures.passes c.close-house.ensures.seen)
     (subst (λ (l : List (PassView Entry)). All (HasItsEntries maker_of name.start log) l) c.take_back-wanting.ensures.passes c.close-house.ensures.mine)
     (subst (λ (n : ℕ). All (λ (e : Entry). maker_of e < n) (beyond name.start log)) c.requires.seats c.close-house.ensures.makers)
@@ -106,13 +108,13 @@ returns-clause-told g c =
     let ds = c.play_all.new.clients.items in
     let told = files_for (shelves_told g.P.Shelf.files g.P.Shelf.faults c.args.shelves.now.items) in
     let log : List Entry = chronicle c.close-house.result in
-    let a : AllPlayed g.P.Shelf.files g.P.Shelf.faults c.args.daemon.id name c.args.of_boot.now c.deal_out-own.result cs ds =
+    let a : AllPlayed g.P.Shelf.files (steps_at (λ b. (goal.Plugin-dyn g (b.vtable, b.value)).steps b.value) c.args.plugins.now) g.P.Shelf.faults c.args.daemon.id name c.args.of_boot.now c.deal_out-own.result cs ds =
     record {
       dealt = dealt-so c.args.daemon.id name c.args.of_boot.now c.deal_out-own.result cs c.args.passes.items c.deal_out-own.ensures.passes c.requires.numbers c.requires.passes c.requires.fresh;
       count = c.play_all.ensures.count;
       played = c.play_all.ensures.played;
     } in
-    shelves-behind g.P.Shelf.files g.P.Shelf.faults c.args.daemon.id name c.args.of_boot.now c.deal_out-own.result cs ds told log a c.close-house.ensures.log
+    shelves-behind g.P.Shelf.files (steps_at (λ b. (goal.Plugin-dyn g (b.vtable, b.value)).steps b.value) c.args.plugins.now) g.P.Shelf.faults c.args.daemon.id name c.args.of_boot.now c.deal_out-own.result cs ds told log a c.close-house.ensures.log
     (subst (λ (l : List (PassView Entry)). All (λ (p : PassView Entry). BeginsWith log p.seen) l) c.take_back-wanting.ensures.passes c.close-house.ensures.seen)
     (subst (λ (l : List (PassView Entry)). All (HasItsEntries maker_of name.start log) l) c.take_back-wanting.ensures.passes c.close-house.ensures.mine)
     (subst (λ (n : ℕ). All (λ (e : Entry). maker_of e < n) (beyond name.start log)) c.requires.seats c.close-house.ensures.makers)

@@ -1,7 +1,9 @@
-use Rattle.std.proofs.Common.{Bool, length, sym, subst, refl, ◌∙◌}
+use Rattle.std.proofs.Common.{Bool, length, ap, sym, subst, refl, ◌∙◌}
 use Rattle.client_plays.specs.Endings.{HouseBootPlayed}
 use Rattle.client_plays.specs.Has.{shelves_told}
-use Rattle.client_plays.specs.Shelves.{files_for}
+use Rattle.client_plays.specs.Shelves.{means_for}
+use Rattle.client_plays.specs.Tools.{Files, means_of}
+use Rattle.plugin_trait.specs.Steps.{steps_at}
 use Rattle.client_plays.proofs.ShelfLaws.{files-stay}
 use Rattle.client_plays.proofs.ToolLaws.{shelves-both, shelves-here}
 use Rattle.client_threads.proofs.Boots.{boot-off, boot-played, no-clients_yet, still-booted, still-counted, still-read}
@@ -13,7 +15,7 @@ use Rattle.client_threads.proofs.boot.play_boot.Goals as goal
 
 pub returns-then-is_off-clause-played : goal.returns-then-is_off-clause-played
 returns-then-is_off-clause-played g c =
-    boot-off g.K.Keeper.faults (files_for (shelves_told g.P.Shelf.files g.P.Shelf.faults c.args.shelves.now.items)) c.args.of_boot.now c.args.house c.requires.idle c.requires.fresh (sym c.is_off-is_off.ensures ∙ c.if-is_off.true)
+    boot-off g.K.Keeper.faults (means_for (steps_at (λ b. (goal.Plugin-dyn g (b.vtable, b.value)).steps b.value) c.args.plugins.now) (shelves_told g.P.Shelf.files g.P.Shelf.faults c.args.shelves.now.items)) c.args.of_boot.now c.args.house c.requires.idle c.requires.fresh (sym c.is_off-is_off.ensures ∙ c.if-is_off.true)
 
 pub returns-then-is_off-clause-kept : goal.returns-then-is_off-clause-kept
 returns-then-is_off-clause-kept g c = shelves-here (shelves_told g.P.Shelf.files g.P.Shelf.faults c.args.shelves.now.items)
@@ -27,22 +29,22 @@ returns-clause-unread g c = λ u.
 
 pub play_clients-house-requires-clause-booted : goal.play_clients-house-requires-clause-booted
 play_clients-house-requires-clause-booted g c κs within =
-    let told = files_for (shelves_told g.P.Shelf.files g.P.Shelf.faults c.args.shelves.now.items) in
+    let told = means_for (steps_at (λ b. (goal.Plugin-dyn g (b.vtable, b.value)).steps b.value) c.args.plugins.now) (shelves_told g.P.Shelf.files g.P.Shelf.faults c.args.shelves.now.items) in
     still-booted g.K.Keeper.faults c.do_tasks_first-now.result (told 0) c.args.house c.do_tasks_first-now.new.house c.do_tasks_first-now.ensures.went c.requires.booted
 
 pub play_clients-house-requires-clause-counted : goal.play_clients-house-requires-clause-counted
 play_clients-house-requires-clause-counted g c κs within =
-    let told = files_for (shelves_told g.P.Shelf.files g.P.Shelf.faults c.args.shelves.now.items) in
+    let told = means_for (steps_at (λ b. (goal.Plugin-dyn g (b.vtable, b.value)).steps b.value) c.args.plugins.now) (shelves_told g.P.Shelf.files g.P.Shelf.faults c.args.shelves.now.items) in
     still-counted g.K.Keeper.faults c.do_tasks_first-now.result (told 0) c.args.house c.do_tasks_first-now.new.house c.do_tasks_first-now.ensures.went c.requires.counted
 
 pub play_clients-house-requires-clause-read : goal.play_clients-house-requires-clause-read
 play_clients-house-requires-clause-read g c κs within =
-    let told = files_for (shelves_told g.P.Shelf.files g.P.Shelf.faults c.args.shelves.now.items) in
+    let told = means_for (steps_at (λ b. (goal.Plugin-dyn g (b.vtable, b.value)).steps b.value) c.args.plugins.now) (shelves_told g.P.Shelf.files g.P.Shelf.faults c.args.shelves.now.items) in
     still-read g.K.Keeper.faults c.do_tasks_first-now.result (told 0) c.args.house c.do_tasks_first-now.new.house c.do_tasks_first-now.ensures.went c.requires.read
 
 pub play_clients-house-requires-clause-none : goal.play_clients-house-requires-clause-none
 play_clients-house-requires-clause-none g c κs within =
-    let told = files_for (shelves_told g.P.Shelf.files g.P.Shelf.faults c.args.shelves.now.items) in
+    let told = means_for (steps_at (λ b. (goal.Plugin-dyn g (b.vtable, b.value)).steps b.value) c.args.plugins.now) (shelves_told g.P.Shelf.files g.P.Shelf.faults c.args.shelves.now.items) in
     no-clients_yet g.K.Keeper.faults c.do_tasks_first-now.result (told 0) c.args.house c.do_tasks_first-now.new.house c.do_tasks_first-now.ensures.went c.requires.fresh
 
 pub play_clients-house-requires-clause-shelves : goal.play_clients-house-requires-clause-shelves
@@ -51,11 +53,11 @@ play_clients-house-requires-clause-shelves g c κs within =
 
 pub returns-clause-played : goal.returns-clause-played
 returns-clause-played g c =
-    let told = files_for (shelves_told g.P.Shelf.files g.P.Shelf.faults c.args.shelves.now.items) in
-    let then = files_for (shelves_told g.P.Shelf.files g.P.Shelf.faults c.do_tasks_first-now.new.shelves.items) in
+    let told = means_for (steps_at (λ b. (goal.Plugin-dyn g (b.vtable, b.value)).steps b.value) c.args.plugins.now) (shelves_told g.P.Shelf.files g.P.Shelf.faults c.args.shelves.now.items) in
+    let then = means_for (steps_at (λ b. (goal.Plugin-dyn g (b.vtable, b.value)).steps b.value) c.args.plugins.now) (shelves_told g.P.Shelf.files g.P.Shelf.faults c.do_tasks_first-now.new.shelves.items) in
     subst (λ (w : Bool). HouseBootPlayed g.K.Keeper.faults w told c.args.of_boot.now c.args.house c.play_clients-house.result.0) (sym c.either.ensures)
     (boot-played g.K.Keeper.faults c.do_tasks_first-now.result (told 0) c.args.house c.do_tasks_first-now.new.house c.do_tasks_first-now.ensures.went c.play_clients-house.result.1 told then c.args.of_boot.now c.play_clients-house.result.0 c.requires.fresh refl
-    (files-stay (shelves_told g.P.Shelf.files g.P.Shelf.faults c.args.shelves.now.items) (shelves_told g.P.Shelf.files g.P.Shelf.faults c.do_tasks_first-now.new.shelves.items) c.do_tasks_first-now.ensures.kept)
+    (λ client. ap (λ (f : Files). means_of f (steps_at (λ b. (goal.Plugin-dyn g (b.vtable, b.value)).steps b.value) c.args.plugins.now)) (files-stay (shelves_told g.P.Shelf.files g.P.Shelf.faults c.args.shelves.now.items) (shelves_told g.P.Shelf.files g.P.Shelf.faults c.do_tasks_first-now.new.shelves.items) c.do_tasks_first-now.ensures.kept client))
     c.play_clients-house.ensures.played c.known-2.ensures.annals.legal.0 (rows_before c.play_clients-house.result.0.annals) c.known-2.ensures.annals.legal.3)
 
 pub returns-clause-kept : goal.returns-clause-kept

@@ -1,6 +1,7 @@
 use Rattle.std.proofs.Common.{false, sym, ◌∙◌}
 use Rattle.client_plays.specs.Has.{shelves_told}
-use Rattle.client_plays.specs.Shelves.{files_for}
+use Rattle.client_plays.specs.Shelves.{means_for}
+use Rattle.plugin_trait.specs.Steps.{steps_at}
 use Rattle.client_plays.proofs.ToolLaws.{shelves-here}
 use Rattle.client_threads.proofs.Plays.{empty-list}
 use Rattle.client_threads.proofs.Rest.{can-begin, clients-off, no-clients}
@@ -10,7 +11,7 @@ use Rattle.client_threads.proofs.boot.play_clients.Goals as goal
 
 pub returns-then-is_empty-clause-played : goal.returns-then-is_empty-clause-played
 returns-then-is_empty-clause-played g c =
-    no-clients g.K.Keeper.faults (files_for (shelves_told g.P.Shelf.files g.P.Shelf.faults c.args.shelves.now.items)) c.args.of_boot.now c.args.house c.requires.idle c.requires.none false
+    no-clients g.K.Keeper.faults (means_for (steps_at (λ b. (goal.Plugin-dyn g (b.vtable, b.value)).steps b.value) c.args.plugins.now) (shelves_told g.P.Shelf.files g.P.Shelf.faults c.args.shelves.now.items)) c.args.of_boot.now c.args.house c.requires.idle c.requires.none false
     (empty-list c.args.of_boot.now (sym c.is_empty.ensures ∙ c.if-is_empty.true))
 
 pub returns-then-is_empty-clause-kept : goal.returns-then-is_empty-clause-kept
@@ -18,7 +19,7 @@ returns-then-is_empty-clause-kept g c = shelves-here (shelves_told g.P.Shelf.fil
 
 pub returns-then-is_off-clause-played : goal.returns-then-is_off-clause-played
 returns-then-is_off-clause-played g c =
-    clients-off g.K.Keeper.faults (files_for (shelves_told g.P.Shelf.files g.P.Shelf.faults c.args.shelves.now.items)) c.args.of_boot.now c.args.house c.requires.idle c.requires.none false (sym c.is_off.ensures ∙ c.if-is_off.true)
+    clients-off g.K.Keeper.faults (means_for (steps_at (λ b. (goal.Plugin-dyn g (b.vtable, b.value)).steps b.value) c.args.plugins.now) (shelves_told g.P.Shelf.files g.P.Shelf.faults c.args.shelves.now.items)) c.args.of_boot.now c.args.house c.requires.idle c.requires.none false (sym c.is_off.ensures ∙ c.if-is_off.true)
 
 pub returns-then-is_off-clause-kept : goal.returns-then-is_off-clause-kept
 returns-then-is_off-clause-kept g c = shelves-here (shelves_told g.P.Shelf.files g.P.Shelf.faults c.args.shelves.now.items)

@@ -3,7 +3,8 @@ use Rattle.daemon_core.specs.Housed.{Housed, past}
 use Rattle.daemon_core.proofs.PartsKept.{house-home}
 use Rattle.client_plays.specs.Faults.{ShelvesCount}
 use Rattle.client_plays.specs.Has.{shelves_told}
-use Rattle.client_plays.specs.Shelves.{files_for}
+use Rattle.client_plays.specs.Shelves.{means_for}
+use Rattle.plugin_trait.specs.Steps.{steps_at}
 use Rattle.client_plays.proofs.ToolLaws.{shelves-here}
 use Rattle.client_threads.specs.Clients.{ClientsPlayed}
 use Rattle.client_threads.proofs.Rest.{begins-named, clients-left, clients-played, nothing-out, shelves-counted}
@@ -12,7 +13,7 @@ use Rattle.client_threads.proofs.boot.play_named.Goals as goal
 
 pub returns-in_default-clause-played : goal.returns-in_default-clause-played
 returns-in_default-clause-played g c =
-    clients-left g.K.Keeper.faults (files_for (shelves_told g.P.Shelf.files g.P.Shelf.faults c.args.shelves.now.items)) c.args.of_boot.now c.args.house c.requires.begins.idle c.requires.none
+    clients-left g.K.Keeper.faults (means_for (steps_at (λ b. (goal.Plugin-dyn g (b.vtable, b.value)).steps b.value) c.args.plugins.now) (shelves_told g.P.Shelf.files g.P.Shelf.faults c.args.shelves.now.items)) c.args.of_boot.now c.args.house c.requires.begins.idle c.requires.none
 
 pub returns-in_default-clause-kept : goal.returns-in_default-clause-kept
 returns-in_default-clause-kept g c = shelves-here (shelves_told g.P.Shelf.files g.P.Shelf.faults c.args.shelves.now.items)
@@ -26,11 +27,11 @@ begin-requires-clause-nothing g c = nothing-out g.K.Keeper.faults c.args.house c
 pub returns-in-Ok-begin-clause-played : goal.returns-in-Ok-begin-clause-played
 returns-in-Ok-begin-clause-played g c =
     clients-played g.K.Keeper.faults g.N.Naming.name c.args.house c.play_behind.result.0 c.requires.name c.requires.begins c.known.ensures.annals c.play_behind.ensures.annals c.play_behind.ensures.name
-    (house-home g.K.Keeper.rows g.K.Keeper.doubt c.args.house c.known.ensures.house c.requires.begins.idle.no_live) c.play_behind.result.1 (files_for (shelves_told g.P.Shelf.files g.P.Shelf.faults c.args.shelves.now.items)) c.args.of_boot.now c.play_behind.ensures.start c.play_behind.ensures.log c.play_behind.ensures.nothing c.requires.none c.play_behind.ensures.played
+    (house-home g.K.Keeper.rows g.K.Keeper.doubt c.args.house c.known.ensures.house c.requires.begins.idle.no_live) c.play_behind.result.1 (means_for (steps_at (λ b. (goal.Plugin-dyn g (b.vtable, b.value)).steps b.value) c.args.plugins.now) (shelves_told g.P.Shelf.files g.P.Shelf.faults c.args.shelves.now.items)) c.args.of_boot.now c.play_behind.ensures.start c.play_behind.ensures.log c.play_behind.ensures.nothing c.requires.none c.play_behind.ensures.played
 
 pub returns-in-Err-clause-played : goal.returns-in-Err-clause-played
 returns-in-Err-clause-played g c =
-    let told = files_for (shelves_told g.P.Shelf.files g.P.Shelf.faults c.args.shelves.now.items) in
+    let told = means_for (steps_at (λ b. (goal.Plugin-dyn g (b.vtable, b.value)).steps b.value) c.args.plugins.now) (shelves_told g.P.Shelf.files g.P.Shelf.faults c.args.shelves.now.items) in
     subst (λ (h : Housed g.row.K.Denot). ClientsPlayed g.K.Keeper.faults true told c.args.of_boot.now c.args.house h) (sym c.in-Err.ensures.refused)
     (clients-left g.K.Keeper.faults told c.args.of_boot.now c.args.house c.requires.begins.idle c.requires.none)
 

@@ -1,11 +1,12 @@
 use Rattle.client_plays.specs.Has.{shelves_told}
-use Rattle.client_plays.specs.Shelves.{files_for}
+use Rattle.client_plays.specs.Shelves.{means_for}
+use Rattle.plugin_trait.specs.Steps.{steps_at}
 use Rattle.campaign_runs.proofs.RunLaws.{boot-either}
 use Rattle.client_threads.proofs.running.play_next.Goals as goal
 
 pub returns-clause-more : goal.returns-clause-more
 returns-clause-more g c =
-    boot-either g.K.Keeper.faults c.either.result c.args.wanting c.play_boot-played.result.1 (files_for (shelves_told g.P.Shelf.files g.P.Shelf.faults c.args.shelves.now.items)) c.args.of_boot.now
+    boot-either g.K.Keeper.faults c.either.result c.args.wanting c.play_boot-played.result.1 (means_for (steps_at (λ b. (goal.Plugin-dyn g (b.vtable, b.value)).steps b.value) c.args.plugins.now) (shelves_told g.P.Shelf.files g.P.Shelf.faults c.args.shelves.now.items)) c.args.of_boot.now
     c.args.house c.play_boot-played.result.0 c.either.ensures c.play_boot-played.ensures.played
 
 pub returns-clause-unread : goal.returns-clause-unread

@@ -4,11 +4,13 @@ use Rattle.client_scripts.specs.declared.item.Item.{Item}
 use Rattle.client_plays.specs.Endings.{IsScriptItem}
 use Rattle.update_log.specs.Pasts.{past_of}
 use Rattle.client_plays.specs.Has.{shelves_told, tools_of}
-use Rattle.client_plays.specs.Shelves.{files_for}
+use Rattle.client_plays.specs.Shelves.{means_for}
+use Rattle.client_plays.specs.Tools.{Files, means_of}
+use Rattle.plugin_trait.specs.Steps.{steps_at}
 use Rattle.client_plays.proofs.ShelfLaws.{files-stay}
 use Rattle.client_plays.proofs.ToolLaws.{serves-all, serves-later, shelves-both, shelves-here}
 use Rattle.campaign_runs.specs.Runs.{BootMore}
-use Rattle.campaign_runs.proofs.RunLaws.{begun-counted, plan-at, ran-stopped, run-more, run-none, run-read, same-files, scripts-all}
+use Rattle.campaign_runs.proofs.RunLaws.{begun-counted, plan-at, ran-stopped, run-more, run-none, run-read, same-means, scripts-all}
 use Rattle.daemon_core.specs.Housed.{past}
 use Rattle.client_plays.proofs.ShelfCounts.{shelves-count_here}
 use Rattle.client_threads.proofs.ShelfFaults.{boot-counted, stop-counted}
@@ -16,7 +18,7 @@ use Rattle.client_threads.proofs.running.run_boots.Goals as goal
 
 pub returns-in-Some-clause-ran : goal.returns-in-Some-clause-ran
 returns-in-Some-clause-ran g c =
-    ran-stopped g.K.Keeper.rows g.K.Keeper.faults c.in-Some.ending c.loop-number.wanting (files_for (shelves_told g.P.Shelf.files g.P.Shelf.faults c.args.shelves.now.items)) c.args.plans.now c.args.scripts.now c.loop-number.number
+    ran-stopped g.K.Keeper.rows g.K.Keeper.faults c.in-Some.ending c.loop-number.wanting (means_for (steps_at (λ b. (goal.Plugin-dyn g (b.vtable, b.value)).steps b.value) c.args.plugins.now) (shelves_told g.P.Shelf.files g.P.Shelf.faults c.args.shelves.now.items)) c.args.plans.now c.args.scripts.now c.loop-number.number
     c.args.house c.loop-number.house c.start_boot.new.house c.loop-number-test.true c.loop-number.invariant.ran c.in-Some.ensures.0 c.in-Some.ensures.1
 
 pub play_next-played-requires-clause-proper : goal.play_next-played-requires-clause-proper
@@ -44,7 +46,7 @@ play_next-played-requires-clause-serves g c κs within =
 
 pub loop-number-init : goal.loop-number-init
 loop-number-init g c = record {
-  ran = run-none g.K.Keeper.rows g.K.Keeper.faults false (files_for (shelves_told g.P.Shelf.files g.P.Shelf.faults c.args.shelves.now.items)) c.args.plans.now c.args.scripts.now c.args.house (ap past_of c.requires.new) c.requires.unread c.requires.blank;
+  ran = run-none g.K.Keeper.rows g.K.Keeper.faults false (means_for (steps_at (λ b. (goal.Plugin-dyn g (b.vtable, b.value)).steps b.value) c.args.plugins.now) (shelves_told g.P.Shelf.files g.P.Shelf.faults c.args.shelves.now.items)) c.args.plans.now c.args.scripts.now c.args.house (ap past_of c.requires.new) c.requires.unread c.requires.blank;
   read = λ _. c.known.ensures.annals.unopened c.requires.unread;
   kept = shelves-here (shelves_told g.P.Shelf.files g.P.Shelf.faults c.args.shelves.now.items);
   told = shelves-count_here (past c.args.house) (shelves_told g.P.Shelf.files g.P.Shelf.faults c.args.shelves.now.items);
@@ -52,17 +54,17 @@ loop-number-init g c = record {
 
 pub loop-number-preserved : goal.loop-number-preserved
 loop-number-preserved g c = record {
-  ran = run-more g.K.Keeper.rows g.K.Keeper.faults c.loop-number.wanting c.play_next-played.result.1 (files_for (shelves_told g.P.Shelf.files g.P.Shelf.faults c.args.shelves.now.items)) c.args.plans.now c.args.scripts.now c.loop-number.number
+  ran = run-more g.K.Keeper.rows g.K.Keeper.faults c.loop-number.wanting c.play_next-played.result.1 (means_for (steps_at (λ b. (goal.Plugin-dyn g (b.vtable, b.value)).steps b.value) c.args.plugins.now) (shelves_told g.P.Shelf.files g.P.Shelf.faults c.args.shelves.now.items)) c.args.plans.now c.args.scripts.now c.loop-number.number
       c.index-plans-number.result c.args.house c.loop-number.house c.start_boot.new.house c.play_next-played.result.0
       (plan-at c.args.plans.now c.loop-number.number c.index-plans-number.result c.index-plans-number.is c.loop-number-test.true)
       c.loop-number.invariant.ran c.in-None.ensures
-      (subst (λ (of_boot : List (List Item)). BootMore g.K.Keeper.faults c.play_next-played.result.1 c.loop-number.wanting (files_for (shelves_told g.P.Shelf.files g.P.Shelf.faults c.args.shelves.now.items)) of_boot c.start_boot.new.house c.play_next-played.result.0)
+      (subst (λ (of_boot : List (List Item)). BootMore g.K.Keeper.faults c.play_next-played.result.1 c.loop-number.wanting (means_for (steps_at (λ b. (goal.Plugin-dyn g (b.vtable, b.value)).steps b.value) c.args.plugins.now) (shelves_told g.P.Shelf.files g.P.Shelf.faults c.args.shelves.now.items)) of_boot c.start_boot.new.house c.play_next-played.result.0)
       c.scripts_of-of_boot.ensures
-      (same-files g.K.Keeper.faults c.play_next-played.result.1 c.loop-number.wanting (files_for (shelves_told g.P.Shelf.files g.P.Shelf.faults c.loop-number.shelves.items)) (files_for (shelves_told g.P.Shelf.files g.P.Shelf.faults c.args.shelves.now.items)) c.scripts_of-of_boot.result.now
+      (same-means g.K.Keeper.faults c.play_next-played.result.1 c.loop-number.wanting (means_for (steps_at (λ b. (goal.Plugin-dyn g (b.vtable, b.value)).steps b.value) c.args.plugins.now) (shelves_told g.P.Shelf.files g.P.Shelf.faults c.loop-number.shelves.items)) (means_for (steps_at (λ b. (goal.Plugin-dyn g (b.vtable, b.value)).steps b.value) c.args.plugins.now) (shelves_told g.P.Shelf.files g.P.Shelf.faults c.args.shelves.now.items)) c.scripts_of-of_boot.result.now
       c.start_boot.new.house c.play_next-played.result.0
-      (files-stay (shelves_told g.P.Shelf.files g.P.Shelf.faults c.args.shelves.now.items) (shelves_told g.P.Shelf.files g.P.Shelf.faults c.loop-number.shelves.items) c.loop-number.invariant.kept) c.play_next-played.ensures.more))
+      (λ client. ap (λ (f : Files). means_of f (steps_at (λ b. (goal.Plugin-dyn g (b.vtable, b.value)).steps b.value) c.args.plugins.now)) (files-stay (shelves_told g.P.Shelf.files g.P.Shelf.faults c.args.shelves.now.items) (shelves_told g.P.Shelf.files g.P.Shelf.faults c.loop-number.shelves.items) c.loop-number.invariant.kept client)) c.play_next-played.ensures.more))
       c.play_next-played.ensures.unread;
-  read = run-read g.K.Keeper.rows g.K.Keeper.faults c.play_next-played.result.1 c.loop-number.wanting (files_for (shelves_told g.P.Shelf.files g.P.Shelf.faults c.loop-number.shelves.items)) c.scripts_of-of_boot.result.now
+  read = run-read g.K.Keeper.rows g.K.Keeper.faults c.play_next-played.result.1 c.loop-number.wanting (means_for (steps_at (λ b. (goal.Plugin-dyn g (b.vtable, b.value)).steps b.value) c.args.plugins.now) (shelves_told g.P.Shelf.files g.P.Shelf.faults c.loop-number.shelves.items)) c.scripts_of-of_boot.result.now
       c.index-plans-number.result c.loop-number.house c.start_boot.new.house c.play_next-played.result.0 c.in-None.ensures c.play_next-played.ensures.more;
   kept = shelves-both (shelves_told g.P.Shelf.files g.P.Shelf.faults c.args.shelves.now.items) (shelves_told g.P.Shelf.files g.P.Shelf.faults c.loop-number.shelves.items) (shelves_told g.P.Shelf.files g.P.Shelf.faults c.play_next-played.new.shelves.items)
       c.loop-number.invariant.kept c.play_next-played.ensures.kept;

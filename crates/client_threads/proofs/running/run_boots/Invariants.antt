@@ -1,14 +1,15 @@
 use Rattle.daemon_core.specs.Housed.{past}
 use Rattle.client_plays.specs.Faults.{ShelvesCount}
 use Rattle.client_plays.specs.Has.{shelves_told}
-use Rattle.client_plays.specs.Shelves.{files_for}
+use Rattle.client_plays.specs.Shelves.{means_for}
+use Rattle.plugin_trait.specs.Steps.{steps_at}
 use Rattle.client_plays.specs.Tools.{ShelvesStay}
 use Rattle.campaign_runs.specs.Runs.{RanSoFar, ReadLast}
 use Rattle.client_threads.proofs.running.run_boots.Given as goal
 
 abbrev pub invariant-loop-number : goal.invariant-loop-number
 invariant-loop-number g l = record {
-  ran : RanSoFar g.K.Keeper.rows g.K.Keeper.faults l.wanting (files_for (shelves_told g.P.Shelf.files g.P.Shelf.faults l.fn.shelves.items)) l.plans l.scripts l.number l.fn.house l.house;
+  ran : RanSoFar g.K.Keeper.rows g.K.Keeper.faults l.wanting (means_for (steps_at (λ b. (goal.Plugin-dyn g (b.vtable, b.value)).steps b.value) l.plugins) (shelves_told g.P.Shelf.files g.P.Shelf.faults l.fn.shelves.items)) l.plans l.scripts l.number l.fn.house l.house;
   read : ReadLast l.house;
   kept : ShelvesStay (shelves_told g.P.Shelf.files g.P.Shelf.faults l.fn.shelves.items) (shelves_told g.P.Shelf.files g.P.Shelf.faults l.shelves.items);
   told : ShelvesCount (past l.fn.house) (past l.house) (shelves_told g.P.Shelf.files g.P.Shelf.faults l.fn.shelves.items) (shelves_told g.P.Shelf.files g.P.Shelf.faults l.shelves.items);

@@ -4,7 +4,8 @@ use Rattle.client_plays.specs.Endings.{HouseWent}
 use Rattle.client_plays.specs.Moments.{began}
 use Rattle.client_plays.specs.Plays.{TaskPlays}
 use Rattle.client_plays.specs.Scripts.{tasks}
-use Rattle.client_plays.specs.Tools.{Files}
+use Rattle.client_plays.specs.Tools.{Files, means_of}
+use Rattle.plugin_trait.specs.Steps.{steps_at}
 use Rattle.client_threads.proofs.Shelves.{files-first, stay-first}
 use Rattle.client_threads.proofs.ShelfFaults.{count-tasks}
 use Rattle.client_threads.proofs.tasks.do_tasks_first.Goals as goal
@@ -12,7 +13,7 @@ use Rattle.client_threads.proofs.tasks.do_tasks_first.Goals as goal
 pub returns-clause-went : goal.returns-clause-went
 returns-clause-went g c =
     let house = c.args.house.now in
-    subst (λ (f : Files). HouseWent g.K.Keeper.faults c.do_tasks.result 0 (TaskPlays house.annals.facts f) (tasks house.annals.facts (rows_before house.annals) (began (past house))) house c.do_tasks.new.house)
+    subst (λ (f : Files). HouseWent g.K.Keeper.faults c.do_tasks.result 0 (TaskPlays house.annals.facts (rows_before house.annals) (means_of f (steps_at (λ b. (goal.Plugin-dyn g (b.vtable, b.value)).steps b.value) c.args.plugins.now))) (tasks house.annals.facts (rows_before house.annals) (began (past house))) house c.do_tasks.new.house)
     (sym (files-first g.P.Shelf.files g.P.Shelf.faults c.args.shelves.now.items c.index_mut.result.now c.requires.shelf c.index_mut.ensures.value)) c.do_tasks.ensures.went
 
 pub returns-clause-kept : goal.returns-clause-kept

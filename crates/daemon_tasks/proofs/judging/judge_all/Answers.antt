@@ -1,39 +1,40 @@
 use Rattle.std.proofs.Common.{false, take, get_or, ◌∷◌, []}
 use Rattle.std.specs.Prelude.{None}
 use Rattle.client_plays.specs.Plays.{TaskPlays}
+use Rattle.client_plays.specs.Tools.{files_alone}
 use Rattle.client_plays.proofs.RestLaws.{still-booted}
 use Rattle.daemon_tasks.specs.Judged.{to_judge_in}
 use Rattle.daemon_tasks.proofs.JudgeLoops.{judged-end, judged-none, judged-turn, known-turn, off-turn}
 use Rattle.daemon_tasks.proofs.judging.judge_all.Goals as goal
 
 pub loop-entry-init : goal.loop-entry-init
-loop-entry-init g c = record { so_far = λ facts files. judged-none g.K.Keeper.faults facts files false c.args.house.now c.requires.idle }
+loop-entry-init g c = record { so_far = λ facts opening files. judged-none g.K.Keeper.faults facts opening (files_alone files) false c.args.house.now c.requires.idle }
 
 pub judge_next-requires-clause-booted : goal.judge_next-requires-clause-booted
 judge_next-requires-clause-booted g c =
     let facts = c.args.house.now.annals.facts in
-    still-booted g.K.Keeper.faults c.loop-entry.wanting 0 (TaskPlays facts None) (to_judge_in c.args.house.now.annals (take c.loop-entry.entry-index c.args.entries.now)) c.args.house.now c.loop-entry.house
-    (c.loop-entry.invariant.so_far facts None).so_far c.requires.booted
+    still-booted g.K.Keeper.faults c.loop-entry.wanting 0 (TaskPlays facts [] (files_alone None)) (to_judge_in c.args.house.now.annals (take c.loop-entry.entry-index c.args.entries.now)) c.args.house.now c.loop-entry.house
+    (c.loop-entry.invariant.so_far facts [] None).so_far c.requires.booted
 
 pub judge_next-requires-clause-idle : goal.judge_next-requires-clause-idle
-judge_next-requires-clause-idle g c = (c.loop-entry.invariant.so_far c.args.house.now.annals.facts None).so_far.rest.idle
+judge_next-requires-clause-idle g c = (c.loop-entry.invariant.so_far c.args.house.now.annals.facts [] None).so_far.rest.idle
 
 pub judge_next-requires-clause-row : goal.judge_next-requires-clause-row
 judge_next-requires-clause-row g c =
-    known-turn c.args.entries.now c.loop-entry.entry-index c.args.house.now.annals c.loop-entry.house.annals c.loop-entry-test.true c.requires.apart c.requires.rows (c.loop-entry.invariant.so_far c.args.house.now.annals.facts None).stays
+    known-turn c.args.entries.now c.loop-entry.entry-index c.args.house.now.annals c.loop-entry.house.annals c.loop-entry-test.true c.requires.apart c.requires.rows (c.loop-entry.invariant.so_far c.args.house.now.annals.facts [] None).stays
 
 pub returns-in-None : goal.returns-in-None
-returns-in-None g c facts files =
+returns-in-None g c facts opening files =
     let i = c.loop-entry.entry-index in
-    off-turn g.K.Keeper.faults facts files c.loop-entry.wanting c.args.entries.now i c.args.house.now c.loop-entry.house c.judge_next.new.house c.loop-entry-test.true (c.loop-entry.invariant.so_far facts files)
-    (to_judge_in c.loop-entry.house.annals (get_or c.args.entries.now i 0 ∷ [])) (c.in-None.ensures.more facts files)
+    off-turn g.K.Keeper.faults facts opening (files_alone files) c.loop-entry.wanting c.args.entries.now i c.args.house.now c.loop-entry.house c.judge_next.new.house c.loop-entry-test.true (c.loop-entry.invariant.so_far facts opening files)
+    (to_judge_in c.loop-entry.house.annals (get_or c.args.entries.now i 0 ∷ [])) (c.in-None.ensures.more facts opening files)
 
 pub loop-entry-preserved : goal.loop-entry-preserved
 loop-entry-preserved g c = record {
-  so_far = λ facts files. judged-turn g.K.Keeper.faults facts files c.in-Some.now c.loop-entry.wanting c.args.entries.now c.loop-entry.entry-index c.args.house.now c.loop-entry.house c.judge_next.new.house
-      c.loop-entry-test.true c.requires.apart c.requires.idle (c.loop-entry.invariant.so_far facts files) (c.in-Some.ensures.more facts files) c.in-Some.ensures.stays;
+  so_far = λ facts opening files. judged-turn g.K.Keeper.faults facts opening (files_alone files) c.in-Some.now c.loop-entry.wanting c.args.entries.now c.loop-entry.entry-index c.args.house.now c.loop-entry.house c.judge_next.new.house
+      c.loop-entry-test.true c.requires.apart c.requires.idle (c.loop-entry.invariant.so_far facts opening files) (c.in-Some.ensures.more facts opening files) c.in-Some.ensures.stays;
 }
 
 pub returns : goal.returns
-returns g c facts files =
-    judged-end g.K.Keeper.faults facts files c.loop-entry.wanting c.args.entries.now c.loop-entry.entry-index c.args.house.now c.loop-entry.house c.loop-entry-test.false (c.loop-entry.invariant.so_far facts files)
+returns g c facts opening files =
+    judged-end g.K.Keeper.faults facts opening (files_alone files) c.loop-entry.wanting c.args.entries.now c.loop-entry.entry-index c.args.house.now c.loop-entry.house c.loop-entry-test.false (c.loop-entry.invariant.so_far facts opening files)

@@ -1,14 +1,15 @@
 use Rattle.std.proofs.Common.{sym, subst, ◌∷◌, []}
 use Rattle.daemon_core.proofs.Planned.{keeps-same}
+use Rattle.client_plays.specs.Tools.{files_alone}
 use Rattle.daemon_tasks.specs.Judged.{HouseTried, to_judge_in}
 use Rattle.daemon_tasks.proofs.JudgePlays.{tried, tried-stays}
 use Rattle.daemon_tasks.proofs.judging.judge_next.Goals as goal
 
 pub returns-clause-more : goal.returns-clause-more
-returns-clause-more g c facts files =
+returns-clause-more g c facts opening files =
     let o = c.judge-outcome in
-    subst (λ t. HouseTried g.K.Keeper.faults facts files t c.args.wanting (to_judge_in c.args.house.now.annals (c.args.entry ∷ [])) c.args.house.now o.new.self) (sym c.told.ensures)
-    (tried g.K.Keeper.faults facts files c.args.entry c.requires.row.0 c.args.wanting c.args.house.now o.new.self c.known.ensures.annals c.requires.idle c.requires.row.1 o.ensures.faults o.ensures.counts
+    subst (λ t. HouseTried g.K.Keeper.faults facts opening (files_alone files) t c.args.wanting (to_judge_in c.args.house.now.annals (c.args.entry ∷ [])) c.args.house.now o.new.self) (sym c.told.ensures)
+    (tried g.K.Keeper.faults facts opening (files_alone files) c.args.entry c.requires.row.0 c.args.wanting c.args.house.now o.new.self c.known.ensures.annals c.requires.idle c.requires.row.1 o.ensures.faults o.ensures.counts
     (keeps-same c.args.house.now.places o.new.self.places o.ensures.places) o.result o.ensures.turn)
 
 pub returns-clause-stays : goal.returns-clause-stays

@@ -4,14 +4,16 @@ use Rattle.update_log.specs.declared.facts.Facts.{Facts}
 use Rattle.client_plays.specs.Plays.{TaskPlays, ToResume}
 use Rattle.client_plays.proofs.RestLaws.{so_far-nothing, still-booted}
 use Rattle.daemon_tasks.proofs.ResumeLoops.{apart-later, le-both, resumed-end, resumed-off, resumed-turn, same-task, told-more, waits-later, waits-next}
-use Rattle.daemon_core.specs.Housed.{past}
+use Rattle.daemon_core.specs.Housed.{past, rows_before}
+use Rattle.client_plays.specs.Tools.{means_of}
+use Rattle.plugin_trait.specs.Steps.{steps_at}
 use Rattle.client_plays.specs.Moments.{mine}
 use Rattle.client_plays.proofs.FaultLaws.{told-both, told-same}
 use Rattle.daemon_tasks.proofs.resuming.resume_all.Goals as goal
 
 pub loop-entry-init : goal.loop-entry-init
 loop-entry-init g c = record {
-  so_far = so_far-nothing g.K.Keeper.faults c.args.before 0 (TaskPlays c.args.house.now.annals.facts (g.P.Shelf.files c.args.shelf.now)) c.args.house.now c.requires.idle;
+  so_far = so_far-nothing g.K.Keeper.faults c.args.before 0 (TaskPlays c.args.house.now.annals.facts (rows_before c.args.house.now.annals) (means_of (g.P.Shelf.files c.args.shelf.now) (steps_at (λ b. (goal.Plugin-dyn g (b.vtable, b.value)).steps b.value) c.args.plugins.now))) c.args.house.now c.requires.idle;
   told = λ b. b;
   waits = c.requires.waits;
   apart = c.requires.apart;
@@ -22,7 +24,7 @@ loop-entry-init g c = record {
 
 pub resume_next-requires-clause-booted : goal.resume_next-requires-clause-booted
 resume_next-requires-clause-booted g c =
-    still-booted g.K.Keeper.faults c.loop-entry.wanting 0 (TaskPlays c.args.house.now.annals.facts (g.P.Shelf.files c.args.shelf.now)) (map ToResume (take c.loop-entry.entry-index c.args.entries.now)) c.args.house.now c.loop-entry.house
+    still-booted g.K.Keeper.faults c.loop-entry.wanting 0 (TaskPlays c.args.house.now.annals.facts (rows_before c.args.house.now.annals) (means_of (g.P.Shelf.files c.args.shelf.now) (steps_at (λ b. (goal.Plugin-dyn g (b.vtable, b.value)).steps b.value) c.args.plugins.now))) (map ToResume (take c.loop-entry.entry-index c.args.entries.now)) c.args.house.now c.loop-entry.house
     c.loop-entry.invariant.so_far c.requires.booted
 
 pub resume_next-requires-clause-waits : goal.resume_next-requires-clause-waits
@@ -36,12 +38,13 @@ pub returns-in-None-clause-more : goal.returns-in-None-clause-more
 returns-in-None-clause-more g c =
     let v = c.loop-entry.invariant in
     let i = c.loop-entry.entry-index in
-    let facts = c.args.house.now.annals.facts in
+    let a = c.args.house.now.annals in
     let files = g.P.Shelf.files c.args.shelf.now in
-    resumed-off g.K.Keeper.faults (TaskPlays facts files) c.args.before c.loop-entry.wanting c.args.entries.now i c.args.house.now c.loop-entry.house c.resume_next.new.house
+    let plugins = (steps_at (λ b. (goal.Plugin-dyn g (b.vtable, b.value)).steps b.value) c.args.plugins.now) in
+    resumed-off g.K.Keeper.faults (TaskPlays a.facts (rows_before a) (means_of files plugins)) c.args.before c.loop-entry.wanting c.args.entries.now i c.args.house.now c.loop-entry.house c.resume_next.new.house
     c.loop-entry-test.true v.told v.so_far
-    (same-task g.K.Keeper.faults None c.loop-entry.wanting (ToResume (get_or c.args.entries.now i 0)) facts c.loop-entry.house.annals.facts files (g.P.Shelf.files c.loop-entry.shelf) c.loop-entry.house c.resume_next.new.house
-    v.so_far.rest.same.facts v.files c.in-None.ensures.more)
+    (same-task g.K.Keeper.faults None c.loop-entry.wanting (ToResume (get_or c.args.entries.now i 0)) plugins a c.loop-entry.house.annals files (g.P.Shelf.files c.loop-entry.shelf) c.loop-entry.house c.resume_next.new.house
+    v.so_far.rest.same v.files c.in-None.ensures.more)
 
 pub returns-in-None-clause-files : goal.returns-in-None-clause-files
 returns-in-None-clause-files g c = c.in-None.ensures.files ∙ c.loop-entry.invariant.files
@@ -54,12 +57,13 @@ pub loop-entry-preserved : goal.loop-entry-preserved
 loop-entry-preserved g c =
     let v = c.loop-entry.invariant in
     let i = c.loop-entry.entry-index in
-    let facts = c.args.house.now.annals.facts in
+    let a = c.args.house.now.annals in
     let files = g.P.Shelf.files c.args.shelf.now in
+    let plugins = (steps_at (λ b. (goal.Plugin-dyn g (b.vtable, b.value)).steps b.value) c.args.plugins.now) in
     record {
-      so_far = resumed-turn g.K.Keeper.faults (TaskPlays facts files) c.in-Some.now c.loop-entry.wanting c.args.entries.now i c.args.house.now c.loop-entry.house c.resume_next.new.house c.loop-entry-test.true v.so_far
-          (same-task g.K.Keeper.faults (Some c.in-Some.now) c.loop-entry.wanting (ToResume (get_or c.args.entries.now i 0)) facts c.loop-entry.house.annals.facts files (g.P.Shelf.files c.loop-entry.shelf) c.loop-entry.house c.resume_next.new.house
-          v.so_far.rest.same.facts v.files c.in-Some.ensures.more);
+      so_far = resumed-turn g.K.Keeper.faults (TaskPlays a.facts (rows_before a) (means_of files plugins)) c.in-Some.now c.loop-entry.wanting c.args.entries.now i c.args.house.now c.loop-entry.house c.resume_next.new.house c.loop-entry-test.true v.so_far
+          (same-task g.K.Keeper.faults (Some c.in-Some.now) c.loop-entry.wanting (ToResume (get_or c.args.entries.now i 0)) plugins a c.loop-entry.house.annals files (g.P.Shelf.files c.loop-entry.shelf) c.loop-entry.house c.resume_next.new.house
+          v.so_far.rest.same v.files c.in-Some.ensures.more);
       told = told-more c.args.before c.in-Some.now c.loop-entry.wanting c.in-Some.ensures.more.more.0 v.told;
       waits = waits-later c.loop-entry.house.annals c.resume_next.new.house.annals c.args.entries.now i c.loop-entry-test.true v.apart v.waits c.in-Some.ensures.others;
       apart = apart-later c.args.entries.now i c.loop-entry-test.true v.apart;
@@ -71,7 +75,7 @@ loop-entry-preserved g c =
 
 pub returns-clause-more : goal.returns-clause-more
 returns-clause-more g c =
-    resumed-end g.K.Keeper.faults (TaskPlays c.args.house.now.annals.facts (g.P.Shelf.files c.args.shelf.now)) c.args.before c.loop-entry.wanting c.args.entries.now c.loop-entry.entry-index c.args.house.now c.loop-entry.house c.loop-entry-test.false c.loop-entry.invariant.told c.loop-entry.invariant.so_far
+    resumed-end g.K.Keeper.faults (TaskPlays c.args.house.now.annals.facts (rows_before c.args.house.now.annals) (means_of (g.P.Shelf.files c.args.shelf.now) (steps_at (λ b. (goal.Plugin-dyn g (b.vtable, b.value)).steps b.value) c.args.plugins.now))) c.args.before c.loop-entry.wanting c.args.entries.now c.loop-entry.entry-index c.args.house.now c.loop-entry.house c.loop-entry-test.false c.loop-entry.invariant.told c.loop-entry.invariant.so_far
 
 pub returns-in-None-clause-told : goal.returns-in-None-clause-told
 returns-in-None-clause-told g c =

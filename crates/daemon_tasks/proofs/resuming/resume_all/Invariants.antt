@@ -1,5 +1,7 @@
 use Rattle.std.proofs.Common.{◌≡◌, ◌≤◌, true, drop, map, take}
-use Rattle.daemon_core.specs.Housed.{past}
+use Rattle.daemon_core.specs.Housed.{past, rows_before}
+use Rattle.client_plays.specs.Tools.{means_of}
+use Rattle.plugin_trait.specs.Steps.{steps_at}
 use Rattle.client_plays.specs.Endings.{SoFar}
 use Rattle.client_plays.specs.Faults.{FaultsTold}
 use Rattle.client_plays.specs.Moments.{mine}
@@ -10,7 +12,7 @@ use Rattle.daemon_tasks.proofs.resuming.resume_all.Given as goal
 
 abbrev pub invariant-loop-entry : goal.invariant-loop-entry
 invariant-loop-entry g l = record {
-  so_far : SoFar g.K.Keeper.faults l.wanting 0 (TaskPlays l.initial.house.annals.facts (g.P.Shelf.files l.initial.shelf)) (map ToResume (take l.entry-index l.entries)) l.initial.house l.house;
+  so_far : SoFar g.K.Keeper.faults l.wanting 0 (TaskPlays l.initial.house.annals.facts (rows_before l.initial.house.annals) (means_of (g.P.Shelf.files l.initial.shelf) (steps_at (λ b. (goal.Plugin-dyn g (b.vtable, b.value)).steps b.value) l.plugins))) (map ToResume (take l.entry-index l.entries)) l.initial.house l.house;
   told : l.before ≡ true → l.wanting ≡ true;
   waits : AllWait l.house.annals (drop l.entry-index l.entries);
   apart : AreApart (drop l.entry-index l.entries);

@@ -1,3 +1,5 @@
+use Rattle.plugin_trait.specs.Steps.{steps_at}
+use Rattle.client_plays.specs.Tools.{means_of}
 use Rattle.std.proofs.Common.{◌≤◌, arith, length, refl, subst, sym}
 use Rattle.std.specs.Prelude.{Some}
 use Rattle.update_log.specs.declared.answer.AskAnswer.{AskAnswer}
@@ -120,7 +122,7 @@ returns-in-Ok-Held-clause-played g c =
     let kept = waits-kept c.args.house.now.annals c.args.entry c.known.ensures.annals w in
     let a = c.in-Ok-Held in
     let t = rw a.field-0-is at (a.ensures.turn w.row kept) in
-    pending-behind g.K.Keeper.faults (g.P.Shelf.files c.args.shelf.now) c.args.entry (request_of_row w.row) (answer_of (Asked.Held a.hold)) c.resume_held.result c.args.house.now c.ask_pending.new.self c.resume_held.new.house c.ask_pending.ensures.keeper c.ask_pending.ensures.places t.1 c.resume_held.ensures.played
+    pending-behind g.K.Keeper.faults (means_of (g.P.Shelf.files c.args.shelf.now) (steps_at (λ b. (goal.Plugin-dyn g (b.vtable, b.value)).steps b.value) c.args.plugins.now)) c.args.entry (request_of_row w.row) (answer_of (Asked.Held a.hold)) c.resume_held.result c.args.house.now c.ask_pending.new.self c.resume_held.new.house c.ask_pending.ensures.keeper c.ask_pending.ensures.places t.1 c.resume_held.ensures.played
 
 pub returns-in-Ok-Held-clause-others : goal.returns-in-Ok-Held-clause-others
 returns-in-Ok-Held-clause-others g c =
@@ -136,7 +138,7 @@ returns-in-Ok-Refused-clause-played g c =
     let kept = waits-kept c.args.house.now.annals c.args.entry c.known.ensures.annals w in
     let a = c.in-Ok-Refused in
     let t = rw a.field-0-is at (a.ensures.turn w.row kept) in
-    pending-behind g.K.Keeper.faults (g.P.Shelf.files c.args.shelf.now) c.args.entry (request_of_row w.row) (AskAnswer.Refused a.field-0-0) c.resume_with.result c.args.house.now c.ask_pending.new.self c.resume_with.new.house c.ask_pending.ensures.keeper c.ask_pending.ensures.places t.1
+    pending-behind g.K.Keeper.faults (means_of (g.P.Shelf.files c.args.shelf.now) (steps_at (λ b. (goal.Plugin-dyn g (b.vtable, b.value)).steps b.value) c.args.plugins.now)) c.args.entry (request_of_row w.row) (AskAnswer.Refused a.field-0-0) c.resume_with.result c.args.house.now c.ask_pending.new.self c.resume_with.new.house c.ask_pending.ensures.keeper c.ask_pending.ensures.places t.1
     (c.resume_with.ensures.played (g.P.Shelf.files c.args.shelf.now) (AskAnswer.Refused a.field-0-0) refl)
 
 pub returns-in-Ok-Refused-clause-others : goal.returns-in-Ok-Refused-clause-others
@@ -151,7 +153,7 @@ pub returns-in-Err-clause-played : goal.returns-in-Err-clause-played
 returns-in-Err-clause-played g c =
     let w = c.requires.waits in
     let kept = waits-kept c.args.house.now.annals c.args.entry c.known.ensures.annals w in
-    pending-stopped g.K.Keeper.faults (g.P.Shelf.files c.args.shelf.now) c.args.entry c.stopped_by.result c.in-Err.stop c.args.house.now c.ask_pending.new.self c.stopped_by.ensures c.requires.idle
+    pending-stopped g.K.Keeper.faults (means_of (g.P.Shelf.files c.args.shelf.now) (steps_at (λ b. (goal.Plugin-dyn g (b.vtable, b.value)).steps b.value) c.args.plugins.now)) c.args.entry c.stopped_by.result c.in-Err.stop c.args.house.now c.ask_pending.new.self c.stopped_by.ensures c.requires.idle
     (halted-turn 0 (λ (asked : Asked). Event.Ask 0 (request_of_row w.row) (Some c.args.entry) (answer_of asked)) c.in-Err.stop c.args.house.now.annals c.ask_pending.new.self.annals (c.in-Err.ensures.turn w.row kept)) c.ask_pending.ensures.keeper c.ask_pending.ensures.places
 
 pub returns-in-Err-clause-others : goal.returns-in-Err-clause-others

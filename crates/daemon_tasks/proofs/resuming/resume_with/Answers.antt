@@ -1,5 +1,7 @@
 use Rattle.std.proofs.Common.{length}
-use Rattle.daemon_tasks.proofs.ResumePlays.{refused-others, resume-others, resume-played, resume-refused, resume-stopped, resumed-alone, resumed-marks, resumed-new, resumed-plugin, resumed-runs, stopped-booted, stopped-others, stopped-out}
+use Rattle.plugin_trait.specs.Steps.{steps_at}
+use Rattle.client_plays.specs.Tools.{means_of}
+use Rattle.daemon_tasks.proofs.ResumePlays.{refused-others, resume-others, resume-played, resume-refused, resume-stopped, resumed-alone, resumed-marks, resumed-new, resumed-own, resumed-plugin, resumed-runs, stopped-booted, stopped-others, stopped-out}
 use Rattle.daemon_tasks.proofs.FaultPlays.{refused-told, resumed-told, stopped-told}
 use Rattle.daemon_tasks.proofs.resuming.resume_with.Goals as goal
 
@@ -19,6 +21,10 @@ pub run_taken-requires-clause-served : goal.run_taken-requires-clause-served
 run_taken-requires-clause-served g c =
     resumed-plugin c.args.entry c.args.held c.in-Ok-Taken.taken c.args.house.now c.resume.new.self (rw c.in-Ok-Taken.field-0-is at c.in-Ok-Taken.ensures.turn) (rw c.in-Ok-Taken.field-0-is at c.in-Ok-Taken.ensures.gave) (length c.args.plugins.now) c.requires.served
 
+pub run_taken-requires-clause-own : goal.run_taken-requires-clause-own
+run_taken-requires-clause-own g c =
+    resumed-own c.args.entry c.args.held c.in-Ok-Taken.taken c.args.house.now c.resume.new.self (rw c.in-Ok-Taken.field-0-is at c.in-Ok-Taken.ensures.turn) (rw c.in-Ok-Taken.field-0-is at c.in-Ok-Taken.ensures.gave)
+
 pub run_taken-requires-clause-alone : goal.run_taken-requires-clause-alone
 run_taken-requires-clause-alone g c =
     resumed-alone c.args.entry c.args.held c.in-Ok-Taken.taken c.args.house.now c.resume.new.self (rw c.in-Ok-Taken.field-0-is at c.in-Ok-Taken.ensures.turn) (rw c.in-Ok-Taken.field-0-is at c.in-Ok-Taken.ensures.gave) c.requires.out
@@ -36,7 +42,7 @@ give_up-requires-clause-out g c =
 
 pub returns-in-Ok-Taken-clause-played : goal.returns-in-Ok-Taken-clause-played
 returns-in-Ok-Taken-clause-played g c files asked f =
-    resume-played c.args.entry c.args.held c.in-Ok-Taken.taken c.args.house.now c.resume.new.self (rw c.in-Ok-Taken.field-0-is at c.in-Ok-Taken.ensures.turn) (rw c.in-Ok-Taken.field-0-is at c.in-Ok-Taken.ensures.gave) g.K.Keeper.faults files asked c.run_taken.result c.run_taken.new.house f c.resume.ensures.faults c.resume.ensures.counts c.run_taken.ensures.played
+    resume-played c.args.entry c.args.held c.in-Ok-Taken.taken c.args.house.now c.resume.new.self (rw c.in-Ok-Taken.field-0-is at c.in-Ok-Taken.ensures.turn) (rw c.in-Ok-Taken.field-0-is at c.in-Ok-Taken.ensures.gave) g.K.Keeper.faults (means_of files (steps_at (λ b. (goal.Plugin-dyn g (b.vtable, b.value)).steps b.value) c.args.plugins.now)) asked c.run_taken.result c.run_taken.new.house f c.resume.ensures.faults c.resume.ensures.counts c.run_taken.ensures.played
 
 pub returns-in-Ok-Taken-clause-others : goal.returns-in-Ok-Taken-clause-others
 returns-in-Ok-Taken-clause-others g c =
@@ -45,7 +51,7 @@ returns-in-Ok-Taken-clause-others g c =
 pub returns-in-Ok-Refused-clause-played : goal.returns-in-Ok-Refused-clause-played
 returns-in-Ok-Refused-clause-played g c files asked f =
     let a = c.in-Ok-Refused in
-    resume-refused g.K.Keeper.faults files asked c.args.entry c.args.held a.field-0-0 c.args.house.now c.resume.new.self f c.requires.out (rw a.field-0-is at a.ensures.turn) (rw a.field-0-is at a.ensures.gave) c.resume.ensures.faults c.resume.ensures.counts
+    resume-refused g.K.Keeper.faults (means_of files (steps_at (λ b. (goal.Plugin-dyn g (b.vtable, b.value)).steps b.value) c.args.plugins.now)) asked c.args.entry c.args.held a.field-0-0 c.args.house.now c.resume.new.self f c.requires.out (rw a.field-0-is at a.ensures.turn) (rw a.field-0-is at a.ensures.gave) c.resume.ensures.faults c.resume.ensures.counts
 
 pub returns-in-Ok-Refused-clause-others : goal.returns-in-Ok-Refused-clause-others
 returns-in-Ok-Refused-clause-others g c =
@@ -54,7 +60,7 @@ returns-in-Ok-Refused-clause-others g c =
 
 pub returns-in-Err-clause-played : goal.returns-in-Err-clause-played
 returns-in-Err-clause-played g c files asked f =
-    resume-stopped c.args.entry c.args.held c.in-Err.stopped c.args.house.now c.resume.new.self c.in-Err.ensures.turn c.in-Err.ensures.gave g.K.Keeper.faults files asked c.give_up.result c.give_up.new.house f c.give_up.ensures.told c.requires.out c.resume.ensures.faults c.resume.ensures.counts
+    resume-stopped c.args.entry c.args.held c.in-Err.stopped c.args.house.now c.resume.new.self c.in-Err.ensures.turn c.in-Err.ensures.gave g.K.Keeper.faults (means_of files (steps_at (λ b. (goal.Plugin-dyn g (b.vtable, b.value)).steps b.value) c.args.plugins.now)) asked c.give_up.result c.give_up.new.house f c.give_up.ensures.told c.requires.out c.resume.ensures.faults c.resume.ensures.counts
     c.give_up.ensures.given c.give_up.ensures.keeper c.give_up.ensures.places
 
 pub returns-in-Err-clause-others : goal.returns-in-Err-clause-others
@@ -63,7 +69,7 @@ returns-in-Err-clause-others g c =
 
 pub returns-in-Ok-Taken-clause-told : goal.returns-in-Ok-Taken-clause-told
 returns-in-Ok-Taken-clause-told g c =
-    resumed-told g.K.Keeper.faults c.args.entry c.args.held c.in-Ok-Taken.taken c.run_taken.result c.args.house.now c.resume.new.self c.run_taken.new.house (rw c.in-Ok-Taken.field-0-is at c.in-Ok-Taken.ensures.turn) c.run_taken.ensures.played
+    resumed-told g.K.Keeper.faults (steps_at (λ b. (goal.Plugin-dyn g (b.vtable, b.value)).steps b.value) c.args.plugins.now) c.args.entry c.args.held c.in-Ok-Taken.taken c.run_taken.result c.args.house.now c.resume.new.self c.run_taken.new.house (rw c.in-Ok-Taken.field-0-is at c.in-Ok-Taken.ensures.turn) c.run_taken.ensures.played
 
 pub returns-in-Ok-Refused-clause-told : goal.returns-in-Ok-Refused-clause-told
 returns-in-Ok-Refused-clause-told g c =

@@ -1,9 +1,13 @@
-use Rattle.std.proofs.Common.{◌≤◌, List, map, length, subst, sym, []}
+use Rattle.std.proofs.Common.{◌≤◌, List, map, length, subst, sym, [], ◌++◌}
+use Rattle.plugin_trait.specs.Steps.{steps_at}
+use Rattle.history_keeper.specs.declared.row.Row.{Row}
 use Rattle.update_log.specs.declared.facts.Facts.{Facts}
 use Rattle.offline_updates.specs.Waiting.{is_pending, is_to_judge}
 use Rattle.client_plays.specs.Endings.{HouseMore, HouseWent}
 use Rattle.client_plays.specs.Plays.{Task, TaskPlays, ToResume}
-use Rattle.client_plays.proofs.RestLaws.{still-booted}
+use Rattle.client_plays.specs.Tools.{files_alone, means_of}
+use Rattle.client_plays.proofs.RestLaws.{before-same, still-booted}
+use Rattle.client_plays.proofs.WiderLaws.{so_far-wider, task-wider, went-wider}
 use Rattle.daemon_tasks.specs.Judged.{to_judge_in, can_judge}
 use Rattle.daemon_tasks.proofs.TaskLists.{all-apart, all-known, all-wait, all-wait_still, none-both, tasks-are, went-both}
 use Rattle.std.specs.Prelude.{filter}
@@ -19,18 +23,22 @@ judge_all-requires-clause-rows g c = all-known c.args.house.now.annals c.known.e
 pub judge_all-requires-clause-apart : goal.judge_all-requires-clause-apart
 judge_all-requires-clause-apart g c = all-apart c.args.house.now.annals c.known.ensures.annals is_to_judge c.args.judged.now c.requires.judged
 
+-- What was judged, by the log as the boot began: it needs no plugin.
 pub resume_all-requires-clause-booted : goal.resume_all-requires-clause-booted
 resume_all-requires-clause-booted g c =
-    still-booted g.K.Keeper.faults c.in-Through.wanting 0 (TaskPlays c.args.house.now.annals.facts (g.P.Shelf.files c.args.shelf.now)) (to_judge_in c.args.house.now.annals c.args.judged.now) c.args.house.now c.judge_all.new.house (c.in-Through.ensures c.args.house.now.annals.facts (g.P.Shelf.files c.args.shelf.now)).0 c.requires.booted
+    let a = c.args.house.now.annals in
+    let files = g.P.Shelf.files c.args.shelf.now in
+    still-booted g.K.Keeper.faults c.in-Through.wanting 0 (TaskPlays a.facts (rows_before a) (files_alone files)) (to_judge_in a c.args.judged.now) c.args.house.now c.judge_all.new.house (c.in-Through.ensures a.facts (rows_before a) files).0 c.requires.booted
 
 pub resume_all-requires-clause-idle : goal.resume_all-requires-clause-idle
-resume_all-requires-clause-idle g c = (c.in-Through.ensures c.args.house.now.annals.facts (g.P.Shelf.files c.args.shelf.now)).0.rest.idle
+resume_all-requires-clause-idle g c =
+    let a = c.args.house.now.annals in (c.in-Through.ensures a.facts (rows_before a) (g.P.Shelf.files c.args.shelf.now)).0.rest.idle
 
 pub resume_all-requires-clause-waits : goal.resume_all-requires-clause-waits
 resume_all-requires-clause-waits g c =
     let a = c.args.house.now.annals in
     let k = c.known.ensures.annals in
-    all-wait_still c.args.judged.now a c.judge_all.new.house.annals c.args.waiting.now (c.in-Through.ensures c.args.house.now.annals.facts (g.P.Shelf.files c.args.shelf.now)).1
+    all-wait_still c.args.judged.now a c.judge_all.new.house.annals c.args.waiting.now (c.in-Through.ensures a.facts (rows_before a) (g.P.Shelf.files c.args.shelf.now)).1
     (none-both a k c.args.judged.now c.args.waiting.now c.requires.judged c.requires.waiting) (all-wait a k c.args.waiting.now c.requires.waiting)
 
 pub resume_all-requires-clause-apart : goal.resume_all-requires-clause-apart
@@ -38,31 +46,41 @@ resume_all-requires-clause-apart g c = all-apart c.args.house.now.annals c.known
 
 pub resume_all-requires-clause-served : goal.resume_all-requires-clause-served
 resume_all-requires-clause-served g c =
-    subst (λ (f : Facts). length f.vetoes ≤ length c.args.plugins.now) (sym (c.in-Through.ensures c.args.house.now.annals.facts (g.P.Shelf.files c.args.shelf.now)).0.rest.same.facts) c.requires.served
+    let a = c.args.house.now.annals in
+    subst (λ (f : Facts). length f.vetoes ≤ length c.args.plugins.now) (sym (c.in-Through.ensures a.facts (rows_before a) (g.P.Shelf.files c.args.shelf.now)).0.rest.same.facts) c.requires.served
 
 pub returns-in-Through-clause-went : goal.returns-in-Through-clause-went
 returns-in-Through-clause-went g c =
     let a = c.args.house.now.annals in
-    subst (λ (ts : List Task). HouseWent g.K.Keeper.faults c.resume_all.result 0 (TaskPlays a.facts (g.P.Shelf.files c.args.shelf.now)) ts c.args.house.now c.resume_all.new.house)
+    let files = g.P.Shelf.files c.args.shelf.now in
+    let means = means_of files (steps_at (λ b. (goal.Plugin-dyn g (b.vtable, b.value)).steps b.value) c.args.plugins.now) in
+    let judged = c.in-Through.ensures a.facts (rows_before a) files in
+    let same = judged.0.rest.same in
+    let later = c.judge_all.new.house.annals in
+    subst (λ (ts : List Task). HouseWent g.K.Keeper.faults c.resume_all.result 0 (TaskPlays a.facts (rows_before a) means) ts c.args.house.now c.resume_all.new.house)
     (sym (tasks-are a c.known.ensures.annals c.args.judged.now c.args.waiting.now c.requires.fresh c.requires.judged c.requires.waiting))
-    (went-both g.K.Keeper.faults (TaskPlays a.facts (g.P.Shelf.files c.args.shelf.now)) c.in-Through.wanting c.resume_all.result (to_judge_in a c.args.judged.now) (map ToResume c.args.waiting.now) c.args.house.now c.judge_all.new.house c.resume_all.new.house
-    (c.in-Through.ensures c.args.house.now.annals.facts (g.P.Shelf.files c.args.shelf.now)).0
-    (subst (λ (f : Facts). HouseMore g.K.Keeper.faults c.resume_all.result c.in-Through.wanting 0 (TaskPlays f (g.P.Shelf.files c.args.shelf.now)) (map ToResume c.args.waiting.now) c.judge_all.new.house c.resume_all.new.house)
-    (c.in-Through.ensures c.args.house.now.annals.facts (g.P.Shelf.files c.args.shelf.now)).0.rest.same.facts c.resume_all.ensures.more))
+    (went-both g.K.Keeper.faults (TaskPlays a.facts (rows_before a) means) c.in-Through.wanting c.resume_all.result (to_judge_in a c.args.judged.now) (map ToResume c.args.waiting.now) c.args.house.now c.judge_all.new.house c.resume_all.new.house
+    (so_far-wider c.in-Through.wanting 0 (TaskPlays a.facts (rows_before a) means) (TaskPlays a.facts (rows_before a) (files_alone files)) (task-wider a.facts (rows_before a) means) g.K.Keeper.faults (to_judge_in a c.args.judged.now) c.args.house.now c.judge_all.new.house judged.0)
+    (subst (λ (o : List Row). HouseMore g.K.Keeper.faults c.resume_all.result c.in-Through.wanting 0 (TaskPlays a.facts o means) (map ToResume c.args.waiting.now) c.judge_all.new.house c.resume_all.new.house) (before-same a later same)
+    (subst (λ (f : Facts). HouseMore g.K.Keeper.faults c.resume_all.result c.in-Through.wanting 0 (TaskPlays f (rows_before later) means) (map ToResume c.args.waiting.now) c.judge_all.new.house c.resume_all.new.house) same.facts c.resume_all.ensures.more)))
 
 pub returns-in-Off-clause-went : goal.returns-in-Off-clause-went
 returns-in-Off-clause-went g c =
     let a = c.args.house.now.annals in
-    subst (λ (ts : List Task). HouseWent g.K.Keeper.faults c.in-Off.wanting 0 (TaskPlays a.facts (g.P.Shelf.files c.args.shelf.now)) ts c.args.house.now c.judge_all.new.house)
+    let files = g.P.Shelf.files c.args.shelf.now in
+    let means = means_of files (steps_at (λ b. (goal.Plugin-dyn g (b.vtable, b.value)).steps b.value) c.args.plugins.now) in
+    let all = to_judge_in a c.args.judged.now ++ map ToResume c.args.waiting.now in
+    subst (λ (ts : List Task). HouseWent g.K.Keeper.faults c.in-Off.wanting 0 (TaskPlays a.facts (rows_before a) means) ts c.args.house.now c.judge_all.new.house)
     (sym (tasks-are a c.known.ensures.annals c.args.judged.now c.args.waiting.now c.requires.fresh c.requires.judged c.requires.waiting))
-    (c.in-Off.ensures a.facts (g.P.Shelf.files c.args.shelf.now) (map ToResume c.args.waiting.now))
+    (went-wider c.in-Off.wanting 0 (TaskPlays a.facts (rows_before a) means) (TaskPlays a.facts (rows_before a) (files_alone files)) (task-wider a.facts (rows_before a) means) g.K.Keeper.faults all c.args.house.now c.judge_all.new.house
+    (c.in-Off.ensures a.facts (rows_before a) files (map ToResume c.args.waiting.now)))
 
 pub returns-in-Through-clause-told : goal.returns-in-Through-clause-told
 returns-in-Through-clause-told g c =
     let a = c.args.house.now.annals in
     let files = g.P.Shelf.files c.args.shelf.now in
     told-behind (mine 0 (past c.args.house.now)) (mine 0 (past c.judge_all.new.house)) (mine 0 (past c.resume_all.new.house)) (g.P.Shelf.faults c.args.shelf.now) (g.P.Shelf.faults c.resume_all.new.shelf)
-    (judged-told g.K.Keeper.faults c.in-Through.wanting a.facts files (filter (can_judge a.facts (rows_before a) (past_in a)) c.args.judged.now) c.args.house.now c.judge_all.new.house (c.in-Through.ensures a.facts files).0)
+    (judged-told g.K.Keeper.faults c.in-Through.wanting a.facts (rows_before a) (files_alone files) (filter (can_judge a.facts (rows_before a) (past_in a)) c.args.judged.now) c.args.house.now c.judge_all.new.house (c.in-Through.ensures a.facts (rows_before a) files).0)
     c.resume_all.ensures.told c.resume_all.ensures.counts
 
 pub returns-in-Off-clause-told : goal.returns-in-Off-clause-told
@@ -70,4 +88,4 @@ returns-in-Off-clause-told g c =
     let a = c.args.house.now.annals in
     let files = g.P.Shelf.files c.args.shelf.now in
     told-same (mine 0 (past c.args.house.now)) (mine 0 (past c.judge_all.new.house)) (g.P.Shelf.faults c.args.shelf.now)
-    (judged-off g.K.Keeper.faults c.in-Off.wanting a.facts files (filter (can_judge a.facts (rows_before a) (past_in a)) c.args.judged.now) c.args.house.now c.judge_all.new.house (c.in-Off.ensures a.facts files []))
+    (judged-off g.K.Keeper.faults c.in-Off.wanting a.facts (rows_before a) (files_alone files) (filter (can_judge a.facts (rows_before a) (past_in a)) c.args.judged.now) c.args.house.now c.judge_all.new.house (c.in-Off.ensures a.facts (rows_before a) files []))

@@ -17,7 +17,13 @@ make_ready-requires-clause-shelves g c =
     (omega arith) (omega (arith, same)) (ap length e.plugins ∙ length-map _ _)
 
 pub returns-in-Ok-clause-ends : goal.returns-in-Ok-clause-ends
-returns-in-Ok-clause-ends g c = inr (record { campaign = c.in-Ok.ready.campaign; settled = c.in-Ok.ensures.settled; went = c.make_ready.ensures.went })
+returns-in-Ok-clause-ends g c = inr (record {
+  campaign = c.in-Ok.ready.campaign;
+  settled = c.in-Ok.ensures.settled;
+  started = c.in-Ok.ready.plugins.items;
+  started_are = record { running = c.in-Ok.ensures.running; vetoes = c.in-Ok.ensures.plugins };
+  went = c.make_ready.ensures.went;
+})
 
 pub returns-in-Err-clause-ends : goal.returns-in-Err-clause-ends
 returns-in-Err-clause-ends g c = inl (record {

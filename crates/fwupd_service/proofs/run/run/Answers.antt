@@ -26,6 +26,8 @@ returns-in-Ok-clause-ends g c =
     inr (record {
       campaign = c.in-Ok.ready.campaign;
       opened = opened-many c.len.result (length shelves) count c.in-Ok.ensures.opened;
+      started = c.in-Ok.ready.plugins.items;
+      started_are = record { running = c.in-Ok.ensures.running; vetoes = c.in-Ok.ensures.plugins };
       went = c.run_ready.ensures.went;
     })
 

@@ -1,9 +1,9 @@
-use Rattle.std.proofs.Common.{◌∙◌, []}
+use Rattle.std.proofs.Common.{◌∙◌}
 use Rattle.update_log.specs.declared.event.Event.{Event}
 use Rattle.install_engine.proofs.RunHouse.{booted-off, is-off}
 use Rattle.plain_runs.proofs.Ends.{came-done, came-home, came-off}
-use Rattle.plain_runs.proofs.Logs.{back-none, came-back, gained-one}
-use Rattle.plain_runs.proofs.Pasts.{back-counted, counts-same}
+use Rattle.plain_runs.proofs.Logs.{came-back, gained-one}
+use Rattle.plain_runs.proofs.Pasts.{came-counted, counts-same}
 use Rattle.plain_runs.proofs.Planned.{boards-same, home-off, home-with}
 use Rattle.plain_runs.proofs.running.finish.Goals as goal
 
@@ -28,21 +28,19 @@ give_back-requires-clause-comes g c =
     let t = c.in-Err.ensures.turn in
     came-off c.args.house.now.annals c.args.client c.args.entry c.args.claim c.requires.entry c.requires.runs c.finish.new.self.annals c.in-Err.stop.board c.in-Err.stop.payload t.0 (t.2 ∙ c.into_parts-board.ensures.board) (t.3 ∙ c.into_parts-board.ensures.payload)
 
-pub returns-in-Ok-clause-ran : goal.returns-in-Ok-clause-ran
-returns-in-Ok-clause-ran g c =
+pub returns-in-Ok-clause-closed : goal.returns-in-Ok-clause-closed
+returns-in-Ok-clause-closed g c =
     let f = c.in-Ok.finished in
-    ([], gained-one c.args.client (Event.Finish c.args.client c.args.entry f.state f.stored) c.args.house.now.annals c.finish.new.self.annals c.in-Ok.ensures.turn.1)
+    gained-one c.args.client (Event.Finish c.args.client c.args.entry f.state f.stored) c.args.house.now.annals c.finish.new.self.annals c.in-Ok.ensures.turn.1
 
-pub returns-in-Err-clause-ran : goal.returns-in-Err-clause-ran
-returns-in-Err-clause-ran g c =
-    back-none c.args.client c.args.entry c.args.house.now.annals c.give_back.new.self.annals
-    (came-back c.args.client c.args.entry c.args.house.now.annals c.finish.new.self.annals c.give_back.new.self.annals c.in-Err.ensures.turn.0 c.give_back.ensures.appended)
+pub returns-in-Err-clause-closed : goal.returns-in-Err-clause-closed
+returns-in-Err-clause-closed g c =
+    came-back c.args.client c.args.entry c.args.house.now.annals c.finish.new.self.annals c.give_back.new.self.annals c.in-Err.ensures.turn.0 c.give_back.ensures.appended
 
 pub returns-in-Err-clause-faults : goal.returns-in-Err-clause-faults
 returns-in-Err-clause-faults g c =
-    back-counted g.K.Keeper.faults c.args.client c.args.entry c.args.house.now c.give_back.new.self
-    (back-none c.args.client c.args.entry c.args.house.now.annals c.give_back.new.self.annals
-    (came-back c.args.client c.args.entry c.args.house.now.annals c.finish.new.self.annals c.give_back.new.self.annals c.in-Err.ensures.turn.0 c.give_back.ensures.appended))
+    came-counted g.K.Keeper.faults c.args.client c.args.entry c.args.house.now c.give_back.new.self
+    (came-back c.args.client c.args.entry c.args.house.now.annals c.finish.new.self.annals c.give_back.new.self.annals c.in-Err.ensures.turn.0 c.give_back.ensures.appended)
     (c.give_back.ensures.keeper ∙ c.in-Err.ensures.turn.1.keeper)
 
 pub returns-in-Err-clause-counts : goal.returns-in-Err-clause-counts

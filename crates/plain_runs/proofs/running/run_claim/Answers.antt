@@ -1,17 +1,30 @@
-use Rattle.plain_runs.proofs.Logs.{ran-after}
+use Rattle.plugin_trait.proofs.PlacesAt.{steps-at}
+use Rattle.install_engine.specs.RunsIn.{parts_taken}
+use Rattle.plain_runs.specs.declared.outcome.Outcome.{Outcome}
+use Rattle.plain_runs.proofs.Logs.{ran-after, ran-at}
 use Rattle.plain_runs.proofs.Pasts.{back-counted, counts-same, ran-counted, ran-counts}
-use Rattle.std.proofs.Common.{ap}
+use Rattle.std.proofs.Common.{ap, sym, ◌∙◌}
 use Rattle.device_claims.specs.declared.claim.Parts.{Parts}
 use Rattle.plain_runs.proofs.Planned.{home-behind, home-of}
 use Rattle.plain_runs.proofs.running.run_claim.Goals as goal
 
 pub returns-in-Ok-clause-ran : goal.returns-in-Ok-clause-ran
 returns-in-Ok-clause-ran g c =
-    ran-after c.args.client c.args.taken.entry c.finish.result c.args.house.now.annals c.make_steps.new.house.annals c.finish.new.house.annals c.in-Ok.ensures.made c.finish.ensures.ran
+    let b = c.index-plugins-plugin.result in
+    ran-at _ _ c.args.client c.args.taken.entry c.finish.result c.new-claim.result (parts_taken c.args.taken) c.args.house.now.annals c.finish.new.house.annals
+    (steps-at (λ d. (goal.Plugin-dyn g (d.vtable, d.value)).steps d.value) c.args.plugins.now c.args.taken.plugin b c.requires.served c.index-plugins-plugin.is ∙ sym (ap (λ v. (goal.Plugin-dyn g v).steps v.1) c.deref_box-1.ensures.1)) c.new-claim.ensures.parts
+    (ran-after _ c.args.client c.args.taken.entry c.finish.result c.new-claim.result c.in-Ok.claim c.args.house.now.annals c.make_steps.new.house.annals c.finish.new.house.annals c.in-Ok.ensures.made c.finish.ensures.closed)
+
+pub returns-in-Err-clause-ran : goal.returns-in-Err-clause-ran
+returns-in-Err-clause-ran g c =
+    let b = c.index-plugins-plugin.result in
+    ran-at _ _ c.args.client c.args.taken.entry Outcome.Off c.new-claim.result (parts_taken c.args.taken) c.args.house.now.annals c.make_steps.new.house.annals
+    (steps-at (λ d. (goal.Plugin-dyn g (d.vtable, d.value)).steps d.value) c.args.plugins.now c.args.taken.plugin b c.requires.served c.index-plugins-plugin.is ∙ sym (ap (λ v. (goal.Plugin-dyn g v).steps v.1) c.deref_box-1.ensures.1)) c.new-claim.ensures.parts
+    c.in-Err.ensures.gone
 
 pub returns-in-Ok-clause-faults : goal.returns-in-Ok-clause-faults
 returns-in-Ok-clause-faults g c =
-    ran-counted g.K.Keeper.faults c.args.client c.args.taken.entry c.args.house.now c.make_steps.new.house c.finish.new.house c.in-Ok.ensures.made c.in-Ok.ensures.keeper c.finish.ensures.faults c.finish.ensures.counts
+    ran-counted g.K.Keeper.faults _ c.args.client c.args.taken.entry c.new-claim.result c.in-Ok.claim c.args.house.now c.make_steps.new.house c.finish.new.house c.in-Ok.ensures.made c.in-Ok.ensures.keeper c.finish.ensures.faults c.finish.ensures.counts
 
 pub returns-in-Ok-clause-counts : goal.returns-in-Ok-clause-counts
 returns-in-Ok-clause-counts g c =
@@ -19,7 +32,7 @@ returns-in-Ok-clause-counts g c =
 
 pub returns-in-Err-clause-faults : goal.returns-in-Err-clause-faults
 returns-in-Err-clause-faults g c =
-    back-counted g.K.Keeper.faults c.args.client c.args.taken.entry c.args.house.now c.make_steps.new.house c.in-Err.ensures.gone c.in-Err.ensures.keeper
+    back-counted g.K.Keeper.faults _ c.args.client c.args.taken.entry c.new-claim.result c.args.house.now c.make_steps.new.house c.in-Err.ensures.gone c.in-Err.ensures.keeper
 
 pub returns-in-Err-clause-counts : goal.returns-in-Err-clause-counts
 returns-in-Err-clause-counts g c = counts-same g.K.Keeper.faults c.args.house.now c.make_steps.new.house c.in-Err.ensures.keeper

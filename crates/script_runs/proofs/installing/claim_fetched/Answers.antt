@@ -1,3 +1,5 @@
+use Rattle.plugin_trait.specs.Steps.{steps_at}
+use Rattle.client_plays.specs.Tools.{means_of}
 use Rattle.std.proofs.Common.{refl, subst, length}
 use Rattle.std.specs.Prelude.{Ok, Some}
 use Rattle.update_log.specs.declared.answer.ClaimAnswer.{ClaimAnswer}
@@ -44,12 +46,19 @@ run_taken-requires-clause-served g c =
     let gave = subst (λ (x : Claimed). Gave g.N.Naming.name c.args.pass.now.number c.args.ticket c.args.fetched (Ok x) c.claim.new.pass.seen) a.field-0-is a.ensures.gave in
     served-within g.N.Naming.name.facts gave.1.number a.taken.plugin (length c.args.plugins.now) gave.1.is.served c.requires.served
 
+pub run_taken-requires-clause-own : goal.run_taken-requires-clause-own
+run_taken-requires-clause-own g c =
+    let n = c.args.pass.now.number in
+    let a = c.in-Ok-Taken in
+    let gave = subst (λ (x : Claimed). Gave g.N.Naming.name n c.args.ticket c.args.fetched (Ok x) c.claim.new.pass.seen) a.field-0-is a.ensures.gave in
+    record { number = gave.1.number; board_is = gave.1.is.comes.board; served = gave.1.is.served }
+
 pub returns-in-Ok-Taken-clause-ended : goal.returns-in-Ok-Taken-clause-ended
 returns-in-Ok-Taken-clause-ended g c =
     let n = c.args.pass.now.number in
     let a = c.in-Ok-Taken in
     let t = a.ensures.turn in
-    λ files f. claim-behind g.N.Naming.name c.args.daemon.now.id files c.args.ticket.request c.args.pass.now c.claim.new.pass c.requires.pass c.claim.ensures.same t c.args.ticket.release (note_of c.args.fetched) a.taken.entry c.run_taken.result c.run_taken.new.pass f
+    λ files f. claim-behind g.N.Naming.name c.args.daemon.now.id (means_of files (steps_at (λ b. (goal.Plugin-dyn g (b.vtable, b.value)).steps b.value) c.args.plugins.now)) c.args.ticket.request c.args.pass.now c.claim.new.pass c.requires.pass c.claim.ensures.same t c.args.ticket.release (note_of c.args.fetched) a.taken.entry c.run_taken.result c.run_taken.new.pass f
     (subst (λ (x : Claimed). AddsOn n (claim_event n c.args.ticket.request c.args.fetched x) t.met c.claim.new.pass.seen) a.field-0-is t.does)
     c.run_taken.ensures.ended
 
@@ -58,7 +67,7 @@ returns-in-Ok-Kept-clause-ended g c =
     let n = c.args.pass.now.number in
     let a = c.in-Ok-Kept in
     let t = a.ensures.turn in
-    λ files f. claim-ended g.N.Naming.name c.args.daemon.now.id files c.args.ticket.request c.args.pass.now c.claim.new.pass c.requires.pass c.claim.ensures.same t c.args.ticket.release (note_of c.args.fetched) (ClaimAnswer.Kept a.field-0-0 a.field-0-1)
+    λ files f. claim-ended g.N.Naming.name c.args.daemon.now.id (means_of files (steps_at (λ b. (goal.Plugin-dyn g (b.vtable, b.value)).steps b.value) c.args.plugins.now)) c.args.ticket.request c.args.pass.now c.claim.new.pass c.requires.pass c.claim.ensures.same t c.args.ticket.release (note_of c.args.fetched) (ClaimAnswer.Kept a.field-0-0 a.field-0-1)
     (held_by c.args.ticket (block_count c.args.fetched)) f refl (λ past. refl) c.requires.held
     (subst (λ (x : Claimed). AddsOn n (claim_event n c.args.ticket.request c.args.fetched x) t.met c.claim.new.pass.seen) a.field-0-is t.does)
 
@@ -67,7 +76,7 @@ returns-in-Ok-Refused-clause-ended g c =
     let n = c.args.pass.now.number in
     let a = c.in-Ok-Refused in
     let t = a.ensures.turn in
-    λ files f. claim-ended g.N.Naming.name c.args.daemon.now.id files c.args.ticket.request c.args.pass.now c.claim.new.pass c.requires.pass c.claim.ensures.same t c.args.ticket.release (note_of c.args.fetched) (ClaimAnswer.Refused a.field-0-0)
+    λ files f. claim-ended g.N.Naming.name c.args.daemon.now.id (means_of files (steps_at (λ b. (goal.Plugin-dyn g (b.vtable, b.value)).steps b.value) c.args.plugins.now)) c.args.ticket.request c.args.pass.now c.claim.new.pass c.requires.pass c.claim.ensures.same t c.args.ticket.release (note_of c.args.fetched) (ClaimAnswer.Refused a.field-0-0)
     (held_by c.args.ticket (block_count c.args.fetched)) f refl (λ past. refl) c.requires.held
     (subst (λ (x : Claimed). AddsOn n (claim_event n c.args.ticket.request c.args.fetched x) t.met c.claim.new.pass.seen) a.field-0-is t.does)
 
@@ -90,7 +99,7 @@ returns-in-Err-clause-ended g c =
     let n = c.args.pass.now.number in
     let s = c.in-Err.stopped in
     let t = c.in-Err.ensures.turn in
-    λ files f. claim-stopped g.N.Naming.name.facts files s c.args.ticket c.args.fetched c.give_back.result c.args.pass.now c.claim.new.pass c.give_back.new.pass c.in-Err.ensures.gave.0 c.in-Err.ensures.gave.1
+    λ files f. claim-stopped g.N.Naming.name.facts g.N.Naming.name.opening (means_of files (steps_at (λ b. (goal.Plugin-dyn g (b.vtable, b.value)).steps b.value) c.args.plugins.now)) s c.args.ticket c.args.fetched c.give_back.result c.args.pass.now c.claim.new.pass c.give_back.new.pass c.in-Err.ensures.gave.0 c.in-Err.ensures.gave.1
     (stopped-own g.N.Naming.name c.args.daemon.now.id c.args.pass.now c.claim.new.pass c.requires.pass c.claim.ensures.same t (claim_event n c.args.ticket.request c.args.fetched) s.stop t.does)
     c.claim.ensures.same f (λ is. c.give_back.ensures.ended files is)
 
@@ -100,7 +109,7 @@ returns-in-Ok-Taken-clause-told g c =
     let a = c.in-Ok-Taken in
     let t = a.ensures.turn in
     let note = note_of c.args.fetched in
-    claim-taken (faults_noted (Some note)) a.taken.entry c.run_taken.result c.args.pass.now c.claim.new.pass c.run_taken.new.pass
+    claim-taken g.N.Naming.name.facts g.N.Naming.name.opening (steps_at (λ b. (goal.Plugin-dyn g (b.vtable, b.value)).steps b.value) c.args.plugins.now) (past_seen c.claim.new.pass.seen) (faults_noted (Some note)) a.taken.entry c.run_taken.result c.args.pass.now c.claim.new.pass c.run_taken.new.pass
     (turn-claim g.N.Naming.name c.args.daemon.now.id c.args.pass.now c.claim.new.pass c.requires.pass c.claim.ensures.same t c.args.ticket.request note (ClaimAnswer.Entry a.taken.entry)
     (subst (λ (x : Claimed). AddsOn n (claim_event n c.args.ticket.request c.args.fetched x) t.met c.claim.new.pass.seen) a.field-0-is t.does).1)
     c.run_taken.ensures.ended

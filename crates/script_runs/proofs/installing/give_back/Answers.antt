@@ -1,3 +1,4 @@
+use Rattle.client_plays.specs.Tools.{files_alone}
 use Rattle.std.proofs.Common.{sym, subst, refl}
 use Rattle.client_plays.specs.declared.played.Played.{Played}
 use Rattle.client_plays.specs.Plays.{ClaimPlays}
@@ -12,8 +13,8 @@ use Rattle.script_runs.proofs.installing.give_back.Goals as goal
 pub returns-clause-ended : goal.returns-clause-ended
 returns-clause-ended g c =
     let s = c.args.stopped in
-    λ files f. subst (λ (x : Played). Ended x (ClaimPlays g.N.Naming.name.facts files c.args.pass.now.number s.ticket.request s.ticket.release) c.args.pass.now c.give_up.new.pass) (sym c.stopped_by.ensures)
-    (claim-left g.N.Naming.name c.args.daemon.now.id files s.ticket.request c.args.pass.now c.give_up.new.pass c.requires.pass c.give_up.ensures.same c.give_up.ensures.turn s.ticket.release (note_of s.fetched) s.stop s.ticket.pending
+    λ files f. subst (λ (x : Played). Ended x (ClaimPlays g.N.Naming.name.facts g.N.Naming.name.opening (files_alone files) c.args.pass.now.number s.ticket.request s.ticket.release) c.args.pass.now c.give_up.new.pass) (sym c.stopped_by.ensures)
+    (claim-left g.N.Naming.name c.args.daemon.now.id (files_alone files) s.ticket.request c.args.pass.now c.give_up.new.pass c.requires.pass c.give_up.ensures.same c.give_up.ensures.turn s.ticket.release (note_of s.fetched) s.stop s.ticket.pending
     (held_by s.ticket (block_count s.fetched)) f c.requires.halted c.requires.held c.give_up.ensures.turn.does)
 
 pub returns-clause-told : goal.returns-clause-told

@@ -1,3 +1,5 @@
+use Rattle.plugin_trait.specs.Steps.{steps_at}
+use Rattle.client_plays.specs.Tools.{means_of}
 use Rattle.std.proofs.Common.{ap, sym, subst, ◌∙◌}
 use Rattle.std.specs.Prelude.{None}
 use Rattle.update_log.specs.Holding.{hold}
@@ -33,7 +35,7 @@ pub returns-clause-ended : goal.returns-clause-ended
 returns-clause-ended g c =
     let f = c.fetch-ticket in
     let files = g.P.Shelf.files c.args.shelf.now in
-    subst (λ (t : Ticket). Ended c.claim_fetched.result (ClaimPlays g.N.Naming.name.facts files c.args.pass.now.number t.request t.release) c.args.pass.now c.claim_fetched.new.pass) f.ensures.ticket
+    subst (λ (t : Ticket). Ended c.claim_fetched.result (ClaimPlays g.N.Naming.name.facts g.N.Naming.name.opening (means_of files (steps_at (λ b. (goal.Plugin-dyn g (b.vtable, b.value)).steps b.value) c.args.plugins.now)) c.args.pass.now.number t.request t.release) c.args.pass.now c.claim_fetched.new.pass) f.ensures.ticket
     (c.claim_fetched.ensures.ended files
     (subst (λ (t : Ticket). IsFetched g.N.Naming.name.facts files t.release (note_of f.result.1)) (sym f.ensures.ticket)
     (note-fetched g.N.Naming.name.facts c.args.pass.now.number c.args.given.ticket.request None files c.args.given f.result.1 c.requires.hold f.ensures.found (record {

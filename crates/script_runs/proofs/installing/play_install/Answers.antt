@@ -1,3 +1,5 @@
+use Rattle.plugin_trait.specs.Steps.{steps_at}
+use Rattle.client_plays.specs.Tools.{means_of}
 use Rattle.std.proofs.Common.{refl, sym, subst}
 use Rattle.std.specs.Prelude.{None}
 use Rattle.update_log.specs.declared.answer.AskAnswer.{AskAnswer}
@@ -37,7 +39,7 @@ returns-in-Ok-Held-clause-ended g c =
     let a = c.in-Ok-Held in
     let t = a.ensures.turn in
     let h = subst (λ (x : Asked). HoldsFor g.N.Naming.name.facts n c.args.request.now None x) a.field-0-is a.ensures.holds in
-    install-behind g.N.Naming.name c.args.daemon.now.id (g.P.Shelf.files c.args.shelf.now) c.args.request.now c.args.pass.now c.ask.new.pass c.requires.pass c.ask.ensures.same t g.N.Naming.name.opening c.requires.online a.given c.install_held.result
+    install-behind g.N.Naming.name c.args.daemon.now.id (means_of (g.P.Shelf.files c.args.shelf.now) (steps_at (λ b. (goal.Plugin-dyn g (b.vtable, b.value)).steps b.value) c.args.plugins.now)) c.args.request.now c.args.pass.now c.ask.new.pass c.requires.pass c.ask.ensures.same t g.N.Naming.name.opening c.requires.online a.given c.install_held.result
     c.install_held.new.pass h.request_is
     (subst (λ (x : Asked). AddsOn n (Event.Ask n c.args.request.now None (answer_of x)) t.met c.ask.new.pass.seen) a.field-0-is t.does)
     c.install_held.ensures.ended
@@ -47,7 +49,7 @@ returns-in-Ok-Kept-clause-ended g c =
     let n = c.args.pass.now.number in
     let a = c.in-Ok-Kept in
     let t = a.ensures.turn in
-    install-asked g.N.Naming.name c.args.daemon.now.id (g.P.Shelf.files c.args.shelf.now) c.args.request.now c.args.pass.now c.ask.new.pass c.requires.pass c.ask.ensures.same t g.N.Naming.name.opening c.requires.online (AskAnswer.Kept a.field-0-0 a.field-0-1) refl
+    install-asked g.N.Naming.name c.args.daemon.now.id (means_of (g.P.Shelf.files c.args.shelf.now) (steps_at (λ b. (goal.Plugin-dyn g (b.vtable, b.value)).steps b.value) c.args.plugins.now)) c.args.request.now c.args.pass.now c.ask.new.pass c.requires.pass c.ask.ensures.same t g.N.Naming.name.opening c.requires.online (AskAnswer.Kept a.field-0-0 a.field-0-1) refl
     (λ past. refl) c.requires.free
     (subst (λ (x : Asked). AddsOn n (Event.Ask n c.args.request.now None (answer_of x)) t.met c.ask.new.pass.seen) a.field-0-is t.does)
 
@@ -56,7 +58,7 @@ returns-in-Ok-Refused-clause-ended g c =
     let n = c.args.pass.now.number in
     let a = c.in-Ok-Refused in
     let t = a.ensures.turn in
-    install-asked g.N.Naming.name c.args.daemon.now.id (g.P.Shelf.files c.args.shelf.now) c.args.request.now c.args.pass.now c.ask.new.pass c.requires.pass c.ask.ensures.same t g.N.Naming.name.opening c.requires.online (AskAnswer.Refused a.field-0-0) refl
+    install-asked g.N.Naming.name c.args.daemon.now.id (means_of (g.P.Shelf.files c.args.shelf.now) (steps_at (λ b. (goal.Plugin-dyn g (b.vtable, b.value)).steps b.value) c.args.plugins.now)) c.args.request.now c.args.pass.now c.ask.new.pass c.requires.pass c.ask.ensures.same t g.N.Naming.name.opening c.requires.online (AskAnswer.Refused a.field-0-0) refl
     (λ past. refl) c.requires.free
     (subst (λ (x : Asked). AddsOn n (Event.Ask n c.args.request.now None (answer_of x)) t.met c.ask.new.pass.seen) a.field-0-is t.does)
 
@@ -64,8 +66,8 @@ pub returns-in-Err-clause-ended : goal.returns-in-Err-clause-ended
 returns-in-Err-clause-ended g c =
     let n = c.args.pass.now.number in
     let t = c.in-Err.ensures.turn in
-    subst (λ (x : Played). Ended x (Plays g.N.Naming.name.facts g.N.Naming.name.opening (g.P.Shelf.files c.args.shelf.now) n (Item.Install c.args.request.now)) c.args.pass.now c.ask.new.pass) (sym c.stopped_by.ensures)
-    (install-stopped g.N.Naming.name c.args.daemon.now.id (g.P.Shelf.files c.args.shelf.now) c.args.request.now c.args.pass.now c.ask.new.pass c.requires.pass c.ask.ensures.same t g.N.Naming.name.opening c.requires.online
+    subst (λ (x : Played). Ended x (Plays g.N.Naming.name.facts g.N.Naming.name.opening (means_of (g.P.Shelf.files c.args.shelf.now) (steps_at (λ b. (goal.Plugin-dyn g (b.vtable, b.value)).steps b.value) c.args.plugins.now)) n (Item.Install c.args.request.now)) c.args.pass.now c.ask.new.pass) (sym c.stopped_by.ensures)
+    (install-stopped g.N.Naming.name c.args.daemon.now.id (means_of (g.P.Shelf.files c.args.shelf.now) (steps_at (λ b. (goal.Plugin-dyn g (b.vtable, b.value)).steps b.value) c.args.plugins.now)) c.args.request.now c.args.pass.now c.ask.new.pass c.requires.pass c.ask.ensures.same t g.N.Naming.name.opening c.requires.online
     (λ (asked : Asked). Event.Ask n c.args.request.now None (answer_of asked)) c.in-Err.stop c.requires.free t.does)
 
 pub returns-in-Ok-Held-clause-told : goal.returns-in-Ok-Held-clause-told

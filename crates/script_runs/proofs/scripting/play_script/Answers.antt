@@ -1,3 +1,5 @@
+use Rattle.plugin_trait.specs.Steps.{steps_at}
+use Rattle.client_plays.specs.Tools.{means_of}
 use Rattle.std.specs.Prelude.{Some, None}
 use Rattle.std.proofs.Common.{◌∙◌, arith, false, List, take, drop, suc, subst, refl}
 use Rattle.std.proofs.lemmas.List.{take_all}
@@ -17,7 +19,7 @@ loop-item-init g c =
     let name = g.N.Naming.name in
     record {
       pass = c.requires.pass;
-      so_far = so_far-nothing false (Plays name.facts name.opening (g.P.Shelf.files c.args.shelf.now) c.args.pass.now.number) c.args.pass.now c.requires.free;
+      so_far = so_far-nothing false (Plays name.facts name.opening (means_of (g.P.Shelf.files c.args.shelf.now) (steps_at (λ b. (goal.Plugin-dyn g (b.vtable, b.value)).steps b.value) c.args.plugins.now)) c.args.pass.now.number) c.args.pass.now c.requires.free;
       files = refl;
       counts = omega arith;
       told = told-same (own c.args.pass.now) (own c.args.pass.now) (g.P.Shelf.faults c.args.shelf.now) refl;
@@ -27,14 +29,14 @@ pub loop-item-preserved : goal.loop-item-preserved
 loop-item-preserved g c =
     let name = g.N.Naming.name in
     let item = c.item-item.result in
-    let plays = Plays name.facts name.opening (g.P.Shelf.files c.args.shelf.now) c.args.pass.now.number in
+    let plays = Plays name.facts name.opening (means_of (g.P.Shelf.files c.args.shelf.now) (steps_at (λ b. (goal.Plugin-dyn g (b.vtable, b.value)).steps b.value) c.args.plugins.now)) c.args.pass.now.number in
     record {
       pass = c.in-Some.ensures.pass;
       so_far = subst (λ (xs : List Item). SoFar c.in-Some.now plays xs c.args.pass.now c.play_next.new.pass)
           (taken-more_is c.args.items.now c.loop-item.item-index item c.item-item.is c.loop-item-test.true)
           (so_far-more c.in-Some.now c.loop-item.wanting plays (take c.loop-item.item-index c.args.items.now) item c.args.pass.now c.loop-item.pass c.play_next.new.pass
           c.loop-item.invariant.so_far
-          (same-plays name.facts name.opening (Some c.in-Some.now) c.loop-item.wanting item (g.P.Shelf.files c.args.shelf.now) (g.P.Shelf.files c.loop-item.shelf) c.args.pass.now c.loop-item.pass c.play_next.new.pass
+          (same-plays name.facts name.opening (steps_at (λ b. (goal.Plugin-dyn g (b.vtable, b.value)).steps b.value) c.args.plugins.now) (Some c.in-Some.now) c.loop-item.wanting item (g.P.Shelf.files c.args.shelf.now) (g.P.Shelf.files c.loop-item.shelf) c.args.pass.now c.loop-item.pass c.play_next.new.pass
           c.loop-item.invariant.files c.loop-item.invariant.so_far.did.same c.in-Some.ensures.more));
       files = c.in-Some.ensures.files ∙ c.loop-item.invariant.files;
       counts = omega (arith, c.loop-item.invariant.counts, c.in-Some.ensures.counts);
@@ -46,18 +48,18 @@ pub returns-in-None-clause-went : goal.returns-in-None-clause-went
 returns-in-None-clause-went g c =
     let name = g.N.Naming.name in
     let item = c.item-item.result in
-    let plays = Plays name.facts name.opening (g.P.Shelf.files c.args.shelf.now) c.args.pass.now.number in
+    let plays = Plays name.facts name.opening (means_of (g.P.Shelf.files c.args.shelf.now) (steps_at (λ b. (goal.Plugin-dyn g (b.vtable, b.value)).steps b.value) c.args.plugins.now)) c.args.pass.now.number in
     went-left c.loop-item.wanting plays (take c.loop-item.item-index c.args.items.now) item (drop (suc c.loop-item.item-index) c.args.items.now) c.args.items.now
     c.args.pass.now c.loop-item.pass c.play_next.new.pass
     (taken-here_is c.args.items.now c.loop-item.item-index item c.item-item.is c.loop-item-test.true)
     c.loop-item.invariant.so_far
-    (same-plays name.facts name.opening None c.loop-item.wanting item (g.P.Shelf.files c.args.shelf.now) (g.P.Shelf.files c.loop-item.shelf) c.args.pass.now c.loop-item.pass c.play_next.new.pass
+    (same-plays name.facts name.opening (steps_at (λ b. (goal.Plugin-dyn g (b.vtable, b.value)).steps b.value) c.args.plugins.now) None c.loop-item.wanting item (g.P.Shelf.files c.args.shelf.now) (g.P.Shelf.files c.loop-item.shelf) c.args.pass.now c.loop-item.pass c.play_next.new.pass
     c.loop-item.invariant.files c.loop-item.invariant.so_far.did.same c.in-None.ensures.more)
 
 pub returns-clause-went : goal.returns-clause-went
 returns-clause-went g c =
     let name = g.N.Naming.name in
-    let plays = Plays name.facts name.opening (g.P.Shelf.files c.args.shelf.now) c.args.pass.now.number in
+    let plays = Plays name.facts name.opening (means_of (g.P.Shelf.files c.args.shelf.now) (steps_at (λ b. (goal.Plugin-dyn g (b.vtable, b.value)).steps b.value) c.args.plugins.now)) c.args.pass.now.number in
     went-all c.loop-item.wanting plays c.args.items.now c.args.pass.now c.loop-item.pass
     (subst (λ (xs : List Item). SoFar c.loop-item.wanting plays xs c.args.pass.now c.loop-item.pass)
     (take_all c.loop-item.item-index c.args.items.now c.loop-item-test.false) c.loop-item.invariant.so_far)
