@@ -128,6 +128,21 @@ with_op s step chosen entry past op =
     ∷ Event.Start s.client entry op ∷ past
     else past
 
+-- The log behind the claim with some of the steps, in their order.
+abbrev pub with_some : Scene → ℕ → PlanStep → Chosen → List Op → List Event → List Event
+with_some s number step chosen ops past =
+    fold (with_op s step chosen (next_entry s.facts s.opening past)) (taken s number step chosen (asked s number step chosen past)) ops
+
+-- An install that is being put behind a log, with the rows before the log, and the log before the install. Some of its
+-- steps were gone through, and the others come behind.
+pub record Making : Type 0 where
+  pub opening : List Row
+  pub before : List Event
+  pub step : PlanStep
+  pub chosen : Chosen
+  pub gone : List Op
+  pub more : List Op
+
 -- All steps of the entry, in their order.
 abbrev pub with_ops : Scene → PlanStep → Chosen → ℕ → List Event → List Event
 with_ops s step chosen entry past = fold (with_op s step chosen entry) past all_ops

@@ -1,5 +1,5 @@
 //! A log that goes on by the installs of a plan.
-ghost use Rattle.std.specs.Prelude.{◌≡◌, ◌<◌, ◌≤◌, ◌+◌, ◌-◌, ◌*◌, ◌∷◌, ◌++◌, [], ◌&&◌, true, nat_lt, length, List, option_map, IfSome, OnOk, Ok};
+ghost use Rattle.std.specs.Prelude.{◌≡◌, ◌<◌, ◌≤◌, ◌+◌, ◌-◌, ◌*◌, ◌∷◌, ◌++◌, [], ◌&&◌, true, nat_lt, length, List, Some, option_copied, OnOk, Ok};
 ghost use Rattle.fw_base.specs.Names.{name_read};
 ghost use Rattle.device_list.specs.Lists.{place};
 ghost use Rattle.history_keeper.specs.declared.row.Row.{Row};
@@ -11,7 +11,11 @@ ghost use Rattle.update_log.specs.Holding.{blocks_of};
 ghost use Rattle.update_log.specs.Pasts.{past_of};
 ghost use Rattle.update_log.specs.Shows.{marks};
 ghost use Rattle.update_plans.specs.Following.{IsQuiet};
-ghost use Rattle.update_plans.specs.Plans.{accepts, installed, is_good, scene};
+ghost use Rattle.update_log.specs.Legal.{next_entry};
+ghost use Rattle.update_log.specs.Steps.{all_ops};
+ghost use Rattle.update_log.specs.Verdicts.{verdict};
+ghost use Rattle.update_log.specs.declared.decision.Stage.TheVariants.{Ask};
+ghost use Rattle.update_plans.specs.Plans.{Making, accepts, asked, done, installed, installed_with, is_good, is_good_with, release_at, request_of, scene, seen_of, shown_after, taken, view_of, waits_for_boot, with_some};
 ghost use Rattle.update_plans.specs.Tags.{IsTag};
 
 use crate::course::{ends_well, is_next, shown_after};
@@ -74,18 +78,32 @@ impl<'a> Planner<'a> {
 
     // Whether its request is accepted, at its ask and at its claim, with its very release. A claim finds
     // what the ask found, and wants place for a row.
-    fn is_accepted(&self, step: &PlanStep, release: &Release) -> bool {
+    fn is_accepted(&self, step: &PlanStep, release: &Release) -> bool
+        requires tag { IsTag self.now.tag.now }
+        requires few { self.now.taken < 8192 }
+        ensures { (opening : List Row) (chosen : Chosen) → Stands self.now.facts.now opening self.now.state → chosen.release ≡ release.now
+            → result ≡ (accepts step.now.release (verdict self.now.facts.now opening (past_of self.now.state.log) self.now.client (request_of (scene self.now.facts.now opening self.now.client self.now.tag.now) (self.now.taken + 1) step.now chosen) Ask)
+            && nat_lt (length (rows self.now.facts.now opening (past_of self.now.state.log))) 65536) }
+    {
         let request = self.request(step, release);
         let decision = verdict(self.facts, &self.state, self.client, &request, Stage::Ask);
         accepts(decision, step.release) && self.state.rows().len() < ROWS_MAX
     }
 
-    fn request(&self, step: &PlanStep, release: &Release) -> Request {
+    fn request(&self, step: &PlanStep, release: &Release) -> Request
+        requires tag { IsTag self.now.tag.now }
+        requires few { self.now.taken < 8192 }
+        ensures { (opening : List Row) (chosen : Chosen) → chosen.release ≡ release.now
+            → result ≡ request_of (scene self.now.facts.now opening self.now.client self.now.tag.now) (self.now.taken + 1) step.now chosen }
+    {
         request_of(self.tag, self.taken + 1, step, release.version)
     }
 
     // The device with that ID.
-    fn view_of(&self, device: &DeviceId) -> Option<&DeviceView> {
+    fn view_of(&self, device: &DeviceId) -> Option<&DeviceView>
+        ensures { (opening : List Row) → Stands self.now.facts.now opening self.now.state
+            → option_copied result ≡ view_of (scene self.now.facts.now opening self.now.client self.now.tag.now) device.now (past_of self.now.state.log) }
+    {
         let at = self.state.resolve(&Selector::Id(*device))?;
         self.state.views().get(at)
     }
@@ -127,7 +145,25 @@ impl<'a> Planner<'a> {
     }
 
     // The ask and the claim.
-    fn take(&mut self, request: &Request, step: &PlanStep, release: &Release, entry: u32) {
+    fn take(&mut self, request: &Request, step: &PlanStep, release: &Release, entry: u32)
+        ghost at: { Making }
+        requires stands { Stands self.old.facts.now at.opening self.old.state }
+        requires quiet { IsQuiet (scene self.old.facts.now at.opening self.old.client self.old.tag.now) (past_of self.old.state.log) }
+        requires there { release_at (scene self.old.facts.now at.opening self.old.client self.old.tag.now) step.now.release ≡ Some at.chosen }
+        requires good { is_good_with (scene self.old.facts.now at.opening self.old.client self.old.tag.now) (self.old.taken + 1) step.now (past_of self.old.state.log) at.chosen ≡ true }
+        requires request { request.now ≡ request_of (scene self.old.facts.now at.opening self.old.client self.old.tag.now) (self.old.taken + 1) step.now at.chosen }
+        requires release { release.now ≡ at.chosen.release }
+        requires entry { entry ≡ next_entry self.old.facts.now at.opening (past_of self.old.state.log) }
+        requires room { 2 ≤ self.old.state.room }
+        requires row { 1 ≤ self.old.state.row_room }
+        ensures past { past_of self.new.state.log ≡ taken (scene self.old.facts.now at.opening self.old.client self.old.tag.now) (self.old.taken + 1) step.now at.chosen (asked (scene self.old.facts.now at.opening self.old.client self.old.tag.now) (self.old.taken + 1) step.now at.chosen (past_of self.old.state.log)) }
+        ensures stands { Stands self.old.facts.now at.opening self.new.state }
+        ensures room { self.old.state.room ≤ self.new.state.room + 2 }
+        ensures facts { self.new.facts.now ≡ self.old.facts.now }
+        ensures client { self.new.client ≡ self.old.client }
+        ensures tag { self.new.tag.now ≡ self.old.tag.now }
+        ensures taken { self.new.taken ≡ self.old.taken }
+    {
         self.append(Event::Ask {
             client: self.client,
             request: *request,
@@ -149,8 +185,26 @@ impl<'a> Planner<'a> {
         });
     }
 
-    // A step of the entry, where it is the next one.
-    fn make(&mut self, op: Op, step: &PlanStep, entry: u32, digest: Digest) {
+    // A step of the entry, where it is the next one: so many of the steps were gone through, and so many come behind.
+    fn make(&mut self, op: Op, step: &PlanStep, entry: u32, digest: Digest)
+        ghost at: { Making }
+        requires stands { Stands self.old.facts.now at.opening self.old.state }
+        requires quiet { IsQuiet (scene self.old.facts.now at.opening self.old.client self.old.tag.now) at.before }
+        requires there { release_at (scene self.old.facts.now at.opening self.old.client self.old.tag.now) step.now.release ≡ Some at.chosen }
+        requires good { is_good_with (scene self.old.facts.now at.opening self.old.client self.old.tag.now) (self.old.taken + 1) step.now at.before at.chosen ≡ true }
+        requires digest { digest ≡ at.chosen.release.digest }
+        requires entry { entry ≡ next_entry self.old.facts.now at.opening at.before }
+        requires ops { at.gone ++ op ∷ at.more ≡ all_ops }
+        requires past { past_of self.old.state.log ≡ with_some (scene self.old.facts.now at.opening self.old.client self.old.tag.now) (self.old.taken + 1) step.now at.chosen at.gone at.before }
+        requires room { 2 ≤ self.old.state.room }
+        ensures past { past_of self.new.state.log ≡ with_some (scene self.old.facts.now at.opening self.old.client self.old.tag.now) (self.old.taken + 1) step.now at.chosen (at.gone ++ op ∷ []) at.before }
+        ensures stands { Stands self.old.facts.now at.opening self.new.state }
+        ensures room { self.old.state.room ≤ self.new.state.room + 2 }
+        ensures facts { self.new.facts.now ≡ self.old.facts.now }
+        ensures client { self.new.client ≡ self.old.client }
+        ensures tag { self.new.tag.now ≡ self.old.tag.now }
+        ensures taken { self.new.taken ≡ self.old.taken }
+    {
         if !is_next(next_op(&self.state.trace(entry)), op) {
             return;
         }
@@ -167,7 +221,11 @@ impl<'a> Planner<'a> {
         });
     }
 
-    fn shown(&self, op: Op, step: &PlanStep) -> Seen {
+    fn shown(&self, op: Op, step: &PlanStep) -> Seen
+        ensures { (opening : List Row) → Stands self.now.facts.now opening self.now.state
+            → result ≡ shown_after op (waits_for_boot (scene self.now.facts.now opening self.now.client self.now.tag.now) step.now.device (past_of self.now.state.log)) step.now.raw
+            (seen_of (scene self.now.facts.now opening self.now.client self.now.tag.now) step.now.device (past_of self.now.state.log)) }
+    {
         match self.view_of(&step.device) {
             Some(view) => shown_after(
                 op,
@@ -179,7 +237,23 @@ impl<'a> Planner<'a> {
         }
     }
 
-    fn finish(&mut self, device: &DeviceId, entry: u32) {
+    fn finish(&mut self, device: &DeviceId, entry: u32)
+        ghost at: { Making }
+        requires stands { Stands self.old.facts.now at.opening self.old.state }
+        requires quiet { IsQuiet (scene self.old.facts.now at.opening self.old.client self.old.tag.now) at.before }
+        requires there { release_at (scene self.old.facts.now at.opening self.old.client self.old.tag.now) at.step.release ≡ Some at.chosen }
+        requires good { is_good_with (scene self.old.facts.now at.opening self.old.client self.old.tag.now) (self.old.taken + 1) at.step at.before at.chosen ≡ true }
+        requires device { device.now ≡ at.step.device }
+        requires entry { entry ≡ next_entry self.old.facts.now at.opening at.before }
+        requires past { past_of self.old.state.log ≡ done (scene self.old.facts.now at.opening self.old.client self.old.tag.now) (self.old.taken + 1) at.step at.chosen at.before }
+        requires room { 1 ≤ self.old.state.room }
+        ensures past { past_of self.new.state.log ≡ installed_with (scene self.old.facts.now at.opening self.old.client self.old.tag.now) (self.old.taken + 1) at.step at.chosen at.before }
+        ensures stands { Stands self.old.facts.now at.opening self.new.state }
+        ensures facts { self.new.facts.now ≡ self.old.facts.now }
+        ensures client { self.new.client ≡ self.old.client }
+        ensures tag { self.new.tag.now ≡ self.old.tag.now }
+        ensures taken { self.new.taken ≡ self.old.taken }
+    {
         let state = self.end_of(device, entry);
         self.append(Event::Finish {
             client: self.client,
