@@ -217,14 +217,10 @@ module _ (s : Scene) (step : PlanStep) (chosen : Chosen) (first : List Seen) (pl
           inr (inr (
             entry,
             chosen.release.digest,
-            Contains-append_right (told s.facts s.opening (starts op past) board) (marks op entry chosen.release.digest) (Mark.Ended entry chosen.release.digest) (rw write (λ p t. or-second (p (Mark.Began entry)) (p (Mark.Ended entry chosen.release.digest)) t)),
-            rw (g.raw_is, same) refl,
+            Contains-append_right (told s.facts s.opening (starts op past) board) (marks op entry chosen.release.digest) (Mark.Ended entry chosen.release.digest)
+                (subst (λ (o : Op). Contains (marks o entry chosen.release.digest) (Mark.Ended entry chosen.release.digest)) (sym write) (1, (omega arith, refl))),
+            g.raw_is ∙ ap (λ (n : ℕ). Some n) same,
           ))
-
-      or-second : (x y : Bool) → y ≡ true → (x || (y || false)) ≡ true
-      or-second true y t = refl
-      or-second false true t = refl
-      or-second false false t = cc
 
   end-legal : (past : List Event) (course : Course) (op : Op) → Goes past course → is_next (next_step course.trace) op ≡ true → Suits op (mode_of course.seen)
       → IsLegalUnlimited c s.opening (ended op course ∷ starts op past)
