@@ -14,3 +14,4 @@ pub mod Shown
 pub mod Installing
 pub mod Installed
 pub mod Planned
+pub mod Highest
