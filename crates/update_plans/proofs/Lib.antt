@@ -15,3 +15,4 @@ pub mod Installing
 pub mod Installed
 pub mod Planned
 pub mod Highest
+pub mod Chained
