@@ -256,6 +256,47 @@ pub is-runtime : (mode : Mode) → in_runtime mode ≡ true → mode ≡ Mode.Ru
 is-runtime Mode.Runtime h = refl
 is-runtime Mode.Bootloader h = cc
 
+-- ---- a device that waits for a boot
+
+-- The device needs a boot, and its port shows that raw number.
+pub record Keeps (course : Course) (raw : ℕ) : Type 0 where
+  pub waits : has_flag DeviceFlag.NeedsReboot course.trace.flags ≡ true
+  pub mode : Mode
+  pub shows : course.seen ≡ Seen.Home raw mode
+
+-- no step changes that
+keeps-raw : (new : ℕ) (course : Course) (op : Op) (raw : ℕ) → Keeps course raw → Keeps (course_step new course op) raw
+keeps-raw new course op raw k = by_test (is_next (next_step course.trace) op) _ (λ t. rw t taken) (λ f. rw f k)
+  where
+    board : (op : Op) → (mode : Mode) × (board_after op true new raw k.mode ≡ Seen.Home raw mode)
+    board Op.Prepare = (k.mode, refl)
+    board Op.Detach = (Mode.Bootloader, refl)
+    board Op.Write = (k.mode, refl)
+    board Op.Attach = (Mode.Runtime, refl)
+    board Op.Reload = (Mode.Runtime, refl)
+    board Op.Cleanup = (Mode.Runtime, refl)
+
+    taken : Keeps (course_with new course op) raw
+    taken =
+        let at = board op in
+        record {
+          waits = k.waits;
+          mode = at.0;
+          shows =
+              ap (shown_after op (has_flag DeviceFlag.NeedsReboot course.trace.flags) new) k.shows
+              ∙ ap (λ (waits : Bool). board_after op waits new raw k.mode) k.waits ∙ at.1;
+        }
+
+pub keeps-whole : (new : ℕ) (first : Course) (raw : ℕ) → Keeps first raw
+    → Keeps (course_step new (course_step new (course_step new (course_step new (course_step new (course_step new first Op.Prepare) Op.Detach) Op.Write) Op.Attach) Op.Reload) Op.Cleanup) raw
+keeps-whole new first raw k =
+    let k1 = keeps-raw new first Op.Prepare raw k in
+    let k2 = keeps-raw new _ Op.Detach raw k1 in
+    let k3 = keeps-raw new _ Op.Write raw k2 in
+    let k4 = keeps-raw new _ Op.Attach raw k3 in
+    let k5 = keeps-raw new _ Op.Reload raw k4 in
+    keeps-raw new _ Op.Cleanup raw k5
+
 -- The whole course is these six.
 pub course_is : (raw : ℕ) (first : Trace) (seen : Seen)
     → course_of first seen raw

@@ -75,7 +75,7 @@ module _ (s : Scene) (number : ℕ) (step : PlanStep) (chosen : Chosen) (past : 
   legal-here : IsLegalUnlimited here s.opening past
   legal-here = subst (λ (c : Campaign). IsLegalUnlimited c s.opening past) (ap (λ (facts : Facts). record { facts = facts; first = q.campaign.first; plans = q.campaign.plans }) q.facts_are) q.legal
 
-  kept : PastKept s.facts s.opening past
+  pub kept : PastKept s.facts s.opening past
   kept = past-kept-on here s.opening past q.history legal-here
 
   abbrev asks : Request
@@ -178,26 +178,26 @@ module _ (s : Scene) (number : ℕ) (step : PlanStep) (chosen : Chosen) (past : 
 
   -- ---- the steps
 
-  board : (b : Board) × IsOf s step.device b
+  pub board : (b : Board) × IsOf s step.device b
   board = board-of s step.device past f.t.view f.view_is
 
-  abbrev b : Board
+  abbrev pub b : Board
   b = board.0
 
-  abbrev first : Course
+  abbrev pub first : Course
   first = record { trace = trace_begun f.t.view f.t.chosen.component; seen = f.t.view.seen }
 
   -- the view that was found is the board's
-  view-is : f.t.view ≡ view_in (live past) (known s.facts s.opening past) b
+  pub view-is : f.t.view ≡ view_in (live past) (known s.facts s.opening past) b
   view-is = some-same (sym f.view_is ∙ view-now s step.device b past board.1)
 
   flags-are : has_flag DeviceFlag.NeedsReboot f.t.view.sheet.flags ≡ has_flag DeviceFlag.NeedsReboot b.sheet.flags
   flags-are = ap (λ (v : DeviceView). has_flag DeviceFlag.NeedsReboot v.sheet.flags) view-is
 
-  device-is : f.t.view.sheet.device ≡ step.device
+  pub device-is : f.t.view.sheet.device ≡ step.device
   device-is = bytes-same f.t.view.sheet.device step.device (find-passes (has_id step.device) (views s.facts s.opening past) f.t.view f.view_is)
 
-  home-first : (raw : ℕ) × (mode : Mode) × (f.t.view.seen ≡ Seen.Home raw mode)
+  pub home-first : (raw : ℕ) × (mode : Mode) × (f.t.view.seen ≡ Seen.Home raw mode)
   home-first = of f.t.view.seen refl f.home
     where
       of : (x : Seen) → f.t.view.seen ≡ x → is_home f.t.view.seen ≡ true → (raw : ℕ) × (mode : Mode) × (f.t.view.seen ≡ Seen.Home raw mode)
@@ -205,7 +205,7 @@ module _ (s : Scene) (number : ℕ) (step : PlanStep) (chosen : Chosen) (past : 
       of Seen.Gone e h = let bad : false ≡ true = sym (ap is_home e) ∙ h in cc
       of Seen.Stranger e h = let bad : false ≡ true = sym (ap is_home e) ∙ h in cc
 
-  abbrev G : List Event → Course → Type 0
+  abbrev pub G : List Event → Course → Type 0
   G = Goes s step chosen q.campaign.first q.campaign.plans entry b board.1 f.t.view flags-are
 
   goes-first : accepts step.release (verdict s.facts s.opening (asked s number step chosen past) s.client asks (Stage.Claim step.release)) ≡ true → G begun first
@@ -233,25 +233,25 @@ module _ (s : Scene) (number : ℕ) (step : PlanStep) (chosen : Chosen) (past : 
   }
 
   -- the courses behind each step
-  abbrev prepared : Course
+  abbrev pub prepared : Course
   prepared = course_step step.raw first Op.Prepare
 
-  abbrev detached : Course
+  abbrev pub detached : Course
   detached = course_step step.raw prepared Op.Detach
 
-  abbrev written : Course
+  abbrev pub written : Course
   written = course_step step.raw detached Op.Write
 
-  abbrev back : Course
+  abbrev pub back : Course
   back = course_step step.raw written Op.Attach
 
-  abbrev looked : Course
+  abbrev pub looked : Course
   looked = course_step step.raw back Op.Reload
 
-  abbrev cleaned : Course
+  abbrev pub cleaned : Course
   cleaned = course_step step.raw looked Op.Cleanup
 
-  goes-whole : accepts step.release (verdict s.facts s.opening (asked s number step chosen past) s.client asks (Stage.Claim step.release)) ≡ true → G (done s number step chosen past) cleaned
+  pub goes-whole : accepts step.release (verdict s.facts s.opening (asked s number step chosen past) s.client asks (Stage.Claim step.release)) ≡ true → G (done s number step chosen past) cleaned
   goes-whole h =
       let on = goes-on s step chosen q.campaign.first q.campaign.plans entry b board.1 f.t.view flags-are in
       let g0 : G begun first = goes-first h in

@@ -16,3 +16,6 @@ pub mod Installed
 pub mod Planned
 pub mod Highest
 pub mod Chained
+pub mod Alike
+pub mod Played
+pub mod Followed
