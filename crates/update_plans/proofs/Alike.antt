@@ -1,5 +1,5 @@
 -- What is decided of a request where the devices are like others: of each, the same is read.
-use Rattle.std.proofs.Common.{◌≡◌, ℕ, zero, suc, ◌+◌, ◌&&◌, ◌||◌, Bool, true, false, cond, not, nat_lt, List, [], ◌∷◌, length, map, position, refl, sym, ap, ◌∙◌, subst}
+use Rattle.std.proofs.Common.{◌≡◌, ℕ, zero, suc, ◌+◌, ◌&&◌, Bool, true, false, cond, not, nat_lt, List, [], ◌∷◌, length, position, refl, ap, ◌∙◌, subst, arith}
 use Rattle.std.specs.Prelude.{Option, Some, None, find, is_some, slice_get, option_map, option_and_then, unwrap_or, if◌then◌else◌}
 use Rattle.std.specs.List.{list_any, position_or_len}
 use Rattle.std.specs.Str.{bytes_eq}
@@ -16,16 +16,15 @@ use Rattle.fw_facts.specs.declared.seen.Seen.{Seen}
 use Rattle.fw_facts.specs.declared.sheet.Sheet.{Sheet}
 use Rattle.fw_facts.specs.declared.view.DeviceView.{DeviceView}
 use Rattle.fw_facts.specs.Flags.{has_all, has_flag}
-use Rattle.fw_facts.specs.Machines.{rule_holds, test_holds}
+use Rattle.fw_facts.specs.Machines.{test_holds}
 use Rattle.fw_facts.specs.Problems.{has_problem, hindrance, refusing_problems}
 use Rattle.fw_facts.specs.Views.{flags_of, guids_of, is_home, version_of}
 use Rattle.requirements.specs.declared.unmet.Unmet.{Unmet}
 use Rattle.requirements.specs.declared.unmet.UnmetCause.{UnmetCause}
 use Rattle.requirements.specs.Requirements.{ancestor, cause, first_unmet, first_unmet_of, has_guid, of_device, of_found, of_test, of_version, parent, unless, unmet_at, vendor_passes, with_guid}
 use Rattle.device_list.specs.declared.selector.Selector.{Selector}
-use Rattle.device_list.specs.Lists.{names, place, shows}
+use Rattle.device_list.specs.Lists.{names, place}
 use Rattle.history_keeper.specs.declared.row.Row.{Row}
-use Rattle.history_keeper.specs.Histories.{is_unsettled}
 use Rattle.release_catalogue.specs.Lookup.{Chosen, chosen as chosen_for}
 use Rattle.update_log.specs.declared.decision.Decision.{Decision}
 use Rattle.update_log.specs.declared.decision.Stage.{Stage}
@@ -33,8 +32,8 @@ use Rattle.update_log.specs.declared.facts.Facts.{Facts}
 use Rattle.update_log.specs.declared.live.LiveEntry.{LiveEntry}
 use Rattle.update_log.specs.declared.refusal.Refusal.{Refusal}
 use Rattle.update_log.specs.declared.request.Request.{Request}
-use Rattle.update_log.specs.Known.{Target, row_with_tag, target, target_at, target_of}
-use Rattle.update_log.specs.Verdicts.{Case, busy, client_for, decided, features_for, first_refusal, has, hindered, installed, is_in_the_way, is_that_release, kept, locked, need, no_room, not_updatable, older, on_found, on_kept, on_present, on_target, out_of_size, present, refusals, refused_or, rows_full, unmet, unsettled, vetoed, where_home, where_so}
+use Rattle.update_log.specs.Known.{Target, target, target_at, target_of}
+use Rattle.update_log.specs.Verdicts.{Case, client_for, decided, features_for, first_refusal, is_that_release, kept, need, on_found, on_kept, on_present, on_target, out_of_size, present, refusals, refused_or, unsettled, where_home, where_so}
 
 -- ---- devices that are like others
 
@@ -87,7 +86,7 @@ length-like : (xs ys : List DeviceView) → AllLike xs ys → length xs ≡ leng
 length-like [] [] l = refl
 length-like [] (b ∷ ys) l = absurd l
 length-like (a ∷ xs) [] l = absurd l
-length-like (a ∷ xs) (b ∷ ys) l = ap suc (length-like xs ys l.1)
+length-like (a ∷ xs) (b ∷ ys) l = let rest = length-like xs ys l.1 in omega (arith, rest)
 
 first-like : (p : DeviceView → Bool) (xs ys : List DeviceView) → Reads p → AllLike xs ys → position_or_len p xs ≡ position_or_len p ys
 first-like p [] [] reads l = refl
@@ -206,7 +205,7 @@ pub data SameTarget : Option Target → Option Target → Type 0 where
   Both : (at : ℕ) (a b : DeviceView) (chosen : Chosen) → Like a b
       → SameTarget (Some (record { place = at; view = a; chosen = chosen })) (Some (record { place = at; view = b; chosen = chosen }))
 
-target-like : (facts : Facts) (xs ys : List DeviceView) → AllLike xs ys → (request : Request) → SameTarget (target facts xs request) (target facts ys request)
+pub target-like : (facts : Facts) (xs ys : List DeviceView) → AllLike xs ys → (request : Request) → SameTarget (target facts xs request) (target facts ys request)
 target-like facts xs ys l request =
     subst (λ (o : Option ℕ). SameTarget (target facts xs request) (option_and_then (target_at facts ys request.version) o)) (place-like request.device xs ys l) (at_place (place request.device xs))
   where

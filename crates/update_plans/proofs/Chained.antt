@@ -1,6 +1,6 @@
 -- Plans that are made and checked step by step.
-use Rattle.std.proofs.Common.{◌≡◌, ℕ, zero, suc, ◌+◌, ◌-◌, ◌<◌, ◌≤◌, Bool, true, false, List, [], ◌∷◌, ◌++◌, length, map, append_assoc, length-append, refl, sym, ap, ◌∙◌, subst, arith}
-use Rattle.std.specs.Prelude.{Option, Some, None, option_map, slice_get, if◌then◌else◌}
+use Rattle.std.proofs.Common.{◌≡◌, ℕ, zero, suc, ◌+◌, ◌-◌, ◌<◌, true, false, List, [], ◌∷◌, ◌++◌, length, map, append_assoc, length-append, refl, sym, ap, ◌∙◌, subst, arith}
+use Rattle.std.specs.Prelude.{Option, Some, None, option_map, slice_get}
 use Rattle.std.specs.Option.{option_map_or}
 use Rattle.std.proofs.lemmas.List.{append-nil}
 use Rattle.fw_facts.specs.declared.view.DeviceView.{DeviceView}
@@ -111,21 +111,31 @@ goes-end s device taken steps whole past end g none = (
 
 -- ---- device behind device
 
+chain-same : (s : Scene) (device : List ℕ) (left left' number number' : ℕ) (past past' : List Event) → left ≡ left' → number ≡ number' → past ≡ past' → chain s device left number past ≡ chain s device left' number' past'
+chain-same s device left left' number number' past past' l n p =
+    ap (λ (m : ℕ). chain s device m number past) l ∙ ap (λ (m : ℕ). chain s device left' m past) n ∙ ap (chain s device left' number') p
+
+push-one : (s : Scene) (device : List ℕ) (own rest more : List PlanStep) (left number : ℕ) (past : List Event)
+    → more ≡ rest ++ chain s device (left - length own - length rest) (number + length own + length rest) (after s (number + length own) rest (after s number own past))
+    → own ++ more ≡ (own ++ rest) ++ chain s device (left - length (own ++ rest)) (number + length (own ++ rest)) (after s number (own ++ rest) past)
+push-one s device own rest more left number past e =
+    let many = length-append own rest in
+    let last : List PlanStep = chain s device (left - length own - length rest) (number + length own + length rest) (after s (number + length own) rest (after s number own past)) in
+    ap (λ (steps : List PlanStep). own ++ steps) e ∙ sym (append_assoc own rest last)
+    ∙ ap (λ (steps : List PlanStep). (own ++ rest) ++ steps)
+    (chain-same s device (left - length own - length rest) (left - length (own ++ rest)) (number + length own + length rest) (number + length (own ++ rest)) (after s (number + length own) rest (after s number own past)) (after s number (own ++ rest) past)
+    (omega (arith, many)) (omega (arith, many)) (sym (after-append s number own rest past)))
+
 pub chains-push : (s : Scene) (xs : List (List ℕ)) (device : List ℕ) (left number : ℕ) (past : List Event)
     → chains s (xs ++ device ∷ []) left number past
     ≡ chains s xs left number past ++ chain s device (left - length (chains s xs left number past)) (number + length (chains s xs left number past)) (after s number (chains s xs left number past) past)
 unfolding chains after
 chains-push s [] device left number past =
-    append-nil (chain s device left number past)
-    ∙ ap (λ (n : ℕ). chain s device n number past) (omega arith) ∙ ap (λ (n : ℕ). chain s device (left - 0) n past) (omega arith)
+    append-nil (chain s device left number past) ∙ chain-same s device left (left - 0) number (number + 0) past past (omega arith) (omega arith) refl
 chains-push s (x ∷ xs) device left number past =
-    let many = length-append (chain s x left number past) (chains s xs (left - length (chain s x left number past)) (number + length (chain s x left number past)) (after s number (chain s x left number past) past)) in
-    ap (λ (ys : List PlanStep). chain s x left number past ++ ys) (chains-push s xs device (left - length (chain s x left number past)) (number + length (chain s x left number past)) (after s number (chain s x left number past) past))
-    ∙ sym (append_assoc (chain s x left number past) (chains s xs (left - length (chain s x left number past)) (number + length (chain s x left number past)) (after s number (chain s x left number past) past)) _)
-    ∙ ap (λ (n : ℕ). (chain s x left number past ++ chains s xs (left - length (chain s x left number past)) (number + length (chain s x left number past)) (after s number (chain s x left number past) past)) ++ chain s device n _ _) (omega (arith, many))
-    ∙ ap (λ (n : ℕ). (chain s x left number past ++ chains s xs (left - length (chain s x left number past)) (number + length (chain s x left number past)) (after s number (chain s x left number past) past)) ++ chain s device _ n _) (omega (arith, many))
-    ∙ ap (λ (p : List Event). (chain s x left number past ++ chains s xs (left - length (chain s x left number past)) (number + length (chain s x left number past)) (after s number (chain s x left number past) past)) ++ chain s device _ _ p)
-    (sym (after-append s number (chain s x left number past) (chains s xs (left - length (chain s x left number past)) (number + length (chain s x left number past)) (after s number (chain s x left number past) past)) past))
+    push-one s device (chain s x left number past) (chains s xs (left - length (chain s x left number past)) (number + length (chain s x left number past)) (after s number (chain s x left number past) past))
+    (chains s (xs ++ device ∷ []) (left - length (chain s x left number past)) (number + length (chain s x left number past)) (after s number (chain s x left number past) past)) left number past
+    (chains-push s xs device (left - length (chain s x left number past)) (number + length (chain s x left number past)) (after s number (chain s x left number past) past))
 
 -- ---- checking, step by step
 

@@ -1,14 +1,12 @@
 -- How a course goes: it takes each step at most once, in their order, and the reload always.
-use Rattle.std.proofs.Common.{◌≡◌, ℕ, suc, ◌+◌, ◌<◌, ◌≤◌, ◌&&◌, ◌||◌, ◌==◌, ◌⊎◌, Bool, true, false, cond, nat_lt, not, List, [], ◌∷◌, ◌++◌, length, length-append, inl, inr, refl, sym, ap, ◌∙◌, subst, arith}
+use Rattle.std.proofs.Common.{◌≡◌, ℕ, suc, ◌+◌, ◌≤◌, ◌&&◌, ◌||◌, ◌⊎◌, Bool, true, false, nat_lt, not, List, [], ◌∷◌, ◌++◌, length, length-append, inl, inr, refl, sym, ap, ◌∙◌, subst, arith}
 use Rattle.std.specs.Prelude.{Ok, find, if◌then◌else◌}
 use Rattle.std.specs.List.{AllByRecursion, list_any}
-use Rattle.std.proofs.lemmas.Bool.{ltb-false, ltb-true}
 use Rattle.std.proofs.lemmas.Bool.Decides.{nat_tests}
 use Rattle.fw_facts.specs.declared.flags.DeviceFlag.{DeviceFlag}
 use Rattle.fw_facts.specs.Flags.{has_flag}
 use Rattle.fw_facts.specs.declared.seen.Mode.{Mode}
 use Rattle.fw_facts.specs.declared.seen.Seen.{Seen}
-use Rattle.fw_facts.specs.Views.{is_home}
 use Rattle.update_log.specs.declared.event.Op.{Op}
 use Rattle.update_log.specs.declared.trace.Trace.{Trace}
 use Rattle.update_log.specs.declared.trace.TraceStep.{TraceStep}

@@ -1,7 +1,6 @@
 -- A log that goes on by plays of planned steps stands as the planned log does, but for raw numbers that show one text.
-use Rattle.std.proofs.Common.{◌≡◌, ℕ, zero, suc, ◌+◌, ◌&&◌, ◌||◌, ◌==◌, Bool, true, false, cond, not, List, [], ◌∷◌, ◌++◌, length, map, refl, sym, ap, ◌∙◌, subst, arith}
-use Rattle.std.specs.Prelude.{Option, Some, None, find, slice_get, option_map, option_and_then, unwrap_or, if◌then◌else◌}
-use Rattle.std.specs.Option.{option_map_or}
+use Rattle.std.proofs.Common.{◌≡◌, ℕ, suc, ◌+◌, ◌&&◌, ◌||◌, ◌==◌, Bool, true, false, not, List, [], ◌∷◌, ◌++◌, length, map, refl, sym, ap, ◌∙◌, subst, arith}
+use Rattle.std.specs.Prelude.{Option, Some, None, find, slice_get, option_map, unwrap_or, if◌then◌else◌}
 use Rattle.std.specs.List.{AllByRecursion}
 use Rattle.std.specs.Ordering.{is_eq, ordering_reverse}
 use Rattle.std.specs.declared.cmp.Ordering.{Ordering}
@@ -23,7 +22,6 @@ use Rattle.release_catalogue.specs.Lookup.{Chosen}
 use Rattle.release_catalogue.specs.declared.reference.ReleaseRef.{ReleaseRef}
 use Rattle.update_log.specs.declared.answer.AskAnswer.{AskAnswer}
 use Rattle.update_log.specs.declared.answer.ClaimAnswer.{ClaimAnswer}
-use Rattle.update_log.specs.declared.decision.Decision.{Decision}
 use Rattle.update_log.specs.declared.decision.Stage.{Stage}
 use Rattle.update_log.specs.declared.event.Event.{Event}
 use Rattle.update_log.specs.declared.event.Op.{Op}
@@ -39,11 +37,11 @@ use Rattle.update_log.specs.declared.trace.Trace.{Trace}
 use Rattle.update_log.specs.Boards.{Board, all_boards, boards_from, devices, is_device}
 use Rattle.update_log.specs.Holding.{blocks_of, blocks_out, held, holds, live}
 use Rattle.update_log.specs.Known.{Target, flags_number, is_on, known, new_row, row_of, rows, seen, target, view_of as view_in, views}
-use Rattle.update_log.specs.Legal.{BelowLimit, FinishAllowed, IsLegal, UnchangedExactly, closing_stored, next_entry}
+use Rattle.update_log.specs.Legal.{IsLegal, UnchangedExactly, closing_stored, next_entry}
 use Rattle.update_log.specs.Pasts.{is_fault, off, time_of}
 use Rattle.update_log.specs.Shows.{Campaign}
 use Rattle.update_log.specs.Steps.{all_ops, closing, closing_of, ended_well, judge_shown, mode_of, waits_for_boot}
-use Rattle.update_log.specs.Verdicts.{Case, case_of, decided, installed as refused_same, refusals, shown_by, verdict, where_so}
+use Rattle.update_log.specs.Verdicts.{Case, case_of, decided, shown_by, verdict, where_so}
 use Rattle.update_log.proofs.Accepts.{none-refuses}
 use Rattle.update_log.proofs.Lists.{All-filter, All-find, All-map, by_test}
 use Rattle.update_log.proofs.Openings.{bytes-same}

@@ -1,9 +1,9 @@
 -- An install of a good step: each of its events is allowed, it ends as the course of its device does, and a plan may
 -- be made behind it.
-use Rattle.std.proofs.Common.{◌≡◌, ◌≢◌, ℕ, ◌+◌, ◌<◌, ◌≤◌, ◌⊎◌, ◌&&◌, ◌||◌, ◌==◌, Bool, true, false, not, List, [], ◌∷◌, ◌++◌, length, inl, inr, refl, sym, ap, ◌∙◌, subst, arith}
-use Rattle.std.specs.Prelude.{Option, Some, None, Ok, find, nat_lt, option_map, option_and_then, unwrap_or, if◌then◌else◌}
+use Rattle.std.proofs.Common.{◌≡◌, ℕ, ◌+◌, ◌&&◌, ◌||◌, ◌==◌, Bool, true, false, List, [], ◌∷◌, ◌++◌, length, inl, refl, sym, ap, ◌∙◌, subst, arith}
+use Rattle.std.specs.Prelude.{Option, Some, None, find, nat_lt, option_map, option_and_then, unwrap_or, if◌then◌else◌}
 use Rattle.std.specs.Option.{option_map_or}
-use Rattle.std.specs.List.{AllByRecursion, list_any}
+use Rattle.std.specs.List.{AllByRecursion}
 use Rattle.std.specs.Str.{bytes_eq}
 use Rattle.std.proofs.lemmas.Bool.{eqb-true}
 use Rattle.fw_facts.specs.declared.flags.DeviceFlag.{DeviceFlag}
@@ -16,17 +16,14 @@ use Rattle.history_keeper.specs.declared.row.Row.{Row}
 use Rattle.history_keeper.specs.declared.row.RowState.{RowState}
 use Rattle.history_keeper.specs.declared.change.Change.{Change}
 use Rattle.release_catalogue.specs.Lookup.{Chosen}
-use Rattle.update_log.specs.declared.answer.AskAnswer.{AskAnswer}
 use Rattle.update_log.specs.declared.answer.ClaimAnswer.{ClaimAnswer}
 use Rattle.update_log.specs.declared.decision.Decision.{Decision}
 use Rattle.update_log.specs.declared.decision.Stage.{Stage}
 use Rattle.update_log.specs.declared.event.Event.{Event}
 use Rattle.update_log.specs.declared.event.Op.{Op}
 use Rattle.update_log.specs.declared.event.Stored.{Stored}
-use Rattle.update_log.specs.declared.facts.BootPlan.{BootPlan}
 use Rattle.update_log.specs.declared.facts.Facts.{Facts}
 use Rattle.update_log.specs.declared.live.Held.{Held}
-use Rattle.update_log.specs.declared.live.LiveEntry.{LiveEntry}
 use Rattle.update_log.specs.declared.live.OpenStep.{OpenStep}
 use Rattle.update_log.specs.declared.refusal.FetchNote.{FetchNote}
 use Rattle.update_log.specs.declared.request.Request.{Request}
@@ -35,13 +32,13 @@ use Rattle.update_log.specs.Boards.{Board}
 use Rattle.update_log.specs.Holding.{blocks_of, hold, holds, live, open_steps, step_open}
 use Rattle.update_log.specs.Known.{Target, known, new_row, row_of, rows, rows_by, seen, target, view_of as view_in, views}
 use Rattle.update_log.specs.Known.Fate as fates
-use Rattle.update_log.specs.Legal.{BootRuns, ClaimAnswered, IsLegalUnlimited, UnchangedExactly, is_fetched, next_entry}
-use Rattle.update_log.specs.Pasts.{boots, off, time_of}
+use Rattle.update_log.specs.Legal.{ClaimAnswered, IsLegalUnlimited, UnchangedExactly, is_fetched, next_entry}
+use Rattle.update_log.specs.Pasts.{time_of}
 use Rattle.update_log.specs.Shows.{Campaign}
-use Rattle.update_log.specs.Steps.{all_ops, closing, closing_at, closing_of, ended_well, first_trace, may_be_next, judge_shown, mode_of, next_op, next_step, trace, view_of_row, waits_for_boot}
+use Rattle.update_log.specs.Steps.{all_ops, closing, closing_at, closing_of, may_be_next, judge_shown, mode_of, next_step, trace, view_of_row, waits_for_boot}
 use Rattle.update_log.specs.Verdicts.{need, verdict}
 use Rattle.update_log.proofs.LegalOnce.{PastKept, past-kept-on}
-use Rattle.update_log.proofs.Lists.{All-find, by_test, eqb-self, find-passes}
+use Rattle.update_log.proofs.Lists.{All-find, eqb-self, find-passes}
 use Rattle.update_log.proofs.Openings.{bytes-same, bytes-self}
 use Rattle.update_log.proofs.RowsKept.{row_of-past}
 use Rattle.update_log.proofs.StepsKept.{OpenKept}
@@ -51,14 +48,14 @@ use Rattle.update_plans.specs.declared.course.Course.{Course}
 use Rattle.update_plans.specs.declared.plan.PlanStep.{PlanStep}
 use Rattle.update_plans.specs.Courses.{course_step, ends_so, ends_well, shows_version, trace_begun}
 use Rattle.update_plans.specs.Following.{IsQuiet}
-use Rattle.update_plans.specs.Plans.{Scene, accepts, asked, done, end_of, has_id, installed_with, is_ended, is_good_with, release_at, request_of, taken, view_of, with_ops, writes}
+use Rattle.update_plans.specs.Plans.{Scene, accepts, asked, done, end_of, has_id, installed_with, is_ended, is_good_with, release_at, request_of, taken, view_of, writes}
 use Rattle.version_formats.specs.Formats.{render}
 use Rattle.version_formats.specs.VersionOrder.{same_version}
 use Rattle.version_formats.specs.declared.format.Format.{Format}
 use Rattle.update_plans.proofs.Claims.{accepted_twice}
-use Rattle.update_plans.proofs.Coursed.{Returns, attached, course_is, is-runtime, later-runtime, none_left, reload_ended, returns-detach, returns-first, returns-prepare, returns-write, went-write}
+use Rattle.update_plans.proofs.Coursed.{attached, course_is, is-runtime, later-runtime, none_left, reload_ended, returns-detach, returns-first, returns-prepare, returns-write, went-write}
 use Rattle.update_plans.proofs.Installing.{Goes, goes-on}
-use Rattle.update_plans.proofs.Shown.{IsOf, board-of, seen-now, view-now}
+use Rattle.update_plans.proofs.Shown.{IsOf, board-of, view-now}
 use Rattle.update_plans.proofs.Targets.{Found, found}
 
 some-same : {X : Type 0} {x y : X} → Some x ≡ Some y → x ≡ y

@@ -1,10 +1,8 @@
 -- The steps of an install: what the log says of them is the course of the device alone, and each event is allowed.
-use Rattle.std.proofs.Common.{◌≡◌, ℕ, suc, ◌+◌, ◌<◌, ◌≤◌, ◌⊎◌, ◌&&◌, ◌||◌, ◌==◌, Bool, true, false, cond, not, nat_lt, List, [], ◌∷◌, ◌++◌, length, inl, inr, refl, sym, ap, ◌∙◌, subst, arith}
-use Rattle.std.specs.Prelude.{Option, Some, None, Ok, Contains, IsTrue, find, option_map, option_and_then, unwrap_or, if◌then◌else◌}
+use Rattle.std.proofs.Common.{◌≡◌, ℕ, ◌<◌, ◌⊎◌, ◌==◌, Bool, true, false, List, [], ◌∷◌, inl, inr, refl, sym, ap, ◌∙◌, subst, arith}
+use Rattle.std.specs.Prelude.{Option, Some, None, Ok, Contains, option_map, option_and_then, unwrap_or, if◌then◌else◌}
 use Rattle.std.specs.Option.{option_map_or}
-use Rattle.std.specs.List.{list_any}
-use Rattle.std.proofs.lemmas.Bool.{eqb-true, true≢false}
-use Rattle.std.proofs.lemmas.Bool.Decides.{nat_tests}
+use Rattle.std.proofs.lemmas.Bool.{eqb-true}
 use Rattle.std.proofs.lemmas.List.{get_or-set_other}
 use Rattle.std.proofs.lemmas.List.Elements.{Contains-append_right}
 use Rattle.emulated_boards.specs.declared.mark.Mark.{Mark}
@@ -13,28 +11,26 @@ use Rattle.fw_facts.specs.declared.seen.Mode.{Mode}
 use Rattle.fw_facts.specs.declared.seen.Seen.{Seen}
 use Rattle.fw_facts.specs.declared.view.DeviceView.{DeviceView}
 use Rattle.fw_facts.specs.Flags.{has_flag}
-use Rattle.fw_facts.specs.Views.{flags_of, is_home}
+use Rattle.fw_facts.specs.Views.{flags_of}
 use Rattle.history_keeper.specs.declared.row.Row.{Row}
 use Rattle.release_catalogue.specs.Lookup.{Chosen}
 use Rattle.update_log.specs.declared.event.Event.{Event}
 use Rattle.update_log.specs.declared.event.Op.{Op}
 use Rattle.update_log.specs.declared.facts.BootPlan.{BootPlan}
-use Rattle.update_log.specs.declared.live.LiveEntry.{LiveEntry}
 use Rattle.update_log.specs.declared.trace.Trace.{Trace}
-use Rattle.update_log.specs.declared.trace.TraceStep.{TraceStep}
 use Rattle.update_log.specs.Boards.{Board}
 use Rattle.update_log.specs.Holding.{holds, live, live_entry, open_steps, step_open}
-use Rattle.update_log.specs.Known.{board_of, is_board_of, known, row_of, rows, seen, view_of as view_in}
-use Rattle.update_log.specs.Legal.{Allowed, BootRuns, EndAllowed, IsLegalUnlimited, StartAllowed, ToldWhole}
+use Rattle.update_log.specs.Known.{board_of, row_of, rows, seen}
+use Rattle.update_log.specs.Legal.{IsLegalUnlimited, ToldWhole}
 use Rattle.update_log.specs.Pasts.{boots, off}
-use Rattle.update_log.specs.Shows.{Campaign, EndShows, HasMode, HasRaw, IsPrefix, IsWritten, ModeAllowed, RawAllowed, digest_of, home_before, is_alike, marks, raw_of as raw_taken, told}
-use Rattle.update_log.specs.Steps.{in_runtime, is_op, last_number, may_be_next, mode_of, next_op, next_step, op_number, trace, was_taken, with_step}
-use Rattle.update_log.proofs.Lists.{by_test, eqb-self, find-filter_none}
+use Rattle.update_log.specs.Shows.{Campaign, EndShows, HasMode, HasRaw, IsPrefix, ModeAllowed, RawAllowed, digest_of, home_before, marks, raw_of as raw_taken, told}
+use Rattle.update_log.specs.Steps.{is_op, mode_of, next_op, next_step, op_number, trace}
+use Rattle.update_log.proofs.Lists.{eqb-self, find-filter_none}
 use Rattle.update_log.proofs.TakenKept.{find-push_new}
 use Rattle.update_plans.specs.declared.course.Course.{Course}
 use Rattle.update_plans.specs.declared.plan.PlanStep.{PlanStep}
 use Rattle.update_plans.specs.Courses.{course_step, course_with, shows_next}
-use Rattle.update_plans.specs.Plans.{Scene, board_after, is_next, seen_of, shown_after, view_of, waits_for_boot, with_op}
+use Rattle.update_plans.specs.Plans.{Scene, board_after, is_next, seen_of, shown_after, waits_for_boot, with_op}
 use Rattle.update_plans.proofs.Coursed.{Returns}
 use Rattle.update_plans.proofs.Shown.{IsOf, board-of-entry, has-raw, home-seen, seen-ended, seen-now, that-board, view-now}
 

@@ -19,3 +19,4 @@ pub mod Chained
 pub mod Alike
 pub mod Played
 pub mod Followed
+pub mod Put

@@ -1,5 +1,5 @@
 -- What a device shows after an event, told of its board alone.
-use Rattle.std.proofs.Common.{◌≡◌, ℕ, ◌==◌, Bool, true, false, cond, List, [], ◌∷◌, ◌++◌, map, refl, sym, ap, ◌∙◌, subst}
+use Rattle.std.proofs.Common.{◌≡◌, ℕ, ◌==◌, Bool, true, false, List, [], ◌∷◌, map, refl, sym, ap, ◌∙◌, subst}
 use Rattle.std.specs.Prelude.{Option, Some, None, find, IsTrue, option_map, option_and_then, unwrap_or, if◌then◌else◌}
 use Rattle.std.specs.Option.{option_map_or}
 use Rattle.std.specs.Str.{bytes_eq}
@@ -13,7 +13,7 @@ use Rattle.update_log.specs.declared.facts.Facts.{Facts}
 use Rattle.update_log.specs.declared.live.LiveEntry.{LiveEntry}
 use Rattle.update_log.specs.Boards.{Board, board_with, devices}
 use Rattle.update_log.specs.Holding.{live}
-use Rattle.update_log.specs.Known.{Known, board_of, for_board, is_board_of, known, row_of, rows, seen, tells, view_of as view_in, views}
+use Rattle.update_log.specs.Known.{Known, board_of, for_board, is_board_of, known, row_of, rows, seen, tells, view_of as view_in}
 use Rattle.update_log.specs.Shows.{HasRaw, home_before, home_or}
 use Rattle.update_log.proofs.Lists.{by_test, eqb-self}
 use Rattle.update_plans.specs.Plans.{Scene, has_id, seen_of, view_of}

@@ -1,15 +1,14 @@
 -- The tag of a step is a name.
-use Rattle.std.proofs.Common.{◌≡◌, ℕ, ◌+◌, ◌<◌, ◌≤◌, ◌^◌, ◌==◌, Bool, true, false, List, [], ◌∷◌, ◌++◌, length, get_or, decimal, codes, nat_lt, cond, Option, Some, None, Result, Ok, Err, inl, inr, refl, sym, ap, ◌∙◌, arith, length-append, position}
-use Rattle.std.proofs.lemmas.Bool.{cases_Bool, cases_lt, le-ltb, ltb-false, ltb-true, ne_eqb}
+use Rattle.std.proofs.Common.{◌≡◌, ℕ, ◌+◌, ◌<◌, ◌≤◌, ◌==◌, Bool, true, false, List, [], ◌∷◌, ◌++◌, length, get_or, decimal, codes, nat_lt, cond, Option, Some, None, Ok, Err, refl, arith, length-append, position}
+use Rattle.std.proofs.lemmas.Bool.{le-ltb, ltb-false, ne_eqb}
 use Rattle.std.proofs.lemmas.Bool.Decides.{nat_tests}
-use Rattle.std.proofs.lemmas.Fmt.{decimal_is_IsNumeral, decimal_nonempty, length-decimal-le}
+use Rattle.std.proofs.lemmas.Fmt.{decimal_is_IsNumeral, length-decimal-le}
 use Rattle.std.proofs.lemmas.List.Elements.{All-append, All-from_get_or, All-cons, All-nil}
 use Rattle.std.proofs.lemmas.List.Sums.{fails_before_first, position_or_len_is}
 use Rattle.std.proofs.lemmas.Str.Parse.{digit_at}
 use Rattle.std.specs.List.{All, position_or_len}
 use Rattle.std.specs.Str.Parse.{AllDigits}
 use Rattle.fw_base.specs.Names.{is_no_name_byte, name_read, name_unless}
-use Rattle.fw_base.specs.declared.name.NameFault.{NameFault}
 use Rattle.fw_base.specs.declared.name.NameFault.TheVariants.{Empty, TooLong}
 use Rattle.update_plans.specs.Tags.{IsTag}
 

@@ -1,8 +1,7 @@
 -- What a request found that was accepted with a release.
-use Rattle.std.proofs.Common.{◌≡◌, ℕ, ◌&&◌, ◌==◌, Bool, true, false, cond, nat_lt, List, [], ◌∷◌, length, position, refl, sym, ap, ◌∙◌, subst}
+use Rattle.std.proofs.Common.{◌≡◌, ℕ, ◌==◌, Bool, true, false, cond, nat_lt, List, [], ◌∷◌, length, position, refl, sym, ap, ◌∙◌, subst}
 use Rattle.std.specs.Prelude.{Option, Some, None, find, slice_get, option_map, option_and_then, if◌then◌else◌}
 use Rattle.std.specs.List.{position_or_len}
-use Rattle.std.specs.Str.{bytes_eq}
 use Rattle.std.proofs.lemmas.Bool.{eqb-true}
 use Rattle.std.proofs.lemmas.List.Folds.{find_at}
 use Rattle.device_list.proofs.GuidLaws.{bytes_eq-symm}
@@ -21,8 +20,7 @@ use Rattle.update_log.specs.declared.event.Event.{Event}
 use Rattle.update_log.specs.declared.refusal.Refusal.{Refusal}
 use Rattle.update_log.specs.declared.request.Request.{Request}
 use Rattle.update_log.specs.Known.{Target, row_with_tag, rows, target, target_at, target_of, views}
-use Rattle.update_log.specs.Verdicts.{Case, case_of, decided, first_refusal, is_release, need, on_found, on_kept, on_present, on_target, present, refusals, refused_or, verdict}
-use Rattle.update_log.proofs.Lists.{by_test}
+use Rattle.update_log.specs.Verdicts.{Case, case_of, first_refusal, is_release, need, on_found, on_kept, on_present, present, refusals, refused_or, verdict}
 use Rattle.update_log.proofs.Placed.{IsPlaced, chosen-placed}
 use Rattle.update_log.proofs.StrokeFacts.{and-true}
 use Rattle.update_plans.specs.Plans.{Scene, accepts, has_id, release_at, request_of, step_tag, view_of}

@@ -1,5 +1,5 @@
 -- How an install goes where nothing fails, told of the device alone as it was when the entry was taken.
-use Rattle.std.specs.Prelude.{ℕ, Bool, true, false, ◌||◌, ◌&&◌, List, [], ◌∷◌, Ok, if◌then◌else◌}
+use Rattle.std.specs.Prelude.{ℕ, Bool, false, ◌||◌, ◌&&◌, List, [], Ok, if◌then◌else◌}
 use Rattle.std.specs.List.{fold, list_any}
 use Rattle.version_formats.specs.Formats.{render}
 use Rattle.version_formats.specs.VersionOrder.{same_version}
@@ -14,7 +14,6 @@ use Rattle.release_catalogue.specs.Lookup.{provides}
 use Rattle.std.specs.Str.{bytes_eq}
 use Rattle.update_log.specs.declared.event.Op.{Op}
 use Rattle.update_log.specs.declared.trace.Trace.{Trace}
-use Rattle.update_log.specs.declared.trace.TraceStep.{TraceStep}
 use Rattle.update_log.specs.Steps.{all_ops, mode_of, next_step, waits_for_boot, with_step}
 use Rattle.update_plans.specs.declared.course.Course.{Course}
 use Rattle.update_plans.specs.Plans.{is_next, shown_after}

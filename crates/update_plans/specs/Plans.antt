@@ -1,5 +1,5 @@
 -- Installs that go as they go where nothing fails, and the plans that are made of them.
-use Rattle.std.specs.Prelude.{◌≡◌, ℕ, zero, suc, ◌+◌, ◌-◌, ◌==◌, ◌&&◌, Bool, true, false, not, List, [], ◌∷◌, ◌++◌, length, map, filter, find, Option, Some, None, is_some, unwrap_or, option_map, option_and_then, slice_get, Ok, codes, decimal, if◌then◌else◌}
+use Rattle.std.specs.Prelude.{ℕ, zero, suc, ◌+◌, ◌-◌, ◌&&◌, Bool, true, false, not, List, [], ◌∷◌, ◌++◌, length, map, filter, find, Option, Some, None, unwrap_or, option_map, option_and_then, slice_get, Ok, codes, decimal, if◌then◌else◌}
 use Rattle.std.specs.List.{fold, list_any}
 use Rattle.std.specs.Option.{option_map_or}
 use Rattle.std.specs.Ordering.{is_lt}
@@ -7,7 +7,6 @@ use Rattle.std.specs.Str.{bytes_eq}
 use Rattle.version_formats.specs.Formats.{render}
 use Rattle.version_formats.specs.VersionOrder.{same_version, version_cmp}
 use Rattle.fw_facts.specs.declared.flags.DeviceFlag.{DeviceFlag}
-use Rattle.fw_facts.specs.declared.release.Component.{Component}
 use Rattle.fw_facts.specs.declared.seen.Mode.{Mode}
 use Rattle.fw_facts.specs.declared.seen.Seen.{Seen}
 use Rattle.fw_facts.specs.declared.view.DeviceView.{DeviceView}
@@ -139,9 +138,25 @@ pub record Making : Type 0 where
   pub opening : List Row
   pub before : List Event
   pub step : PlanStep
-  pub chosen : Chosen
   pub gone : List Op
   pub more : List Op
+
+-- The steps before a step, and those behind it.
+abbrev pub ops_before : Op → List Op
+ops_before Op.Prepare = []
+ops_before Op.Detach = Op.Prepare ∷ []
+ops_before Op.Write = Op.Prepare ∷ Op.Detach ∷ []
+ops_before Op.Attach = Op.Prepare ∷ Op.Detach ∷ Op.Write ∷ []
+ops_before Op.Reload = Op.Prepare ∷ Op.Detach ∷ Op.Write ∷ Op.Attach ∷ []
+ops_before Op.Cleanup = Op.Prepare ∷ Op.Detach ∷ Op.Write ∷ Op.Attach ∷ Op.Reload ∷ []
+
+abbrev pub ops_behind : Op → List Op
+ops_behind Op.Prepare = Op.Detach ∷ Op.Write ∷ Op.Attach ∷ Op.Reload ∷ Op.Cleanup ∷ []
+ops_behind Op.Detach = Op.Write ∷ Op.Attach ∷ Op.Reload ∷ Op.Cleanup ∷ []
+ops_behind Op.Write = Op.Attach ∷ Op.Reload ∷ Op.Cleanup ∷ []
+ops_behind Op.Attach = Op.Reload ∷ Op.Cleanup ∷ []
+ops_behind Op.Reload = Op.Cleanup ∷ []
+ops_behind Op.Cleanup = []
 
 -- All steps of the entry, in their order.
 abbrev pub with_ops : Scene → PlanStep → Chosen → ℕ → List Event → List Event

@@ -15,7 +15,7 @@ ghost use Rattle.update_log.specs.Legal.{next_entry};
 ghost use Rattle.update_log.specs.Steps.{all_ops};
 ghost use Rattle.update_log.specs.Verdicts.{verdict};
 ghost use Rattle.update_log.specs.declared.decision.Stage.TheVariants.{Ask};
-ghost use Rattle.update_plans.specs.Plans.{Making, accepts, asked, done, installed, installed_with, is_good, is_good_with, release_at, request_of, scene, seen_of, shown_after, taken, view_of, waits_for_boot, with_some};
+ghost use Rattle.update_plans.specs.Plans.{Making, accepts, asked, done, installed, is_good, release_at, request_of, scene, seen_of, shown_after, taken, view_of, waits_for_boot, with_some};
 ghost use Rattle.update_plans.specs.Tags.{IsTag};
 
 use crate::course::{ends_well, is_next, shown_after};
@@ -146,18 +146,17 @@ impl<'a> Planner<'a> {
 
     // The ask and the claim.
     fn take(&mut self, request: &Request, step: &PlanStep, release: &Release, entry: u32)
-        ghost at: { Making }
-        requires stands { Stands self.old.facts.now at.opening self.old.state }
-        requires quiet { IsQuiet (scene self.old.facts.now at.opening self.old.client self.old.tag.now) (past_of self.old.state.log) }
-        requires there { release_at (scene self.old.facts.now at.opening self.old.client self.old.tag.now) step.now.release ≡ Some at.chosen }
-        requires good { is_good_with (scene self.old.facts.now at.opening self.old.client self.old.tag.now) (self.old.taken + 1) step.now (past_of self.old.state.log) at.chosen ≡ true }
-        requires request { request.now ≡ request_of (scene self.old.facts.now at.opening self.old.client self.old.tag.now) (self.old.taken + 1) step.now at.chosen }
-        requires release { release.now ≡ at.chosen.release }
-        requires entry { entry ≡ next_entry self.old.facts.now at.opening (past_of self.old.state.log) }
+        ghost opening: { List Row }
+        requires stands { Stands self.old.facts.now opening self.old.state }
+        requires quiet { IsQuiet (scene self.old.facts.now opening self.old.client self.old.tag.now) (past_of self.old.state.log) }
+        requires good { is_good (scene self.old.facts.now opening self.old.client self.old.tag.now) (self.old.taken + 1) step.now (past_of self.old.state.log) ≡ true }
+        requires request { (chosen : Chosen) → release_at (scene self.old.facts.now opening self.old.client self.old.tag.now) step.now.release ≡ Some chosen → request.now ≡ request_of (scene self.old.facts.now opening self.old.client self.old.tag.now) (self.old.taken + 1) step.now chosen }
+        requires release { (chosen : Chosen) → release_at (scene self.old.facts.now opening self.old.client self.old.tag.now) step.now.release ≡ Some chosen → release.now ≡ chosen.release }
+        requires entry { entry ≡ next_entry self.old.facts.now opening (past_of self.old.state.log) }
         requires room { 2 ≤ self.old.state.room }
         requires row { 1 ≤ self.old.state.row_room }
-        ensures past { past_of self.new.state.log ≡ taken (scene self.old.facts.now at.opening self.old.client self.old.tag.now) (self.old.taken + 1) step.now at.chosen (asked (scene self.old.facts.now at.opening self.old.client self.old.tag.now) (self.old.taken + 1) step.now at.chosen (past_of self.old.state.log)) }
-        ensures stands { Stands self.old.facts.now at.opening self.new.state }
+        ensures past { (chosen : Chosen) → release_at (scene self.old.facts.now opening self.old.client self.old.tag.now) step.now.release ≡ Some chosen → past_of self.new.state.log ≡ taken (scene self.old.facts.now opening self.old.client self.old.tag.now) (self.old.taken + 1) step.now chosen (asked (scene self.old.facts.now opening self.old.client self.old.tag.now) (self.old.taken + 1) step.now chosen (past_of self.old.state.log)) }
+        ensures stands { Stands self.old.facts.now opening self.new.state }
         ensures room { self.old.state.room ≤ self.new.state.room + 2 }
         ensures facts { self.new.facts.now ≡ self.old.facts.now }
         ensures client { self.new.client ≡ self.old.client }
@@ -190,14 +189,13 @@ impl<'a> Planner<'a> {
         ghost at: { Making }
         requires stands { Stands self.old.facts.now at.opening self.old.state }
         requires quiet { IsQuiet (scene self.old.facts.now at.opening self.old.client self.old.tag.now) at.before }
-        requires there { release_at (scene self.old.facts.now at.opening self.old.client self.old.tag.now) step.now.release ≡ Some at.chosen }
-        requires good { is_good_with (scene self.old.facts.now at.opening self.old.client self.old.tag.now) (self.old.taken + 1) step.now at.before at.chosen ≡ true }
-        requires digest { digest ≡ at.chosen.release.digest }
+        requires good { is_good (scene self.old.facts.now at.opening self.old.client self.old.tag.now) (self.old.taken + 1) step.now at.before ≡ true }
+        requires digest { (chosen : Chosen) → release_at (scene self.old.facts.now at.opening self.old.client self.old.tag.now) step.now.release ≡ Some chosen → digest ≡ chosen.release.digest }
         requires entry { entry ≡ next_entry self.old.facts.now at.opening at.before }
         requires ops { at.gone ++ op ∷ at.more ≡ all_ops }
-        requires past { past_of self.old.state.log ≡ with_some (scene self.old.facts.now at.opening self.old.client self.old.tag.now) (self.old.taken + 1) step.now at.chosen at.gone at.before }
+        requires past { (chosen : Chosen) → release_at (scene self.old.facts.now at.opening self.old.client self.old.tag.now) step.now.release ≡ Some chosen → past_of self.old.state.log ≡ with_some (scene self.old.facts.now at.opening self.old.client self.old.tag.now) (self.old.taken + 1) step.now chosen at.gone at.before }
         requires room { 2 ≤ self.old.state.room }
-        ensures past { past_of self.new.state.log ≡ with_some (scene self.old.facts.now at.opening self.old.client self.old.tag.now) (self.old.taken + 1) step.now at.chosen (at.gone ++ op ∷ []) at.before }
+        ensures past { (chosen : Chosen) → release_at (scene self.old.facts.now at.opening self.old.client self.old.tag.now) step.now.release ≡ Some chosen → past_of self.new.state.log ≡ with_some (scene self.old.facts.now at.opening self.old.client self.old.tag.now) (self.old.taken + 1) step.now chosen (at.gone ++ op ∷ []) at.before }
         ensures stands { Stands self.old.facts.now at.opening self.new.state }
         ensures room { self.old.state.room ≤ self.new.state.room + 2 }
         ensures facts { self.new.facts.now ≡ self.old.facts.now }
@@ -241,13 +239,12 @@ impl<'a> Planner<'a> {
         ghost at: { Making }
         requires stands { Stands self.old.facts.now at.opening self.old.state }
         requires quiet { IsQuiet (scene self.old.facts.now at.opening self.old.client self.old.tag.now) at.before }
-        requires there { release_at (scene self.old.facts.now at.opening self.old.client self.old.tag.now) at.step.release ≡ Some at.chosen }
-        requires good { is_good_with (scene self.old.facts.now at.opening self.old.client self.old.tag.now) (self.old.taken + 1) at.step at.before at.chosen ≡ true }
+        requires good { is_good (scene self.old.facts.now at.opening self.old.client self.old.tag.now) (self.old.taken + 1) at.step at.before ≡ true }
         requires device { device.now ≡ at.step.device }
         requires entry { entry ≡ next_entry self.old.facts.now at.opening at.before }
-        requires past { past_of self.old.state.log ≡ done (scene self.old.facts.now at.opening self.old.client self.old.tag.now) (self.old.taken + 1) at.step at.chosen at.before }
+        requires past { (chosen : Chosen) → release_at (scene self.old.facts.now at.opening self.old.client self.old.tag.now) at.step.release ≡ Some chosen → past_of self.old.state.log ≡ done (scene self.old.facts.now at.opening self.old.client self.old.tag.now) (self.old.taken + 1) at.step chosen at.before }
         requires room { 1 ≤ self.old.state.room }
-        ensures past { past_of self.new.state.log ≡ installed_with (scene self.old.facts.now at.opening self.old.client self.old.tag.now) (self.old.taken + 1) at.step at.chosen at.before }
+        ensures past { past_of self.new.state.log ≡ installed (scene self.old.facts.now at.opening self.old.client self.old.tag.now) (self.old.taken + 1) at.step at.before }
         ensures stands { Stands self.old.facts.now at.opening self.new.state }
         ensures facts { self.new.facts.now ≡ self.old.facts.now }
         ensures client { self.new.client ≡ self.old.client }
