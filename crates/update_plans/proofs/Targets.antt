@@ -13,7 +13,7 @@ use Rattle.fw_facts.specs.declared.view.DeviceView.{DeviceView}
 use Rattle.fw_facts.specs.Views.{guids_of, is_home}
 use Rattle.history_keeper.specs.declared.row.Row.{Row}
 use Rattle.release_catalogue.specs.declared.reference.ReleaseRef.{ReleaseRef}
-use Rattle.release_catalogue.specs.Lookup.{Chosen, all_releases, chosen as chosen_for}
+use Rattle.release_catalogue.specs.Lookup.{Chosen, all_releases, chosen as chosen_for, provides}
 use Rattle.update_log.specs.declared.decision.Decision.{Decision}
 use Rattle.update_log.specs.declared.decision.Stage.{Stage}
 use Rattle.update_log.specs.declared.event.Event.{Event}
@@ -21,6 +21,7 @@ use Rattle.update_log.specs.declared.refusal.Refusal.{Refusal}
 use Rattle.update_log.specs.declared.request.Request.{Request}
 use Rattle.update_log.specs.Known.{Target, row_with_tag, rows, target, target_at, target_of, views}
 use Rattle.update_log.specs.Verdicts.{Case, case_of, first_refusal, is_release, need, on_found, on_kept, on_present, present, refusals, refused_or, verdict}
+use Rattle.update_log.proofs.Accepts.{chosen-provides}
 use Rattle.update_log.proofs.Placed.{IsPlaced, chosen-placed}
 use Rattle.update_log.proofs.StrokeFacts.{and-true}
 use Rattle.update_plans.specs.Plans.{Scene, accepts, has_id, release_at, request_of, step_tag, view_of}
@@ -91,6 +92,7 @@ pub record Found (s : Scene) (number : ℕ) (step : PlanStep) (chosen : Chosen) 
   pub at_is : step.release ≡ chosen.at
   pub view_is : view_of s step.device past ≡ Some t.view
   pub home : is_home t.view.seen ≡ true
+  pub provided : provides (guids_of t.view) t.chosen.component ≡ true
   pub fresh : row_with_tag (rows s.facts s.opening past) (step_tag s number) ≡ None
   pub decided_is : verdict s.facts s.opening past s.client (request_of s number step chosen) Stage.Ask ≡ Decision.Accept t.place t.chosen.at (need t)
   pub free : first_refusal (refusals (case_of s.facts s.opening past s.client (request_of s number step chosen) Stage.Ask) t) ≡ None
@@ -149,6 +151,7 @@ module _ (s : Scene) (number : ℕ) (step : PlanStep) (chosen : Chosen) (past : 
         at_is = sym stood.at_is;
         view_is = view-found at view here ∙ ap (λ (v : DeviceView). Some v) (sym parts.0);
         home = ap (λ (v : DeviceView). is_home v.seen) parts.0 ∙ here.home;
+        provided = ap (λ (v : DeviceView). provides (guids_of v) t.chosen.component) parts.0 ∙ chosen-provides s.facts.catalogue (guids_of view) asks.version t.chosen parts.1;
         fresh = here.fresh;
         decided_is =
             ap (on_kept at_ask) here.fresh

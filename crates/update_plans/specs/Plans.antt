@@ -29,10 +29,11 @@ use Rattle.update_log.specs.declared.refusal.FetchNote.{FetchNote}
 use Rattle.update_log.specs.declared.request.InstallFlags.{InstallFlags}
 use Rattle.update_log.specs.declared.request.Request.{Request}
 use Rattle.update_log.specs.Holding.{blocks_of}
-use Rattle.update_log.specs.Known.{views}
+use Rattle.update_log.specs.declared.trace.Trace.{Trace}
+use Rattle.update_log.specs.Known.{row_of, rows, views}
 use Rattle.update_log.specs.Legal.{next_entry}
 use Rattle.update_log.specs.Shows.{marks}
-use Rattle.update_log.specs.Steps.{all_ops, closing, is_op, next_op}
+use Rattle.update_log.specs.Steps.{all_ops, closing, closing_of, is_op, next_op}
 use Rattle.update_log.specs.Verdicts.{is_release, verdict}
 use Rattle.update_plans.specs.declared.plan.PlanStep.{PlanStep}
 use Rattle.update_plans.specs.RawNumbers.{raw_of}
@@ -170,6 +171,11 @@ done s number step chosen past = with_ops s step chosen (next_entry s.facts s.op
 abbrev pub end_of : Scene → ℕ → PlanStep → Chosen → List Event → RowState
 end_of s number step chosen past =
     unwrap_or (closing s.facts s.opening (done s number step chosen past) (next_entry s.facts s.opening past)) RowState.Begun
+
+-- The same by the entry's trace, its row and the device.
+abbrev pub end_by : Scene → List ℕ → ℕ → Trace → List Event → RowState
+end_by s device entry t past =
+    unwrap_or (option_and_then (λ row. option_map (closing_of t row) (view_of s device past)) (row_of (rows s.facts s.opening past) entry)) RowState.Begun
 
 -- The whole install.
 abbrev pub installed_with : Scene → ℕ → PlanStep → Chosen → List Event → List Event

@@ -7,7 +7,7 @@ ghost use Rattle.update_plans.specs.Following.{IsQuiet};
 ghost use Rattle.std.specs.Ordering.{is_gt};
 ghost use Rattle.version_formats.specs.VersionOrder.{version_cmp};
 ghost use Rattle.fw_facts.specs.Views.{guids_of};
-ghost use Rattle.update_plans.specs.Choosing.{IsHighestFirst, is_in_catalogue, version_at};
+ghost use Rattle.update_plans.specs.Choosing.{IsHighestFirst, good_step, is_in_catalogue, version_at};
 ghost use Rattle.update_plans.specs.Plans.{after, chain, device_at, first_bad, next_step, plan, scene};
 ghost use Rattle.update_plans.specs.Tags.{IsTag};
 
@@ -161,7 +161,13 @@ fn good_step(
     view: &DeviceView,
     release: ReleaseRef,
     version: &Version,
-) -> Option<PlanStep> {
+) -> Option<PlanStep>
+    requires tag { IsTag planner.now.tag.now }
+    requires few { planner.now.taken < 8192 }
+    ensures { (opening : List Row) → Stands planner.now.facts.now opening planner.now.state
+        → IsQuiet (scene planner.now.facts.now opening planner.now.client planner.now.tag.now) (past_of planner.now.state.log)
+        → result ≡ good_step (scene planner.now.facts.now opening planner.now.client planner.now.tag.now) (planner.now.taken + 1) view.now release version.now (past_of planner.now.state.log) }
+{
     let step = PlanStep {
         device: view.sheet.device,
         release,

@@ -1,5 +1,5 @@
 //! A log that goes on by the installs of a plan.
-ghost use Rattle.std.specs.Prelude.{◌≡◌, ◌<◌, ◌≤◌, ◌+◌, ◌-◌, ◌*◌, ◌∷◌, ◌++◌, [], ◌&&◌, true, nat_lt, length, List, Some, option_copied, OnOk, Ok};
+ghost use Rattle.std.specs.Prelude.{◌≡◌, ◌<◌, ◌≤◌, ◌+◌, ◌-◌, ◌*◌, ◌∷◌, ◌++◌, [], ◌&&◌, true, nat_lt, length, List, Some, option_copied, OnOk, IsSome, Ok};
 ghost use Rattle.fw_base.specs.Names.{name_read};
 ghost use Rattle.device_list.specs.Lists.{place};
 ghost use Rattle.history_keeper.specs.declared.row.Row.{Row};
@@ -7,15 +7,16 @@ ghost use Rattle.release_catalogue.specs.Lookup.{Chosen};
 ghost use Rattle.update_log.specs.Core.{Stands};
 ghost use Rattle.update_log.specs.CoreAfter.{IsNext};
 ghost use Rattle.update_log.specs.Known.{rows};
-ghost use Rattle.update_log.specs.Holding.{blocks_of};
+ghost use Rattle.update_log.specs.Holding.{blocks_of, live_entry};
 ghost use Rattle.update_log.specs.Pasts.{past_of};
 ghost use Rattle.update_log.specs.Shows.{marks};
 ghost use Rattle.update_plans.specs.Following.{IsQuiet};
 ghost use Rattle.update_log.specs.Legal.{next_entry};
-ghost use Rattle.update_log.specs.Steps.{all_ops};
+ghost use Rattle.update_log.specs.Steps.{all_ops, trace};
+ghost use Rattle.update_log.specs.declared.trace.Trace.{Trace};
 ghost use Rattle.update_log.specs.Verdicts.{verdict};
 ghost use Rattle.update_log.specs.declared.decision.Stage.TheVariants.{Ask};
-ghost use Rattle.update_plans.specs.Plans.{Making, accepts, asked, done, installed, is_good, release_at, request_of, scene, seen_of, shown_after, taken, view_of, waits_for_boot, with_some};
+ghost use Rattle.update_plans.specs.Plans.{Making, accepts, asked, done, end_by, installed, is_good, release_at, request_of, scene, seen_of, shown_after, taken, view_of, waits_for_boot, with_some};
 ghost use Rattle.update_plans.specs.Tags.{IsTag};
 
 use crate::course::{ends_well, is_next, shown_after};
@@ -261,7 +262,12 @@ impl<'a> Planner<'a> {
     }
 
     // In which state the entry ends.
-    fn end_of(&self, device: &DeviceId, entry: u32) -> RowState {
+    fn end_of(&self, device: &DeviceId, entry: u32) -> RowState
+        requires { IsSome (live_entry (past_of self.now.state.log) entry) }
+        ensures { (opening : List Row) (t : Trace) → Stands self.now.facts.now opening self.now.state
+            → trace self.now.facts.now opening entry (past_of self.now.state.log) ≡ Some t
+            → result ≡ end_by (scene self.now.facts.now opening self.now.client self.now.tag.now) device.now entry t (past_of self.now.state.log) }
+    {
         match (self.state.row(entry), self.view_of(device)) {
             (Some(row), Some(view)) => closing(&self.state.trace(entry), row, view),
             (Some(_), None) | (None, Some(_)) | (None, None) => RowState::Begun,

@@ -75,7 +75,13 @@ fn planner_of<'a>(
     state: &CoreState,
     client: u32,
     tag: &'a Name,
-) -> Result<Planner<'a>, NoMemory> {
+) -> Result<Planner<'a>, NoMemory>
+    ensures facts { IfOk result (λ made. made.facts.now ≡ facts.now) }
+    ensures state { IfOk result (λ made. made.state ≡ record state.now { room = made.state.room; row_room = made.state.row_room }) }
+    ensures client { IfOk result (λ made. made.client ≡ client) }
+    ensures tag { IfOk result (λ made. made.tag.now ≡ tag.now) }
+    ensures none_taken { IfOk result (λ made. made.taken ≡ 0) }
+{
     Ok(Planner {
         facts,
         state: state.copy(alloc)?,
