@@ -20,3 +20,5 @@ pub mod Alike
 pub mod Played
 pub mod Followed
 pub mod Put
+pub mod Choice
+pub mod Good

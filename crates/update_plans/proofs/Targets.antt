@@ -2,7 +2,8 @@
 use Rattle.std.proofs.Common.{◌≡◌, ℕ, ◌==◌, Bool, true, false, cond, nat_lt, List, [], ◌∷◌, length, position, refl, sym, ap, ◌∙◌, subst}
 use Rattle.std.specs.Prelude.{Option, Some, None, find, slice_get, option_map, option_and_then, if◌then◌else◌}
 use Rattle.std.specs.List.{position_or_len}
-use Rattle.std.proofs.lemmas.Bool.{eqb-true}
+use Rattle.std.proofs.lemmas.Bool.{eqb-true, ltb-false}
+use Rattle.std.proofs.lemmas.Option.{slice_get_past}
 use Rattle.std.proofs.lemmas.List.Folds.{find_at}
 use Rattle.device_list.proofs.GuidLaws.{bytes_eq-symm}
 use Rattle.device_list.specs.declared.selector.Selector.{Selector}
@@ -44,6 +45,14 @@ found-place p xs at h = go (nat_lt (position_or_len p xs) (length xs)) h
     go : (b : Bool) → cond b (Some (position_or_len p xs)) None ≡ Some at → slice_get xs at ≡ find p xs
     go true e = ap (slice_get xs) (sym (some-same e)) ∙ sym (find_at p xs)
     go false e = cc
+
+-- and where there is none, nothing passes
+pub found-none : {X : Type 0} (p : X → Bool) (xs : List X) → position p xs ≡ None → find p xs ≡ None
+found-none p xs h = go (nat_lt (position_or_len p xs) (length xs)) refl h
+  where
+    go : (b : Bool) → nat_lt (position_or_len p xs) (length xs) ≡ b → cond b (Some (position_or_len p xs)) None ≡ None → find p xs ≡ None
+    go true e f = cc
+    go false e f = find_at p xs ∙ slice_get_past xs (position_or_len p xs) (ltb-false (position_or_len p xs) (length xs) e)
 
 -- ---- releases
 
