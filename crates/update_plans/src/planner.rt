@@ -56,6 +56,7 @@ pub struct Planner<'a> {
 
 impl<'a> Planner<'a> {
     /// Whether the step is good as the next one.
+    #[tactic(auto, using(crate::proofs::Good::good_no_component, crate::proofs::Good::good_no_release, crate::proofs::Good::good_no_device, crate::proofs::Good::good_so))]
     pub fn is_good(&self, step: &PlanStep) -> bool
         requires tag { IsTag self.now.tag.now }
         requires few { self.now.taken < 8192 }
@@ -101,6 +102,7 @@ impl<'a> Planner<'a> {
     }
 
     // The device with that ID.
+    #[tactic(auto, using(crate::proofs::Good::looked_up))]
     fn view_of(&self, device: &DeviceId) -> Option<&DeviceView>
         ensures { (opening : List Row) → Stands self.now.facts.now opening self.now.state
             → option_copied result ≡ view_of (scene self.now.facts.now opening self.now.client self.now.tag.now) device.now (past_of self.now.state.log) }
