@@ -126,7 +126,7 @@ def history_fault(site):
         sound = base.execute("PRAGMA integrity_check").fetchone()[0]
         tables = sorted(it[0] for it in base.execute("SELECT name FROM sqlite_schema WHERE type = 'table'"))
     base.close()
-    if sound != "ok" or tables != ["history", "schema"]:
+    if sound != "ok" or tables != ["history2", "schema"]:
         return f"a history with {tables}, of which SQLite says {sound!r}"
     return None
 

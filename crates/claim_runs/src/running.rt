@@ -232,9 +232,9 @@ fn finish<R: Wait, K: Keeper, N: Naming>(
 
 /// Runs a claim that was taken to its end: each step that is wanted, and the finish. Each step is held up
 /// at the gate between its start and the plugin's work, outside of any turn. The entry is the live one
-/// of the pass's client with no step yet, with the board, payload and trace that its taking gave; and the
-/// plugins are the enabled ones, in their order; the one at the place that was taken makes each step. `Off` is answered where a call of the daemon was answered
-/// off; the board and the payload have gone back then.
+/// of the pass's client with no step yet, with the board, payload and trace that its taking gave. The plugins
+/// are the enabled ones, in their order, and the one at the place that was taken makes each step. `Off` is
+/// answered where a call of the daemon was answered off; the board and the payload have gone back then.
 pub fn run_claim<R: Wait, K: Keeper, N: Naming, G: Gate>(
     rt: &R,
     daemon: &Daemon<K, N>,

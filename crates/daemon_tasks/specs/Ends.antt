@@ -22,10 +22,10 @@ abbrev pub stopped_by : Stop → Played
 stopped_by Stop.Off = Played.Off
 stopped_by Stop.NoMemory = Played.NoMemory
 
--- What the run of an entry did to a house, which this board of the entry was taken from: its update ended so, which
--- the plugin of its board made, of those at their places;
--- nobody has anything out, what no event but a boot changes is as before, and each fault of the keeper that
--- the log tells was counted; and the board came home, with the faults planned that its number has.
+-- What the run of an entry did to a house, which this board of the entry was taken from: its update ended so, by
+-- the plugin of its board among these, each at its place; nobody has anything out, what no event but a boot
+-- changes is as before, and each fault of the keeper that the log tells was counted; and the board came home,
+-- with the faults planned that its number has.
 pub record TakenPlayed {K : Type 0} (faults : K → ℕ) (plugins : ℕ → PluginSteps) (played : Played) (client entry : ℕ) (board : BoardState) (old new : Housed K) : Type 0 where
   pub ended : Ended played client (UpdatePlays old.annals.facts (rows_before old.annals) plugins client entry (past old)) (past old) (past new)
   pub idle : IsIdle (past new)

@@ -1,5 +1,5 @@
 //! The three statements on the table. Each is one call, outside any transaction.
-ghost use Rattle.std.specs.Prelude.{pos, ◌≡◌, ◌≤◌, ◌^◌, ◌-◌, None, [], IsTrue, map, Any, IfOk, OnOk, OnErr};
+ghost use Rattle.std.specs.Prelude.{pos, ◌≡◌, ◌≢◌, ◌≤◌, ◌^◌, ◌-◌, ◌++◌, ◌∷◌, None, [], IsTrue, map, Any, IfOk, OnOk, OnErr};
 ghost use Rattle.sqlite.specs.Held.{state};
 ghost use Rattle.sqlite.specs.State.{HasCleanDisk, Shown};
 ghost use Rattle.sqlite.specs.declared.types.Value.TheVariants.{Int, Text};
@@ -16,6 +16,7 @@ use history_keeper::{Change, KeeperRefusal, Row, RowState};
 use sqlite::types::ValueRef;
 use sqlite::{Alter, Connection};
 use std::alloc::Global;
+use std::slice;
 
 /// Makes the change. Where it is told `Ok` and the change suits the rows, it is made. A refusal
 /// leaves the rows. Both hold while the disk returns what was written.
@@ -189,12 +190,20 @@ fn read_rows(alloc: Global, table: &[sqlite::Row]) -> Result<Vec<Row>, KeeperRef
     let mut rows = Vec::new(alloc);
     for columns in table {
         match read_row(columns) {
-            Some(row) => match rows.push(row) {
-                Ok(()) => {}
-                Err(_) => return Err(KeeperRefusal::NoMemory),
-            },
+            Some(row) => put_row(&mut rows, &row)?,
             None => return Err(KeeperRefusal::Fault),
         }
     }
     Ok(rows)
+}
+
+// Puts a row behind the others.
+pub(crate) fn put_row(rows: &mut Vec<Row>, row: &Row) -> Result<(), KeeperRefusal>
+    ensures put { OnOk result (rows.new.items ≡ rows.old.items ++ row.now ∷ []) }
+    ensures wants { result ≢ Err KeeperRefusal.Fault }
+{
+    match rows.extend_from_slice(slice::from_ref(row)) {
+        Ok(()) => Ok(()),
+        Err(_) => Err(KeeperRefusal::NoMemory),
+    }
 }

@@ -10,7 +10,7 @@ ghost use Rattle.history_sqlite.specs.Taking.{Copies, CopiesAll, CopiesOver, IsT
 
 use crate::columns::read_older_row;
 use crate::refusal::refusal_of_error;
-use crate::statements::columns_of_row;
+use crate::statements::{columns_of_row, put_row};
 use history_keeper::{KeeperRefusal, Row};
 use sqlite::{Alter, Connection, Error, ErrorCode, Transaction};
 use std::alloc::Global;
@@ -77,10 +77,7 @@ fn read_older_rows(alloc: Global, table: &[sqlite::Row]) -> Result<Vec<Row>, Kee
     let mut rows = Vec::new(alloc);
     for columns in table {
         match read_older_row(columns) {
-            Some(row) => match rows.push(row) {
-                Ok(()) => {}
-                Err(_) => return Err(KeeperRefusal::NoMemory),
-            },
+            Some(row) => put_row(&mut rows, &row)?,
             None => return Err(KeeperRefusal::Fault),
         }
     }

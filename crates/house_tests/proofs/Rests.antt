@@ -11,6 +11,8 @@ use Rattle.daemon_core.specs.declared.stop.Stop.{Stop}
 use Rattle.daemon_core.specs.Annals.{Appended}
 use Rattle.daemon_core.specs.Holds.{back_of}
 use Rattle.daemon_core.specs.Housed.{Annalled, past_in}
+use Rattle.device_claims.specs.declared.claim.Parts.{Parts}
+use Rattle.plugin_trait.specs.Steps.{PluginSteps}
 use Rattle.client_plays.specs.Endings.{IsIdle}
 use Rattle.client_plays.proofs.MomentLaws.{grew-boots}
 use Rattle.plain_runs.specs.declared.outcome.Outcome.{Outcome}
@@ -64,7 +66,7 @@ pub record Rests (old new : List Event) : Type 0 where
   pub idle : IsIdle new
   pub boots_are : boots new ≡ boots old
 
-pub ran-rests : (client entry : ℕ) (outcome : Outcome) (old new : Annalled) → RunsAlone entry (past_in old) → Ran client entry outcome old new → Rests (past_in old) (past_in new)
-ran-rests client entry outcome old new r ran =
-    let p = ran-so client entry outcome old new r ran in
+pub ran-rests : (by : PluginSteps) (client entry : ℕ) (was : Parts) (outcome : Outcome) (old new : Annalled) → RunsAlone entry (past_in old) → Ran by client entry was outcome old new → Rests (past_in old) (past_in new)
+ran-rests by client entry was outcome old new r ran =
+    let p = ran-so by client entry was outcome old new r ran in
     record { idle = p.idle; boots_are = grew-boots (past_in old) (past_in new) p.did.grew }

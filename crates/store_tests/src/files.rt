@@ -39,12 +39,24 @@ pub(crate) enum Crashed {
     Odd,
 }
 
-/// Empty files, of which one stops after so many calls.
-pub(crate) fn stopping(alloc: Global, stop: Stop, calls: u64) -> Files<Stopping> {
-    let (log_calls, db_calls) = match stop {
+pub(crate) const CRASHES: [Crashed; 4] = [
+    Crashed::Lost,
+    Crashed::Kept,
+    Crashed::Even,
+    Crashed::Odd,
+];
+
+// How many calls the log passes on, and how many the database.
+fn calls_of(stop: Stop, calls: u64) -> (u64, u64) {
+    match stop {
         Stop::Log => (calls, u64::MAX),
         Stop::Database => (u64::MAX, calls),
-    };
+    }
+}
+
+/// Empty files, of which one stops after so many calls.
+pub(crate) fn stopping(alloc: Global, stop: Stop, calls: u64) -> Files<Stopping> {
+    let (log_calls, db_calls) = calls_of(stop, calls);
     Files {
         log: Fuse::new(Memory::new(alloc), log_calls),
         db: Fuse::new(Memory::new(alloc), db_calls),
@@ -92,7 +104,7 @@ fn adopted(
     ensures { IfOk result (λ it. IfSome it.0 (λ keeper. doubtful keeper.keeper ≡ None)) }
 {
     let mut connection = connection;
-    if open_tables(&mut connection).is_err() || load_rows(&mut connection, alloc).is_err() {
+    if open_tables(&mut connection, alloc).is_err() || load_rows(&mut connection, alloc).is_err() {
         return Ok((None, Some(connection.into_store().close())));
     }
     match SqlKeeper::adopt_planned(alloc, connection, plan) {
@@ -151,6 +163,28 @@ fn mixed(alloc: Global, bytes: &Bytes, parity: usize) -> Result<Vec<u8>, Fail> {
     Ok(left)
 }
 
+// A file that holds these bytes, and stops after so many calls.
+fn file_of(alloc: Global, bytes: &[u8], calls: u64) -> Result<Stopping, Fail> {
+    let mut file = Memory::new(alloc);
+    file.write_at(0, bytes)?;
+    file.sync()?;
+    Ok(Fuse::new(file, calls))
+}
+
+/// The files as they were synced, of which one stops after so many calls.
+pub(crate) fn stopping_again(
+    alloc: Global,
+    halted: &Halted,
+    stop: Stop,
+    calls: u64,
+) -> Result<Files<Stopping>, Fail> {
+    let (log_calls, db_calls) = calls_of(stop, calls);
+    Ok(Files {
+        log: file_of(alloc, &halted.log.synced, log_calls)?,
+        db: file_of(alloc, &halted.db.synced, db_calls)?,
+    })
+}
+
 // A file that holds what the crash left of these bytes, and doesn't stop.
 fn left_of(alloc: Global, bytes: &Bytes, crashed: Crashed) -> Result<Stopping, Fail> {
     let left = match crashed {
@@ -159,10 +193,7 @@ fn left_of(alloc: Global, bytes: &Bytes, crashed: Crashed) -> Result<Stopping, F
         Crashed::Even => mixed(alloc, bytes, 0)?,
         Crashed::Odd => mixed(alloc, bytes, 1)?,
     };
-    let mut file = Memory::new(alloc);
-    file.write_at(0, &left)?;
-    file.sync()?;
-    Ok(Fuse::new(file, u64::MAX))
+    file_of(alloc, &left, u64::MAX)
 }
 
 /// What such a crash leaves of the files. They don't stop.
@@ -177,14 +208,22 @@ pub(crate) fn after(
     })
 }
 
+/// A connection to files.
+pub(crate) fn opened(
+    alloc: Global,
+    files: Files<Stopping>,
+) -> Result<Connection<FileStore<Stopping>>, Fail> {
+    if !files.may_be_used() {
+        return Err(std::io::Error::other("a file may not be used").into());
+    }
+    Ok(connect(alloc, files, 7)?)
+}
+
 /// A keeper over files that are opened again.
 pub(crate) fn again(alloc: Global, files: Files<Stopping>) -> Result<StoppingKeeper, Fail>
     ensures { IfOk result (λ it. doubtful it.keeper ≡ None) }
 {
-    if !files.may_be_used() {
-        return Err(std::io::Error::other("a file may not be used").into());
-    }
-    let connection = connect(alloc, files, 7)?;
+    let connection = opened(alloc, files)?;
     let keeper = SqlKeeper::adopt(alloc, connection)?;
     Ok(StoppingKeeper { keeper })
 }

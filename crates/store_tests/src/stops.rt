@@ -6,7 +6,8 @@ ghost use Rattle.history_sqlite.specs.Keeping.{doubtful};
 
 use crate::campaigns::{Asked, Left, document, run};
 use crate::files::{
-    Crashed, Failing, Halted, Stop, after, again, first, go_on, halt, has_wrong_tags, stopping,
+    CRASHES, Crashed, Failing, Halted, Stop, after, again, first, go_on, halt, has_wrong_tags,
+    stopping,
 };
 use crate::stopping::{Stopping, StoppingKeeper};
 use sqlite::Files;
@@ -17,8 +18,6 @@ use std::thread::Threads;
 
 /// Stops counted up to here are enough for each campaign.
 const MOST: u64 = 4000;
-
-const CRASHES: [Crashed; 4] = [Crashed::Lost, Crashed::Kept, Crashed::Even, Crashed::Odd];
 
 /// Runs a campaign over a keeper, and gives its files back.
 fn run_over<R: Threads + Wait + Sync>(

@@ -1,4 +1,5 @@
-use Rattle.std.proofs.Common.{◌≡◌, inr, sym, arith, ◌∙◌}
+use Rattle.std.proofs.Common.{◌≡◌, Err, inl, inr, sym, arith, ◌∙◌}
+use Rattle.std.proofs.lemmas.Result.{err_from_is_err_and}
 use Rattle.history_keeper.specs.declared.refusal.KeeperRefusal.TheVariants.{Fault}
 use Rattle.sqlite.specs.Held.{state}
 use Rattle.sqlite.specs.State.{HasCleanDisk}
@@ -16,14 +17,17 @@ returns-in-Ok-clause-takes g c clean =
     let before : HasCleanDisk mid = omega (arith, clean, c.copy_over.ensures.whole.clean) in
     takes old mid new c.in_ok-rows.rows.items (c.in_ok-rows.ensures.loads before) (rw c.deref.ensures.value at (c.in-Ok.ensures.writes clean))
 
-pub returns-in-Err-clause-refused : goal.returns-in-Err-clause-refused
-returns-in-Err-clause-refused g c clean is_open rows h =
-    let mid = state g.D.Store c.load_older_rows.new.connection in
-    let before : HasCleanDisk mid = omega (arith, clean, c.copy_over.ensures.whole.clean) in
-    c.in-Err.ensures.refused clean is_open rows (c.in_ok-rows.ensures.loads before rows h).1
+pub returns-in_err-rows-clause-cause : goal.returns-in_err-rows-clause-cause
+returns-in_err-rows-clause-cause g c clean is =
+    let p = err_from_is_err_and c.from_residual.result c.from_residual.ensures.1 in
+    let told : c.from_residual.result ≡ Err p.0 = p.1 in
+    let same = p.2 in
+    let was : c.load_older_rows.result ≡ Err c.in_err-rows.field-0.0 = c.in_err-rows.was in
+    let fault : c.load_older_rows.result ≡ Err Fault = cc in
+    (c.load_older_rows.new.connection, inl (c.load_older_rows.ensures.cause clean fault))
 
-pub returns-in-Err-clause-cause : goal.returns-in-Err-clause-cause
-returns-in-Err-clause-cause g c clean is =
+pub returns-clause-cause : goal.returns-clause-cause
+returns-clause-cause g c clean is =
     let refused : c.refusal_of_error.result ≡ Fault = cc in
     (c.load_older_rows.new.connection, inr (c.in-Err.error, sym c.refusal_of_error.ensures ∙ refused, c.in-Err.ensures.cause clean))
 
@@ -36,8 +40,8 @@ returns-in-Ok-clause-whole g c =
     (λ clean db may. may_take old mid c.in_ok-rows.rows.items db (c.in_ok-rows.ensures.loads (omega (arith, clean, c.copy_over.ensures.whole.clean))) may)
     c.load_older_rows.ensures.survives (rw c.deref.ensures.value at c.copy_over.ensures.whole)
 
-pub returns-in-Err-clause-whole : goal.returns-in-Err-clause-whole
-returns-in-Err-clause-whole g c =
+pub returns-clause-whole : goal.returns-clause-whole
+returns-clause-whole g c =
     let old = state g.D.Store c.args.connection.now in
     let mid = state g.D.Store c.load_older_rows.new.connection in
     let new = state g.D.Store c.copy_over.new.connection in
