@@ -30,14 +30,11 @@ only-loaded told doubted faults stop rows keeper middle left w log opening board
 -- Installs may stand in a script.
 installs-may : (s : Scene) (number : ℕ) (steps : List PlanStep) → All IsScriptItem (installs_from s number steps)
 installs-may s number [] = All-nil IsScriptItem
-installs-may s number (step ∷ steps) = go (release_at s step.release)
+installs-may s number (step ∷ steps) = go (release_at s step.release) (installs-may s (number + 1) steps)
   where
-    more : All IsScriptItem (installs_from s (number + 1) steps)
-    more = installs-may s (number + 1) steps
-
-    go : (found : Option Chosen) → All IsScriptItem (option_map_or (λ (chosen : Chosen). Item.Install (request_of s number step chosen) ∷ []) found [] ++ installs_from s (number + 1) steps)
-    go None = more
-    go (Some chosen) = All-cons IsScriptItem (Item.Install (request_of s number step chosen)) (installs_from s (number + 1) steps) tt more
+    go : (found : Option Chosen) → All IsScriptItem (installs_from s (number + 1) steps) → All IsScriptItem (option_map_or (λ (chosen : Chosen). Item.Install (request_of s number step chosen) ∷ []) found [] ++ installs_from s (number + 1) steps)
+    go None more = more
+    go (Some chosen) more = All-cons IsScriptItem (Item.Install (request_of s number step chosen)) (installs_from s (number + 1) steps) tt more
 
 few-boots : (boots : List BootPlan) → length (first_alone boots) ≤ 32
 few-boots [] = omega arith

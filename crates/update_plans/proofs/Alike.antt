@@ -74,13 +74,13 @@ find-like : (p : DeviceView → Bool) (xs ys : List DeviceView) → Reads p → 
 find-like p [] [] reads l = tt
 find-like p [] (b ∷ ys) reads l = absurd l
 find-like p (a ∷ xs) [] reads l = absurd l
-find-like p (a ∷ xs) (b ∷ ys) reads l = go (p a) (p b) (reads a b l.0)
+find-like p (a ∷ xs) (b ∷ ys) reads l = go (p a) (p b) (reads a b l.0) (find-like p xs ys reads l.1)
   where
-    go : (s t : Bool) → s ≡ t → LikeFound (cond s (Some a) (find p xs)) (cond t (Some b) (find p ys))
-    go true true e = l.0
-    go false false e = find-like p xs ys reads l.1
-    go true false e = cc
-    go false true e = cc
+    go : (s t : Bool) → s ≡ t → LikeFound (find p xs) (find p ys) → LikeFound (cond s (Some a) (find p xs)) (cond t (Some b) (find p ys))
+    go true true e more = l.0
+    go false false e more = more
+    go true false e more = cc
+    go false true e more = cc
 
 length-like : (xs ys : List DeviceView) → AllLike xs ys → length xs ≡ length ys
 length-like [] [] l = refl
@@ -126,13 +126,13 @@ parent-like xs ys l a b alike =
 
 ancestor-like : (xs ys : List DeviceView) → AllLike xs ys → (depth : ℕ) (a b : DeviceView) → Like a b → LikeFound (ancestor xs depth a) (ancestor ys depth b)
 ancestor-like xs ys l zero a b alike = alike
-ancestor-like xs ys l (suc depth) a b alike = of (parent xs a) (parent ys b) (parent-like xs ys l a b alike)
+ancestor-like xs ys l (suc depth) a b alike = of (parent xs a) (parent ys b) (parent-like xs ys l a b alike) (λ c d m. ancestor-like xs ys l depth c d m)
   where
-    of : (o p : Option DeviceView) → LikeFound o p → LikeFound (option_and_then (ancestor xs depth) o) (option_and_then (ancestor ys depth) p)
-    of None None m = tt
-    of None (Some d) m = absurd m
-    of (Some c) None m = absurd m
-    of (Some c) (Some d) m = ancestor-like xs ys l depth c d m
+    of : (o p : Option DeviceView) → LikeFound o p → ((c d : DeviceView) → Like c d → LikeFound (ancestor xs depth c) (ancestor ys depth d)) → LikeFound (option_and_then (ancestor xs depth) o) (option_and_then (ancestor ys depth) p)
+    of None None m up = tt
+    of None (Some d) m up = absurd m
+    of (Some c) None m up = absurd m
+    of (Some c) (Some d) m up = up c d m
 
 with_guid-like : (guid : List ℕ) (o p : Option DeviceView) → LikeFound o p → LikeFound (with_guid guid o) (with_guid guid p)
 with_guid-like guid None None m = tt

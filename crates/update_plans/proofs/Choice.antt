@@ -142,20 +142,23 @@ among P (x ∷ xs) y a h =
     (λ t. subst P (sym (release-same y x t)) a.0)
     (λ f. among P xs y a.1 (rw f at h))
 
+any-more : (c : Bool) (guids : List (List ℕ)) (y : ReleaseRef) (all : List Chosen)
+    → (list_any (λ z. provides guids z.component && is_release y z.at) all ≡ true → list_any (is_release y) (map (λ chosen. chosen.at) (filter (λ chosen. provides guids chosen.component) all)) ≡ true)
+    → (c || list_any (λ z. provides guids z.component && is_release y z.at) all) ≡ true
+    → (c || list_any (is_release y) (map (λ chosen. chosen.at) (filter (λ chosen. provides guids chosen.component) all))) ≡ true
+any-more true guids y all more h = refl
+any-more false guids y all more h = more h
+
 any-matching : (guids : List (List ℕ)) (y : ReleaseRef) (all : List Chosen) → list_any (λ z. provides guids z.component && is_release y z.at) all ≡ true
     → list_any (is_release y) (map (λ chosen. chosen.at) (filter (λ chosen. provides guids chosen.component) all)) ≡ true
 any-matching guids y [] h = cc
-any-matching guids y (z ∷ all) h = of (provides guids z.component) refl h
+any-matching guids y (z ∷ all) h = of (provides guids z.component) h (λ k. any-matching guids y all k)
   where
-    of : (b : Bool) → provides guids z.component ≡ b → ((b && is_release y z.at) || list_any (λ z. provides guids z.component && is_release y z.at) all) ≡ true
+    of : (b : Bool) → ((b && is_release y z.at) || list_any (λ z. provides guids z.component && is_release y z.at) all) ≡ true
+        → (list_any (λ z. provides guids z.component && is_release y z.at) all ≡ true → list_any (is_release y) (map (λ chosen. chosen.at) (filter (λ chosen. provides guids chosen.component) all)) ≡ true)
         → list_any (is_release y) (map (λ chosen. chosen.at) (cond b (z ∷ filter (λ chosen. provides guids chosen.component) all) (filter (λ chosen. provides guids chosen.component) all))) ≡ true
-    of true e h = at (is_release y z.at) h
-      where
-        at : (c : Bool) → (c || list_any (λ z. provides guids z.component && is_release y z.at) all) ≡ true
-            → (c || list_any (is_release y) (map (λ chosen. chosen.at) (filter (λ chosen. provides guids chosen.component) all))) ≡ true
-        at true h = refl
-        at false h = any-matching guids y all h
-    of false e h = any-matching guids y all h
+    of true h more = any-more (is_release y z.at) guids y all more h
+    of false h more = more h
 
 -- ---- the choice
 
@@ -399,25 +402,27 @@ module _ (s : Scene) (number : ℕ) (device : List ℕ) (view : DeviceView) (sho
   tried-on : (front rest : List ReleaseRef) → front ++ rest ≡ places → AllByRecursion Fails front → Falls s rest → AllByRecursion (λ at. is_some (release_at s at) ≡ true) rest
       → tried s number view shown past rest ≡ next_step s number device past
   tried-on front [] whole fail f there = sym (none-next (subst (AllByRecursion Fails) (sym (append-nil front) ∙ whole) fail))
-  tried-on front (at ∷ rest) whole fail f there = of (is_gt (version_cmp (version_at s.facts at) shown)) refl
+  tried-on front (at ∷ rest) whole fail f there =
+      of (is_gt (version_cmp (version_at s.facts at) shown)) refl
+      (λ no. tried-on (front ++ at ∷ []) rest (append_assoc front (at ∷ []) rest ∙ whole) (All-push Fails front at fail no) f.1 there.1)
     where
-      more : Fails at → tried s number view shown past rest ≡ next_step s number device past
-      more no = tried-on (front ++ at ∷ []) rest (append_assoc front (at ∷ []) rest ∙ whole) (All-push Fails front at fail no) f.1 there.1
+      More : Type 0
+      More = Fails at → tried s number view shown past rest ≡ next_step s number device past
 
       there-is : (o : Option Chosen) → release_at s at ≡ o → is_some o ≡ true → is_gt (version_cmp (version_at s.facts at) shown) ≡ true → (step : PlanStep)
           → good_step s number view at (version_at s.facts at) past ≡ Some step → Some step ≡ next_step s number device past
       there-is None own t g step e = cc
       there-is (Some y) own t g step e = sym (is-next front rest at whole fail f g y own step e)
 
-      good : (o : Option PlanStep) → good_step s number view at (version_at s.facts at) past ≡ o → is_gt (version_cmp (version_at s.facts at) shown) ≡ true
+      good : (o : Option PlanStep) → good_step s number view at (version_at s.facts at) past ≡ o → is_gt (version_cmp (version_at s.facts at) shown) ≡ true → More
           → first_some o (tried s number view shown past rest) ≡ next_step s number device past
-      good None e g = more (no-good at e)
-      good (Some step) e g = there-is (release_at s at) refl there.0 g step e
+      good None e g more = more (no-good at e)
+      good (Some step) e g more = there-is (release_at s at) refl there.0 g step e
 
-      of : (b : Bool) → is_gt (version_cmp (version_at s.facts at) shown) ≡ b
+      of : (b : Bool) → is_gt (version_cmp (version_at s.facts at) shown) ≡ b → More
           → (if b then first_some (good_step s number view at (version_at s.facts at) past) (tried s number view shown past rest) else None) ≡ next_step s number device past
-      of true g = good (good_step s number view at (version_at s.facts at) past) refl g
-      of false g = sym (none-next (subst (AllByRecursion Fails) whole (All-append Fails front (at ∷ rest) fail (below-all at rest f g))))
+      of true g more = good (good_step s number view at (version_at s.facts at) past) refl g more
+      of false g more = sym (none-next (subst (AllByRecursion Fails) whole (All-append Fails front (at ∷ rest) fail (below-all at rest f g))))
 
   -- So the first good one of the places is the next step.
   pub tried-next : AllByRecursion (λ at. is_some (release_at s at) ≡ true) places → tried s number view shown past places ≡ next_step s number device past

@@ -46,35 +46,39 @@ pub first_bad-append : (s : Scene) (number : ℕ) (xs ys : List PlanStep) (past 
     → first_bad s number (xs ++ ys) past ≡ first_bad s (number + length xs) ys (after s number xs past)
 unfolding first_bad after
 first_bad-append s number [] ys past h = ap (λ (n : ℕ). first_bad s n ys past) (omega arith)
-first_bad-append s number (x ∷ xs) ys past h = of (is_good s number x past) refl h
+first_bad-append s number (x ∷ xs) ys past h = of (is_good s number x past) refl h (λ k. first_bad-append s (number + 1) xs ys (installed s number x past) k)
   where
     of : (b : Bool) → is_good s number x past ≡ b → (if b then first_bad s (number + 1) xs (installed s number x past) else Some number) ≡ None
+        → (first_bad s (number + 1) xs (installed s number x past) ≡ None → first_bad s (number + 1) (xs ++ ys) (installed s number x past) ≡ first_bad s (number + 1 + length xs) ys (after s (number + 1) xs (installed s number x past)))
         → (if is_good s number x past then first_bad s (number + 1) (xs ++ ys) (installed s number x past) else Some number) ≡ first_bad s (number + length (x ∷ xs)) ys (after s (number + 1) xs (installed s number x past))
-    of true e h =
+    of true e h more =
+        let count : number + 1 + length xs ≡ number + length (x ∷ xs) = omega arith in
         ap (λ (b : Bool). if b then first_bad s (number + 1) (xs ++ ys) (installed s number x past) else Some number) e
-        ∙ first_bad-append s (number + 1) xs ys (installed s number x past) h
-        ∙ ap (λ (n : ℕ). first_bad s n ys (after s (number + 1) xs (installed s number x past))) (omega arith)
-    of false e h = cc
+        ∙ more h
+        ∙ ap (λ (n : ℕ). first_bad s n ys (after s (number + 1) xs (installed s number x past))) count
+    of false e h more = cc
 
 pub after-append : (s : Scene) (number : ℕ) (xs ys : List PlanStep) (past : List Event) → after s number (xs ++ ys) past ≡ after s (number + length xs) ys (after s number xs past)
 unfolding after
 after-append s number [] ys past = ap (λ (n : ℕ). after s n ys past) (omega arith)
 after-append s number (x ∷ xs) ys past =
-    after-append s (number + 1) xs ys (installed s number x past) ∙ ap (λ (n : ℕ). after s n ys (after s (number + 1) xs (installed s number x past))) (omega arith)
+    let count : number + 1 + length xs ≡ number + length (x ∷ xs) = omega arith in
+    after-append s (number + 1) xs ys (installed s number x past) ∙ ap (λ (n : ℕ). after s n ys (after s (number + 1) xs (installed s number x past))) count
 
 -- ---- the plan is good
 
 pub chain-good : (s : Scene) (device : List ℕ) (left number : ℕ) (past : List Event) → first_bad s number (chain s device left number past) past ≡ None
 unfolding chain first_bad
 chain-good s device zero number past = refl
-chain-good s device (suc left) number past = of (next_step s number device past) refl
+chain-good s device (suc left) number past = of (next_step s number device past) refl (λ step. chain-good s device left (number + 1) (installed s number step past))
   where
     of : (o : Option PlanStep) → next_step s number device past ≡ o
+        → ((step : PlanStep) → first_bad s (number + 1) (chain s device left (number + 1) (installed s number step past)) (installed s number step past) ≡ None)
         → first_bad s number (option_map_or (λ step. step ∷ chain s device left (number + 1) (installed s number step past)) o []) past ≡ None
-    of None e = refl
-    of (Some step) e =
+    of None e more = refl
+    of (Some step) e more =
         ap (λ (b : Bool). if b then first_bad s (number + 1) (chain s device left (number + 1) (installed s number step past)) (installed s number step past) else Some number) (next-good s number device past step e)
-        ∙ chain-good s device left (number + 1) (installed s number step past)
+        ∙ more step
 
 pub chains-good : (s : Scene) (devices : List (List ℕ)) (left number : ℕ) (past : List Event) → first_bad s number (chains s devices left number past) past ≡ None
 unfolding chains first_bad
@@ -92,11 +96,11 @@ plan-good s past = chains-good s (visited (views s.facts s.opening past)) steps_
 chain-few : (s : Scene) (device : List ℕ) (left number : ℕ) (past : List Event) → length (chain s device left number past) ≤ left
 unfolding chain
 chain-few s device zero number past = omega arith
-chain-few s device (suc left) number past = of (next_step s number device past)
+chain-few s device (suc left) number past = of (next_step s number device past) (λ step. chain-few s device left (number + 1) (installed s number step past))
   where
-    of : (o : Option PlanStep) → length (option_map_or (λ step. step ∷ chain s device left (number + 1) (installed s number step past)) o []) ≤ suc left
-    of None = omega arith
-    of (Some step) = let few = chain-few s device left (number + 1) (installed s number step past) in omega (arith, few)
+    of : (o : Option PlanStep) → ((step : PlanStep) → length (chain s device left (number + 1) (installed s number step past)) ≤ left) → length (option_map_or (λ step. step ∷ chain s device left (number + 1) (installed s number step past)) o []) ≤ suc left
+    of None more = omega arith
+    of (Some step) more = let few = more step in omega (arith, few)
 
 chains-few : (s : Scene) (devices : List (List ℕ)) (left number : ℕ) (past : List Event) → length (chains s devices left number past) ≤ left
 unfolding chains

@@ -78,35 +78,32 @@ left s entry (event ∷ steps) base a = of event a.0 (left s entry steps base a.
 pub others-left : (s : Scene) (entry : ℕ) (steps base : List Event) → AreSteps s.client entry steps → (number board : ℕ) → board_of s.facts (rows s.facts s.opening base) entry ≡ Some number → (number == board) ≡ false
     → seen s.facts s.opening (steps ++ base) board ≡ seen s.facts s.opening base board
 others-left s entry [] base a number board at other = refl
-others-left s entry (event ∷ steps) base a number board at other = of event a.0
+others-left s entry (event ∷ steps) base a number board at other = of event a.0 (others-left s entry steps base a.1 number board at other)
   where
-    rest : seen s.facts s.opening (steps ++ base) board ≡ seen s.facts s.opening base board
-    rest = others-left s entry steps base a.1 number board at other
-
     here : board_of s.facts (rows s.facts s.opening (steps ++ base)) entry ≡ Some number
     here = let l = left s entry steps base a.1 in ap (λ (all : List Row). board_of s.facts all entry) l.rows_are ∙ at
 
-    of : (event : Event) → is_step_of s.client entry event ≡ true → seen s.facts s.opening (event ∷ steps ++ base) board ≡ seen s.facts s.opening base board
-    of (Event.Start client taken op) h = rest
-    of (Event.End client taken op outcome told shown) h =
+    of : (event : Event) → is_step_of s.client entry event ≡ true → seen s.facts s.opening (steps ++ base) board ≡ seen s.facts s.opening base board → seen s.facts s.opening (event ∷ steps ++ base) board ≡ seen s.facts s.opening base board
+    of (Event.Start client taken op) h rest = rest
+    of (Event.End client taken op outcome told shown) h rest =
         let parts = and-true (client == s.client) (taken == entry) h in
         let same : taken ≡ entry = eqb-true taken entry parts.1 in
         let none : for_board (board_of s.facts (rows s.facts s.opening (steps ++ base)) taken) board shown ≡ None =
         ap (λ (n : ℕ). for_board (board_of s.facts (rows s.facts s.opening (steps ++ base)) n) board shown) same
         ∙ ap (λ (o : Option ℕ). for_board o board shown) here ∙ ap (λ (t : Bool). if t then Some shown else None) other in
         ap (λ (o : Option Seen). unwrap_or o (seen s.facts s.opening (steps ++ base) board)) none ∙ rest
-    of (Event.Boot number time limit found boards) h = cc
-    of (Event.Query client query) h = cc
-    of (Event.Ask client request pending answer) h = cc
-    of (Event.Claim client request fetched answer) h = cc
-    of (Event.Schedule client request answer) h = cc
-    of (Event.Resume client taken fetched answer stored) h = cc
-    of (Event.Finish client taken state stored) h = cc
-    of (Event.Judge client taken version state stored) h = cc
-    of (Event.Unplug client device answer) h = cc
-    of (Event.Plug client device answer) h = cc
-    of (Event.GiveBack client what) h = cc
-    of Event.Cut h = cc
+    of (Event.Boot number time limit found boards) h rest = cc
+    of (Event.Query client query) h rest = cc
+    of (Event.Ask client request pending answer) h rest = cc
+    of (Event.Claim client request fetched answer) h rest = cc
+    of (Event.Schedule client request answer) h rest = cc
+    of (Event.Resume client taken fetched answer stored) h rest = cc
+    of (Event.Finish client taken state stored) h rest = cc
+    of (Event.Judge client taken version state stored) h rest = cc
+    of (Event.Unplug client device answer) h rest = cc
+    of (Event.Plug client device answer) h rest = cc
+    of (Event.GiveBack client what) h rest = cc
+    of Event.Cut h rest = cc
 
 -- The entry's trace keeps the flags with which it was taken.
 pub record Traced (s : Scene) (entry : ℕ) (past : List Event) (flags : List Bool) : Type 0 where

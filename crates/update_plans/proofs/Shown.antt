@@ -79,13 +79,14 @@ seen-ended s b past client entry event shown at told =
 pub home-seen : (facts : Facts) (first : List Seen) (opening : List Row) (past : List Event) (board raw : ℕ) (mode : Mode)
     → seen facts opening past board ≡ Seen.Home raw mode → home_before facts first opening past board ≡ Seen.Home raw mode
 home-seen facts first opening [] board raw mode e = cc
-home-seen facts first opening (event ∷ past) board raw mode e = of (tells facts (live past) (known facts opening past) event board) e
+home-seen facts first opening (event ∷ past) board raw mode e = of (tells facts (live past) (known facts opening past) event board) e (λ h. home-seen facts first opening past board raw mode h)
   where
-    of : (o : Option Seen) → unwrap_or o (seen facts opening past board) ≡ Seen.Home raw mode → home_or o (home_before facts first opening past board) ≡ Seen.Home raw mode
-    of None h = home-seen facts first opening past board raw mode h
-    of (Some (Seen.Home raw' mode')) h = h
-    of (Some Seen.Gone) h = cc
-    of (Some Seen.Stranger) h = cc
+    of : (o : Option Seen) → unwrap_or o (seen facts opening past board) ≡ Seen.Home raw mode
+        → (seen facts opening past board ≡ Seen.Home raw mode → home_before facts first opening past board ≡ Seen.Home raw mode) → home_or o (home_before facts first opening past board) ≡ Seen.Home raw mode
+    of None h before = before h
+    of (Some (Seen.Home raw' mode')) h before = h
+    of (Some Seen.Gone) h before = cc
+    of (Some Seen.Stranger) h before = cc
 
 pub has-raw : (s : Seen) (raw : ℕ) (mode : Mode) → s ≡ Seen.Home raw mode → HasRaw s raw
 has-raw s raw mode e = subst (λ (x : Seen). HasRaw x raw) (sym e) refl
