@@ -1,10 +1,12 @@
 #!/usr/bin/env python3
-"""A second reading of docs/FORMATS.md: prints the report of a campaign, `second_reading.py campaign.json`.
+"""A second reading of docs/FORMATS.md: prints the report of a campaign, `second_reading.py campaign.json`, or what `plan`
+or `update` prints, `second_reading.py campaign.json plan TAG`.
 
 It is written from that page alone, shares nothing with the program, and stands beside it as a check: what both print is
 compared for the examples and for random campaigns. It plays documents without a fault, in each boot of which at most one
 client has a script, so that the report is determined, and whose history neither fails nor fills up.
 """
+import functools
 import hashlib
 import json
 import re
@@ -75,6 +77,31 @@ def version_text(form, raw):
     if form == "intel-me":
         numbers[0] += 11
     return ".".join(map(str, numbers))
+
+
+def raw_of(form, version):
+    """The least raw version whose text is equal to a version, or nothing."""
+    if form == "hex":
+        found = re.fullmatch("0*x([0-9a-f]{8})", version)
+        return int(found.group(1), 16) if found else None
+    if not re.fullmatch("[0-9.]*", version):
+        return None
+    numbers = [int(it or 0) for it in version.split(".")]
+    if form in ("dell-bios", "dell-bios-msb"):
+        bits = [8, 8, 8]
+    else:
+        bits = BITS[form]
+    if form == "intel-me":
+        numbers[0] -= 11
+    if form == "bcd":
+        numbers = [(max(0, -(-(it - 15) // 10)), it) for it in numbers]
+        numbers = [tens * 16 + it - tens * 10 for tens, it in numbers]
+    if len(numbers) != len(bits) or any(not 0 <= it < 1 << width for it, width in zip(numbers, bits)):
+        return None
+    raw = 0
+    for it, width in zip(numbers, bits):
+        raw = raw << width | it
+    return raw << 8 if form == "dell-bios-msb" else raw
 
 
 def compared(left, right):
@@ -737,6 +764,73 @@ class Campaign:
         return "\n".join(["fwupdemu report 1", *self.lines, f"end {self.events}"]) + "\n"
 
 
+# ---- plans
+
+class Plan(Campaign):
+    """The installs that bring each device of a document as far as it can come, over its first boot."""
+
+    def __init__(self, document, tag, rows=()):
+        super().__init__(document, None, [Row(**vars(it)) for it in rows])
+        self.document, self.tag, self.items, self.told = document, tag, [], []
+        self.own = self.features[0] if self.features else []
+        if self.boots:
+            self.start_boot(1, self.boots[0])
+            for board in self.walk():
+                while len(self.items) < 8192 and self.goes_on(board):
+                    pass
+
+    def walk(self):
+        """The devices in the order in which they are visited."""
+        def parent(board):
+            return next((it for it in self.devices if it.port == board.sheet.get("parent")), None)
+
+        def visit(board):
+            children = [it for it in self.devices if parent(it) is board]
+            early = [it for it in children if "install-parent-first" not in it.sheet["flags"]]
+            late = [it for it in children if it not in early]
+            return [*(it for child in early for it in visit(child)), board, *(it for child in late for it in visit(child))]
+        return [it for board in self.devices if parent(board) is None for it in visit(board)]
+
+    def goes_on(self, board):
+        """Adds the install of the highest release that the device can reach next, where there is one."""
+        if not board.is_here:
+            return False
+        above = [it for it in self.releases_for(board) if compared(it[1]["version"], board.version) > 0]
+        for component, release in sorted(above, key=functools.cmp_to_key(lambda a, b: compared(b[1]["version"], a[1]["version"]))):
+            raw = raw_of(board.sheet["version-format"], release["version"])
+            if raw is not None and self.is_taken(board, component, release, raw):
+                return True
+        return False
+
+    def is_taken(self, board, component, release, raw):
+        """Adds the install, where it is accepted with that very release, and ends well."""
+        item = {"do": "install", "tag": f"{self.tag}-{len(self.items) + 1}", "device": board.sheet["device"], "version": release["version"]}
+        refusal, found = self.verdict("ask", item, self.own)
+        if refusal or found.release is not release:
+            return False
+        detached = "needs-bootloader" in board.sheet["flags"] and board.mode == "runtime"
+        provided = [it.lower() for it in component["provides"]] + board.sheet["counterparts"]
+        written = any(it in provided for it in board.side("bootloader" if detached else board.mode))
+        waits = written and "needs-reboot" in board.sheet["flags"]
+        shown = raw if written and not waits else raw_version(board.image) or 0
+        if not waits and compared(version_text(board.sheet["version-format"], shown), release["version"]) != 0:
+            return False
+        self.add_row(1, item, found, "needs-reboot" if waits else "success")
+        board.image, board.mode = f"EMU1 {shown:08x}\n".encode(), "runtime"
+        self.items.append(item)
+        self.told.append(f"  {len(self.items)} {board.port} {release['version']}")
+        return True
+
+    def text(self):
+        """What the command `plan` prints."""
+        return "\n".join([f"plan {len(self.items)}", *self.told]) + "\n"
+
+    def played(self, shelf, rows=()):
+        """The campaign that the command `update` plays."""
+        boots = [{**it, "scripts": [self.items]} for it in self.boots[:1]]
+        return Campaign({**self.document, "clients": self.document["clients"] or [{}], "boots": boots}, shelf, rows)
+
+
 def folder_shelf(folder):
     """A shelf over a folder of payloads."""
     def file_named(digest):
@@ -751,11 +845,16 @@ def is_determined(document):
 
 
 def main():
-    if len(sys.argv) != 2:
-        print("second_reading.py: usage: second_reading.py campaign.json", file=sys.stderr)
+    words = sys.argv[2:]
+    if len(sys.argv) not in (2, 4) or (words and words[0] not in ("plan", "update")):
+        print("second_reading.py: usage: second_reading.py campaign.json [plan TAG | update TAG]", file=sys.stderr)
         return 2
     path = Path(sys.argv[1])
     document = json.loads(path.read_text())
+    if words:
+        plan = Plan(document, words[1])
+        sys.stdout.write(plan.text() if words[0] == "plan" else plan.played(folder_shelf(path.parent / "payloads")).report())
+        return 0
     if not is_determined(document):
         print("second_reading.py: in one boot two clients have a script", file=sys.stderr)
         return 3

@@ -71,6 +71,7 @@ REQUIREMENT = rf"  {NUMBER} (?:holds|unmet {CAUSE})\n"
 LINES = {
     b"check": r"ok boards \d+ components \d+ clients \d+ boots \d+\n",
     b"remotes": rf"(?:remote {NAME} order \d+ (?:en|dis)abled components \d+ releases \d+ kept \d+\n)+releases \d+\n",
+    b"plan": rf"plan {NUMBER}\n(?:  {NUMBER} {NAME} {NAME}\n)*",
     b"explain": rf"explain {NAME} {NAME}\n(?:{REQUIREMENT})*verdict (?:accept|refused {REFUSAL})\n",
     b"make": r"boards \d+ clients \d+ accepted \d+ writes \d+ success \d+ failed \d+ kept \d+\n",
     b"ids": r"(?:[^\n]{1,255} [0-9a-f]{8}(?:-[0-9a-f]{4}){3}-[0-9a-f]{12}\n){1,64}",
@@ -135,7 +136,7 @@ def output_fault(word, ended):
         return None
     if status in (2, 3, 4):
         return f"output under status {status}: {out[:100]!r}"
-    if word == b"run":
+    if word in (b"run", b"update"):
         return report_fault(out, status in (0, 7, 9))
     if status == 0 and not re.fullmatch(LINES.get(word, "no command"), out.decode("utf-8", "replace")):
         return f"none of the lines of {word!r}: {out[:200]!r}"

@@ -7,10 +7,11 @@ from documents import RICH
 from kinds import Kind
 from trial import call, fault_of
 
-FORMS = ["run", "check", "remotes", "explain", "ids", "make", "help", "--", "-", "-h", "--help", "--clients", "--clients=3", "", "RUN"]
+FORMS = ["run", "check", "remotes", "plan", "update", "explain", "ids", "make", "help", "--", "-", "-h", "--help", "--clients", "--clients=3", "", "RUN"]
 VALUES = ["usb1", "usb2", "1.1.0", "9", "1", "0", "16", "17", "256", "257", "04", "+4", "1.0", "com.example.hub", "é", "a b"]
 NUMBER = re.compile(r"[1-9][0-9]{0,8}")
 NAME = re.compile(rb"[!-~]{1,64}")
+TAG = re.compile(rb"[!-~]{1,56}")
 
 
 def values_of(words):
@@ -71,6 +72,8 @@ def is_command(words):
         return False
     if words[0] in ("run", "check", "remotes"):
         return not values
+    if words[0] in ("plan", "update"):
+        return len(values) == 1 and bool(TAG.fullmatch(os.fsencode(values[0])))
     if words[0] == "explain":
         return len(values) == 2 and all(NAME.fullmatch(os.fsencode(it)) for it in values)
     return words[0] == "ids" and 1 <= len(values) <= 64 and all(map(is_line, values))
@@ -98,7 +101,7 @@ def judged(site, words):
 
 def few(site, index, random):
     """Some words of those that mean something, and others."""
-    words = [random.choice(FORMS[:5] if random.random() < 0.8 else FORMS)]
+    words = [random.choice(FORMS[:7] if random.random() < 0.8 else FORMS)]
     words += [random.choice(VALUES + FORMS) for _ in range(random.choice((0, 0, 1, 1, 2, 2, 3, 4)))]
     if random.random() < 0.3:
         words.insert(random.randrange(len(words) + 1), random.choice(["--clients", "--", "--clients=16", "--clients=017"]))
@@ -129,8 +132,8 @@ def many(site, index, random):
 
 def long(site, index, random):
     """One word of 255 bytes, 256, and as many as the system lets a word have."""
-    length = (255, 256, 4096, 100000, 131071)[index // 4]
-    return judged(site, [("ids", "explain", "make", "x")[index % 4], "a" * length])
+    length = (56, 57, 255, 256, 4096, 100000, 131071)[index // 5]
+    return judged(site, [("ids", "explain", "make", "plan", "x")[index % 5], "a" * length])
 
 
 def kinds():
@@ -139,5 +142,5 @@ def kinds():
         Kind("words that nearly mean something", few),
         Kind("words of any bytes", strange),
         Kind("many words", many, 60),
-        Kind("a long word", long, 20),
+        Kind("a long word", long, 35),
     ]

@@ -11,7 +11,7 @@ _fwupdemu() {
         ;;
     esac
     if [ "$COMP_CWORD" -eq 1 ]; then
-        mapfile -t COMPREPLY < <(compgen -W 'run check remotes explain ids make' -- "$current")
+        mapfile -t COMPREPLY < <(compgen -W 'run check remotes explain plan update ids make' -- "$current")
         return
     fi
     case ${COMP_WORDS[1]} in

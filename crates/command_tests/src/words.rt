@@ -61,6 +61,36 @@ const IDS: [Case; 11] = [
     (&[b"IDS", b"a"], "usage"),
 ];
 
+/// 56 bytes, the most that a tag has.
+const LONGEST: &[u8] = b"aaaaaaaaaaaaaaaaaaaaaaaaaaaaaaaaaaaaaaaaaaaaaaaaaaaaaaaa";
+
+const TAGS: [Case; 15] = [
+    (&[b"plan", b"u"], "plan u"),
+    (&[b"plan", b"--", b"-u"], "plan -u"),
+    (&[b"plan", b"u", b"--"], "plan u"),
+    (
+        &[b"plan", LONGEST],
+        "plan aaaaaaaaaaaaaaaaaaaaaaaaaaaaaaaaaaaaaaaaaaaaaaaaaaaaaaaa",
+    ),
+    (&[b"plan"], "usage"),
+    (&[b"plan", b""], "usage"),
+    (&[b"plan", b"a b"], "usage"),
+    (&[b"plan", b"-u"], "usage"),
+    (&[b"plan", b"u", b"u"], "usage"),
+    (&[b"update", b"u"], "update u"),
+    (&[b"update", b"--", b"--"], "update --"),
+    (&[b"update"], "usage"),
+    (&[b"update", b"u", b"--clients=3"], "usage"),
+    (&[b"update", b"\xc3\xa9"], "usage"),
+    (
+        &[
+            b"update",
+            b"aaaaaaaaaaaaaaaaaaaaaaaaaaaaaaaaaaaaaaaaaaaaaaaaaaaaaaaaa",
+        ],
+        "usage",
+    ),
+];
+
 const MAKE: [Case; 24] = [
     (&[b"make", b"10"], "make 10 4"),
     (&[b"make", b"1", b"--clients", b"1"], "make 1 1"),
@@ -108,12 +138,19 @@ fn shown_explain(alloc: Global, port: &Name, version: &Version) -> Result<String
     format!(in alloc; "explain {port} {version}")
 }
 
+fn shown_tag(alloc: Global, word: &str, tag: &Name) -> Result<String, AllocError> {
+    let tag = str::from_utf8(tag.bytes()).unwrap_or("?");
+    format!(in alloc; "{word} {tag}")
+}
+
 fn shown_command(alloc: Global, command: &Command) -> Result<String, AllocError> {
     match command {
         Command::Run => String::from_str(alloc, "run"),
         Command::Check => String::from_str(alloc, "check"),
         Command::Remotes => String::from_str(alloc, "remotes"),
         Command::Explain { port, version } => shown_explain(alloc, port, version),
+        Command::Plan { tag } => shown_tag(alloc, "plan", tag),
+        Command::Update { tag } => shown_tag(alloc, "update", tag),
         Command::Ids { texts } => shown_texts(alloc, texts.items()),
         Command::Make { boards, clients } => format!(in alloc; "make {boards} {clients}"),
     }
@@ -148,6 +185,12 @@ fn commands_without_values(rt: HostRuntime) -> Result<(), Fail> {
 #[test]
 fn ports_and_versions(rt: HostRuntime) -> Result<(), Fail> {
     assert_eq!(rt; first_other(rt.alloc(), &EXPLAIN)?.as_str(), "");
+    Ok(())
+}
+
+#[test]
+fn tags(rt: HostRuntime) -> Result<(), Fail> {
+    assert_eq!(rt; first_other(rt.alloc(), &TAGS)?.as_str(), "");
     Ok(())
 }
 

@@ -36,6 +36,24 @@ explain_of [] = None
 explain_of (port ∷ []) = None
 explain_of (port ∷ version ∷ more) = if is_none more then explained port version else None
 
+-- the one word, where there is just one
+abbrev pub sole_of : List (List ℕ) → Option (List ℕ)
+sole_of [] = None
+sole_of (word ∷ more) = if is_none more then Some word else None
+
+-- a tag from which those of a plan's installs are made: a name of at most 56 bytes, and nothing else
+abbrev pub tag_read : List ℕ → Option (List ℕ)
+tag_read word = if nat_le (length word) 56 then result_ok (name_read word) else None
+
+abbrev pub tag_of : List (List ℕ) → Option (List ℕ)
+tag_of values = option_and_then tag_read (sole_of values)
+
+abbrev pub plan_of : List (List ℕ) → Option Command
+plan_of values = option_map (λ tag. commands.Plan tag) (tag_of values)
+
+abbrev pub update_of : List (List ℕ) → Option Command
+update_of values = option_map (λ tag. commands.Update tag) (tag_of values)
+
 -- 1 to 64 texts
 abbrev pub ids_of : List (List ℕ) → Option Command
 ids_of texts =
@@ -47,11 +65,6 @@ ids_of texts =
 abbrev pub number_within : ℕ → ℕ → List ℕ → Option ℕ
 number_within least most word =
     option_and_then (λ n. if nat_le least n && nat_le n most then Some n else None) (result_ok (number_read word))
-
--- the one word, where there is just one
-abbrev pub sole_of : List (List ℕ) → Option (List ℕ)
-sole_of [] = None
-sole_of (word ∷ more) = if is_none more then Some word else None
 
 -- the boards: the one value
 abbrev pub make_of : ℕ → List (List ℕ) → Option Command
@@ -103,6 +116,8 @@ by_values name values =
     else if bytes_eq name (codes "check") then alone commands.Check values
     else if bytes_eq name (codes "remotes") then alone commands.Remotes values
     else if bytes_eq name (codes "explain") then explain_of values
+    else if bytes_eq name (codes "plan") then plan_of values
+    else if bytes_eq name (codes "update") then update_of values
     else None
 
 -- the command with this name, and these words before and behind `--`

@@ -16,6 +16,11 @@ pub enum Command {
     Remotes,
     /// Says whether an install of this version at this port would be accepted, and why.
     Explain { port: Name, version: Version },
+    /// Reads a document, and says which installs bring each device as far as it can come. Their tags begin
+    /// with this one, which has at most 56 bytes.
+    Plan { tag: Name },
+    /// Plans these installs, and plays them in the first boot of the document.
+    Update { tag: Name },
     /// Says the GUID of each text, of which there are 1 to 64.
     Ids { texts: Listed<Text> },
     /// Plays a campaign that is made for 1 to 256 boards and 1 to 16 clients.

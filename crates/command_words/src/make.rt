@@ -1,12 +1,11 @@
 //! The words of `make`: how many boards, and how many clients.
-ghost use Rattle.std.specs.Prelude.{◌≡◌, ◌++◌, ◌≤◌, drop, length, map, position, option_and_then, if◌then◌else◌, Some, None};
+ghost use Rattle.std.specs.Prelude.{◌≡◌, ◌++◌, ◌≤◌, drop, length, map, position, option_and_then};
 ghost use Rattle.std.specs.List.{position_or_len};
-ghost use Rattle.std.specs.Option.{option_copied};
-ghost use Rattle.command_words.specs.Commands.{clients_by, clients_from, clients_next, clients_of, is_option, make_by, number_within, sole_of};
+ghost use Rattle.command_words.specs.Commands.{clients_by, clients_from, clients_next, clients_of, is_option, make_by, number_within};
 
 use crate::command::Command;
 use crate::parts::any_dashed;
-use crate::values::is_none;
+use crate::values::sole;
 use fw_base::read_decimal;
 
 /// The option that says how many clients there are.
@@ -103,28 +102,6 @@ fn made(clients: u32, front: &[&[u8]], more: &[&[u8]], behind: &[&[u8]]) -> Opti
     }
     let boards = number_within(BOARDS_MAX, sole(front, more, behind)?)?;
     Some(Command::Make { boards, clients })
-}
-
-/// The one word of three lists.
-fn sole<'a>(front: &[&'a [u8]], more: &[&'a [u8]], behind: &[&'a [u8]]) -> Option<&'a [u8]>
-    ensures { option_copied result ≡ sole_of (map (λ word. word.now) front.now ++ map (λ word. word.now) more.now ++ map (λ word. word.now) behind.now) }
-{
-    match front {
-        [] => match more {
-            [] => match behind {
-                [] => None,
-                [word, rest @ ..] => sole_if(word, is_none(&[], rest)),
-            },
-            [word, rest @ ..] => sole_if(word, is_none(rest, behind)),
-        },
-        [word, rest @ ..] => sole_if(word, rest.is_empty() && is_none(more, behind)),
-    }
-}
-
-fn sole_if(word: &[u8], is_sole: bool) -> Option<&[u8]>
-    ensures { option_copied result ≡ (if is_sole then Some word.now else None) }
-{
-    if is_sole { Some(word) } else { None }
 }
 
 /// A number from 1 to a limit.

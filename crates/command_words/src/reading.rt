@@ -5,7 +5,7 @@ ghost use Rattle.command_words.specs.Commands.{Reads, by_values, command_by, com
 use crate::command::{Command, WordsFault};
 use crate::make::make;
 use crate::parts::{any_dashed, part};
-use crate::values::{alone, explain, ids};
+use crate::values::{alone, explain, ids, plan, update};
 use std::alloc::Global;
 
 /// The command that the words behind the program's name are.
@@ -60,6 +60,12 @@ fn by_values(name: &[u8], before: &[&[u8]], behind: &[&[u8]]) -> Option<Command>
     }
     if name == b"explain".as_slice() {
         return explain(before, behind);
+    }
+    if name == b"plan".as_slice() {
+        return plan(before, behind);
+    }
+    if name == b"update".as_slice() {
+        return update(before, behind);
     }
     None
 }

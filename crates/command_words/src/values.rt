@@ -1,7 +1,8 @@
 //! The commands that take values alone. The words before `--` don't begin with `-` here.
-ghost use Rattle.std.specs.Prelude.{◌≡◌, ◌+◌, ◌++◌, ◌&&◌, [], ◌∷◌, map, length, nat_le, true, OnOk, IfOk};
+ghost use Rattle.std.specs.Prelude.{◌≡◌, ◌+◌, ◌++◌, ◌&&◌, [], ◌∷◌, map, length, nat_le, true, if◌then◌else◌, Some, None, OnOk, IfOk};
 ghost use Rattle.std.specs.List.{list_all};
-ghost use Rattle.command_words.specs.Commands.{Reads, alone, explain_of, explained, ids_of, is_none};
+ghost use Rattle.std.specs.Option.{option_copied};
+ghost use Rattle.command_words.specs.Commands.{Reads, alone, explain_of, explained, ids_of, is_none, plan_of, sole_of, tag_of, tag_read, update_of};
 ghost use Rattle.command_words.specs.Texts.{is_text};
 
 use crate::command::{Command, WordsFault};
@@ -12,6 +13,9 @@ use version_formats::Version;
 
 /// The most texts of `ids`.
 const TEXTS_MAX: usize = 64;
+
+/// The most bytes of a tag from which those of a plan's installs are made.
+const TAG_MAX: usize = 56;
 
 /// Whether two lists have no word.
 pub fn is_none(before: &[&[u8]], behind: &[&[u8]]) -> bool
@@ -24,6 +28,28 @@ pub fn is_none(before: &[&[u8]], behind: &[&[u8]]) -> bool
         },
         [_, ..] => false,
     }
+}
+
+/// The one word of three lists.
+pub fn sole<'a>(front: &[&'a [u8]], more: &[&'a [u8]], behind: &[&'a [u8]]) -> Option<&'a [u8]>
+    ensures { option_copied result ≡ sole_of (map (λ word. word.now) front.now ++ map (λ word. word.now) more.now ++ map (λ word. word.now) behind.now) }
+{
+    match front {
+        [] => match more {
+            [] => match behind {
+                [] => None,
+                [word, rest @ ..] => sole_if(word, is_none(&[], rest)),
+            },
+            [word, rest @ ..] => sole_if(word, is_none(rest, behind)),
+        },
+        [word, rest @ ..] => sole_if(word, rest.is_empty() && is_none(more, behind)),
+    }
+}
+
+fn sole_if(word: &[u8], is_sole: bool) -> Option<&[u8]>
+    ensures { option_copied result ≡ (if is_sole then Some word.now else None) }
+{
+    if is_sole { Some(word) } else { None }
 }
 
 /// A command that takes no value.
@@ -85,6 +111,40 @@ fn explained(port: &[u8], version: &[u8]) -> Option<Command>
     let port = Name::read(port).ok()?;
     let version = Version::read(version).ok()?;
     Some(Command::Explain { port, version })
+}
+
+/// The tag from which those of the planned installs are made.
+pub fn plan<'a>(before: &[&'a [u8]], behind: &[&'a [u8]]) -> Option<Command>
+    ensures { result ≡ plan_of (map (λ word. word.now) before.now ++ map (λ word. word.now) behind.now) }
+{
+    let tag = tag(before, behind)?;
+    Some(Command::Plan { tag })
+}
+
+/// The tag from which those of the installs are made that are planned and played.
+pub fn update<'a>(before: &[&'a [u8]], behind: &[&'a [u8]]) -> Option<Command>
+    ensures { result ≡ update_of (map (λ word. word.now) before.now ++ map (λ word. word.now) behind.now) }
+{
+    let tag = tag(before, behind)?;
+    Some(Command::Update { tag })
+}
+
+/// The one word, where it is a tag.
+fn tag<'a>(before: &[&'a [u8]], behind: &[&'a [u8]]) -> Option<Name>
+    ensures { result ≡ tag_of (map (λ word. word.now) before.now ++ map (λ word. word.now) behind.now) }
+{
+    tag_in(sole(&[], before, behind)?)
+}
+
+/// A name that is short enough for a tag.
+fn tag_in(word: &[u8]) -> Option<Name>
+    ensures { result ≡ tag_read word.now }
+{
+    if word.len() <= TAG_MAX {
+        Name::read(word).ok()
+    } else {
+        None
+    }
 }
 
 /// 1 to 64 texts.

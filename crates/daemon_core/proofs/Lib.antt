@@ -58,3 +58,4 @@ pub mod ResumeTurns
 pub mod ResumeExits
 pub mod PartsKept
 pub mod Planned
+pub mod NextSo

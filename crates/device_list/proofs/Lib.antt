@@ -1,3 +1,4 @@
 pub mod Places
 pub mod GuidLaws
 pub mod Adding
+pub mod Fresh

@@ -1,15 +1,16 @@
 //! The list of devices.
-ghost use Rattle.std.specs.Prelude.{◌≡◌, ℕ, List, All, ◌<◌, ◌⊎◌, false, [], ◌∷◌, ◌++◌, length, map, slice_get, slice_set, position, MatchResult, IfSome, IfErr, OnOk, OnErr, is_some, vec_len, vec_capacity};
+ghost use Rattle.std.specs.Prelude.{◌≡◌, ℕ, List, All, ◌<◌, ◌⊎◌, false, [], ◌∷◌, ◌++◌, length, map, slice_get, slice_set, position, MatchResult, IfSome, IfErr, IfOk, OnOk, OnErr, Some, None, is_some, take, vec_len, vec_capacity};
 ghost use Rattle.std.specs.List.{list_any};
 ghost use Rattle.std.specs.Option.{ForSome};
 ghost use Rattle.std.specs.Str.{bytes_eq};
 ghost use Rattle.device_list.specs.Lists.{place, refused, names};
 ghost use Rattle.device_list.specs.Guids.{has, listed, sheets, with_last, HasRoom};
+ghost use Rattle.fw_facts.specs.declared.view.DeviceView.{DeviceView};
 
 use crate::fault::ListFault;
 use crate::guid_index::{GuidIndex, first_showing, listed, note_board, reserve_board};
 use crate::selector::Selector;
-use fw_base::Name;
+use fw_base::{Name, NoMemory};
 use fw_facts::{DeviceView, Seen, Sheet};
 use guid_ids::{DeviceId, Guid};
 use indexmap::IndexSet;
@@ -63,6 +64,36 @@ impl Devices {
         match self.prepare(device) {
             Ok(()) => append(&mut self.views, &mut self.ids, &mut self.guids, view),
             Err(fault) => Err(fault),
+        }
+    }
+
+    /// An equal list.
+    pub fn copy(&self, alloc: Global) -> Result<Devices, NoMemory>
+        ensures { IfOk result (λ copy. copy ≡ self.now) }
+    {
+        self.differ();
+        let mut copy = Devices::new(alloc);
+        for view in self.views() {
+            copy.add_new(copied(alloc, view)?)?;
+        }
+        Ok(copy)
+    }
+
+    // No device has the ID of one before it, and there are at most 256. Does nothing.
+    fn differ(&self)
+        ensures { (at : ℕ) (view : DeviceView) → slice_get self.now at ≡ Some view → refused (take at self.now) view.sheet.device ≡ None }
+    {
+        let _count = self.ids.len();
+    }
+
+    // Adds a device of a new ID to a list that isn't full.
+    fn add_new(&mut self, view: DeviceView) -> Result<(), NoMemory>
+        requires { refused self.old view.sheet.device ≡ None }
+        ensures { OnOk result (self.new ≡ self.old ++ view ∷ []) }
+    {
+        match self.add(view) {
+            Ok(()) => Ok(()),
+            Err(_) => Err(NoMemory),
         }
     }
 
@@ -137,6 +168,17 @@ impl Devices {
             Selector::Port(port) => first_in_port(&self.views, port),
         }
     }
+}
+
+// An equal view.
+fn copied(alloc: Global, view: &DeviceView) -> Result<DeviceView, NoMemory>
+    ensures { IfOk result (λ copy. copy ≡ view.now) }
+{
+    Ok(DeviceView {
+        sheet: view.sheet.copy(alloc)?,
+        seen: view.seen,
+        claim: view.claim,
+    })
 }
 
 fn first_in_port(views: &[DeviceView], port: &Name) -> Option<usize>

@@ -3,6 +3,7 @@ use Rattle.std.proofs.Common.{◌≡◌, ℕ, List, [], ◌∷◌, Option, map, 
 use Rattle.std.specs.Prelude.{All}
 use Rattle.std.proofs.lemmas.List.Elements.{All-weaker}
 use Rattle.update_log.specs.declared.event.Event.{Event}
+use Rattle.update_log.specs.declared.facts.BootPlan.{BootPlan}
 use Rattle.update_log.specs.declared.facts.Facts.{Facts}
 use Rattle.update_log.specs.Pasts.{past_of}
 use Rattle.campaign_inputs.specs.Begin.{IsAsMade}
@@ -20,10 +21,10 @@ use Rattle.campaign_inputs.specs.declared.opening.ClientLimit.TheVariants as lim
 use Rattle.campaign_inputs.specs.declared.opening.OpenStop.{OpenStop}
 use Rattle.campaign_inputs.specs.declared.opening.OpenStop.TheVariants as stops
 use Rattle.campaign_inputs.specs.Opened.{HasStopped, IsOpened, StopsAt}
-use Rattle.explaining.specs.FirstBoot.{IsAsMade as IsFresh, first_boot, shown_by}
+use Rattle.first_boots.specs.FirstBoot.{IsAsMade as IsFresh, first_boot, shown_by}
 use Rattle.document_commands.specs.declared.ended.Ended.{Ended}
 use Rattle.document_commands.specs.declared.ended.Ended.TheVariants as ends
-use Rattle.document_commands.specs.Explains.{ExplainEnds, ExplainEndsSo, Explains, TextPrinted, first_of, printed_of}
+use Rattle.document_commands.specs.Explains.{ExplainEnds, ExplainEndsSo, Explains, TextPrinted, first_of, printed_of, undisturbed}
 use Rattle.document_commands.specs.Stops.{IsOfAny, told_stop}
 
 -- new boards show what the site's first images do
@@ -111,6 +112,6 @@ no_sink_told stops.NoMemory e = cc
 pub as_made : (boards : List BoardState) → All IsAsMade boards → All IsFresh boards
 as_made boards all = All-weaker IsAsMade IsFresh (λ b h. (h.image, h.condition)) boards all
 
-pub printed_text : (facts : Facts) (log : List Event) (boards same : List BoardState) (port version : List ℕ) → log ≡ first_boot (map shown_by same) ∷ [] → same ≡ boards
+pub printed_text : (facts : Facts) (boot : BootPlan) (log : List Event) (boards same : List BoardState) (port version : List ℕ) → boot ≡ undisturbed → log ≡ first_boot boot (map shown_by same) ∷ [] → same ≡ boards
     → explained facts (past_of log) port version ≡ printed_of facts (map shown_by boards) port version
-printed_text facts log boards same port version l b = rw (l, b) refl
+printed_text facts boot log boards same port version u l b = rw (l, b, u) refl

@@ -1,5 +1,5 @@
 -- How `explain` ends.
-use Rattle.std.specs.Prelude.{◌≡◌, ℕ, ◌<◌, List, [], ◌∷◌, length, map, Option}
+use Rattle.std.specs.Prelude.{◌≡◌, ℕ, ◌<◌, List, [], ◌∷◌, length, map, Option, None}
 use Rattle.outer_traits.specs.Sources.{Came}
 use Rattle.outer_traits.specs.Sinks.{Took, TookFront}
 use Rattle.fw_facts.specs.declared.machine.MachineFacts.{MachineFacts}
@@ -7,6 +7,7 @@ use Rattle.fw_facts.specs.declared.seen.Seen.{Seen}
 use Rattle.plugin_order.specs.declared.sheet.PluginSheet.{PluginSheet}
 use Rattle.emulated_boards.specs.Conditions.{fresh, view_of}
 use Rattle.emulated_boards.specs.Images.{image_of}
+use Rattle.update_log.specs.declared.facts.BootPlan.{BootPlan}
 use Rattle.update_log.specs.declared.facts.Facts.{Facts}
 use Rattle.update_log.specs.declared.facts.PluginVetoes.{PluginVetoes}
 use Rattle.site_types.specs.declared.site.Site.{Site}
@@ -17,7 +18,7 @@ use Rattle.campaign_inputs.specs.Inputs.{document_max}
 use Rattle.campaign_inputs.specs.Opened.{CantArrange, IsNoDocument, States}
 use Rattle.campaign_inputs.specs.Settled.{IsCampaignOf}
 use Rattle.explaining.specs.Explained.{explained}
-use Rattle.explaining.specs.FirstBoot.{first_boot}
+use Rattle.first_boots.specs.FirstBoot.{first_boot}
 use Rattle.document_commands.specs.declared.ended.Ended.{Ended}
 use Rattle.document_commands.specs.declared.ended.Ended.TheVariants as ends
 
@@ -25,10 +26,14 @@ use Rattle.document_commands.specs.declared.ended.Ended.TheVariants as ends
 abbrev pub first_of : SiteBoard → Seen
 first_of board = view_of (fresh (image_of board.image))
 
--- What is printed over these facts, after one boot of boards that show this: the requirements and the
+-- A boot at time 0, without a limit, and with no board absent.
+abbrev pub undisturbed : BootPlan
+undisturbed = record { time = 0; limit = None; absent = [] }
+
+-- What is printed over these facts, after such a boot of boards that show this: the requirements and the
 -- verdict on an ask of client 1.
 abbrev pub printed_of : Facts → List Seen → List ℕ → List ℕ → List ℕ
-printed_of facts shown port version = explained facts (first_boot shown ∷ []) port version
+printed_of facts shown port version = explained facts (first_boot undisturbed shown ∷ []) port version
 
 -- These bytes are all of the input, and state a site; the campaign is the site's, with these plugins; and
 -- this is what is printed of it.

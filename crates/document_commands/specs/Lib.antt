@@ -13,4 +13,4 @@ pub use Rattle.campaign_inputs.specs.Inputs
 pub use Rattle.campaign_inputs.specs.Opened
 pub use Rattle.campaign_inputs.specs.Settled as CampaignInputsSettled
 pub use Rattle.explaining.specs.Explained
-pub use Rattle.explaining.specs.FirstBoot
+pub use Rattle.first_boots.specs.FirstBoot

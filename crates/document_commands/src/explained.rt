@@ -2,20 +2,22 @@
 ghost use Rattle.std.specs.Prelude.{◌≡◌, ◌⊎◌, ◌≤◌, length, map};
 ghost use Rattle.outer_traits.specs.Faults.{Rose};
 ghost use Rattle.site_making.specs.Settled.{vetoes_of};
-ghost use Rattle.explaining.specs.FirstBoot.{shown_by};
+ghost use Rattle.first_boots.specs.FirstBoot.{shown_by};
 ghost use Rattle.campaign_inputs.specs.Begin.{CanBegin};
-ghost use Rattle.document_commands.specs.Explains.{ExplainEnds, TextPrinted, printed_of};
+ghost use Rattle.document_commands.specs.Explains.{ExplainEnds, TextPrinted, printed_of, undisturbed};
 ghost use Rattle.document_commands.specs.Stops.{IsOfAny, told_stop};
 
 use crate::ended::Ended;
 use campaign_inputs::{ClientLimit, OpenStop, open_campaign};
 use command_outputs::OutputStop;
-use explaining::{state_at_first_boot, write_explain};
-use fw_base::{Name, NoMemory};
+use explaining::write_explain;
+use first_boots::state_at_first_boot;
+use fw_base::{Listed, Name, NoMemory};
 use outer_traits::{Sink, Source};
 use plugin_trait::Plugin;
 use site_types::Campaign;
 use std::alloc::Global;
+use update_log::BootPlan;
 use version_formats::Version;
 
 /// Reads the document, arranges the plugins, of which there are at most 64, and prints whether an install of
@@ -61,6 +63,17 @@ fn told_stop(stop: OpenStop) -> Ended
     }
 }
 
+/// The boot over which an install is explained: at time 0, without a limit, and with no board absent.
+fn undisturbed(alloc: Global) -> BootPlan
+    ensures { result ≡ undisturbed }
+{
+    BootPlan {
+        time: 0,
+        limit: None,
+        absent: Listed::of(Vec::new(alloc)),
+    }
+}
+
 /// Prints what is explained of a campaign.
 fn print<T: Sink>(
     alloc: Global,
@@ -75,7 +88,8 @@ fn print<T: Sink>(
     ensures sink_quiet { (result ≡ Ended.SinkFault) ⊎ (T.faults out.new ≡ T.faults out.old) }
     ensures sink_counts { T.faults out.old ≤ T.faults out.new }
 {
-    match state_at_first_boot(alloc, &campaign.facts, &campaign.boards) {
+    let boot = undisturbed(alloc);
+    match state_at_first_boot(alloc, &campaign.facts, &campaign.boards, &[], &boot) {
         Ok(state) => match write_explain(alloc, &campaign.facts, &state, port, version, out) {
             Ok(()) => Ended::Done,
             Err(OutputStop::SinkFault) => Ended::SinkFault,

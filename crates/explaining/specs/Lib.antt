@@ -1,12 +1,9 @@
-pub mod FirstBoot
 pub mod Explained
 pub use Rattle.outer_traits.specs.Faults
 pub use Rattle.outer_traits.specs.Sinks
 pub use Rattle.fw_facts.specs.Views
 pub use Rattle.requirements.specs.Requirements
 pub use Rattle.release_catalogue.specs.Lookup
-pub use Rattle.emulated_boards.specs.Boards
-pub use Rattle.emulated_boards.specs.Conditions
 pub use Rattle.device_list.specs.Lists
 pub use Rattle.update_log.specs.Core
 pub use Rattle.update_log.specs.Known

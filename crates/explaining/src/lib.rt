@@ -5,9 +5,7 @@
 #![tactic(auto)]
 
 pub mod explain;
-pub mod first_boot;
 mod lines;
 mod requirements_met;
 
 pub use explain::write_explain;
-pub use first_boot::state_at_first_boot;

@@ -1,7 +1,7 @@
 -- That a run which nothing keeps from it does all that it is for.
 use Rattle.std.proofs.Common.{◌≡◌, ℕ, ◌<◌, ◌≤◌, ◌++◌, ◌+◌, true, false, List, [], length, map, refl, ap, sym, ◌∙◌, subst, inl, inr, arith}
 use Rattle.std.proofs.lemmas.List.{append-nil, length-append}
-use Rattle.std.specs.Prelude.{◌-◌, ◌^◌, Option, Some, None, MatchOption, Result, Ok, Err}
+use Rattle.std.specs.Prelude.{◌-◌, ◌^◌, Option, Some, None, Result, Ok, Err}
 use Rattle.fw_facts.specs.declared.machine.MachineFacts.{MachineFacts}
 use Rattle.history_keeper.proofs.Prefixes.{history_front, history_none}
 use Rattle.history_keeper.specs.declared.change.Change.{Change}
@@ -80,7 +80,7 @@ module _ (shelves : ℕ) (sheets : List PluginSheet) (old new : Option (List ℕ
   stated-same : (came : List ℕ) → Came came old new → WasRead came new → stated came ≡ Ok site
   stated-same came c r = ap stated (came-all came given.bytes old new c given.input_is r.ended) ∙ given.states
 
-  site-same : (came : List ℕ) (other : Site) → Came came old new → WasRead came new → stated came ≡ Ok other → other ≡ site
+  pub site-same : (came : List ℕ) (other : Site) → Came came old new → WasRead came new → stated came ≡ Ok other → other ≡ site
   site-same came other c r s = ok-same (stated came) other site s (stated-same came c r)
 
 -- Plugins that can be arranged have no fault.
@@ -91,7 +91,7 @@ arranged-well sheets (faults.Cycle shown) can (names, inr (order, s)) = can.bett
 arranged-well sheets faults.NoMemory can h = absurd h
 
 -- The rows before a log are a valid history where the keeper came with one.
-valid-opening : (came now : List Row → Type 0) (opening : List Row) (log : List Event) → IsHistory opening ⊎ (((all : List Row) → came all → IsHistory all) × ((all : List Row) × now all)) → IsOpening came now opening log → IsHistory opening
+pub valid-opening : (came now : List Row → Type 0) (opening : List Row) (log : List Event) → IsHistory opening ⊎ (((all : List Row) → came all → IsHistory all) × ((all : List Row) × now all)) → IsOpening came now opening log → IsHistory opening
 valid-opening came now opening log (inl v) o = v
 valid-opening came now opening log (inr (v, some)) (inl told) = v opening (told some.0 some.1)
 valid-opening came now opening log (inr (v, some)) (inr (e, none)) = subst IsHistory (sym e) history_none
@@ -99,9 +99,9 @@ valid-opening came now opening log (inr (v, some)) (inr (e, none)) = subst IsHis
 too-many : (asked asked' most shelves : ℕ) → asked ≡ asked' → asked' ≤ most → (shelves ≡ most) × (most < asked) → ⊥
 too-many asked asked' most shelves e w h = let m : most < asked = h.1 in omega (arith, e, w, m)
 
-module _ {K Q : Type 0} (told : K → List Row → Type 0) (doubted : K → Option Change) (faults : K → ℕ) (words : PluginWords Q) where
+module _ {K : Type 0} (told : K → List Row → Type 0) where
   -- A run that stopped before its campaign had a cause that the input, the shelves or the plugins show.
-  stopped : (Complete : Type 0) (shelves : ℕ) (sheets : List PluginSheet) (keeper : K) (old new : Option (List ℕ)) (site : Site) (stop : OpenStop)
+  pub stopped : (Complete : Type 0) (shelves : ℕ) (sheets : List PluginSheet) (keeper : K) (old new : Option (List ℕ)) (site : Site) (stop : OpenStop)
       → HasStopped (limits.Shelves shelves) sheets stop old new → GivesSite shelves old site → CanBeArranged sheets → RunDone told keeper Complete (stop_status stop)
   stopped Complete shelves sheets keeper old new site stops.SourceFault h given can = tt
   stopped Complete shelves sheets keeper old new site stops.NoMemory h given can = tt
@@ -114,6 +114,7 @@ module _ {K Q : Type 0} (told : K → List Row → Type 0) (doubted : K → Opti
       too-many asked (asked_for site) shelves most (h.stops.asked_is ∙ ap asked_for same) given.clients h.stops.passed
   stopped Complete shelves sheets keeper old new site (stops.Plugins fault) h given can = arranged-well sheets fault can h.stops.cause
 
+module _ {K Q : Type 0} (told : K → List Row → Type 0) (doubted : K → Option Change) (faults : K → ℕ) (words : PluginWords Q) where
   -- What a campaign came to that was played.
   ended : (shelves : List ShelfTold) (sheets : List PluginSheet) (vetoes : MachineFacts → List PluginVetoes) (started : List Q) (site : Site) (campaign : Campaign) (left : Left K) (text : Campaign → List ℕ) (before after : Option (List ℕ)) (status : Status)
       → AreStarted words sheets campaign.facts started → IsCampaignOf site sheets (vetoes site.machine) campaign → IsHistory left.opening → any_fault left.log ≡ false
@@ -160,7 +161,7 @@ module _ {K Q : Type 0} (told : K → List Row → Type 0) (doubted : K → Opti
       went started campaign a o (inr (e, nothing)) = subst (RunDone told left.keeper Complete) (sym e) tt
 
       at : RunEnds told doubted faults shelves now sheets vetoes words status keeper left old new before after → RunDone told left.keeper Complete status
-      at (inl s) = subst (RunDone told left.keeper Complete) (sym s.status_is) (stopped Complete (length shelves) sheets left.keeper old new site s.stop s.stopped given can)
+      at (inl s) = subst (RunDone told left.keeper Complete) (sym s.status_is) (stopped told Complete (length shelves) sheets left.keeper old new site s.stop s.stopped given can)
       at (inr w) = went w.started w.campaign w.started_are w.opened w.went
 
 -- How plugins that can be arranged are told.

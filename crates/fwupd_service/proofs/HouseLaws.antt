@@ -58,7 +58,7 @@ opening-told : {K : Type 0} (told : K → List Row → Type 0) (came : List Row 
 opening-told told came h none o =
     by_test h.annals.loaded (IsOpening came (told h.keeper) opening h.annals.core.log)
     (λ t. inl (subst O t o))
-    (λ f. untaken (none f) (subst O f o).1)
+    (λ f. let s = subst O f o in untaken s.0 (none f) s.1)
   where
     opening : List Row
     opening = h.annals.opening
@@ -66,9 +66,9 @@ opening-told told came h none o =
     O : Bool → Type 0
     O b = MatchBool b (AreTold came (told h.keeper) opening) (StillTold came (told h.keeper) × ((opening ≡ []) ⊎ AreTold came (told h.keeper) opening))
 
-    untaken : AllFaults (past h) → (opening ≡ []) ⊎ AreTold came (told h.keeper) opening → IsOpening came (told h.keeper) opening h.annals.core.log
-    untaken all (inl e) = inr (e, all)
-    untaken all (inr a) = inl a
+    untaken : StillTold came (told h.keeper) → AllFaults (past h) → (opening ≡ []) ⊎ AreTold came (told h.keeper) opening → IsOpening came (told h.keeper) opening h.annals.core.log
+    untaken still all (inl e) = inr (e, still, all)
+    untaken still all (inr a) = inl a
 
 -- While no boot took them the keeper told before what it tells.
 still-told : {K : Type 0} (told : K → List Row → Type 0) (came : List Row → Type 0) (h : Housed K) → h.annals.loaded ≡ false → OpeningTold told came h → StillTold came (told h.keeper)

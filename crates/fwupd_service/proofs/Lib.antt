@@ -9,3 +9,5 @@ pub mod FaultsTold
 pub mod Unfailing
 pub mod Completing
 pub mod PlannedBoards
+pub mod PlanCompleting
+pub mod LoadLaws

@@ -1,17 +1,20 @@
--- The numbers of `make` are within their limits.
-use Rattle.std.proofs.Common.{◌≡◌, ℕ, List, [], ◌∷◌, Bool, true, false, ◌&&◌, Option, Some, None, if◌then◌else◌, refl, subst, arith, nat_le, drop}
+-- The numbers of `make` are within their limits, and the tags of `plan` and `update` are tags of plans.
+use Rattle.std.proofs.Common.{◌≡◌, ℕ, ◌≤◌, ◌==◌, List, [], ◌∷◌, length, position, Bool, true, false, ◌&&◌, cond, Option, Some, None, Result, Ok, Err, if◌then◌else◌, refl, sym, ap, ◌∙◌, subst, arith, nat_le, nat_lt, drop}
 use Rattle.std.specs.Prelude.{codes, option_and_then, option_map}
 use Rattle.std.specs.List.{before_first, after_first, position_or_len}
 use Rattle.std.specs.Result.{result_ok}
 use Rattle.std.specs.Str.{bytes_eq}
 use Rattle.std.proofs.lemmas.Bool.{leb-true}
-use Rattle.fw_base.specs.Names.{name_read}
+use Rattle.fw_base.specs.Names.{is_no_name_byte, name_read, name_unless}
+use Rattle.fw_base.specs.declared.name.NameFault.{NameFault}
+use Rattle.fw_base.specs.declared.name.NameFault.TheVariants.{Empty, TooLong}
 use Rattle.version_formats.specs.Versions.{version_read}
 use Rattle.fw_base.specs.Decimals.{number_read}
 use Rattle.command_words.specs.declared.command.Command.{Command}
 use Rattle.command_words.specs.declared.command.Command.TheVariants as commands
-use Rattle.command_words.specs.Commands.{Clients, by_values, clients_by, clients_from, clients_next, clients_of, command_by, command_of, explain_of, explained, ids_of, is_joined, is_none, is_option, make_by, make_of, number_within, sole_of}
+use Rattle.command_words.specs.Commands.{Clients, by_values, clients_by, clients_from, clients_next, clients_of, command_by, command_of, explain_of, explained, ids_of, is_joined, is_none, is_option, make_by, make_of, number_within, plan_of, sole_of, tag_of, tag_read, update_of}
 use Rattle.command_words.specs.Parts.{is_end, values_of}
+use Rattle.update_plans.specs.Tags.{IsTag}
 use Rattle.fwupd_service.specs.Commands.{CommandFits, IsWithin}
 
 -- What holds of the value that is there.
@@ -82,12 +85,46 @@ explain-fits (port ∷ version ∷ more) =
     (λ p u. holds-map (λ (v : List ℕ). Unit {0}) CommandFits (λ v. commands.Explain p v) (result_ok (version_read version)) (holds-any (result_ok (version_read version))) (λ v w. tt)))
     tt
 
+-- A name that is read is the word.
+read-same : (word tag : List ℕ) → name_read word ≡ Ok tag → tag ≡ word
+read-same word tag e = found (length word == 0) (nat_lt 64 (length word)) (position is_no_name_byte word) e
+  where
+    found : (empty long : Bool) (bad : Option ℕ) → cond empty (Err Empty) (cond long (Err (TooLong (length word))) (name_unless bad word)) ≡ Ok tag → tag ≡ word
+    found true long bad e = cc
+    found false true bad e = cc
+    found false false (Some at) e = cc
+    found false false None e = cc
+
+tag-read : (word : List ℕ) → Holds IsTag (tag_read word)
+tag-read word = short (nat_le (length word) 56) refl
+  where
+    of-read : (r : Result (List ℕ) NameFault) → name_read word ≡ r → length word ≤ 56 → Holds IsTag (result_ok r)
+    of-read (Ok tag) e few =
+        let same : tag ≡ word = read-same word tag e in
+        subst IsTag (sym same) (record { few = few; read = e ∙ ap (λ (t : List ℕ). Ok t) same })
+    of-read (Err fault) e few = tt
+
+    short : (b : Bool) → nat_le (length word) 56 ≡ b → Holds IsTag (if b then result_ok (name_read word) else None)
+    short true e = of-read (name_read word) refl (leb-true (length word) 56 e)
+    short false e = tt
+
+tag-fits : (values : List (List ℕ)) → Holds IsTag (tag_of values)
+tag-fits values = holds-then (λ (word : List ℕ). Unit {0}) IsTag tag_read (sole_of values) (sole-any values) (λ word u. tag-read word)
+
+plan-fits : (values : List (List ℕ)) → Holds CommandFits (plan_of values)
+plan-fits values = holds-map IsTag CommandFits (λ tag. commands.Plan tag) (tag_of values) (tag-fits values) (λ tag t. t)
+
+update-fits : (values : List (List ℕ)) → Holds CommandFits (update_of values)
+update-fits values = holds-map IsTag CommandFits (λ tag. commands.Update tag) (tag_of values) (tag-fits values) (λ tag t. t)
+
 values-fit : (name : List ℕ) (values : List (List ℕ)) → Holds CommandFits (by_values name values)
 values-fit name values =
     holds-if CommandFits (bytes_eq name (codes "run")) _ _ (holds-if CommandFits (is_none values) (Some commands.Run) None tt tt)
     (holds-if CommandFits (bytes_eq name (codes "check")) _ _ (holds-if CommandFits (is_none values) (Some commands.Check) None tt tt)
     (holds-if CommandFits (bytes_eq name (codes "remotes")) _ _ (holds-if CommandFits (is_none values) (Some commands.Remotes) None tt tt)
-    (holds-if CommandFits (bytes_eq name (codes "explain")) _ None (explain-fits values) tt)))
+    (holds-if CommandFits (bytes_eq name (codes "explain")) _ _ (explain-fits values)
+    (holds-if CommandFits (bytes_eq name (codes "plan")) _ _ (plan-fits values)
+    (holds-if CommandFits (bytes_eq name (codes "update")) _ None (update-fits values) tt)))))
 
 ids-fit : (texts : List (List ℕ)) → Holds CommandFits (ids_of texts)
 ids-fit texts = holds-if CommandFits _ (Some (commands.Ids texts)) None tt tt

@@ -32,6 +32,8 @@ if-err {A = A} {E = E} P r x h e = subst (λ (r : Result A E). IfErr r P) e h
 pub keeps-same : {P : Type 0} (command : Option Command) (old new : List P) → new ≡ old → KeepsShelves command old new
 keeps-same None old new e = e
 keeps-same (Some commands.Run) old new e = tt
+keeps-same (Some (commands.Update tag)) old new e = tt
+keeps-same (Some (commands.Plan tag)) old new e = e
 keeps-same (Some commands.Check) old new e = e
 keeps-same (Some commands.Remotes) old new e = e
 keeps-same (Some (commands.Explain port version)) old new e = e

@@ -47,10 +47,10 @@ pub record IsUntouched {K : Type 0} (told : K → List Row → Type 0) (doubted 
   pub no_doubt : doubted new ≡ None
 
 -- The rows before the log are those that the keeper told as it came, if it tells any still; or there are none,
--- and no boot could read the history. So rows that a first boot refused are the keeper's own, since no row
--- breaks no rule.
+-- no boot could read the history, and what the keeper tells it told as it came. So rows that a first boot refused
+-- are the keeper's own, since no row breaks no rule.
 abbrev pub IsOpening : (List Row → Type 0) → (List Row → Type 0) → List Row → List Event → Type 0
-IsOpening came now opening log = AreTold came now opening ⊎ ((opening ≡ []) × AllFaults (past_of log))
+IsOpening came now opening log = AreTold came now opening ⊎ ((opening ≡ []) × StillTold came now × AllFaults (past_of log))
 
 -- The last boot that was begun didn't read the history: it couldn't, or the campaign ended as it was to begin.
 abbrev pub IsUnread : Campaign → List Event → Type 0

@@ -1,5 +1,5 @@
 -- What a run of the program comes to, by its words.
-use Rattle.std.specs.Prelude.{◌≡◌, ◌⊎◌, ◌≤◌, ℕ, Bool, true, false, List, [], Option, Some, None}
+use Rattle.std.specs.Prelude.{◌≡◌, ◌⊎◌, ◌≤◌, ℕ, Bool, true, false, List, [], length, Option, Some, None}
 use Rattle.outer_traits.specs.Sinks.{Took, TookFront}
 use Rattle.fw_facts.specs.declared.machine.MachineFacts.{MachineFacts}
 use Rattle.history_keeper.specs.declared.change.Change.{Change}
@@ -18,22 +18,28 @@ use Rattle.run_status.specs.declared.status.Status.{Status}
 use Rattle.run_status.specs.declared.status.Status.TheVariants as statuses
 use Rattle.fwupd_service.specs.Makes.{MakeEnds}
 use Rattle.fwupd_service.specs.Plugged.{PluginWords}
+use Rattle.update_plans.specs.Tags.{IsTag}
 use Rattle.fwupd_service.specs.Tops.{Left, NothingBegan, RunEnds}
+use Rattle.fwupd_service.specs.Updates.{PlanEnds, UpdateEnds}
 
--- Whether the words play over the history: `run` alone does.
+-- Whether the words read the history: `run`, `plan` and `update` do.
 abbrev pub keeps_history : Option Command → Bool
 keeps_history None = false
 keeps_history (Some commands.Run) = true
+keeps_history (Some (commands.Plan tag)) = true
+keeps_history (Some (commands.Update tag)) = true
 keeps_history (Some commands.Check) = false
 keeps_history (Some commands.Remotes) = false
 keeps_history (Some (commands.Explain port version)) = false
 keeps_history (Some (commands.Ids texts)) = false
 keeps_history (Some (commands.Make boards clients)) = false
 
--- The shelves are those that came, but under `run`, whose clients fetch from them.
+-- The shelves are those that came, but under `run` and `update`, whose clients fetch from them.
 abbrev pub KeepsShelves : {P : Type 0} → Option Command → List P → List P → Type 0
 KeepsShelves None old new = new ≡ old
 KeepsShelves (Some commands.Run) old new = Unit {0}
+KeepsShelves (Some (commands.Update tag)) old new = Unit {0}
+KeepsShelves (Some (commands.Plan tag)) old new = new ≡ old
 KeepsShelves (Some commands.Check) old new = new ≡ old
 KeepsShelves (Some commands.Remotes) old new = new ≡ old
 KeepsShelves (Some (commands.Explain port version)) old new = new ≡ old
@@ -94,7 +100,8 @@ pub record NothingDone {K : Type 0} (keeper : K) (left : Left K) (old new before
   pub unread : new ≡ old
   pub nothing : NothingBegan keeper left before after
 
--- The numbers of `make` are within their limits; the other commands have none.
+-- The numbers of `make` are within their limits, and the tags of `plan` and `update` are tags of plans; the other
+-- commands have none.
 pub record IsWithin (least most n : ℕ) : Type 0 where
   pub low : least ≤ n
   pub high : n ≤ most
@@ -106,6 +113,8 @@ pub record MakeFits (boards clients : ℕ) : Type 0 where
 abbrev pub CommandFits : Command → Type 0
 CommandFits (commands.Make boards clients) = MakeFits boards clients
 CommandFits commands.Run = Unit {0}
+CommandFits (commands.Plan tag) = IsTag tag
+CommandFits (commands.Update tag) = IsTag tag
 CommandFits commands.Check = Unit {0}
 CommandFits commands.Remotes = Unit {0}
 CommandFits (commands.Explain port version) = Unit {0}
@@ -117,6 +126,10 @@ CommandEnds told doubted faults shelves now sheets vetoes words commands.Run sta
     RunEnds told doubted faults shelves now sheets vetoes words status keeper left old new before after
 CommandEnds told doubted faults shelves now sheets vetoes words (commands.Make boards clients) status keeper left old new before after =
     (new ≡ old) × MakeEnds boards clients sheets vetoes words status keeper left before after
+CommandEnds told doubted faults shelves now sheets vetoes words (commands.Plan tag) status keeper left old new before after =
+    PlanEnds told doubted faults (length shelves) sheets vetoes tag status keeper left old new before after
+CommandEnds told doubted faults shelves now sheets vetoes words (commands.Update tag) status keeper left old new before after =
+    UpdateEnds told doubted faults shelves now sheets vetoes words tag status keeper left old new before after
 CommandEnds told doubted faults shelves now sheets vetoes words commands.Check status keeper left old new before after =
     Checked status keeper left old new before after
 CommandEnds told doubted faults shelves now sheets vetoes words commands.Remotes status keeper left old new before after =

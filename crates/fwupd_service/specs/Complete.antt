@@ -1,12 +1,23 @@
--- When `run` and `make` do all that they are for: nothing but what is named here keeps them from it.
-use Rattle.std.specs.Prelude.{◌≡◌, ◌⊎◌, ◌≤◌, ◌<◌, ◌-◌, ◌^◌, ℕ, List, length, map, Option, Some, Ok}
+-- When `run`, `make`, `plan` and `update` do all that they are for: nothing but what is named here keeps them from
+-- it.
+use Rattle.std.specs.Prelude.{◌≡◌, ◌⊎◌, ◌≤◌, ◌<◌, ◌+◌, ◌-◌, ◌^◌, ℕ, false, List, ◌∷◌, ◌++◌, length, map, Option, Some, None, Ok}
 use Rattle.fw_facts.specs.declared.machine.MachineFacts.{MachineFacts}
 use Rattle.history_keeper.specs.declared.change.Change.{Change}
 use Rattle.history_keeper.specs.declared.row.Row.{Row}
 use Rattle.history_keeper.specs.Histories.{IsHistory}
 use Rattle.plugin_order.specs.declared.sheet.PluginSheet.{PluginSheet}
 use Rattle.plugin_order.specs.Arranged.{CanBeArranged}
+use Rattle.outer_traits.specs.Sinks.{Took}
+use Rattle.release_catalogue.specs.Lookup.{Chosen}
+use Rattle.update_log.specs.declared.answer.AskAnswer.{AskAnswer}
+use Rattle.update_log.specs.declared.event.Event.{Event}
 use Rattle.update_log.specs.declared.facts.PluginVetoes.{PluginVetoes}
+use Rattle.update_log.specs.Legal.{BelowLimit, Legal}
+use Rattle.update_log.specs.Pasts.{off, past_of}
+use Rattle.update_plans.specs.Following.{IsFollowed}
+use Rattle.update_plans.specs.Plans.{release_at, request_of, scene}
+use Rattle.update_plans.specs.declared.plan.PlanStep.{PlanStep}
+use Rattle.daemon_core.specs.Reading.{AreTold}
 use Rattle.daemon_core.specs.House.{shown_by}
 use Rattle.client_plays.specs.Shelves.{means_for}
 use Rattle.client_plays.specs.Tools.{ShelfTold}
@@ -17,6 +28,8 @@ use Rattle.site_making.specs.Made.{made_site}
 use Rattle.campaign_inputs.specs.Inputs.{document_max, stated}
 use Rattle.campaign_inputs.specs.Opened.{asked_for}
 use Rattle.campaign_inputs.specs.Settled.{IsCampaignOf}
+use Rattle.campaign_plans.specs.FirstPlans.{first_log, first_steps}
+use Rattle.campaign_plans.specs.Updating.{Plays}
 use Rattle.made_outputs.specs.Summed.{summary}
 use Rattle.report_text.specs.Report.{report}
 use Rattle.run_status.specs.declared.status.Status.{Status}
@@ -25,6 +38,7 @@ use Rattle.fwupd_service.specs.Ends.{WentWhole}
 use Rattle.fwupd_service.specs.Makes.{MakeEnds, own_shelves}
 use Rattle.fwupd_service.specs.Plugged.{AreStarted, PluginWords, work_of}
 use Rattle.fwupd_service.specs.Tops.{Left, RunEnds}
+use Rattle.fwupd_service.specs.Updates.{PlanEnds, UpdateEnds, planned_items, printed_plan}
 
 -- The whole input is no longer than a document may be and states this site, whose clients are no more than
 -- the shelves.
@@ -69,6 +83,72 @@ RunCompletes {K = K} told doubted faults words =
     → RunEnds told doubted faults shelves now sheets vetoes words status keeper left old new before after
     → GivesSite (length shelves) old site → CanBeArranged sheets → HistoryHeld told faults keeper left
     → RunDone told left.keeper (SiteWentWhole shelves sheets vetoes words site left (λ campaign. report campaign.facts left.opening left.log) before after) status
+
+-- The plan of that site's first boot was printed whole.
+pub record SitePlanned {K : Type 0} (sheets : List PluginSheet) (vetoes : MachineFacts → List PluginVetoes) (tag : List ℕ) (site : Site) (left : Left K) (before after : Option (List ℕ)) : Type 0 where
+  pub campaign : Campaign
+  pub settled : IsCampaignOf site sheets (vetoes site.machine) campaign
+  pub printed : Took (printed_plan campaign left.opening tag) before after
+
+-- All was done, or else memory was wanting, or the input or the output failed.
+abbrev pub PlanDone : Type 0 → Status → Type 0
+PlanDone Complete statuses.Done = Complete
+PlanDone Complete statuses.NoMemory = Unit {0}
+PlanDone Complete statuses.SourceFault = Unit {0}
+PlanDone Complete statuses.SinkFault = Unit {0}
+PlanDone Complete _ = ⊥
+
+-- `plan` is complete: where the input gives a site, the plugins can be arranged and the history held, the plan of
+-- that site's first boot was printed, but for those causes.
+abbrev pub PlanCompletes : {K : Type 0} → (K → List Row → Type 0) → (K → Option Change) → (K → ℕ) → Type 0
+PlanCompletes {K = K} told doubted faults =
+    (shelves : ℕ) (sheets : List PluginSheet) (vetoes : MachineFacts → List PluginVetoes) (tag : List ℕ) (status : Status) (keeper : K) (left : Left K) (old new before after : Option (List ℕ)) (site : Site)
+    → PlanEnds told doubted faults shelves sheets vetoes tag status keeper left old new before after
+    → GivesSite shelves old site → CanBeArranged sheets → HistoryHeld told faults keeper left
+    → PlanDone (SitePlanned sheets vetoes tag site left before after) status
+
+-- The plan of that site's first boot, over the rows that the keeper told, was played whole: the boot was run, the
+-- script of the planned installs was played, as far as the boot didn't go off, and the report was written whole.
+pub record SiteUpdated {K Q : Type 0} (told : K → List Row → Type 0) (shelves : List ShelfTold) (sheets : List PluginSheet) (vetoes : MachineFacts → List PluginVetoes) (words : PluginWords Q) (tag : List ℕ) (site : Site) (keeper : K) (left : Left K) (before after : Option (List ℕ)) : Type 0 where
+  pub campaign : Campaign
+  pub settled : IsCampaignOf site sheets (vetoes site.machine) campaign
+  pub started : List Q
+  pub started_are : AreStarted words sheets campaign.facts started
+  pub rows : List Row
+  pub told_are : AreTold (told keeper) (told left.keeper) rows
+  pub made : Campaign
+  pub plays : Plays (planned_items campaign rows tag) campaign made
+  pub whole : WentWhole (means_for (work_of words started) shelves) (with_plans made.facts (map shown_by made.boards.items) made.boots) left.opening made.scripts left.log (report made.facts left.opening left.log) before after
+
+-- `update` is complete: where the input gives a site, the plugins can be arranged and the history held, the plan of
+-- that site's first boot was played whole and its report was written, but for the causes of `run`.
+abbrev pub UpdateCompletes : {K Q : Type 0} → (K → List Row → Type 0) → (K → Option Change) → (K → ℕ) → PluginWords Q → Type 0
+UpdateCompletes {K = K} told doubted faults words =
+    (shelves now : List ShelfTold) (sheets : List PluginSheet) (vetoes : MachineFacts → List PluginVetoes) (tag : List ℕ) (status : Status) (keeper : K) (left : Left K) (old new before after : Option (List ℕ)) (site : Site)
+    → UpdateEnds told doubted faults shelves now sheets vetoes words tag status keeper left old new before after
+    → GivesSite (length shelves) old site → CanBeArranged sheets → HistoryHeld told faults keeper left
+    → RunDone told left.keeper (SiteUpdated told shelves sheets vetoes words tag site keeper left before after) status
+
+-- The answer to an ask is that it holds blocks.
+abbrev pub IsHeld : AskAnswer → Type 0
+IsHeld (AskAnswer.Hold blocks release) = Unit {0}
+IsHeld (AskAnswer.Kept entry state) = ⊥
+IsHeld (AskAnswer.Refused refusal) = ⊥
+
+-- `update` does what `plan` told, where its plays finish well: while its log is the first boot and such plays of the
+-- first planned installs, each behind the other, after which their devices show what was planned, the ask of the next
+-- one is accepted. The daemon has nothing to do then as the boot begins, and the boot isn't at its limit.
+abbrev pub UpdateAccepts : Type 0
+UpdateAccepts =
+    (campaign : Campaign) (opening : List Row) (tag : List ℕ) (done : List PlanStep) (step : PlanStep) (more : List PlanStep) (chosen : Chosen) (log past now : List Event) (answer : AskAnswer)
+    → Legal (with_plans campaign.facts (map shown_by campaign.boards.items) campaign.boots) opening log
+    → past_of log ≡ past ++ Event.Ask 1 (request_of (scene campaign.facts opening 1 tag) (length done + 1) step chosen) None answer ∷ now
+    → release_at (scene campaign.facts opening 1 tag) step.release ≡ Some chosen
+    → first_steps campaign.facts (map shown_by campaign.boards.items) campaign.boots opening tag ≡ done ++ step ∷ more
+    → IsHistory opening
+    → IsFollowed (scene campaign.facts opening 1 tag) 1 done
+    (first_log campaign.boots (map shown_by campaign.boards.items)) (first_log campaign.boots (map shown_by campaign.boards.items)) now
+    → off now ≡ false → BelowLimit now → IsHeld answer
 
 -- All was done, or else memory was wanting, or the output failed.
 abbrev pub MakeDone : Type 0 → Status → Type 0

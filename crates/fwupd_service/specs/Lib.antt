@@ -5,6 +5,8 @@ pub mod Ends
 pub mod Plugged
 pub mod Tops
 pub mod Makes
+pub mod Loads
+pub mod Updates
 pub mod Commands
 pub mod Complete
 pub use Rattle.outer_traits.specs.Faults as OuterTraitsFaults
@@ -31,6 +33,11 @@ pub use Rattle.campaign_inputs.specs.Opened
 pub use Rattle.campaign_inputs.specs.Settled as CampaignInputsSettled
 pub use Rattle.document_commands.specs.Ends as DocumentCommandsEnds
 pub use Rattle.document_commands.specs.Explains
+pub use Rattle.update_plans.specs.Plans as UpdatePlansPlans
+pub use Rattle.update_plans.specs.Tags
+pub use Rattle.campaign_plans.specs.FirstPlans
+pub use Rattle.campaign_plans.specs.Printed as CampaignPlansPrinted
+pub use Rattle.campaign_plans.specs.Updating
 pub use Rattle.daemon_core.specs.Boards as DaemonCoreBoards
 pub use Rattle.daemon_core.specs.Boots
 pub use Rattle.daemon_core.specs.House

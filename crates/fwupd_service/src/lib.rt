@@ -1,22 +1,25 @@
 //! The top call: all that the program does.
 //!
 //! Its contract says of every run when each status comes, what is true of the log that is returned, and what
-//! was written (`specs/`: Telling, Begins, Campaigns, Ends, Tops, Makes, Commands). Two laws say that nothing
-//! but named causes keeps `run` and `make` from doing their whole work (`specs/Complete.antt`). The program's
+//! was written (`specs/`: Telling, Begins, Campaigns, Ends, Tops, Makes, Loads, Updates, Commands). Laws say that
+//! nothing but named causes keeps `run`, `make`, `plan` and `update` from doing their whole work (`specs/Complete.antt`). The program's
 //! `main` makes the real input, output, shelves, keeper and plugins, and calls it.
 #![tactic(auto)]
 
 mod keeping;
 pub mod laws;
+pub mod loading;
 mod make;
 mod others;
 mod own_keeper;
+mod planning;
 mod playing;
 pub mod ran;
 pub mod reporting;
 mod run;
 mod telling;
 pub mod top;
+mod update;
 
 pub use keeping::keeps_history;
 pub use ran::Ran;

@@ -9,8 +9,8 @@ use std::alloc::Global;
 use update_log::Log;
 
 /// How a run of the program ended, and what it leaves: everything that happened in it, the rows before, the
-/// boards as it left them, the keeper and the shelves. Where no campaign began nothing happened, there are no
-/// rows and no boards.
+/// boards as it left them, the keeper and the shelves. Where no campaign began nothing happened and there are
+/// no boards; the rows are those that `plan` or `update` loaded, or none.
 #[derive(Drop)]
 pub struct Ran<P, K> {
     pub status: Status,
@@ -31,10 +31,28 @@ impl<P, K> Ran<P, K> {
         ensures keeper { result.keeper ≡ keeper }
         ensures shelves { result.shelves.items ≡ shelves.items }
     {
+        Ran::loaded(alloc, status, Vec::new(alloc), shelves, keeper)
+    }
+
+    /// No campaign began, and a load of the history gave those rows.
+    pub(crate) fn loaded(
+        alloc: Global,
+        status: Status,
+        rows: Vec<Row>,
+        shelves: Vec<P>,
+        keeper: K,
+    ) -> Ran<P, K>
+        ensures status { result.status ≡ status }
+        ensures log { result.log ≡ [] }
+        ensures opening { result.opening ≡ rows.items }
+        ensures boards { result.boards ≡ None }
+        ensures keeper { result.keeper ≡ keeper }
+        ensures shelves { result.shelves.items ≡ shelves.items }
+    {
         Ran {
             status,
             log: Listed::of(Vec::new(alloc)),
-            opening: Listed::of(Vec::new(alloc)),
+            opening: Listed::of(rows),
             boards: None,
             keeper,
             shelves,

@@ -77,7 +77,13 @@ pub(crate) fn stop_status(stop: OpenStop) -> Status
 }
 
 /// Plays a campaign, and reports it.
-fn run_ready<R: Threads + Wait + Sync, P: Shelf + Send, K: Keeper + Send, T: Sink, G: Gate + Sync>(
+pub(crate) fn run_ready<
+    R: Threads + Wait + Sync,
+    P: Shelf + Send,
+    K: Keeper + Send,
+    T: Sink,
+    G: Gate + Sync,
+>(
     rt: &R,
     alloc: Global,
     ready: Ready,

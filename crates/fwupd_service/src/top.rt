@@ -10,8 +10,10 @@ ghost use Rattle.fwupd_service.specs.Plugged.{plugin_words};
 
 use crate::make::make;
 use crate::others::{run_check, run_explain, run_ids, run_remotes};
+use crate::planning::plan;
 use crate::ran::Ran;
 use crate::run::run;
+use crate::update::update;
 use command_words::{Command, WordsFault, read_words};
 use history_keeper::Keeper;
 use outer_traits::{Gate, Shelf, Sink, Source};
@@ -24,7 +26,8 @@ use std::thread::Threads;
 /// Does all that the program does: reads the words, does what the command says, and tells how it ended.
 ///
 /// `run` reads a document from the source, plays its campaign over the shelves, the keeper and the plugins,
-/// and writes the report of what happened to the sink. `make` plays a generated campaign over a keeper and
+/// and writes the report of what happened to the sink. `plan` writes which installs bring each device as far as
+/// it can come, and `update` plays them in the document's first boot. `make` plays a generated campaign over a keeper and
 /// shelves of its own, and writes what its log counts. `check`, `remotes`, `explain` and `ids` play none. The clients of
 /// a boot run on threads, and the gate is told of each step of a client before it is made. There are at most
 /// 64 plugins, and the keeper is in no doubt.
@@ -62,7 +65,7 @@ pub fn run_campaign<
     ensures sink_quiet { (result.status ≡ Status.SinkFault) ⊎ (T.faults out.new ≡ T.faults out.old) }
     ensures source_counts { S.faults source.old ≤ S.faults source.new }
     ensures sink_counts { T.faults out.old ≤ T.faults out.new }
-    // The shelves come back, each with its files, and but for `run` they are those that came.
+    // The shelves come back, each with its files, and but for `run` and `update` they are those that came.
     ensures shelves { ShelvesStay (shelves_told P.files P.faults shelves.items) (shelves_told P.files P.faults result.shelves.items) }
     ensures own_shelves { KeepsShelves (command_of (map (λ word. word.now) words.now)) shelves.items result.shelves.items }
 {
@@ -119,6 +122,10 @@ fn obey<
                 rt, alloc, *boards, *clients, shelves, keeper, plugins, gate, out,
             )
         }
+        Command::Plan { tag } => plan(alloc, source, *tag, shelves, keeper, plugins, out),
+        Command::Update { tag } => update(
+            rt, alloc, source, *tag, shelves, keeper, plugins, gate, out,
+        ),
         Command::Check => run_check(alloc, source, shelves, keeper, out),
         Command::Remotes => run_remotes(alloc, source, shelves, keeper, out),
         Command::Explain { port, version } => {

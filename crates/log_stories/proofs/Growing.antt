@@ -26,11 +26,12 @@ use Rattle.update_log.specs.declared.facts.Facts.{Facts}
 use Rattle.update_log.specs.declared.live.Held.{Held}
 use Rattle.update_log.specs.declared.refusal.FetchNote.{FetchNote}
 use Rattle.update_log.specs.declared.request.Request.{Request}
+use Rattle.update_log.proofs.Unlimited.{unlimited}
 use Rattle.log_stories.specs.Stories.{IsStory, RunsOn, StoryTold, past, is_accepted}
 
 -- What runs on is legal with its next event, and stands then.
 pub runs-next : (facts : Facts) (opening : List Row) (past : List Event) (event : Event) → RunsOn facts opening (event ∷ past) → IsNext facts opening past event
-runs-next facts opening past event r = (r.campaign, r.facts_are, r.legal)
+runs-next facts opening past event r = (r.campaign, r.facts_are, unlimited r.campaign opening (event ∷ past) r.legal)
 
 pub story-grown : (event : Event) (facts : Facts) (opening : List Row) (old new : Core) → RunsOn facts opening (event ∷ past_of old.log) → new.log ≡ old.log ++ event ∷ [] → Stands facts opening new
     → IsStory (record { facts = facts; opening = opening; core = new })

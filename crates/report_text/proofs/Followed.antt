@@ -17,6 +17,7 @@ use Rattle.update_log.specs.Legal.{IsLegal, Legal}
 use Rattle.update_log.specs.Pasts.{past_of}
 use Rattle.update_log.specs.Shows.{Campaign}
 use Rattle.client_scripts.proofs.Pieces.{newest_first}
+use Rattle.update_log.proofs.Unlimited.{unlimited}
 use Rattle.report_text.specs.Report.{in_turn, lines_alone, lines_in, lines_over}
 
 -- ---- an event adds at most one row
@@ -84,7 +85,7 @@ next-legal facts opening log i event so_far lt is here legal =
     let front : reverse (take (i + 1) log) ≡ event ∷ reverse (take i log) = newest_first log i event lt is in
     let P : List Event → Type 0 = IsLegal legal.0 opening in
     let there : P (event ∷ reverse (take i log)) = subst P front (legal-before legal.0 opening (reverse (drop (i + 1) log)) (reverse (take (i + 1) log)) (subst P whole legal.2)) in
-    (legal.0, legal.1, subst (λ (l : List Event). P (event ∷ reverse l)) (sym here) there)
+    (legal.0, legal.1, unlimited legal.0 opening (event ∷ past_of so_far) (subst (λ (l : List Event). P (event ∷ reverse l)) (sym here) there))
 
 -- ---- the lines of an event are those over the state
 

@@ -14,12 +14,14 @@ Commands:
   check                 counts a document's sections, or names its first fault
   remotes               counts what each remote has, and what of it is merged
   explain PORT VERSION  tells which requirements hold for the device there
+  plan TAG              tells which installs bring each device as far as it can come
+  update TAG            makes these installs in the document's first boot
   ids TEXT ..           writes the GUID of each text
   make N [--clients C]  plays a generated campaign of N boards and C clients
 
 The document comes on standard input; fwupdemu-document(5) and docs/FORMATS.md
-describe it. `run` takes payloads from the folder payloads/, and keeps its
-history in the file history.db.
+describe it. `run` and `update` take payloads from the folder payloads/, and
+keep their history in the file history.db, which `plan` reads.
 
 Example, in a copy of the folder examples/first-install:
   fwupdemu run < campaign.json";

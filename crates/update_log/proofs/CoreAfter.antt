@@ -18,7 +18,7 @@ use Rattle.update_log.specs.CoreSteps.{changed_if, changes_live, doubt_at, made_
 use Rattle.update_log.specs.CoreViews.{claimed, told_on}
 use Rattle.update_log.specs.Holding.{holds, live, live_after}
 use Rattle.update_log.specs.Known.{doubt, known, rows, views}
-use Rattle.update_log.specs.Legal.{IsLegal}
+use Rattle.update_log.specs.Legal.{IsLegalUnlimited}
 use Rattle.update_log.specs.Pasts.{past_of, time_of}
 use Rattle.update_log.specs.Shows.{Campaign}
 use Rattle.update_log.specs.Steps.{trace}
@@ -45,13 +45,13 @@ shown-after facts opening core event s =
     (known facts opening (past_of core.log)) (known facts opening (event ∷ past_of core.log)) (live (past_of core.log)) (live (event ∷ past_of core.log)) (devices facts)
     (λ b. ap (λ o. unwrap_or o ((known facts opening (past_of core.log)).shown b)) (sym (tells-same facts (live (past_of core.log)) (known facts opening (past_of core.log)) event b))))
 
-traced-after : (c : Campaign) (opening : List Row) (core : Core) (event : Event) → Stands c.facts opening core → IsLegal c opening (event ∷ past_of core.log)
+traced-after : (c : Campaign) (opening : List Row) (core : Core) (event : Event) → Stands c.facts opening core → IsLegalUnlimited c opening (event ∷ past_of core.log)
     → TiedTo c.facts opening (event ∷ past_of core.log) (traces_on c.facts core.views (holds (past_of core.log)) event core.traces)
 traced-after c opening core event s l =
     rw s.views (tied-after c opening (past_of core.log) event core.traces s.history l s.traces)
 
 -- Where the event changes no live entry, the claims stay.
-claims-after : (c : Campaign) (opening : List Row) (core : Core) (event : Event) → Stands c.facts opening core → IsLegal c opening (event ∷ past_of core.log)
+claims-after : (c : Campaign) (opening : List Row) (core : Core) (event : Event) → Stands c.facts opening core → IsLegalUnlimited c opening (event ∷ past_of core.log)
     → changes_live event ≡ false → map (claimed (rows_on c.facts core event) (live_after event (live (past_of core.log)))) (views_told core event) ≡ views_told core event
 claims-after c opening core event s l h =
     rw (rows-after c.facts opening core event s)
@@ -60,7 +60,7 @@ claims-after c opening core event s l h =
     (known c.facts opening (past_of core.log)) (devices c.facts) s.history l refl h))
 
 -- A legal event can be taken.
-pub takes-legal : (c : Campaign) (opening : List Row) (core : Core) (event : Event) → Stands c.facts opening core → IsLegal c opening (event ∷ past_of core.log)
+pub takes-legal : (c : Campaign) (opening : List Row) (core : Core) (event : Event) → Stands c.facts opening core → IsLegalUnlimited c opening (event ∷ past_of core.log)
     → 0 < core.room → length (rows c.facts opening (event ∷ past_of core.log)) ≤ length core.rows + core.row_room → Takes c.facts core event
 takes-legal c opening core event s l room row =
     record {
@@ -86,7 +86,7 @@ stood facts opening core past e v r w b t d =
       doubt = rw e d;
     }
 
-pub stands-after : (c : Campaign) (opening : List Row) (old new : Core) (event : Event) → Stands c.facts opening old → IsLegal c opening (event ∷ past_of old.log)
+pub stands-after : (c : Campaign) (opening : List Row) (old new : Core) (event : Event) → Stands c.facts opening old → IsLegalUnlimited c opening (event ∷ past_of old.log)
     → IsAfter c.facts event old new → Stands c.facts opening new
 stands-after c opening old new event s l a =
     let r : new.rows ≡ rows c.facts opening (event ∷ past_of old.log) = a.rows ∙ rows-after c.facts opening old event s in

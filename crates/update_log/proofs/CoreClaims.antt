@@ -7,15 +7,15 @@ use Rattle.fw_facts.specs.declared.seen.Seen.{Seen}
 use Rattle.fw_facts.specs.declared.view.DeviceView.{DeviceView}
 use Rattle.history_keeper.specs.Histories.{IsHistory}
 use Rattle.history_keeper.specs.declared.row.Row.{Row}
-use Rattle.update_log.proofs.LegalOnce.{past-kept}
+use Rattle.update_log.proofs.LegalOnce.{past-kept-on}
 use Rattle.update_log.proofs.Lists.{All-map}
-use Rattle.update_log.proofs.RowsKept.{fixed, goes_on-fixed, rows-step}
+use Rattle.update_log.proofs.RowsKept.{fixed, goes_on-fixed, rows-step-on}
 use Rattle.update_log.specs.Boards.{Board}
 use Rattle.update_log.specs.CoreSteps.{changes_live}
 use Rattle.update_log.specs.CoreViews.{claimed, told_on}
 use Rattle.update_log.specs.Holding.{live, live_after}
 use Rattle.update_log.specs.Known.{Known, is_on, row_of, rows, view_of}
-use Rattle.update_log.specs.Legal.{IsLegal}
+use Rattle.update_log.specs.Legal.{IsLegalUnlimited}
 use Rattle.update_log.specs.Shows.{Campaign}
 use Rattle.update_log.specs.declared.answer.ClaimAnswer.{ClaimAnswer}
 use Rattle.update_log.specs.declared.answer.ResumeAnswer.{ResumeAnswer}
@@ -80,17 +80,17 @@ on-kept old new l e device =
     sym (through-fixed device (row_of new l.entry)) ∙ ap (of-device device) e ∙ through-fixed device (row_of old l.entry)
 
 -- The rows of the live entries are of the same devices after a legal event.
-live-on : (c : Campaign) (opening : List Row) (past : List Event) (event : Event) → IsHistory opening → IsLegal c opening (event ∷ past)
+live-on : (c : Campaign) (opening : List Row) (past : List Event) (event : Event) → IsHistory opening → IsLegalUnlimited c opening (event ∷ past)
     → AllByRecursion (λ l. (device : List ℕ) → is_on (rows c.facts opening (event ∷ past)) device l ≡ is_on (rows c.facts opening past) device l) (live past)
 live-on c opening past event v l =
-    let k = past-kept c opening past v l.0 in
-    let r = rows-step c opening past event k.rows_kept l.1 l.2 in
+    let k = past-kept-on c opening past v l.0 in
+    let r = rows-step-on c opening past event k.rows_kept l.1 l.2 in
     All-map _ _ (live past) k.steps.live_is
     (λ m w. on-kept (rows c.facts opening past) (rows c.facts opening (event ∷ past)) m
     (goes_on-fixed (rows c.facts opening past) (rows c.facts opening (event ∷ past)) m.entry r.goes_on w.known))
 
 pub claims-stay : (c : Campaign) (opening : List Row) (past : List Event) (event : Event) (told : ℕ → Option Seen) (known : Known) (boards : List Board)
-    → IsHistory opening → IsLegal c opening (event ∷ past) → known.rows ≡ rows c.facts opening past → changes_live event ≡ false
+    → IsHistory opening → IsLegalUnlimited c opening (event ∷ past) → known.rows ≡ rows c.facts opening past → changes_live event ≡ false
     → map (claimed (rows c.facts opening (event ∷ past)) (live_after event (live past))) (told_on told (map (λ b. b.number) boards) (map (view_of (live past) known) boards))
     ≡ told_on told (map (λ b. b.number) boards) (map (view_of (live past) known) boards)
 claims-stay c opening past event told known boards v l e h =

@@ -7,7 +7,7 @@ use Rattle.history_keeper.specs.declared.row.RowState.{RowState}
 use Rattle.history_keeper.specs.Histories.{IsHistory}
 use Rattle.update_log.proofs.Accepts.{accepts-target}
 use Rattle.update_log.proofs.CoreTraces.{Tied, each-tied, tied-left, tied-stepped, tied-taken, with_end}
-use Rattle.update_log.proofs.LegalOnce.{PastKept, live-others, past-held, past-kept}
+use Rattle.update_log.proofs.LegalOnce.{PastKept, live-others, past-held-on, past-kept-on}
 use Rattle.update_log.proofs.Lists.{All-map, by_test, eqb-other, eqb-self}
 use Rattle.update_log.proofs.Rows.{accepted-claim}
 use Rattle.update_log.proofs.StepsFew.{end-few}
@@ -16,7 +16,7 @@ use Rattle.update_log.proofs.HoldsMade.{HoldsMade}
 use Rattle.update_log.specs.CoreSteps.{HasPlace, traces_on}
 use Rattle.update_log.specs.Holding.{holds, live, request_held}
 use Rattle.update_log.specs.Known.{Target, rows, target, views}
-use Rattle.update_log.specs.Legal.{IsLegal, ResumeAllowed, next_entry}
+use Rattle.update_log.specs.Legal.{IsLegalUnlimited, ResumeAllowed, next_entry}
 use Rattle.update_log.specs.Once.{how_many, is_pending, strokes, takes}
 use Rattle.update_log.specs.Shows.{Campaign}
 use Rattle.update_log.specs.Steps.{first_trace, trace, traced}
@@ -86,12 +86,12 @@ resume-traced facts opening past client entry fetched stored row made fresh a =
     (first_trace t, ap (λ (o : Option Request). traced facts (views facts opening past) o) is.request_is ∙ ap (λ (o : Option Target). option_map first_trace o) is.target_is)
 
 pub tied-after : (c : Campaign) (opening : List Row) (past : List Event) (event : Event) (traces : List Traced)
-    → IsHistory opening → IsLegal c opening (event ∷ past) → TiedTo c.facts opening past traces → After c.facts opening past event traces
+    → IsHistory opening → IsLegalUnlimited c opening (event ∷ past) → TiedTo c.facts opening past traces → After c.facts opening past event traces
 tied-after c opening past (Event.Boot number time limit found boards) traces v l h = refl
 tied-after c opening past (Event.Query client query) traces v l h = h
 tied-after c opening past (Event.Ask client request pending answer) traces v l h = h
 tied-after c opening past (Event.Claim client request fetched (ClaimAnswer.Entry entry)) traces v l h =
-    let k = past-kept c opening past v l.0 in
+    let k = past-kept-on c opening past v l.0 in
     let s = k.steps in
     let held = l.2.0 in
     let a = l.2.1 in
@@ -104,7 +104,7 @@ tied-after c opening past (Event.Claim client request fetched (ClaimAnswer.Kept 
 tied-after c opening past (Event.Claim client request fetched (ClaimAnswer.Refused refusal)) traces v l h = h
 tied-after c opening past (Event.Schedule client request answer) traces v l h = h
 tied-after c opening past (Event.Resume client entry fetched ResumeAnswer.Begun stored) traces v l h =
-    let both = past-held c opening past v l.0 in
+    let both = past-held-on c opening past v l.0 in
     let k = both.kept in
     let row = l.2.0 in
     let a = l.2.1 in
@@ -139,7 +139,7 @@ place-of f entry t few e q = let g : f entry ≡ Some t.trace = ap f (sym q) ∙
 
 -- An entry that ends a step has place for it.
 pub places : (c : Campaign) (opening : List Row) (past : List Event) (event : Event) (traces : List Traced)
-    → IsHistory opening → IsLegal c opening (event ∷ past) → TiedTo c.facts opening past traces → All (HasPlace event) traces
+    → IsHistory opening → IsLegalUnlimited c opening (event ∷ past) → TiedTo c.facts opening past traces → All (HasPlace event) traces
 places c opening past (Event.Boot number time limit found boards) traces v l h = λ k d lt. tt
 places c opening past (Event.Query client query) traces v l h = λ k d lt. tt
 places c opening past (Event.Ask client request pending answer) traces v l h = λ k d lt. tt

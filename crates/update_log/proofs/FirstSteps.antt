@@ -40,7 +40,7 @@ boot-next facts log boards s l b =
       refl,
       (
         tt,
-        record { booted = λ h. cc; on = λ h. refl; below = λ h. tt },
+        record { booted = λ h. cc; on = λ h. refl },
         (
           first_plan,
           record {
@@ -68,7 +68,7 @@ cut-next facts log after boards s l b a =
       n.1,
       (
         n.2,
-        record { booted = λ h. omega arith; on = λ h. cc; below = λ h. cc },
+        record { booted = λ h. omega arith; on = λ h. cc },
         record { on = refl; full = refl },
       ),
     )

@@ -1,4 +1,5 @@
 -- Each legal past of early events, with boards that fit, writes each entry once.
+use Rattle.update_log.proofs.Unlimited.{unlimited}
 use Rattle.std.proofs.Common.{◌≡◌, ◌≢◌, ℕ, true, false, List, [], ◌∷◌, refl, ap, sym, ◌∙◌, ◌≤◌, arith, ◌⊎◌, inl, inr, length, subst}
 use Rattle.std.proofs.lemmas.Bool.{eqb-true}
 use Rattle.std.specs.Prelude.{Option, Some, None, IfSome, ◌==◌, option_map}
@@ -14,13 +15,13 @@ use Rattle.update_log.proofs.HoldsMade.{HoldsMade, holds-step}
 use Rattle.update_log.proofs.Lists.{All-append, All-both, All-filter, All-map, by_test, eqb-other, eqb-self}
 use Rattle.update_log.proofs.MarksKept.{MarkKept, MarkOf, MarksKept, OpenMarks, how_many-append, marks-boot, marks-end, marks-none, marks-quiet, marks-start, open-marks}
 use Rattle.update_log.proofs.Openings.{distinct-tags, entries-from, tags-differ}
-use Rattle.update_log.proofs.RowsKept.{RowsKept, RowsStep, closed-settled, fixed, judged-settled, rows-step}
+use Rattle.update_log.proofs.RowsKept.{RowsKept, RowsStep, closed-settled, fixed, judged-settled, rows-step-on}
 use Rattle.update_log.proofs.StepsKept.{StepsKept, not-fresh, open-started, steps-boot, steps-claim, steps-end, steps-none, steps-quiet, steps-resumed, steps-start}
 use Rattle.update_log.proofs.StrokeFacts.{few-writes, writes}
 use Rattle.update_log.proofs.TakenKept.{Taken, TakenKept, WaitingKept, goes_on-grows, row_of-known, taken-at_most, taken-boot, taken-claim, taken-end, taken-none, taken-quiet, taken-resume, taken-schedule, taken-start, untaken-unstarted, waiting-advanced, waiting-boot, waiting-claim, waiting-none, waiting-resume, waiting-same, waiting-schedule}
 use Rattle.update_log.specs.Holding.{live, open_steps}
 use Rattle.update_log.specs.Known.{Fate, board_of, doubt, fate, fate_stored, reason_of, refusal_number, row_of, rows, rows_by, seen}
-use Rattle.update_log.specs.Legal.{Allowed, BootTakes, IsLegal, ResumeAllowed, closing_stored}
+use Rattle.update_log.specs.Legal.{Allowed, BootRuns, IsLegal, IsLegalUnlimited, ResumeAllowed, closing_stored}
 use Rattle.update_log.specs.Once.{AtTaking, BoardState, FitsPast, HasDigest, IsTakenOnce, JournalFits, MarkOnce, OncePast, Stroke, TakenBy, WrittenOnce, accepts, entry_named, how_many, is_like, is_pending, strokes, takes}
 use Rattle.update_log.specs.Pasts.{is_keeper_fault, time_of}
 use Rattle.update_log.specs.Shows.{Campaign, digest_of, marks, told, told_by}
@@ -113,9 +114,9 @@ past-give_back c opening past client (Back.Pending entry) k r =
 past-give_back c opening past client (Back.Entry entry) k r =
     past-quiet c.facts opening past (Event.GiveBack client (Back.Entry entry)) k r refl (λ e. refl) refl (λ e. refl) (λ P h. All-filter P P _ (live past) h (λ x w _. w)) (λ e. refl) (λ e. refl) (λ board. refl)
 
-pub past-step : (c : Campaign) (opening : List Row) (past : List Event) (event : Event) → PastKept c.facts opening past → HoldsMade c.facts opening past → BootTakes past event → Allowed c opening past event → PastKept c.facts opening (event ∷ past)
-past-step c opening past (Event.Boot number time limit found boards) k made b a =
-    let r = rows-step c opening past (Event.Boot number time limit found boards) k.rows_kept b a in
+pub past-step-on : (c : Campaign) (opening : List Row) (past : List Event) (event : Event) → PastKept c.facts opening past → HoldsMade c.facts opening past → BootRuns past event → Allowed c opening past event → PastKept c.facts opening (event ∷ past)
+past-step-on c opening past (Event.Boot number time limit found boards) k made b a =
+    let r = rows-step-on c opening past (Event.Boot number time limit found boards) k.rows_kept b a in
     record {
       rows_kept = r.kept;
       steps = steps-boot c.facts opening past number time limit found boards k.steps;
@@ -123,12 +124,12 @@ past-step c opening past (Event.Boot number time limit found boards) k made b a 
       waiting = waiting-boot c.facts opening past number time limit found boards k.rows_kept k.taken k.waiting;
       marks = marks-boot c opening past number time limit found boards a.0 k.steps k.taken k.marks r.goes_on a.1;
     }
-past-step c opening past (Event.Query client query) k made b a =
-    past-quiet c.facts opening past (Event.Query client query) k (rows-step c opening past (Event.Query client query) k.rows_kept b a) refl (λ e. refl) refl (λ e. refl) (λ P h. h) (λ e. refl) (λ e. refl) (λ board. refl)
-past-step c opening past (Event.Ask client request pending answer) k made b a =
-    past-quiet c.facts opening past (Event.Ask client request pending answer) k (rows-step c opening past (Event.Ask client request pending answer) k.rows_kept b a) refl (λ e. refl) refl (λ e. refl) (λ P h. h) (λ e. refl) (λ e. refl) (λ board. refl)
-past-step c opening past (Event.Claim client request fetched answer) k made b a =
-    let r = rows-step c opening past (Event.Claim client request fetched answer) k.rows_kept b a in
+past-step-on c opening past (Event.Query client query) k made b a =
+    past-quiet c.facts opening past (Event.Query client query) k (rows-step-on c opening past (Event.Query client query) k.rows_kept b a) refl (λ e. refl) refl (λ e. refl) (λ P h. h) (λ e. refl) (λ e. refl) (λ board. refl)
+past-step-on c opening past (Event.Ask client request pending answer) k made b a =
+    past-quiet c.facts opening past (Event.Ask client request pending answer) k (rows-step-on c opening past (Event.Ask client request pending answer) k.rows_kept b a) refl (λ e. refl) refl (λ e. refl) (λ P h. h) (λ e. refl) (λ e. refl) (λ board. refl)
+past-step-on c opening past (Event.Claim client request fetched answer) k made b a =
+    let r = rows-step-on c opening past (Event.Claim client request fetched answer) k.rows_kept b a in
     record {
       rows_kept = r.kept;
       steps = steps-claim c.facts opening past client request fetched answer a.0 k.steps a.1;
@@ -136,8 +137,8 @@ past-step c opening past (Event.Claim client request fetched answer) k made b a 
       waiting = waiting-claim c.facts opening past client request fetched answer a.0 k.rows_kept k.taken k.waiting a.1;
       marks = marks-quiet c.facts opening past (Event.Claim client request fetched answer) k.marks r.goes_on (λ e. refl) (λ board. refl) refl;
     }
-past-step c opening past (Event.Schedule client request answer) k made b a =
-    let r = rows-step c opening past (Event.Schedule client request answer) k.rows_kept b a in
+past-step-on c opening past (Event.Schedule client request answer) k made b a =
+    let r = rows-step-on c opening past (Event.Schedule client request answer) k.rows_kept b a in
     record {
       rows_kept = r.kept;
       steps = steps-quiet c.facts opening past (Event.Schedule client request answer) k.steps (goes_on-grows (rows c.facts opening past) _ r.goes_on) (λ e. refl) refl (λ e. refl) k.steps.live_is;
@@ -145,10 +146,10 @@ past-step c opening past (Event.Schedule client request answer) k made b a =
       waiting = waiting-schedule c.facts opening past client request answer k.rows_kept k.taken k.waiting a;
       marks = marks-quiet c.facts opening past (Event.Schedule client request answer) k.marks r.goes_on (λ e. refl) (λ board. refl) refl;
     }
-past-step c opening past (Event.Resume client entry fetched answer stored) k made b a =
-    past-resume c.facts opening past client entry fetched answer stored a.0 k made (rows-step c opening past (Event.Resume client entry fetched answer stored) k.rows_kept b a) a.1
-past-step c opening past (Event.Start client entry op) k made b a =
-    let r = rows-step c opening past (Event.Start client entry op) k.rows_kept b a in
+past-step-on c opening past (Event.Resume client entry fetched answer stored) k made b a =
+    past-resume c.facts opening past client entry fetched answer stored a.0 k made (rows-step-on c opening past (Event.Resume client entry fetched answer stored) k.rows_kept b a) a.1
+past-step-on c opening past (Event.Start client entry op) k made b a =
+    let r = rows-step-on c opening past (Event.Start client entry op) k.rows_kept b a in
     record {
       rows_kept = r.kept;
       steps = steps-start c.facts opening past client entry op a.0 k.steps a.1;
@@ -156,8 +157,8 @@ past-step c opening past (Event.Start client entry op) k made b a =
       waiting = waiting-same c.facts opening past (Event.Start client entry op) k.waiting k.rows_kept.valid.entries refl (λ e _. refl) (λ e _. refl);
       marks = marks-start c.facts opening past client entry op k.marks;
     }
-past-step c opening past (Event.End client entry op outcome told seen) k made b a =
-    let r = rows-step c opening past (Event.End client entry op outcome told seen) k.rows_kept b a in
+past-step-on c opening past (Event.End client entry op outcome told seen) k made b a =
+    let r = rows-step-on c opening past (Event.End client entry op outcome told seen) k.rows_kept b a in
     let st = open-started past entry (record { client = client; entry = entry; op = op }) k.steps.open_are a.open_is in
     record {
       rows_kept = r.kept;
@@ -166,30 +167,30 @@ past-step c opening past (Event.End client entry op outcome told seen) k made b 
       waiting = waiting-same c.facts opening past (Event.End client entry op outcome told seen) k.waiting k.rows_kept.valid.entries refl (λ e _. refl) (λ e _. refl);
       marks = marks-end c opening past client entry op outcome told seen k.steps k.taken k.marks a;
     }
-past-step c opening past (Event.Finish client entry state stored) k made b a =
-    past-advanced c.facts opening past (Event.Finish client entry state stored) (fate_stored stored) entry state (reason_of (rows c.facts opening past) entry) (time_of past) k (rows-step c opening past (Event.Finish client entry state stored) k.rows_kept b a) refl
+past-step-on c opening past (Event.Finish client entry state stored) k made b a =
+    past-advanced c.facts opening past (Event.Finish client entry state stored) (fate_stored stored) entry state (reason_of (rows c.facts opening past) entry) (time_of past) k (rows-step-on c opening past (Event.Finish client entry state stored) k.rows_kept b a) refl
     (let f = a.2 in let s = closed-settled c.facts opening past entry a.1 stored f.closing in let e : state ≡ closing_stored a.1 stored = f.state_is in rw e s)
     (λ e. refl) refl (λ e. refl) (λ P h. All-filter P P _ (live past) h (λ x w _. w)) (λ e. refl) (λ e. refl) (λ board. refl)
-past-step c opening past (Event.Judge client entry version state stored) k made b a =
-    past-advanced c.facts opening past (Event.Judge client entry version state stored) (fate_stored stored) entry state (reason_of (rows c.facts opening past) entry) (time_of past) k (rows-step c opening past (Event.Judge client entry version state stored) k.rows_kept b a) refl
+past-step-on c opening past (Event.Judge client entry version state stored) k made b a =
+    past-advanced c.facts opening past (Event.Judge client entry version state stored) (fate_stored stored) entry state (reason_of (rows c.facts opening past) entry) (time_of past) k (rows-step-on c opening past (Event.Judge client entry version state stored) k.rows_kept b a) refl
     (let f = a.2 in let e : state ≡ judge version a.0 = f.state_is in rw e (judged-settled version a.0))
     (λ e. refl) refl (λ e. refl) (λ P h. h) (λ e. refl) (λ e. refl) (λ board. refl)
-past-step c opening past (Event.Unplug client device answer) k made b a =
-    past-quiet c.facts opening past (Event.Unplug client device answer) k (rows-step c opening past (Event.Unplug client device answer) k.rows_kept b a) refl (λ e. refl) refl (λ e. refl) (λ P h. h) (λ e. refl) (λ e. refl) (λ board. refl)
-past-step c opening past (Event.Plug client device answer) k made b a =
-    past-quiet c.facts opening past (Event.Plug client device answer) k (rows-step c opening past (Event.Plug client device answer) k.rows_kept b a) refl (λ e. refl) refl (λ e. refl) (λ P h. h) (λ e. refl) (λ e. refl) (λ board. refl)
-past-step c opening past (Event.GiveBack client what) k made b a =
-    past-give_back c opening past client what k (rows-step c opening past (Event.GiveBack client what) k.rows_kept b a)
-past-step c opening past Event.Cut k made b a =
-    past-quiet c.facts opening past Event.Cut k (rows-step c opening past Event.Cut k.rows_kept b a) refl (λ e. refl) refl (λ e. refl) (λ P h. h) (λ e. refl) (λ e. refl) (λ board. refl)
+past-step-on c opening past (Event.Unplug client device answer) k made b a =
+    past-quiet c.facts opening past (Event.Unplug client device answer) k (rows-step-on c opening past (Event.Unplug client device answer) k.rows_kept b a) refl (λ e. refl) refl (λ e. refl) (λ P h. h) (λ e. refl) (λ e. refl) (λ board. refl)
+past-step-on c opening past (Event.Plug client device answer) k made b a =
+    past-quiet c.facts opening past (Event.Plug client device answer) k (rows-step-on c opening past (Event.Plug client device answer) k.rows_kept b a) refl (λ e. refl) refl (λ e. refl) (λ P h. h) (λ e. refl) (λ e. refl) (λ board. refl)
+past-step-on c opening past (Event.GiveBack client what) k made b a =
+    past-give_back c opening past client what k (rows-step-on c opening past (Event.GiveBack client what) k.rows_kept b a)
+past-step-on c opening past Event.Cut k made b a =
+    past-quiet c.facts opening past Event.Cut k (rows-step-on c opening past Event.Cut k.rows_kept b a) refl (λ e. refl) refl (λ e. refl) (λ P h. h) (λ e. refl) (λ e. refl) (λ board. refl)
 
 -- what each legal past keeps, its holds with it
 pub record PastHeld (facts : Facts) (opening : List Row) (past : List Event) : Type 0 where
   pub kept : PastKept facts opening past
   pub made : HoldsMade facts opening past
 
-pub past-held : (c : Campaign) (opening : List Row) (past : List Event) → IsHistory opening → IsLegal c opening past → PastHeld c.facts opening past
-past-held c opening [] valid legal =
+pub past-held-on : (c : Campaign) (opening : List Row) (past : List Event) → IsHistory opening → IsLegalUnlimited c opening past → PastHeld c.facts opening past
+past-held-on c opening [] valid legal =
     record {
       kept = record {
         rows_kept = record { valid = record { entries = entries-from 1 opening valid.entries; tags = distinct-tags opening valid.tags }; doubt_next = tt; doubt_off = λ _. refl };
@@ -200,17 +201,17 @@ past-held c opening [] valid legal =
       };
       made = tt;
     }
-past-held c opening (event ∷ past) valid legal =
-    let old = past-held c opening past valid legal.0 in
+past-held-on c opening (event ∷ past) valid legal =
+    let old = past-held-on c opening past valid legal.0 in
     let k = old.kept in
-    let r = rows-step c opening past event k.rows_kept legal.1 legal.2 in
+    let r = rows-step-on c opening past event k.rows_kept legal.1 legal.2 in
     record {
-      kept = past-step c opening past event old.kept old.made legal.1 legal.2;
+      kept = past-step-on c opening past event old.kept old.made legal.1 legal.2;
       made = holds-step c opening past event k.rows_kept.valid.entries r.goes_on legal.2 old.made;
     }
 
-pub past-kept : (c : Campaign) (opening : List Row) (past : List Event) → IsHistory opening → IsLegal c opening past → PastKept c.facts opening past
-past-kept c opening past valid legal = let all = past-held c opening past valid legal in all.kept
+pub past-kept-on : (c : Campaign) (opening : List Row) (past : List Event) → IsHistory opening → IsLegalUnlimited c opening past → PastKept c.facts opening past
+past-kept-on c opening past valid legal = let all = past-held-on c opening past valid legal in all.kept
 
 pub taking-map : (entry : ℕ) (P Q : List Event → Event → Type 0) (past : List Event) → ((before : List Event) (event : Event) → P before event → Q before event) → AtTaking entry P past → AtTaking entry Q past
 taking-map entry P Q [] h a = a
@@ -359,10 +360,21 @@ past-once facts opening past boards k valid f =
 pub journals-fit : (facts : Facts) (first : List Seen) (opening : List Row) (past : List Event) (boards : List BoardState) → FitsPast facts first opening past boards → JournalsFit facts opening past boards
 journals-fit facts first opening past boards f = λ board b e. let t = f.each board b e in let w = t.1 in (t.0, w.journal)
 
-pub taken-once : (c : Campaign) (opening : List Row) (past : List Event) → IsHistory opening → IsLegal c opening past → IsTakenOnce c.facts opening past
-taken-once c opening past valid legal =
-    let k = past-kept c opening past valid legal in
+pub taken-once-on : (c : Campaign) (opening : List Row) (past : List Event) → IsHistory opening → IsLegalUnlimited c opening past → IsTakenOnce c.facts opening past
+taken-once-on c opening past valid legal =
+    let k = past-kept-on c opening past valid legal in
     record {
       tags = tags-differ (rows c.facts opening past) k.rows_kept.valid.tags;
       taken = λ entry. taken-at_most c.facts opening past entry k.taken;
     }
+
+-- ---- the same of legal pasts
+
+pub past-held : (c : Campaign) (opening : List Row) (past : List Event) → IsHistory opening → IsLegal c opening past → PastHeld c.facts opening past
+past-held c opening past valid legal = past-held-on c opening past valid (unlimited c opening past legal)
+
+pub past-kept : (c : Campaign) (opening : List Row) (past : List Event) → IsHistory opening → IsLegal c opening past → PastKept c.facts opening past
+past-kept c opening past valid legal = past-kept-on c opening past valid (unlimited c opening past legal)
+
+pub taken-once : (c : Campaign) (opening : List Row) (past : List Event) → IsHistory opening → IsLegal c opening past → IsTakenOnce c.facts opening past
+taken-once c opening past valid legal = taken-once-on c opening past valid (unlimited c opening past legal)

@@ -42,3 +42,5 @@ pub mod CoreAfter
 pub mod CoreKept
 pub mod CoreTake
 pub mod FirstSteps
+pub mod Unlimited
+pub mod Copied

@@ -12,18 +12,19 @@ use Rattle.history_keeper.specs.declared.row.Row.{Row}
 use Rattle.history_keeper.specs.declared.row.RowState.{RowState}
 use Rattle.release_catalogue.specs.declared.reference.ReleaseRef.{ReleaseRef}
 use Rattle.update_log.proofs.Accepts.{NoneRefuses, accepts-target}
-use Rattle.update_log.proofs.LegalOnce.{past-kept}
+use Rattle.update_log.proofs.LegalOnce.{past-kept, past-kept-on}
 use Rattle.update_log.proofs.LinksOnce.{AllLinked, KeepsFailures, KeepsLinks, TriedOnce, all-linked, by-failures, by-links, by-tried, failure-of, failure_of, found-failures, found-links, found-tried, tried-once}
 use Rattle.update_log.proofs.Lists.{All-find, by_test, find-passes}
 use Rattle.update_log.proofs.Openings.{EntriesFrom, bytes-same, entries-from}
 use Rattle.update_log.proofs.Rows.{accepted-claim, rows_by-refused}
 use Rattle.update_log.proofs.RowsKept.{RowsKept}
 use Rattle.update_log.proofs.TakenKept.{row_of-known}
-use Rattle.update_log.proofs.WaitsKept.{IsAccepted, WaitKept, accepted-schedule, asks, decided-not, doubted-claim, doubted-schedule, wait-kept}
+use Rattle.update_log.proofs.Unlimited.{boot-runs, unlimited}
+use Rattle.update_log.proofs.WaitsKept.{IsAccepted, WaitKept, accepted-schedule, asks, decided-not, doubted-claim, doubted-schedule, wait-kept, wait-kept-on}
 use Rattle.update_log.proofs.WaitsOnce.{only-state, state_of}
 use Rattle.update_log.specs.Holding.{live}
 use Rattle.update_log.specs.Known.{Fate, Target, advance, doubt, doubt_by, doubt_found, fate_answered, fate_stored, known, new_row, reason_of, refusal_number, row_of, rows, rows_by, rows_found, target, views}
-use Rattle.update_log.specs.Legal.{Allowed, BootTakes, ClaimAllowed, FinishAllowed, IsLegal, Legal, ResumeAllowed, ScheduleAllowed, may_judge, next_entry}
+use Rattle.update_log.specs.Legal.{Allowed, BootRuns, ClaimAllowed, FinishAllowed, IsLegal, IsLegalUnlimited, Legal, ResumeAllowed, ScheduleAllowed, may_judge, next_entry}
 use Rattle.update_log.specs.Pasts.{is_keeper_fault, off, past_of, time_of}
 use Rattle.update_log.specs.Shows.{Campaign}
 use Rattle.update_log.specs.Verdicts.{Case, case_of, fault_of, fault_where, is_own, is_retry, not_failed, of_other_device, pending_of, retried, row_fault, verdict}
@@ -249,7 +250,7 @@ link-judge facts opening past client entry version state stored row k r o is wai
     link-asked facts opening past (Event.Judge client entry version state stored) (fate_stored stored) (advance (time_of past) (known facts opening past) entry state) k (r.doubt_off o)
     (unfailed facts opening past entry row.state r (ap (option_map (λ x. x.state)) is) (judged-unfailed past entry row.state waits)) refl refl
 
-link-step : (c : Campaign) (opening : List Row) (past : List Event) (event : Event) → LinkKept c.facts opening past → WaitKept c.facts opening past → RowsKept c.facts opening past → BootTakes past event → Allowed c opening past event → LinkStep c.facts opening past event
+link-step : (c : Campaign) (opening : List Row) (past : List Event) (event : Event) → LinkKept c.facts opening past → WaitKept c.facts opening past → RowsKept c.facts opening past → BootRuns past event → Allowed c opening past event → LinkStep c.facts opening past event
 link-step c opening past (Event.Boot number time limit found boards) k w r b a = link-boot c.facts opening past number time limit found boards k
 link-step c opening past (Event.Query client query) k w r b a = link-same c.facts opening past (Event.Query client query) k refl refl
 link-step c opening past (Event.Ask client request pending answer) k w r b a = link-same c.facts opening past (Event.Ask client request pending answer) k refl refl
@@ -268,19 +269,23 @@ link-step c opening past Event.Cut k w r b a = link-same c.facts opening past Ev
 
 -- ---- all events
 
-pub link-kept : (c : Campaign) (opening : List Row) (past : List Event) → IsHistory opening → IsLegal c opening past → LinkKept c.facts opening past
-link-kept c opening [] valid legal =
+pub link-kept-on : (c : Campaign) (opening : List Row) (past : List Event) → IsHistory opening → IsLegalUnlimited c opening past → LinkKept c.facts opening past
+link-kept-on c opening [] valid legal =
     record { linked = all-linked opening (entries-from 1 opening valid.entries) valid.linked; once = tried-once opening valid.retried; doubt_links = tt }
-link-kept c opening (event ∷ past) valid legal =
-    let k = past-kept c opening past valid legal.0 in
-    let s = link-step c opening past event (link-kept c opening past valid legal.0) (wait-kept c opening past valid legal.0) k.rows_kept legal.1 legal.2 in
+link-kept-on c opening (event ∷ past) valid legal =
+    let k = past-kept-on c opening past valid legal.0 in
+    let s = link-step c opening past event (link-kept-on c opening past valid legal.0) (wait-kept-on c opening past valid legal.0) k.rows_kept legal.1 legal.2 in
     s.kept
+
+-- The same of legal pasts.
+pub link-kept : (c : Campaign) (opening : List Row) (past : List Event) → IsHistory opening → IsLegal c opening past → LinkKept c.facts opening past
+link-kept c opening past valid legal = link-kept-on c opening past valid (unlimited c opening past legal)
 
 failed-later : (c : Campaign) (opening : List Row) (late past : List Event) → IsHistory opening → IsLegal c opening (late ++ past) → KeepsFailures (rows c.facts opening past) (rows c.facts opening (late ++ past))
 failed-later c opening [] past valid legal = λ entry r is f. is
 failed-later c opening (event ∷ late) past valid legal = λ entry r is f.
     let k = past-kept c opening (late ++ past) valid legal.0 in
-    let s = link-step c opening (late ++ past) event (link-kept c opening (late ++ past) valid legal.0) (wait-kept c opening (late ++ past) valid legal.0) k.rows_kept legal.1 legal.2 in
+    let s = link-step c opening (late ++ past) event (link-kept c opening (late ++ past) valid legal.0) (wait-kept c opening (late ++ past) valid legal.0) k.rows_kept (boot-runs (late ++ past) event legal.1) legal.2 in
     s.failures entry r (failed-later c opening late past valid legal.0 entry r is f) f
 
 pub failed-stays : (c : Campaign) (opening : List Row) (log later : List Event) (entry : ℕ) (row : Row) → IsHistory opening → Legal c opening (log ++ later) → row_of (rows c.facts opening (past_of log)) entry ≡ Some row → row.state ≡ RowState.Failed → row_of (rows c.facts opening (past_of (log ++ later))) entry ≡ Some row

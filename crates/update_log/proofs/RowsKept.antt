@@ -1,4 +1,5 @@
 -- What each past keeps of the rows.
+use Rattle.update_log.proofs.Unlimited.{boot-runs}
 use Rattle.std.proofs.Common.{◌≡◌, ℕ, Bool, true, false, ◌&&◌, ◌||◌, List, [], ◌∷◌, ◌++◌, map, refl, ap, sym, ◌∙◌, ◌≤◌, ◌+◌, arith, ◌⊎◌, inl, inr, length}
 use Rattle.std.proofs.lemmas.List.{map-append}
 use Rattle.std.proofs.lemmas.Map.Keys.{IsDistinct-push}
@@ -17,7 +18,7 @@ use Rattle.update_log.proofs.Openings.{EntriesFrom}
 use Rattle.update_log.specs.Boards.{board_with}
 use Rattle.update_log.specs.Holding.{held, live}
 use Rattle.update_log.specs.Known.{Fate, Known, Target, addition, advance, board_of, doubt, doubt_by, doubt_found, fate, fate_answered, fate_stored, known, new_row, resumption, row_of, row_with_tag, rows, rows_by, rows_found, seen, target, views, views_in}
-use Rattle.update_log.specs.Legal.{Allowed, BootTakes, ClaimAllowed, ClaimAnswered, FoundAllowed, ScheduleAllowed, ScheduleAnswered, closing_stored, next_entry}
+use Rattle.update_log.specs.Legal.{Allowed, BootRuns, BootTakes, ClaimAllowed, ClaimAnswered, FoundAllowed, ScheduleAllowed, ScheduleAnswered, closing_stored, next_entry}
 use Rattle.update_log.specs.Once.{is_pending, takes}
 use Rattle.update_log.specs.Pasts.{is_fault, is_found_fault, is_keeper_fault, off, time_of}
 use Rattle.update_log.specs.Shows.{Campaign, told}
@@ -358,34 +359,38 @@ rows-judge facts opening past client entry version state stored k o p =
     rows-asked facts opening past (Event.Judge client entry version state stored) (fate_stored stored) (advance (time_of past) (known facts opening past) entry state) k (k.doubt_off o) p refl refl
     (λ h. fault-clear stored (or-false (is_fault stored) (off past) h).0)
 
-pub rows-step : (c : Campaign) (opening : List Row) (past : List Event) (event : Event) → RowsKept c.facts opening past → BootTakes past event → Allowed c opening past event → RowsStep c.facts opening past event
-rows-step c opening past (Event.Boot number time limit found boards) k takes a =
+pub rows-step-on : (c : Campaign) (opening : List Row) (past : List Event) (event : Event) → RowsKept c.facts opening past → BootRuns past event → Allowed c opening past event → RowsStep c.facts opening past event
+rows-step-on c opening past (Event.Boot number time limit found boards) k takes a =
     rows-boot c opening past number time limit found boards k a.1.found_is
-rows-step c opening past (Event.Query client query) k takes a =
+rows-step-on c opening past (Event.Query client query) k takes a =
     rows-same c.facts opening past (Event.Query client query) k refl refl (λ h. h)
-rows-step c opening past (Event.Ask client request pending answer) k takes a =
+rows-step-on c opening past (Event.Ask client request pending answer) k takes a =
     rows-same c.facts opening past (Event.Ask client request pending answer) k refl refl (λ h. h)
-rows-step c opening past (Event.Claim client request fetched answer) k takes a =
+rows-step-on c opening past (Event.Claim client request fetched answer) k takes a =
     rows-claim c.facts opening past client request fetched answer a.0 k (takes.on refl) a.1
-rows-step c opening past (Event.Schedule client request answer) k takes a =
+rows-step-on c opening past (Event.Schedule client request answer) k takes a =
     rows-schedule c.facts opening past client request answer k (takes.on refl) a
-rows-step c opening past (Event.Resume client entry fetched answer stored) k takes a =
+rows-step-on c opening past (Event.Resume client entry fetched answer stored) k takes a =
     rows-resume c.facts opening past client entry fetched answer stored k (takes.on refl)
-rows-step c opening past (Event.Start client entry op) k takes a =
+rows-step-on c opening past (Event.Start client entry op) k takes a =
     rows-same c.facts opening past (Event.Start client entry op) k refl refl (λ h. h)
-rows-step c opening past (Event.End client entry op outcome told seen) k takes a =
+rows-step-on c opening past (Event.End client entry op outcome told seen) k takes a =
     rows-same c.facts opening past (Event.End client entry op outcome told seen) k refl refl (λ h. h)
-rows-step c opening past (Event.Finish client entry state stored) k takes a =
+rows-step-on c opening past (Event.Finish client entry state stored) k takes a =
     rows-finish c.facts opening past client entry state stored k (takes.on refl)
     (let f = a.2 in let s = closed-settled c.facts opening past entry a.1 stored f.closing in let e : state ≡ closing_stored a.1 stored = f.state_is in rw e s)
-rows-step c opening past (Event.Judge client entry version state stored) k takes a =
+rows-step-on c opening past (Event.Judge client entry version state stored) k takes a =
     rows-judge c.facts opening past client entry version state stored k (takes.on refl)
     (let f = a.2 in let e : state ≡ judge version a.0 = f.state_is in rw e (judged-settled version a.0))
-rows-step c opening past (Event.Unplug client device answer) k takes a =
+rows-step-on c opening past (Event.Unplug client device answer) k takes a =
     rows-same c.facts opening past (Event.Unplug client device answer) k refl refl (λ h. h)
-rows-step c opening past (Event.Plug client device answer) k takes a =
+rows-step-on c opening past (Event.Plug client device answer) k takes a =
     rows-same c.facts opening past (Event.Plug client device answer) k refl refl (λ h. h)
-rows-step c opening past (Event.GiveBack client what) k takes a =
+rows-step-on c opening past (Event.GiveBack client what) k takes a =
     rows-same c.facts opening past (Event.GiveBack client what) k refl refl (λ h. h)
-rows-step c opening past Event.Cut k takes a =
+rows-step-on c opening past Event.Cut k takes a =
     rows-same c.facts opening past Event.Cut k refl refl (λ h. cc)
+
+-- The same in a boot that is below its limit.
+pub rows-step : (c : Campaign) (opening : List Row) (past : List Event) (event : Event) → RowsKept c.facts opening past → BootTakes past event → Allowed c opening past event → RowsStep c.facts opening past event
+rows-step c opening past event k takes a = rows-step-on c opening past event k (boot-runs past event takes) a

@@ -9,13 +9,13 @@ use Rattle.fw_facts.specs.declared.seen.Seen.{Seen}
 use Rattle.fw_facts.specs.declared.view.DeviceView.{DeviceView}
 use Rattle.history_keeper.specs.declared.row.Row.{Row}
 use Rattle.history_keeper.specs.Histories.{IsHistory}
-use Rattle.update_log.proofs.LegalOnce.{past-kept}
+use Rattle.update_log.proofs.LegalOnce.{past-kept-on}
 use Rattle.update_log.proofs.Lists.{by_test}
 use Rattle.update_log.proofs.StepsKept.{StepsKept, open-started}
 use Rattle.update_log.proofs.StrokeFacts.{last_ended}
 use Rattle.update_log.specs.Holding.{holds, request_held}
 use Rattle.update_log.specs.Known.{Target, target, views}
-use Rattle.update_log.specs.Legal.{Allowed, EndAllowed, IsLegal}
+use Rattle.update_log.specs.Legal.{Allowed, EndAllowed, IsLegalUnlimited}
 use Rattle.update_log.specs.Once.{InOrder, Stroke, strokes}
 use Rattle.update_log.specs.Shows.{Campaign}
 use Rattle.update_log.specs.Steps.{first_trace, op_number, trace, traced, with_step}
@@ -111,11 +111,11 @@ few-step c opening past (Event.Plug client device answer) k a e h = h
 few-step c opening past (Event.GiveBack client what) k a e h = h
 few-step c opening past Event.Cut k a e h = h
 
-few-steps : (c : Campaign) (opening : List Row) (past : List Event) → IsHistory opening → IsLegal c opening past
+few-steps : (c : Campaign) (opening : List Row) (past : List Event) → IsHistory opening → IsLegalUnlimited c opening past
     → (e : ℕ) → AtMost (last_ended (strokes e past)) (trace c.facts opening e past)
 few-steps c opening [] v l e = tt
 few-steps c opening (event ∷ past) v l e =
-    let k = past-kept c opening past v l.0 in
+    let k = past-kept-on c opening past v l.0 in
     few-step c opening past event k.steps l.2 e (few-steps c opening past v l.0 e)
 
 few-end : (o : Option Trace) (n m : ℕ) → n < m → m ≤ 6 → AtMost n o → IfSome o (λ t. length t.steps < 6)
@@ -124,8 +124,8 @@ few-end (Some t) n m lt le h = omega (arith, h)
 
 -- An entry that ends a step has fewer than six.
 pub end-few : (c : Campaign) (opening : List Row) (past : List Event) (client entry : ℕ) (op : Op) (outcome : Result (Unit {0}) BoardFault) (told : List Mark) (seen : Seen)
-    → IsHistory opening → IsLegal c opening (Event.End client entry op outcome told seen ∷ past) → IfSome (trace c.facts opening entry past) (λ t. length t.steps < 6)
+    → IsHistory opening → IsLegalUnlimited c opening (Event.End client entry op outcome told seen ∷ past) → IfSome (trace c.facts opening entry past) (λ t. length t.steps < 6)
 end-few c opening past client entry op outcome told seen v l =
-    let k = past-kept c opening past v l.0 in
+    let k = past-kept-on c opening past v l.0 in
     few-end (trace c.facts opening entry past) (last_ended (strokes entry past)) (op_number op)
     (end-above c opening past client entry op outcome told seen k.steps l.2) (op-six op) (few-steps c opening past v l.0 entry)

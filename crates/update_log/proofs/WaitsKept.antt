@@ -15,18 +15,19 @@ use Rattle.history_keeper.specs.declared.row.RowState.{RowState}
 use Rattle.release_catalogue.specs.Lookup.{Chosen, chosen}
 use Rattle.release_catalogue.specs.declared.reference.ReleaseRef.{ReleaseRef}
 use Rattle.update_log.proofs.Accepts.{HasTarget, NoneRefuses, accepts-target, some-same}
-use Rattle.update_log.proofs.LegalOnce.{past-kept}
+use Rattle.update_log.proofs.LegalOnce.{past-kept-on}
 use Rattle.update_log.proofs.Lists.{All-both, All-filter, All-find, All-map, All-push, by_test, eqb-other, find-passes}
 use Rattle.update_log.proofs.Openings.{EntriesFrom}
 use Rattle.update_log.proofs.Rows.{accepted-claim, rows_by-refused}
 use Rattle.update_log.proofs.RowsKept.{RowsKept, row_of-past}
 use Rattle.update_log.proofs.StrokeFacts.{and-true}
 use Rattle.update_log.proofs.TakenKept.{find-push_new}
+use Rattle.update_log.proofs.Unlimited.{unlimited}
 use Rattle.update_log.proofs.WaitsOnce.{KeepsOnce, WaitOnce, by-once, found-once, found-own, only-waits, push-state, state-by, state-made, state_of, waits-once, waits_on}
 use Rattle.update_log.specs.Boards.{Board, devices}
 use Rattle.update_log.specs.Holding.{blocks_fetched, blocks_fetched_if, is_live, live}
 use Rattle.update_log.specs.Known.{Fate, Known, Target, addition, advance, doubt, doubt_by, doubt_found, fate_answered, fate_stored, is_on, known, new_row, reason_of, refusal_number, row_of, rows, rows_by, rows_found, target, target_at, target_of, view_of, views, views_in}
-use Rattle.update_log.specs.Legal.{Allowed, BootTakes, ClaimAllowed, ClaimAnswered, FinishAllowed, IsLegal, JudgeAllowed, ResumeAllowed, ScheduleAllowed, ScheduleAnswered, may_judge, next_entry}
+use Rattle.update_log.specs.Legal.{Allowed, BootRuns, ClaimAllowed, ClaimAnswered, FinishAllowed, IsLegal, IsLegalUnlimited, JudgeAllowed, ResumeAllowed, ScheduleAllowed, ScheduleAnswered, may_judge, next_entry}
 use Rattle.update_log.specs.Pasts.{is_keeper_fault, off, time_of}
 use Rattle.update_log.specs.Shows.{Campaign}
 use Rattle.update_log.specs.Steps.{judge}
@@ -442,7 +443,7 @@ wait-back facts opening past client (Back.Pending entry) k = wait-same facts ope
 wait-back facts opening past client (Back.Entry entry) k =
     wait-same facts opening past (Event.GiveBack client (Back.Entry entry)) k refl refl (λ P h. All-filter P P _ (live past) h (λ x w _. w))
 
-wait-step : (c : Campaign) (opening : List Row) (past : List Event) (event : Event) → WaitKept c.facts opening past → RowsKept c.facts opening past → BootTakes past event → Allowed c opening past event → WaitKept c.facts opening (event ∷ past)
+wait-step : (c : Campaign) (opening : List Row) (past : List Event) (event : Event) → WaitKept c.facts opening past → RowsKept c.facts opening past → BootRuns past event → Allowed c opening past event → WaitKept c.facts opening (event ∷ past)
 wait-step c opening past (Event.Boot number time limit found boards) k r b a = wait-boot c.facts opening past number time limit found boards k
 wait-step c opening past (Event.Query client query) k r b a = wait-same c.facts opening past (Event.Query client query) k refl refl (λ P h. h)
 wait-step c opening past (Event.Ask client request pending answer) k r b a = wait-same c.facts opening past (Event.Ask client request pending answer) k refl refl (λ P h. h)
@@ -458,8 +459,12 @@ wait-step c opening past (Event.Plug client device answer) k r b a = wait-same c
 wait-step c opening past (Event.GiveBack client what) k r b a = wait-back c.facts opening past client what k
 wait-step c opening past Event.Cut k r b a = wait-same c.facts opening past Event.Cut k refl refl (λ P h. h)
 
+pub wait-kept-on : (c : Campaign) (opening : List Row) (past : List Event) → IsHistory opening → IsLegalUnlimited c opening past → WaitKept c.facts opening past
+wait-kept-on c opening [] valid legal = record { once = waits-once opening valid.unsettled; doubt_once = tt; begun = tt }
+wait-kept-on c opening (event ∷ past) valid legal =
+    let k = past-kept-on c opening past valid legal.0 in
+    wait-step c opening past event (wait-kept-on c opening past valid legal.0) k.rows_kept legal.1 legal.2
+
+-- The same of legal pasts.
 pub wait-kept : (c : Campaign) (opening : List Row) (past : List Event) → IsHistory opening → IsLegal c opening past → WaitKept c.facts opening past
-wait-kept c opening [] valid legal = record { once = waits-once opening valid.unsettled; doubt_once = tt; begun = tt }
-wait-kept c opening (event ∷ past) valid legal =
-    let k = past-kept c opening past valid legal.0 in
-    wait-step c opening past event (wait-kept c opening past valid legal.0) k.rows_kept legal.1 legal.2
+wait-kept c opening past valid legal = wait-kept-on c opening past valid (unlimited c opening past legal)

@@ -9,7 +9,7 @@ use Rattle.update_log.specs.Core.{Core}
 use Rattle.update_log.specs.CoreSteps.{HasPlace, asks_row, change_on, changed_if, changes_live, doubt_at, made_at, tells_on, traces_on}
 use Rattle.update_log.specs.CoreViews.{claimed, told_on}
 use Rattle.update_log.specs.Holding.{holds, live, live_after}
-use Rattle.update_log.specs.Legal.{IsLegal}
+use Rattle.update_log.specs.Legal.{IsLegalUnlimited}
 use Rattle.update_log.specs.Pasts.{past_of, time_of}
 use Rattle.update_log.specs.Shows.{Campaign}
 use Rattle.history_keeper.specs.declared.row.Row.{Row}
@@ -45,6 +45,6 @@ pub record IsAfter (facts : Facts) (event : Event) (old : Core) (new : Core) : T
   pub traces : new.traces ≡ traces_on facts old.views (holds (past_of old.log)) event old.traces
   pub doubt : new.doubt ≡ doubt_at event (change_of facts old event) old.doubt
 
--- The log with the event is legal, in some campaign with these facts.
+-- The log with the event is legal in some campaign with these facts, or would be if its boots had no limit.
 abbrev pub IsNext : Facts → List Row → List Event → Event → Type 0
-IsNext facts opening past event = (c : Campaign) × (c.facts ≡ facts) × IsLegal c opening (event ∷ past)
+IsNext facts opening past event = (c : Campaign) × (c.facts ≡ facts) × IsLegalUnlimited c opening (event ∷ past)

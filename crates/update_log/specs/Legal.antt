@@ -427,3 +427,14 @@ IsLegal c opening (event ∷ past) = IsLegal c opening past × BootTakes past ev
 -- A log is legal, over the rows before it.
 abbrev pub Legal : Campaign → List Row → List Event → Type 0
 Legal c opening log = IsLegal c opening (past_of log)
+
+-- What every event wants of the boot that runs, its limit aside.
+pub record BootRuns (past : List Event) (event : Event) : Type 0 where
+  pub booted : is_boot event ≡ false → 0 < boots past
+  pub on : is_counted event ≡ true → off past ≡ false
+
+-- Each event of a past is allowed by the past before it, in a boot that may run on beyond its limit. So the
+-- past is legal, or would be if those boots had no limit.
+abbrev pub IsLegalUnlimited : Campaign → List Row → List Event → Type 0
+IsLegalUnlimited c opening [] = Unit {0}
+IsLegalUnlimited c opening (event ∷ past) = IsLegalUnlimited c opening past × BootRuns past event × Allowed c opening past event

@@ -1,8 +1,9 @@
-//! An event once more.
+//! Events, logs and rows once more.
 ghost use Rattle.std.specs.Prelude.{◌≡◌, IfOk};
 
 use crate::event::{BoardSeen, Event};
 use fw_base::{Listed, NoMemory};
+use row_index::IndexedRows;
 use std::alloc::Global;
 
 impl Event {
@@ -147,4 +148,25 @@ fn copied(alloc: Global, boards: &Listed<BoardSeen>) -> Result<Listed<BoardSeen>
     ensures { IfOk result (λ copy. copy ≡ boards.now) }
 {
     Ok(Listed::of(Vec::from_slice(alloc, boards.items())?))
+}
+
+/// An equal log.
+pub fn copied_log(alloc: Global, log: &[Event]) -> Result<Vec<Event>, NoMemory>
+    ensures { IfOk result (λ copy. copy.items ≡ log.now) }
+{
+    let mut copy = Vec::with_capacity(alloc, log.len())?;
+    for event in log {
+        copy.push(event.copy(alloc)?)?;
+    }
+    Ok(copy)
+}
+
+/// The same rows, with an index.
+pub fn copied_rows(alloc: Global, rows: &IndexedRows) -> Result<IndexedRows, NoMemory>
+    ensures { IfOk result (λ copy. copy.rows ≡ rows.now.rows) }
+{
+    let mut copy = IndexedRows::new(alloc);
+    copy.put(Vec::from_slice(alloc, rows.rows())?);
+    copy.reserve(1)?;
+    Ok(copy)
 }

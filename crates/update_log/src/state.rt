@@ -21,6 +21,7 @@ use crate::arranging::arrange;
 use crate::asking::{Asking, change_on};
 use crate::changing::{change_if, doubt_at, made_at};
 use crate::clock::Clock;
+use crate::copying::{copied_log, copied_rows};
 use crate::decide::{Case, decided, free_blocks};
 use crate::decision::{Decision, Stage};
 use crate::event::{Event, Log};
@@ -105,6 +106,28 @@ impl CoreState {
             rows: IndexedRows::new(alloc),
             doubt: None,
         }
+    }
+
+    /// A state that stands for the same log. What room it has is its own.
+    pub fn copy(&self, alloc: Global) -> Result<CoreState, NoMemory>
+        ensures { IfOk result (λ copy. copy ≡ record self.now { room = copy.room; row_room = copy.row_room }) }
+    {
+        let log = copied_log(alloc, &self.log)?;
+        let devices = self.devices.copy(alloc)?;
+        let rows = copied_rows(alloc, &self.rows)?;
+        Ok(CoreState {
+            log,
+            clock: self.clock,
+            live: Vec::from_slice(alloc, &self.live)?,
+            traces: Vec::from_slice(alloc, &self.traces)?,
+            holds: Vec::from_slice(alloc, &self.holds)?,
+            open: Vec::from_slice(alloc, &self.open)?,
+            finished: Vec::from_slice(alloc, &self.finished)?,
+            devices,
+            boards: Vec::from_slice(alloc, &self.boards)?,
+            rows,
+            doubt: self.doubt,
+        })
     }
 
     /// Gives the rows before the log, of which nothing is known yet: each event so far is a boot that

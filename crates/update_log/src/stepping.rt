@@ -11,8 +11,9 @@ use crate::facts::Facts;
 use crate::state::CoreState;
 
 /// Puts an event behind the log, and the state stands for that log then. The facts are those that the
-/// state was made with, and the log with the event must be legal. It takes no memory: there must be
-/// room for one event, and for a row where the event adds one (`CoreState::reserve`).
+/// state was made with, and the log with the event must be legal, or would be if its boots had no limit.
+/// It takes no memory: there must be room for one event, and for a row where the event adds one
+/// (`CoreState::reserve`).
 pub fn step(facts: &Facts, state: &mut CoreState, event: Event)
     ghost opening: { List Row }
     requires stands { Stands facts.now opening state.old }

@@ -1,0 +1,50 @@
+-- The installs of a plan, one after the other.
+use Rattle.std.proofs.Common.{◌≡◌, ℕ, zero, suc, ◌+◌, ◌<◌, List, [], ◌∷◌, ◌++◌, length, take, get_or, refl, sym, ap, ◌∙◌, append_assoc, add-one, arith}
+use Rattle.std.specs.Prelude.{Option, Some, None, option_map}
+use Rattle.std.specs.Option.{option_map_or}
+use Rattle.std.proofs.Math.Seq.{take-suc}
+use Rattle.std.proofs.lemmas.List.{append-nil}
+use Rattle.client_scripts.specs.declared.item.Item.{Item}
+use Rattle.release_catalogue.specs.Lookup.{Chosen}
+use Rattle.update_log.specs.declared.request.Request.{Request}
+use Rattle.update_plans.specs.Plans.{Scene, request_of}
+use Rattle.update_plans.specs.declared.plan.PlanStep.{PlanStep}
+use Rattle.campaign_plans.specs.Updating.{install_of, installs_from}
+
+-- the install of a release that was found, by its version alone
+pub install_some : (s : Scene) (number : ℕ) (step : PlanStep) (found : Option Chosen) (version : List ℕ) (items new : List Item) (asked : Request)
+    → option_map (λ (chosen : Chosen). chosen.release.version) found ≡ Some version
+    → ((chosen : Chosen) → chosen.release.version ≡ version → asked ≡ request_of s number step chosen)
+    → new ≡ items ++ Item.Install asked ∷ []
+    → new ≡ items ++ option_map_or (λ (chosen : Chosen). Item.Install (request_of s number step chosen) ∷ []) found []
+install_some s number step None version items new asked e same put = cc
+install_some s number step (Some chosen) version items new asked e same put =
+    put ∙ ap (λ (r : Request). items ++ Item.Install r ∷ []) (same chosen (unwrapped e))
+  where
+    unwrapped : {x y : List ℕ} → Some x ≡ Some y → x ≡ y
+    unwrapped e = cc
+
+pub install_none : (s : Scene) (number : ℕ) (step : PlanStep) (found : Option Chosen) (items : List Item)
+    → option_map (λ (chosen : Chosen). chosen.release.version) found ≡ None
+    → items ≡ items ++ option_map_or (λ (chosen : Chosen). Item.Install (request_of s number step chosen) ∷ []) found []
+install_none s number step None items e = sym (append-nil items)
+install_none s number step (Some chosen) items e = cc
+
+-- steps that are put behind others
+installs-push : (s : Scene) (number : ℕ) (steps : List PlanStep) (step : PlanStep) (n : ℕ) → n ≡ number + length steps
+    → installs_from s number (steps ++ step ∷ []) ≡ installs_from s number steps ++ install_of s n step
+installs-push s number [] step n e = rw (let z : n ≡ number = omega (arith, e) in z) (append-nil (install_of s number step))
+installs-push s number (x ∷ steps) step n e =
+    ap (λ (items : List Item). install_of s number x ++ items) (installs-push s (number + 1) steps step n (omega (arith, e)))
+    ∙ sym (append_assoc (install_of s number x) (installs_from s (number + 1) steps) (install_of s n step))
+
+-- one more turn of the loop that puts them
+pub installs_turn : (s : Scene) (steps : List PlanStep) (i : ℕ) (d : PlanStep) (old new : List Item) → i < length steps → length (take i steps) ≡ i
+    → old ≡ installs_from s 1 (take i steps) → new ≡ old ++ install_of s (i + 1) (get_or steps i d) → new ≡ installs_from s 1 (take (i + 1) steps)
+installs_turn s steps i d old new lt many so_far put =
+    let longer : take (suc i) steps ≡ take i steps ++ get_or steps i d ∷ [] = take-suc steps i d lt in
+    let at : i + 1 ≡ 1 + length (take i steps) = omega (arith, many) in
+    put ∙ ap (λ (items : List Item). items ++ install_of s (i + 1) (get_or steps i d)) so_far
+    ∙ sym (installs-push s 1 (take i steps) (get_or steps i d) (i + 1) at)
+    ∙ ap (installs_from s 1) (sym longer)
+    ∙ ap (λ (n : ℕ). installs_from s 1 (take n steps)) (sym (add-one i))

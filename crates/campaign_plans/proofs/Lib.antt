@@ -1,0 +1,3 @@
+pub mod FirstPlanned
+pub mod Lines
+pub mod Installs

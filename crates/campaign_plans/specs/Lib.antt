@@ -1,0 +1,14 @@
+pub mod FirstPlans
+pub mod Printed
+pub mod Updating
+pub use Rattle.outer_traits.specs.Faults
+pub use Rattle.outer_traits.specs.Sinks
+pub use Rattle.history_keeper.specs.Histories
+pub use Rattle.update_log.specs.Core
+pub use Rattle.update_log.specs.Known
+pub use Rattle.update_log.specs.Pasts
+pub use Rattle.first_boots.specs.FirstBoot
+pub use Rattle.update_plans.specs.Following
+pub use Rattle.update_plans.specs.Plans
+pub use Rattle.update_plans.specs.Tags
+pub use Rattle.campaign_inputs.specs.Begin

@@ -1,0 +1,81 @@
+-- What `plan` and `update` come to, once the history was loaded.
+use Rattle.std.proofs.Common.{◌≡◌, ℕ, ◌+◌, ◌<◌, ◌≤◌, List, [], ◌∷◌, ◌++◌, length, Option, Some, None, refl, sym, ap, ◌∙◌, subst, arith}
+use Rattle.std.specs.Prelude.{◌-◌, ◌^◌, All}
+use Rattle.std.specs.Option.{option_map_or}
+use Rattle.std.proofs.lemmas.List.Elements.{All-cons, All-head, All-nil}
+use Rattle.emulated_boards.specs.Boards.{BoardState}
+use Rattle.history_keeper.specs.declared.change.Change.{Change}
+use Rattle.history_keeper.specs.declared.row.Row.{Row}
+use Rattle.history_keeper.specs.Keepers.{StillTold}
+use Rattle.update_log.specs.declared.event.Event.{Event}
+use Rattle.update_log.specs.declared.facts.BootPlan.{BootPlan}
+use Rattle.daemon_core.specs.Reading.{AreTold}
+use Rattle.client_plays.specs.Endings.{IsScriptItem}
+use Rattle.client_scripts.specs.declared.item.Item.{Item}
+use Rattle.site_types.specs.declared.campaign.Campaign.{Campaign}
+use Rattle.release_catalogue.specs.Lookup.{Chosen}
+use Rattle.update_plans.specs.Plans.{Scene, release_at, request_of}
+use Rattle.update_plans.specs.declared.plan.PlanStep.{PlanStep}
+use Rattle.campaign_plans.specs.Updating.{Plays, first_alone, install_of, installs_from, one_script}
+use Rattle.fwupd_service.specs.declared.loading.LoadStop.{LoadStop}
+use Rattle.fwupd_service.specs.Begins.{CanBePlayed, IsReadyFor}
+use Rattle.fwupd_service.specs.Loads.{WasLoaded}
+use Rattle.fwupd_service.specs.Tops.{Left}
+use Rattle.fwupd_service.specs.Updates.{OnlyLoaded}
+
+-- Rows that were loaded are those that the keeper told before, if it tells any still.
+pub rows_told : (before after : List Row → Type 0) (loaded : List Row) → StillTold before after → ((all : List Row) → after all → loaded ≡ all) → AreTold before after loaded
+rows_told before after loaded still answer = λ all t. subst before (sym (answer all t)) (still all t)
+
+-- Nothing but the load happened.
+pub only-loaded : {K : Type 0} (told : K → List Row → Type 0) (doubted : K → Option Change) (faults : K → ℕ) (stop : Option LoadStop) (rows : List Row) (keeper middle : K) (left : Left K)
+    → WasLoaded told doubted faults stop rows keeper middle → left.log ≡ [] → left.opening ≡ rows → left.boards ≡ None → left.keeper ≡ middle
+    → OnlyLoaded told doubted faults stop keeper left
+only-loaded told doubted faults stop rows keeper middle left w log opening boards kept = record { log = log; boards = boards; loaded = rw (opening, kept) w }
+
+-- Installs may stand in a script.
+installs-may : (s : Scene) (number : ℕ) (steps : List PlanStep) → All IsScriptItem (installs_from s number steps)
+installs-may s number [] = All-nil IsScriptItem
+installs-may s number (step ∷ steps) = go (release_at s step.release) (installs-may s (number + 1) steps)
+  where
+    go : (found : Option Chosen) → All IsScriptItem (installs_from s (number + 1) steps) → All IsScriptItem (option_map_or (λ (chosen : Chosen). Item.Install (request_of s number step chosen) ∷ []) found [] ++ installs_from s (number + 1) steps)
+    go None more = more
+    go (Some chosen) more = All-cons IsScriptItem (Item.Install (request_of s number step chosen)) (installs_from s (number + 1) steps) tt more
+
+few-boots : (boots : List BootPlan) → length (first_alone boots) ≤ 32
+few-boots [] = omega arith
+few-boots (boot ∷ boots) = omega arith
+
+times-first : (P : BootPlan → Type 0) (boots : List BootPlan) → All P boots → All P (first_alone boots)
+times-first P [] all = All-nil P
+times-first P (boot ∷ boots) all = All-cons P boot [] (All-head P boot boots all) (All-nil P)
+
+one-may : (boots : List BootPlan) (items : List Item) → All IsScriptItem items → All (All (All IsScriptItem)) (one_script boots items)
+one-may [] items may = All-nil (All (All IsScriptItem))
+one-may (boot ∷ boots) items may =
+    All-cons (All (All IsScriptItem)) (items ∷ []) [] (All-cons (All IsScriptItem) items [] may (All-nil (All IsScriptItem))) (All-nil (All (All IsScriptItem)))
+
+one-few : (most : ℕ) (boots : List BootPlan) (items : List Item) → 0 < most → All (λ (of_boot : List (List Item)). length of_boot ≤ most) (one_script boots items)
+one-few most [] items some = All-nil (λ (of_boot : List (List Item)). length of_boot ≤ most)
+one-few most (boot ∷ boots) items some =
+    All-cons (λ (of_boot : List (List Item)). length of_boot ≤ most) (items ∷ []) [] (omega (arith, some)) (All-nil (λ (of_boot : List (List Item)). length of_boot ≤ most))
+
+-- So the campaign of a plan can be played where the one that it was made of can.
+pub plan-can-be-played : (s : Scene) (number : ℕ) (steps : List PlanStep) (old new : Campaign) → Plays (installs_from s number steps) old new → CanBePlayed old → CanBePlayed new
+plan-can-be-played s number steps old new p can = record {
+  few = rw p.facts can.few;
+  count = rw (p.facts, p.boards) can.count;
+  fresh = rw p.boards can.fresh;
+  pool = rw p.facts can.pool;
+  boots = rw p.boots (few-boots old.boots);
+  times = rw p.boots (times-first (λ (plan : BootPlan). plan.time ≤ 2 ^ 63 - 1) old.boots can.times);
+  items = rw p.scripts (one-may old.boots (installs_from s number steps) (installs-may s number steps));
+  clients = rw p.scripts (one-few 16 old.boots (installs_from s number steps) (omega arith));
+}
+
+pub plan-is-ready : (shelves plugins : ℕ) (items : List Item) (old new : Campaign) → Plays items old new → IsReadyFor shelves plugins old → IsReadyFor shelves plugins new
+plan-is-ready shelves plugins items old new p ready = record {
+  some = ready.some;
+  each = rw p.scripts (one-few shelves old.boots items ready.some);
+  plugins_are = rw p.facts ready.plugins_are;
+}

@@ -1,0 +1,196 @@
+-- That `plan` and `update` do all that they are for where nothing keeps them from it.
+use Rattle.std.proofs.Common.{◌≡◌, ◌⊎◌, ℕ, ◌<◌, ◌≤◌, ◌+◌, List, [], ◌∷◌, ◌++◌, length, map, refl, ap, sym, ◌∙◌, subst, inl, inr, arith}
+use Rattle.std.specs.Prelude.{◌-◌, ◌^◌, true, false, min, Option, Some, None}
+use Rattle.fw_facts.specs.declared.machine.MachineFacts.{MachineFacts}
+use Rattle.history_keeper.proofs.Prefixes.{history_front}
+use Rattle.history_keeper.specs.declared.change.Change.{Change}
+use Rattle.history_keeper.specs.declared.row.Row.{Row}
+use Rattle.history_keeper.specs.Histories.{IsHistory}
+use Rattle.history_keeper.specs.Keepers.{StillTold}
+use Rattle.outer_traits.specs.Faults.{Rose}
+use Rattle.plugin_order.specs.Arranged.{CanBeArranged}
+use Rattle.plugin_order.specs.declared.sheet.PluginSheet.{PluginSheet}
+use Rattle.update_log.specs.declared.event.Event.{Event}
+use Rattle.update_log.specs.declared.facts.PluginVetoes.{PluginVetoes}
+use Rattle.update_log.specs.Pasts.{past_of}
+use Rattle.daemon_core.specs.Boots.{BreaksAt}
+use Rattle.daemon_core.specs.House.{shown_by}
+use Rattle.daemon_core.specs.Keeping.{keeper_faults}
+use Rattle.daemon_core.specs.Reading.{AreTold}
+use Rattle.client_plays.specs.Shelves.{means_for}
+use Rattle.client_plays.specs.Tools.{ShelfTold}
+use Rattle.campaign_runs.specs.Planned.{with_plans}
+use Rattle.site_types.specs.declared.campaign.Campaign.{Campaign}
+use Rattle.site_types.specs.declared.site.Site.{Site}
+use Rattle.campaign_inputs.specs.Opened.{HasStopped, IsOpened}
+use Rattle.campaign_inputs.specs.Settled.{IsCampaignOf}
+use Rattle.campaign_inputs.specs.declared.opening.ClientLimit.TheVariants as limits
+use Rattle.campaign_inputs.specs.declared.opening.OpenStop.{OpenStop}
+use Rattle.campaign_inputs.specs.declared.opening.OpenStop.TheVariants as stops
+use Rattle.campaign_plans.specs.Updating.{Plays}
+use Rattle.report_text.specs.Report.{report}
+use Rattle.run_status.specs.declared.status.Status.{Status}
+use Rattle.run_status.specs.declared.status.Status.TheVariants as statuses
+use Rattle.fwupd_service.specs.declared.loading.LoadStop.{LoadStop}
+use Rattle.fwupd_service.specs.declared.loading.LoadStop.TheVariants as loads
+use Rattle.fwupd_service.specs.Campaigns.{IsBadHistory, IsOpening}
+use Rattle.fwupd_service.specs.Complete.{GivesSite, HistoryHeld, PlanDone, RunDone, SitePlanned, SiteUpdated, SiteWentWhole}
+use Rattle.fwupd_service.specs.Ends.{CampaignEnds}
+use Rattle.fwupd_service.specs.Plugged.{AreStarted, PluginWords, work_of}
+use Rattle.fwupd_service.specs.Loads.{LoadSays, WasLoaded, load_status}
+use Rattle.fwupd_service.specs.Telling.{any_fault}
+use Rattle.fwupd_service.specs.Tops.{CampaignTold, Left, RunStopped, Went, stop_status}
+use Rattle.fwupd_service.specs.Updates.{NotPlanned, OnlyLoaded, PlanEnds, PlanGoes, PlanPlayed, UpdateEnds, UpdateGoes, WasPrinted, planned_items, printed_plan}
+use Rattle.fwupd_service.proofs.Completing.{site-same, stopped, valid-opening}
+use Rattle.fwupd_service.proofs.FaultsTold.{counted-none, no-fault-told}
+
+-- ---- the load
+
+-- The count of faults that didn't rise, and isn't at its end, tells of none.
+none-rose : (most old new : ℕ) → new ≡ old → old < most → min (old + 1) most ≤ new → ⊥
+none-rose most old new same counting rose = omega (arith, same, counting, rose)
+
+-- Rows that the keeper told are a valid history where the history held.
+held-rows : (came now : List Row → Type 0) (opening : List Row) → IsHistory opening ⊎ (((all : List Row) → came all → IsHistory all) × ((all : List Row) × now all)) → AreTold came now opening → IsHistory opening
+held-rows came now opening (inl v) told = v
+held-rows came now opening (inr (v, some)) told = v opening (told some.0 some.1)
+
+-- The history held over the load as well.
+held-behind : (came middle now : List Row → Type 0) (opening : List Row) → StillTold came middle → IsHistory opening ⊎ (((all : List Row) → came all → IsHistory all) × ((all : List Row) × now all))
+    → IsHistory opening ⊎ (((all : List Row) → middle all → IsHistory all) × ((all : List Row) × now all))
+held-behind came middle now opening still (inl v) = inl v
+held-behind came middle now opening still (inr (v, some)) = inr (λ all t. v all (still all t), some)
+
+-- What was planned over the keeper told as it came, if it tells rows at the end.
+told-behind : (came middle now : List Row → Type 0) (planned opening : List Row) (log : List Event) → AreTold came middle planned → IsOpening middle now opening log → AreTold came now planned
+told-behind came middle now planned opening log t (inl told) = λ all h. t opening (told all h)
+told-behind came middle now planned opening log t (inr (e, still, none)) = λ all h. t all (still all h)
+
+module _ {K : Type 0} (told : K → List Row → Type 0) (doubted : K → Option Change) (faults : K → ℕ) where
+  -- So of a history that held a load says that memory was wanting, or nothing.
+  load-held : (P : Status → Type 0) (stop : LoadStop) (keeper : K) (left : Left K) → P statuses.NoMemory → HistoryHeld told faults keeper left
+      → WasLoaded told doubted faults (Some stop) left.opening keeper left.keeper → P (load_status stop)
+  load-held P loads.NoMemory keeper left enough held w = enough
+  load-held P loads.KeeperFault keeper left enough held w =
+      absurd (none-rose (2 ^ 64 - 1) (faults keeper) (faults left.keeper) held.no_fault held.counting w.says.1)
+  load-held P (loads.BadHistory entry) keeper left enough held w =
+      let breaks : BreaksAt entry left.opening = w.says.1 in
+      let valid : IsHistory left.opening = held-rows (told keeper) (told left.keeper) left.opening held.valid w.says.0 in
+      absurd (breaks.faulty.breaks (history_front left.opening (breaks.at + 1) valid))
+
+  -- What stops a run stops a plan as well.
+  plan-stopped : (Complete : Type 0) (shelves : ℕ) (sheets : List PluginSheet) (keeper : K) (old new : Option (List ℕ)) (site : Site) (stop : OpenStop)
+      → HasStopped (limits.Shelves shelves) sheets stop old new → GivesSite shelves old site → CanBeArranged sheets → PlanDone Complete (stop_status stop)
+  plan-stopped Complete shelves sheets keeper old new site stops.SourceFault h given can = tt
+  plan-stopped Complete shelves sheets keeper old new site stops.NoMemory h given can = tt
+  plan-stopped Complete shelves sheets keeper old new site stops.TooLong h given can =
+      absurd (stopped told ⊥ shelves sheets keeper old new site stops.TooLong h given can)
+  plan-stopped Complete shelves sheets keeper old new site (stops.Document place reason) h given can =
+      absurd (stopped told ⊥ shelves sheets keeper old new site (stops.Document place reason) h given can)
+  plan-stopped Complete shelves sheets keeper old new site (stops.TooManyClients asked most) h given can =
+      absurd (stopped told ⊥ shelves sheets keeper old new site (stops.TooManyClients asked most) h given can)
+  plan-stopped Complete shelves sheets keeper old new site (stops.Plugins fault) h given can =
+      absurd (stopped told ⊥ shelves sheets keeper old new site (stops.Plugins fault) h given can)
+
+  -- ---- `plan`
+
+  plan-printed : (sheets : List PluginSheet) (vetoes : MachineFacts → List PluginVetoes) (tag : List ℕ) (site : Site) (campaign : Campaign) (left : Left K) (before after : Option (List ℕ)) (status : Status)
+      → IsCampaignOf site sheets (vetoes site.machine) campaign → WasPrinted (printed_plan campaign left.opening tag) status before after
+      → PlanDone (SitePlanned sheets vetoes tag site left before after) status
+  plan-printed sheets vetoes tag site campaign left before after statuses.Done settled p = record { campaign = campaign; settled = settled; printed = p }
+  plan-printed sheets vetoes tag site campaign left before after statuses.SinkFault settled p = tt
+  plan-printed sheets vetoes tag site campaign left before after statuses.NoMemory settled p = tt
+  plan-printed sheets vetoes tag site campaign left before after _ settled p = absurd p
+
+  pub plan-complete : (shelves : ℕ) (sheets : List PluginSheet) (vetoes : MachineFacts → List PluginVetoes) (tag : List ℕ) (status : Status) (keeper : K) (left : Left K) (old new before after : Option (List ℕ)) (site : Site)
+      → PlanEnds told doubted faults shelves sheets vetoes tag status keeper left old new before after
+      → GivesSite shelves old site → CanBeArranged sheets → HistoryHeld told faults keeper left
+      → PlanDone (SitePlanned sheets vetoes tag site left before after) status
+  plan-complete shelves sheets vetoes tag status keeper left old new before after site ends given can held = at ends
+    where
+      Complete : Type 0
+      Complete = SitePlanned sheets vetoes tag site left before after
+
+      went : (campaign : Campaign) → IsOpened (limits.Shelves shelves) sheets vetoes old new campaign → PlanGoes told doubted faults tag campaign status keeper left before after → PlanDone Complete status
+      went campaign o (inl n) = subst (PlanDone Complete) (sym n.status_is) (load-held (PlanDone Complete) n.stop keeper left tt held n.only.loaded)
+      went campaign o (inr p) =
+          let same : o.site ≡ site = site-same shelves sheets old new site given o.bytes o.site o.came o.states.read o.states.stated in
+          let settled : IsCampaignOf site sheets (vetoes site.machine) campaign = subst (λ (x : Site). IsCampaignOf x sheets (vetoes x.machine) campaign) same o.settled in
+          plan-printed sheets vetoes tag site campaign left before after status settled p.printed
+
+      at : PlanEnds told doubted faults shelves sheets vetoes tag status keeper left old new before after → PlanDone Complete status
+      at (inl s) = subst (PlanDone Complete) (sym s.status_is) (plan-stopped Complete shelves sheets left.keeper old new site s.stop s.stopped given can)
+      at (inr w) = went w.campaign w.opened w.goes
+
+-- ---- `update`
+
+module _ {K Q : Type 0} (told : K → List Row → Type 0) (doubted : K → Option Change) (faults : K → ℕ) (words : PluginWords Q) where
+  -- What the campaign of the plan came to that was played.
+  update-ended : (shelves : List ShelfTold) (sheets : List PluginSheet) (vetoes : MachineFacts → List PluginVetoes) (started : List Q) (tag : List ℕ) (site : Site) (campaign made : Campaign) (rows : List Row) (keeper : K) (left : Left K) (before after : Option (List ℕ)) (status : Status)
+      → AreStarted words sheets campaign.facts started → IsCampaignOf site sheets (vetoes site.machine) campaign → AreTold (told keeper) (told left.keeper) rows → Plays (planned_items campaign rows tag) campaign made
+      → IsHistory left.opening → any_fault left.log ≡ false
+      → CampaignEnds told (means_for (work_of words started) shelves) status (with_plans made.facts (map shown_by made.boards.items) made.boots) left.opening made.scripts left.log left.keeper (report made.facts left.opening left.log) before after
+      → RunDone told left.keeper (SiteUpdated told shelves sheets vetoes words tag site keeper left before after) status
+  update-ended shelves sheets vetoes started tag site campaign made rows keeper left before after statuses.Done a s t p valid quiet e =
+      record { campaign = campaign; settled = s; started = started; started_are = a; rows = rows; told_are = t; made = made; plays = p; whole = e.1 }
+  update-ended shelves sheets vetoes started tag site campaign made rows keeper left before after statuses.KeeperFault a s t p valid quiet e =
+      let bad : true ≡ false = sym e.0 ∙ quiet in cc
+  update-ended shelves sheets vetoes started tag site campaign made rows keeper left before after (statuses.BadHistory entry) a s t p valid quiet e = bad e.bad
+    where
+      bad : IsBadHistory told entry made.facts left.opening left.log left.keeper → (all : List Row) → told left.keeper all → ⊥
+      bad (inl (all, b)) = absurd (b.faulty.breaks (history_front left.opening (b.at + 1) valid))
+      bad (inr (v, silent, others)) = silent
+  update-ended shelves sheets vetoes started tag site campaign made rows keeper left before after statuses.SinkFault a s t p valid quiet e = tt
+  update-ended shelves sheets vetoes started tag site campaign made rows keeper left before after statuses.NoMemory a s t p valid quiet e = tt
+  update-ended shelves sheets vetoes started tag site campaign made rows keeper left before after statuses.SourceFault a s t p valid quiet e = tt
+  update-ended shelves sheets vetoes started tag site campaign made rows keeper left before after _ a s t p valid quiet e = absurd e
+
+  pub update-complete : (shelves now : List ShelfTold) (sheets : List PluginSheet) (vetoes : MachineFacts → List PluginVetoes) (tag : List ℕ) (status : Status) (keeper : K) (left : Left K) (old new before after : Option (List ℕ)) (site : Site)
+      → UpdateEnds told doubted faults shelves now sheets vetoes words tag status keeper left old new before after
+      → GivesSite (length shelves) old site → CanBeArranged sheets → HistoryHeld told faults keeper left
+      → RunDone told left.keeper (SiteUpdated told shelves sheets vetoes words tag site keeper left before after) status
+  update-complete shelves now sheets vetoes tag status keeper left old new before after site ends given can held = at ends
+    where
+      Complete : Type 0
+      Complete = SiteUpdated told shelves sheets vetoes words tag site keeper left before after
+
+      -- the keeper between the load and the first boot counted no fault either, and tells the same rows
+      quiet-middle : (middle : K) → faults keeper ≤ faults middle → faults middle ≤ faults left.keeper → faults left.keeper ≡ faults middle
+      quiet-middle middle before after = let same = held.no_fault in omega (arith, before, after, same)
+
+      Told : List Q → Campaign → K → Type 0
+      Told started made middle = CampaignTold told doubted faults shelves now (work_of words started) status made middle left (report made.facts left.opening left.log) before after
+
+      valid : (started : List Q) (made : Campaign) (middle : K) → StillTold (told keeper) (told middle) → Told started made middle → IsHistory left.opening
+      valid started made middle still w =
+          valid-opening (told middle) (told left.keeper) left.opening left.log (held-behind (told keeper) (told middle) (told left.keeper) left.opening still held.valid) w.keeper_stands.opening_is
+
+      planned : (started : List Q) (made : Campaign) (middle : K) (rows : List Row) → AreTold (told keeper) (told middle) rows → Told started made middle → AreTold (told keeper) (told left.keeper) rows
+      planned started made middle rows t w = told-behind (told keeper) (told middle) (told left.keeper) rows left.opening left.log t w.keeper_stands.opening_is
+
+      quiet : (started : List Q) (made : Campaign) (middle : K) → faults keeper ≤ faults middle → Told started made middle → any_fault left.log ≡ false
+      quiet started made middle counts w =
+          let same : faults left.keeper ≡ faults middle = quiet-middle middle counts w.keeper_stands.counts in
+          let counting : faults middle < 2 ^ 64 - 1 = (let n = held.no_fault in let m = held.counting in omega (arith, n, m, same)) in
+          no-fault-told left.log
+          (counted-none (2 ^ 64 - 1) (keeper_faults (past_of left.log)) (faults middle) (faults left.keeper) w.keeper_stands.counted same counting)
+
+      played : (started : List Q) (campaign : Campaign) → AreStarted words sheets campaign.facts started → IsCampaignOf site sheets (vetoes site.machine) campaign → PlanPlayed told doubted faults shelves now (work_of words started) tag campaign status keeper left before after → RunDone told left.keeper Complete status
+      played started campaign a settled p = of p.went
+        where
+          of : Went told doubted faults shelves now (work_of words started) status p.made p.middle left (report p.made.facts left.opening left.log) before after → RunDone told left.keeper Complete status
+          of (inl w) =
+              update-ended shelves sheets vetoes started tag site campaign p.made p.rows keeper left before after status a settled (planned started p.made p.middle p.rows p.loaded.says.0 w) p.plays
+              (valid started p.made p.middle p.loaded.told_stay w) (quiet started p.made p.middle p.loaded.counts w) w.ends
+          of (inr (e, nothing)) = subst (RunDone told left.keeper Complete) (sym e) tt
+
+      went : (started : List Q) (campaign : Campaign) → AreStarted words sheets campaign.facts started → IsOpened (limits.Shelves (length shelves)) sheets vetoes old new campaign → UpdateGoes told doubted faults shelves now (work_of words started) tag campaign status keeper left before after → RunDone told left.keeper Complete status
+      went started campaign a o (inl n) = subst (RunDone told left.keeper Complete) (sym n.status_is) (load-held told doubted faults (RunDone told left.keeper Complete) n.stop keeper left tt held n.only.loaded)
+      went started campaign a o (inr (inl n)) = subst (RunDone told left.keeper Complete) (sym n.status_is) tt
+      went started campaign a o (inr (inr p)) =
+          let same : o.site ≡ site = site-same (length shelves) sheets old new site given o.bytes o.site o.came o.states.read o.states.stated in
+          played started campaign a (subst (λ (x : Site). IsCampaignOf x sheets (vetoes x.machine) campaign) same o.settled) p
+
+      at : UpdateEnds told doubted faults shelves now sheets vetoes words tag status keeper left old new before after → RunDone told left.keeper Complete status
+      at (inl s) = subst (RunDone told left.keeper Complete) (sym s.status_is) (stopped told Complete (length shelves) sheets left.keeper old new site s.stop s.stopped given can)
+      at (inr w) = went w.started w.campaign w.started_are w.opened w.goes

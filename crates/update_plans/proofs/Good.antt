@@ -1,0 +1,91 @@
+-- Whether a step is good, as it is found out: its component, its release and its device are looked up first.
+use Rattle.std.proofs.Common.{◌≡◌, ℕ, ◌&&◌, Bool, true, false, nat_lt, List, length, position, refl, sym, ap, ◌∙◌}
+use Rattle.std.specs.Prelude.{Option, Some, None, find, slice_get, option_map, option_and_then}
+use Rattle.std.specs.Option.{option_map_or}
+use Rattle.device_list.proofs.GuidLaws.{bytes_eq-symm}
+use Rattle.device_list.specs.declared.selector.Selector.{Selector}
+use Rattle.device_list.specs.Lists.{names, place}
+use Rattle.version_formats.specs.Formats.{render}
+use Rattle.version_formats.specs.VersionOrder.{same_version}
+use Rattle.fw_facts.specs.declared.release.Component.{Component}
+use Rattle.fw_facts.specs.declared.release.Release.{Release}
+use Rattle.fw_facts.specs.declared.view.DeviceView.{DeviceView}
+use Rattle.release_catalogue.specs.Lookup.{Chosen}
+use Rattle.update_log.specs.declared.decision.Stage.{Stage}
+use Rattle.update_log.specs.declared.event.Event.{Event}
+use Rattle.update_log.specs.Known.{rows, views}
+use Rattle.update_log.specs.Verdicts.{verdict}
+use Rattle.update_plans.specs.Courses.{ends_well}
+use Rattle.update_plans.specs.Following.{IsQuiet}
+use Rattle.update_plans.specs.Plans.{Scene, accepts, has_id, is_good, is_good_with, release_at, request_of, view_of, writes}
+use Rattle.update_plans.specs.declared.plan.PlanStep.{PlanStep}
+use Rattle.update_plans.proofs.Installed.{good-is}
+use Rattle.update_plans.proofs.Released.{chosen_at, found_at}
+use Rattle.update_plans.proofs.Targets.{find-same, found-none, found-place}
+
+-- ---- the release
+
+abbrev at_component : PlanStep → Component → Option Chosen
+at_component step c = option_map (chosen_at step.release.component step.release.release c) (slice_get c.releases step.release.release)
+
+release-is : (s : Scene) (step : PlanStep) → release_at s step.release ≡ option_and_then (at_component step) (slice_get s.facts.catalogue step.release.component)
+release-is s step = found_at s.facts.catalogue step.release
+
+no-release : (s : Scene) (number : ℕ) (step : PlanStep) (past : List Event) → release_at s step.release ≡ None → is_good s number step past ≡ false
+unfolding is_good
+no-release s number step past e = ap (λ (o : Option Chosen). option_map_or (is_good_with s number step past) o false) e
+
+pub good_no_component : (s : Scene) (number : ℕ) (step : PlanStep) (past : List Event) → slice_get s.facts.catalogue step.release.component ≡ None → is_good s number step past ≡ false
+good_no_component s number step past e = no-release s number step past (release-is s step ∙ ap (option_and_then (at_component step)) e)
+
+pub good_no_release : (s : Scene) (number : ℕ) (step : PlanStep) (past : List Event) (c : Component) → slice_get s.facts.catalogue step.release.component ≡ Some c → slice_get c.releases step.release.release ≡ None
+    → is_good s number step past ≡ false
+good_no_release s number step past c e f =
+    no-release s number step past
+    (release-is s step ∙ ap (option_and_then (at_component step)) e ∙ ap (option_map (chosen_at step.release.component step.release.release c)) f)
+
+-- ---- the device
+
+-- the device of an ID is the one at the place that the selector finds
+pub looked_up : (s : Scene) (device : List ℕ) (past : List Event) → option_and_then (slice_get (views s.facts s.opening past)) (place (Selector.Id device) (views s.facts s.opening past)) ≡ view_of s device past
+looked_up s device past = of (position (names (Selector.Id device)) all) refl
+  where
+    all : List DeviceView
+    all = views s.facts s.opening past
+
+    same : find (names (Selector.Id device)) all ≡ view_of s device past
+    same = find-same (names (Selector.Id device)) (has_id device) all (λ x. bytes_eq-symm device x.sheet.device)
+
+    of : (o : Option ℕ) → position (names (Selector.Id device)) all ≡ o → option_and_then (slice_get all) o ≡ view_of s device past
+    of None e = sym (found-none (names (Selector.Id device)) all e) ∙ same
+    of (Some at) e = found-place (names (Selector.Id device)) all at e ∙ same
+
+pub good_no_device : (s : Scene) (number : ℕ) (step : PlanStep) (past : List Event) → view_of s step.device past ≡ None → is_good s number step past ≡ false
+unfolding is_good
+good_no_device s number step past e = of (release_at s step.release)
+  where
+    and-first : (a b : Bool) → a ≡ false → (a && b) ≡ false
+    and-first true b h = cc
+    and-first false b h = refl
+
+    bad : (chosen : Chosen) → is_good_with s number step past chosen ≡ false
+    bad chosen = and-first (writes s step chosen past) _ (ap (λ (o : Option DeviceView). option_map_or (λ view. same_version (render view.sheet.format step.raw) chosen.release.version) o false) e)
+
+    of : (o : Option Chosen) → option_map_or (is_good_with s number step past) o false ≡ false
+    of None = refl
+    of (Some chosen) = bad chosen
+
+-- ---- all three there
+
+pub good_so : (s : Scene) (number : ℕ) (step : PlanStep) (past : List Event) (c : Component) (r : Release) (v : DeviceView) → IsQuiet s past → slice_get s.facts.catalogue step.release.component ≡ Some c
+    → slice_get c.releases step.release.release ≡ Some r → view_of s step.device past ≡ Some v
+    → is_good s number step past
+    ≡ ((same_version (render v.sheet.format step.raw) r.version
+    && (accepts step.release (verdict s.facts s.opening past s.client (request_of s number step (chosen_at step.release.component step.release.release c r)) Stage.Ask) && nat_lt (length (rows s.facts s.opening past)) 65536))
+    && ends_well v c r.version step.raw)
+unfolding is_good
+good_so s number step past c r v q e f here =
+    let there : release_at s step.release ≡ Some (chosen_at step.release.component step.release.release c r) =
+    release-is s step ∙ ap (option_and_then (at_component step)) e ∙ ap (option_map (chosen_at step.release.component step.release.release c)) f in
+    ap (λ (o : Option Chosen). option_map_or (is_good_with s number step past) o false) there
+    ∙ good-is s number step (chosen_at step.release.component step.release.release c r) past v q there here

@@ -1,0 +1,49 @@
+-- Releases from the highest down.
+use Rattle.std.specs.Prelude.{◌≡◌, ℕ, ◌==◌, ◌&&◌, ◌||◌, nat_lt, Bool, true, List, [], AllPairs, Option, Some, None, find, option_and_then, if◌then◌else◌}
+use Rattle.std.specs.List.{list_any}
+use Rattle.std.specs.List.Sorted.{IsPermutation}
+use Rattle.std.specs.Option.{option_map_or}
+use Rattle.std.specs.Ordering.{is_lt}
+use Rattle.fw_facts.specs.declared.view.DeviceView.{DeviceView}
+use Rattle.version_formats.specs.VersionOrder.{same_version, version_cmp}
+use Rattle.release_catalogue.specs.declared.reference.ReleaseRef.{ReleaseRef}
+use Rattle.release_catalogue.specs.Lookup.{all_releases}
+use Rattle.release_catalogue.specs.Places.{matching_places}
+use Rattle.update_log.specs.declared.facts.Facts.{Facts}
+use Rattle.update_log.specs.Verdicts.{is_release}
+use Rattle.update_log.specs.declared.event.Event.{Event}
+use Rattle.update_plans.specs.Plans.{Scene, is_good}
+use Rattle.update_plans.specs.RawNumbers.{raw_of}
+use Rattle.update_plans.specs.declared.plan.PlanStep.{PlanStep}
+
+-- The version of the release at a place of the catalogue.
+abbrev pub version_at : Facts → ReleaseRef → List ℕ
+version_at facts at =
+    option_map_or (λ chosen. chosen.release.version) (find (λ chosen. is_release chosen.at at) (all_releases facts.catalogue)) []
+
+-- There is a release at the place.
+abbrev pub is_in_catalogue : Facts → ReleaseRef → Bool
+is_in_catalogue facts at = list_any (λ chosen. is_release chosen.at at) (all_releases facts.catalogue)
+
+-- The one place stands before the other in the catalogue.
+abbrev pub comes_before : ReleaseRef → ReleaseRef → Bool
+comes_before a b = nat_lt a.component b.component || ((a.component == b.component) && nat_lt a.release b.release)
+
+-- The one release goes before the other: it has the higher version, or an equal one and the earlier place.
+abbrev pub goes_first : Facts → ReleaseRef → ReleaseRef → Bool
+goes_first facts a b =
+    is_lt (version_cmp (version_at facts b) (version_at facts a))
+    || (same_version (version_at facts a) (version_at facts b) && comes_before a b)
+
+-- The releases that match the GUIDs, each before those that it goes before.
+pub record IsHighestFirst (facts : Facts) (guids : List (List ℕ)) (places : List ReleaseRef) : Type 0 where
+  pub same : IsPermutation (matching_places facts.catalogue guids) places
+  pub falling : AllPairs (λ a b. goes_first facts a b ≡ true) places
+
+-- The step that puts a release of that place and version on a device, where it has a raw number and is good.
+abbrev pub where_good : Scene → ℕ → List Event → PlanStep → Option PlanStep
+where_good s number past step = if is_good s number step past then Some step else None
+
+abbrev pub good_step : Scene → ℕ → DeviceView → ReleaseRef → List ℕ → List Event → Option PlanStep
+good_step s number view at version past =
+    option_and_then (λ raw. where_good s number past (record { device = view.sheet.device; release = at; raw = raw })) (raw_of view.sheet.format version)

@@ -1,0 +1,13 @@
+pub mod RawNumbers
+pub mod Fields
+pub mod Walks
+pub mod Tags
+pub mod Plans
+pub mod Courses
+pub mod Following
+pub mod Choosing
+pub use Rattle.fw_base.specs.Names
+pub use Rattle.version_formats.specs.Formats
+pub use Rattle.version_formats.specs.VersionOrder
+pub use Rattle.device_list.specs.Lists
+pub use Rattle.update_log.specs.Verdicts
