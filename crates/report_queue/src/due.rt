@@ -1,0 +1,53 @@
+//! Which rows are to be reported.
+ghost use Rattle.std.specs.Prelude.{◌≡◌, ◌==◌, ℕ, map, not, take, IfOk, OnOk, ◌||◌};
+ghost use Rattle.indexmap.specs.IndexSet.{contains};
+ghost use Rattle.report_queue.specs.Sending.{due, is_due, is_judged, is_marked};
+
+use fw_base::NoMemory;
+use history_keeper::{Row, RowState};
+use indexmap::IndexSet;
+use std::alloc::Global;
+
+/// The first rows, at most `max`, that are judged and not marked, in the order of the rows. Each row and each mark is
+/// looked at once at most.
+pub fn due_rows<'a>(
+    alloc: Global,
+    rows: &'a [Row],
+    marks: &[u32],
+    max: u32,
+) -> Result<Vec<&'a Row>, NoMemory>
+    ensures { IfOk result (λ found. map (λ row. row.now) found.items ≡ take max (due marks.now rows.now)) }
+{
+    let marked = marked_set(alloc, marks)?;
+    Ok(rows
+        .iter()
+        .filter(|row| is_due(&marked, row))
+        .take(max as usize)
+        .collect(alloc)?)
+}
+
+// The marked entries, to be looked up.
+fn marked_set(alloc: Global, marks: &[u32]) -> Result<IndexSet<u32>, NoMemory>
+    ensures { IfOk result (λ set. (entry : ℕ) → contains (λ a b. a == b) set entry ≡ is_marked marks.now entry) }
+{
+    let mut set = IndexSet::new(alloc);
+    for mark in marks {
+        set.insert(*mark)?;
+    }
+    Ok(set)
+}
+
+fn is_due(marked: &IndexSet<u32>, row: &Row) -> bool
+    ensures { result ≡ (is_judged row.now.state && not (contains (λ a b. a == b) marked.now row.now.entry)) }
+{
+    is_judged(row.state) && !marked.contains(&row.entry)
+}
+
+fn is_judged(state: RowState) -> bool
+    ensures { result ≡ is_judged state }
+{
+    match state {
+        RowState::Success | RowState::Failed => true,
+        RowState::Pending | RowState::NeedsReboot | RowState::Begun => false,
+    }
+}
