@@ -200,7 +200,7 @@ fn make(rows: &mut MemoryRows, change: &Change) -> Result<(), NoMemory>
     ensures takes_none { AddsNone change.now → IsOk result }
 {
     match change {
-        Change::Add(row) => rows.push(*row)?,
+        Change::Add(row) => rows.push(row)?,
         Change::Advance {
             entry,
             state,

@@ -7,6 +7,7 @@ use crate::row::{Row, RowState};
 use crate::stated::{state_each, state_numbered};
 use fw_base::NoMemory;
 use std::marker::Model;
+use std::slice;
 
 /// A list of rows. Where the entries are 1, 2, 3 and so on, a row is found by its place, and no other is
 /// looked at; that they are is noted beside the rows, and stands in no clause.
@@ -45,12 +46,12 @@ impl MemoryRows {
     }
 
     /// One row more, behind the others.
-    pub(crate) fn push(&mut self, row: Row) -> Result<(), NoMemory>
-        ensures added { OnOk result (self.new ≡ self.old ++ row ∷ []) }
+    pub(crate) fn push(&mut self, row: &Row) -> Result<(), NoMemory>
+        ensures added { OnOk result (self.new ≡ self.old ++ row.now ∷ []) }
         ensures unchanged { OnErr result (self.new ≡ self.old) }
     {
         let is_next = row.entry as usize == self.rows.len() + 1;
-        self.rows.push(row)?;
+        self.rows.extend_from_slice(slice::from_ref(row))?;
         self.numbered = self.numbered && is_next;
         Ok(())
     }

@@ -72,6 +72,30 @@ refused_stays sql params old new e (inr ran) = elim (cases_Bool (shows_rows fals
 
 pub stays : (old new : State) (rows : List Row) → HoldsRows old rows → new.step_limit ≡ old.step_limit → IsTrue new.is_open → Stays old new → HoldsRows new rows
 stays old new rows h limit is_open (inl same) = record {
+  layout = h.layout;
+  is_open = is_open;
+  schema = ap (λ (d : Database). d.schema) same.0.now_is ∙ h.schema;
+  settled = same.0.committed_is ∙ h.settled ∙ sym same.0.now_is;
+  autocommit = same.0.mode ∙ h.autocommit;
+  unlimited = limit ∙ h.unlimited;
+  number = (h.number.0, ap (λ (d : Database). d.trees 0) same.0.now_is ∙ h.number.1);
+  table = ap (λ (d : Database). d.trees (rows_tree h.layout)) same.0.now_is ∙ h.table;
+  entries = h.entries;
+}
+stays old new rows h limit is_open (inr back) = let undone = back.undone is_open in record {
+  layout = h.layout;
+  is_open = is_open;
+  schema = ap (λ (d : Database). d.schema) (undone.0 ∙ h.settled) ∙ h.schema;
+  settled = undone.1 ∙ sym undone.0;
+  autocommit = back.autocommit;
+  unlimited = limit ∙ h.unlimited;
+  number = (h.number.0, ap (λ (d : Database). d.trees 0) (undone.0 ∙ h.settled) ∙ h.number.1);
+  table = ap (λ (d : Database). d.trees (rows_tree h.layout)) (undone.0 ∙ h.settled) ∙ h.table;
+  entries = h.entries;
+}
+
+pub older_stays : (old new : State) (rows : List Row) → HoldsOlderRows old rows → new.step_limit ≡ old.step_limit → IsTrue new.is_open → Stays old new → HoldsOlderRows new rows
+older_stays old new rows h limit is_open (inl same) = record {
   is_open = is_open;
   schema = ap (λ (d : Database). d.schema) same.0.now_is ∙ h.schema;
   settled = same.0.committed_is ∙ h.settled ∙ sym same.0.now_is;
@@ -81,7 +105,7 @@ stays old new rows h limit is_open (inl same) = record {
   table = ap (λ (d : Database). d.trees 1) same.0.now_is ∙ h.table;
   entries = h.entries;
 }
-stays old new rows h limit is_open (inr back) = let undone = back.undone is_open in record {
+older_stays old new rows h limit is_open (inr back) = let undone = back.undone is_open in record {
   is_open = is_open;
   schema = ap (λ (d : Database). d.schema) (undone.0 ∙ h.settled) ∙ h.schema;
   settled = undone.1 ∙ sym undone.0;
@@ -97,6 +121,14 @@ stays old new rows h limit is_open (inr back) = let undone = back.undone is_open
 pub schema_made : table_defined_by create_schema_text ≡ Ok schema_table
 unfolding everything
 schema_made = refl
+
+-- the table of schema 1 is the one that its text made
+abbrev older_text : List ℕ
+older_text = codes "CREATE TABLE history (entry INTEGER PRIMARY KEY, tag TEXT NOT NULL UNIQUE, client INTEGER NOT NULL, device BLOB NOT NULL, component TEXT NOT NULL, version_old TEXT NOT NULL, version_new TEXT NOT NULL, digest BLOB NOT NULL, flags INTEGER NOT NULL, state INTEGER NOT NULL, reason INTEGER NOT NULL, time_added INTEGER NOT NULL, time_changed INTEGER NOT NULL) STRICT"
+
+older_made : table_defined_by older_text ≡ Ok older_table
+unfolding everything
+older_made = refl
 
 pub history_made : table_defined_by create_history_text ≡ Ok history_table
 unfolding everything

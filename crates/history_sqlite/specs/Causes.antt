@@ -78,12 +78,13 @@ IsTakingStatement sql values =
     ((sql ≡ create_history_text) × (values ≡ [])) ⊎ (((row : Row) × (sql ≡ insert_text) × (values ≡ columns_of row)) ⊎ ((sql ≡ renumber_text) × (values ≡ [])))
 
 module _ {D : Type 0} (store : Ghosts D) where
+  -- A statement by which rows are taken over was refused.
+  abbrev pub IsNotWritten : Error → Type 0
+  IsNotWritten e = (sql : List ℕ) × (values : List Value) × IsTakingStatement sql values × (before : Held D) × (after : Held D) × ExecutesInside 0 sql values (state store before) (state store after) (Err e)
+
   -- Why rows that were read are not taken over: a transaction was open, or a statement or the commit was refused.
   abbrev pub IsNotCopied : Held D → Error → Type 0
-  IsNotCopied old e =
-      IsTrue old.in_transaction
-      ⊎ (((sql : List ℕ) × (values : List Value) × IsTakingStatement sql values × (before : Held D) × (after : Held D) × ExecutesInside 0 sql values (state store before) (state store after) (Err e))
-      ⊎ ((before : Held D) × (after : Held D) × FailsToCommit (state store before) (state store after) e))
+  IsNotCopied old e = IsTrue old.in_transaction ⊎ (IsNotWritten e ⊎ ((before : Held D) × (after : Held D) × FailsToCommit (state store before) (state store after) e))
 
   -- Why the taking over is a fault: the rows can't be read, or can't be written to the new table.
   abbrev pub FailsToTakeOver : Held D → Type 0

@@ -5,6 +5,7 @@ pub mod Keeping
 pub mod Opened
 pub mod Refusals
 pub mod Tables
+pub mod Taking
 pub mod Telling
 pub use Rattle.fw_base.specs.Names
 pub use Rattle.version_formats.specs.Versions

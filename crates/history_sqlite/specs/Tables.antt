@@ -15,7 +15,7 @@ use Rattle.history_keeper.specs.declared.row.Row.{Row}
 use Rattle.history_keeper.specs.declared.row.RowState.{RowState}
 use Rattle.history_keeper.specs.Changes.{with_state, changed, Suits}
 use Rattle.history_keeper.specs.declared.change.Change.{Change}
-use Rattle.history_sqlite.specs.Columns.{state_number, columns_of, taken_over}
+use Rattle.history_sqlite.specs.Columns.{state_number, columns_of, older_columns_of, taken_over}
 
 abbrev pub create_schema_text : List ℕ
 create_schema_text = codes "CREATE TABLE schema (number INTEGER NOT NULL) STRICT"
@@ -185,6 +185,10 @@ Gives old new shown = (rows : List Row) → HoldsRows old rows → (shown ≡ ma
 -- A statement that gave the rows, and left them.
 abbrev pub Loads : State → State → List Row → Type 0
 Loads old new loaded = (rows : List Row) → HoldsRows old rows → (loaded ≡ rows) × HoldsRows new rows
+
+-- A statement that gave these columns of the rows of schema 1, and left them.
+abbrev pub GivesOlder : State → State → List (List Value) → Type 0
+GivesOlder old new shown = (rows : List Row) → HoldsOlderRows old rows → (shown ≡ map older_columns_of rows) × HoldsOlderRows new rows
 
 -- A statement that gave the rows of schema 1 as they are taken over, and left them.
 abbrev pub LoadsOlder : State → State → List Row → Type 0
