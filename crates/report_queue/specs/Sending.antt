@@ -16,7 +16,7 @@ is_judged states.Begun = false
 
 -- The entry is among those marked.
 abbrev pub is_marked : List ℕ → ℕ → Bool
-is_marked marks entry = list_any (λ mark. mark == entry) marks
+is_marked marks entry = list_any (λ mark. entry == mark) marks
 
 -- The rows that are to be reported: those that are judged and not marked, in the order of the rows.
 abbrev pub is_due : List ℕ → Row → Bool

@@ -1,5 +1,5 @@
 -- Why a call that sends reports stops, and what stands then.
-use Rattle.std.specs.Prelude.{◌≡◌, ℕ, List, [], ◌∷◌, ◌++◌, Option, Some, None, option_map, Result, Ok, Err}
+use Rattle.std.specs.Prelude.{◌≡◌, ℕ, ◌<◌, List, [], ◌∷◌, ◌++◌, length, take, slice_index_or, Option, Some, None, option_map, Result, Ok, Err}
 use Rattle.outer_traits.specs.Sinks.{Took, TookFront}
 use Rattle.history_keeper.specs.declared.row.Row.{Row}
 use Rattle.history_keeper.specs.declared.refusal.KeeperRefusal.{KeeperRefusal}
@@ -34,15 +34,15 @@ StopsAt row SinkFault old new = (new.marks ≡ option_map (with_entry row.entry)
 StopsAt row KeeperFault old new = (new.marks ≡ old.marks) × (new.doubt ≡ Some row.entry) × (new.taken ≡ old.taken)
 StopsAt row NoMemory old new = (new.marks ≡ old.marks) × (new.doubt ≡ None) × (new.taken ≡ old.taken)
 
--- Some of the rows were sent, and the sending of the next one stopped.
+-- The rows before a place were sent, and the sending of the row there stopped.
 pub record StopsIn (rows : List Row) (stop : SendStop) (old new : Told) : Type 0 where
-  pub front : List Row
+  pub at : ℕ
   pub row : Row
-  pub rest : List Row
-  pub parts : rows ≡ front ++ row ∷ rest
+  pub within : at < length rows
+  pub is_there : row ≡ slice_index_or rows at row
   pub middle : Told
-  pub before : HasSent front old middle
-  pub at : StopsAt row stop middle new
+  pub before : HasSent (take at rows) old middle
+  pub stops : StopsAt row stop middle new
 
 abbrev pub SendsRow : {A : Type 0} → Row → Result A SendStop → Told → Told → Type 0
 SendsRow row (Ok _) old new = HasSent (row ∷ []) old new

@@ -1,7 +1,7 @@
 //! Which rows are to be reported.
-ghost use Rattle.std.specs.Prelude.{◌≡◌, ◌==◌, ℕ, map, not, take, IfOk, OnOk, ◌||◌};
+ghost use Rattle.std.specs.Prelude.{◌≡◌, ◌&&◌, ℕ, map, nat_eq, not, take, IfOk};
 ghost use Rattle.indexmap.specs.IndexSet.{contains};
-ghost use Rattle.report_queue.specs.Sending.{due, is_due, is_judged, is_marked};
+ghost use Rattle.report_queue.specs.Sending.{due, is_judged, is_marked};
 
 use fw_base::NoMemory;
 use history_keeper::{Row, RowState};
@@ -28,7 +28,7 @@ pub fn due_rows<'a>(
 
 // The marked entries, to be looked up.
 fn marked_set(alloc: Global, marks: &[u32]) -> Result<IndexSet<u32>, NoMemory>
-    ensures { IfOk result (λ set. (entry : ℕ) → contains (λ a b. a == b) set entry ≡ is_marked marks.now entry) }
+    ensures { IfOk result (λ set. (entry : ℕ) → contains nat_eq set entry ≡ is_marked marks.now entry) }
 {
     let mut set = IndexSet::new(alloc);
     for mark in marks {
@@ -38,7 +38,7 @@ fn marked_set(alloc: Global, marks: &[u32]) -> Result<IndexSet<u32>, NoMemory>
 }
 
 fn is_due(marked: &IndexSet<u32>, row: &Row) -> bool
-    ensures { result ≡ (is_judged row.now.state && not (contains (λ a b. a == b) marked.now row.now.entry)) }
+    ensures { result ≡ (is_judged row.now.state && not (contains nat_eq marked.now row.now.entry)) }
 {
     is_judged(row.state) && !marked.contains(&row.entry)
 }

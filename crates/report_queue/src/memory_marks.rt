@@ -1,5 +1,5 @@
 //! A keeper of marks in memory.
-ghost use Rattle.std.specs.Prelude.{◌≡◌, ◌≤◌, ◌↔◌, ◌==◌, ◌++◌, ◌∷◌, [], find, IsSome, IfSome, OnOk, OnErr, IfOk, Contains};
+ghost use Rattle.std.specs.Prelude.{◌≡◌, ◌≤◌, ◌↔◌, ◌==◌, ◌++◌, ◌∷◌, [], find, IsSome, IfSome, OnOk, OnErr, IfOk};
 ghost use Rattle.std.specs.Option.{option_copied};
 ghost use Rattle.report_queue.specs.Marking.{Marked, Reopened};
 ghost use Rattle.report_queue.specs.Memories.{unused, planned, kept, doubtful, after_call, after_fault};
@@ -118,8 +118,7 @@ impl MarkKeeper for MemoryMarks {
     }
 
     fn mark(&mut self, entry: u32) -> Result<(), KeeperRefusal>
-        requires no_doubt { doubtful self.old ≡ None }
-        requires unmarked { Contains self.old.marks entry → ⊥ }
+        requires { doubtful self.old ≡ None }
         ensures fails { (result ≡ Err KeeperRefusal.Fault) ↔ IsSome (planned self.old) }
         ensures fault { IfSome (planned self.old) (λ plan. self.new ≡ record (after_fault self.old) { doubt = Some (record { entry = entry; keep = plan.keep }) }) }
         ensures no_memory { result ≡ Err KeeperRefusal.NoMemory → self.new ≡ self.old }
