@@ -1,5 +1,5 @@
 //! Which rows are to be reported.
-ghost use Rattle.std.specs.Prelude.{◌≡◌, ◌&&◌, ℕ, map, nat_eq, not, take, IfOk};
+ghost use Rattle.std.specs.Prelude.{◌≡◌, ◌&&◌, ◌++◌, ◌∷◌, [], ℕ, filter, if◌then◌else◌, map, nat_eq, not, take, IfOk, OnOk};
 ghost use Rattle.indexmap.specs.IndexSet.{contains};
 ghost use Rattle.report_queue.specs.Sending.{due, is_judged, is_marked};
 
@@ -19,11 +19,35 @@ pub fn due_rows<'a>(
     ensures { IfOk result (λ found. map (λ row. row.now) found.items ≡ take max (due marks.now rows.now)) }
 {
     let marked = marked_set(alloc, marks)?;
-    Ok(rows
-        .iter()
-        .filter(|row| is_due(&marked, row))
-        .take(max as usize)
-        .collect(alloc)?)
+    unmarked_rows(alloc, rows, &marked, max)
+}
+
+// The same, by a look-up of the marks.
+fn unmarked_rows<'a>(
+    alloc: Global,
+    rows: &'a [Row],
+    marked: &IndexSet<u32>,
+    max: u32,
+) -> Result<Vec<&'a Row>, NoMemory>
+    ensures { IfOk result (λ found. map (λ row. row.now) found.items ≡ take max (filter (λ row. is_judged row.state && not (contains nat_eq marked.now row.entry)) rows.now)) }
+{
+    let mut found = Vec::new(alloc);
+    for row in rows {
+        if found.len() == max as usize {
+            return Ok(found);
+        }
+        push_if(&mut found, row, is_due(marked, row))?;
+    }
+    Ok(found)
+}
+
+fn push_if<'a>(found: &mut Vec<&'a Row>, row: &'a Row, fits: bool) -> Result<(), NoMemory>
+    ensures { OnOk result (map (λ row. row.now) found.new.items ≡ (if fits then map (λ row. row.now) found.old.items ++ row.now ∷ [] else map (λ row. row.now) found.old.items)) }
+{
+    if fits {
+        found.push(row)?;
+    }
+    Ok(())
 }
 
 // The marked entries, to be looked up.
