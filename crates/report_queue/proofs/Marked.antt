@@ -2,9 +2,9 @@
 use Rattle.std.proofs.Common.{◌≡◌, ℕ, ◌+◌, ◌<◌, ◌≤◌, arith, List, [], ◌∷◌, ◌++◌, length, map, take, get_or, Bor, refl, sym, ap, subst, ◌∙◌, ◌⊎◌, inl, inr, append_assoc}
 use Rattle.std.specs.Prelude.{All, AllPairs, Contains, Option, Some, None, option_map, flat_map}
 use Rattle.std.specs.Option.{ForSome}
-use Rattle.std.proofs.lemmas.List.{append-nil, get_or-map, get_or-take, get_or_read, length-map, length-take, map-append, take-map, take_all, take_more}
+use Rattle.std.proofs.lemmas.List.{append-nil, get_or-map, length-map, map-append, take-map, take_all, take_more}
 use Rattle.std.proofs.lemmas.List.Concat.{flat_map-append}
-use Rattle.std.proofs.lemmas.List.Elements.{All-contains, All-map, Contains-append_cases}
+use Rattle.std.proofs.lemmas.List.Elements.{Contains-append_cases}
 use Rattle.outer_traits.specs.Sinks.{Took}
 use Rattle.outer_traits.proofs.Fronts.{took_more, took_none}
 use Rattle.history_keeper.specs.declared.row.Row.{Row}
@@ -12,6 +12,8 @@ use Rattle.report_queue.specs.declared.stop.SendStop.{SendStop}
 use Rattle.report_queue.specs.Lines.{line}
 use Rattle.report_queue.specs.Sending.{entries_of, lines}
 use Rattle.report_queue.specs.Stops.{Told, HasSent, StopsAt, StopsIn}
+use Rattle.report_queue.proofs.Pairs.{pairs_map}
+use Rattle.report_queue.proofs.Rows.{not_before}
 
 -- what the references point to
 abbrev pub now_of : List (Bor Row) → List Row
@@ -64,31 +66,27 @@ stopped_at rows i x stop a b c within is h k = record {
 }
 
 -- The next row isn't marked: it wasn't before, and the rows that were marked since have lower entries.
-earlier-lower : (rows : List (Bor Row)) (i : ℕ) (x : Bor Row) → i < length rows → x ≡ get_or rows i x → AllPairs (λ one other. one.now.entry < other.now.entry) rows
-    → All (λ (n : ℕ). n < x.now.entry) (entries_of (now_of (take i rows)))
-earlier-lower rows i x within is rising =
-    All-map (λ (n : ℕ). n < x.now.entry) (λ (row : Row). row.entry) (now_of (take i rows))
-    (All-map (λ (row : Row). row.entry < x.now.entry) (λ (row : Bor Row). row.now) (take i rows)
-    (λ k d lt.
-    let low : k < i = omega (arith, length-take i rows) in
-    let P : Bor Row → Type 0 = λ r. r.now.entry < x.now.entry in
-    let Q : Bor Row → Type 0 = λ r. (get_or rows k d).now.entry < r.now.entry in
-    subst P (sym (get_or-take i rows k d low)) (subst Q (sym (get_or_read rows i x within is d)) (rising k i d low within))))
+
+not_earlier : (rows : List (Bor Row)) (i : ℕ) (x : Bor Row) → i < length rows → x ≡ get_or rows i x → AllPairs (λ one other. one.now.entry < other.now.entry) rows
+    → Contains (entries_of (now_of (take i rows))) x.now.entry → ⊥
+not_earlier rows i x within is rising there =
+    let there_too : Contains (entries_of (take i (now_of rows))) x.now.entry =
+        subst (λ (rs : List Row). Contains (entries_of rs) x.now.entry) (sym (take-map (λ (row : Bor Row). row.now) i rows)) there in
+    not_before (now_of rows) i x.now (omega (arith, length-map rows (λ (row : Bor Row). row.now)))
+    (ap (λ (r : Bor Row). r.now) is ∙ sym (get_or-map (λ (row : Bor Row). row.now) rows i x x.now within))
+    (pairs_map (λ (a b : Row). a.entry < b.entry) (λ (row : Bor Row). row.now) rows rising) there_too
 
 unmarked_then : (o n : Option (List ℕ)) (rows : List (Bor Row)) (i : ℕ) (x : Bor Row) → i < length rows → x ≡ get_or rows i x
     → ForSome o (λ all. All (λ row. Contains all row.now.entry → ⊥) rows) → AllPairs (λ one other. one.now.entry < other.now.entry) rows
     → n ≡ option_map (λ (marks : List ℕ). marks ++ entries_of (now_of (take i rows))) o → ForSome n (λ all. Contains all x.now.entry → ⊥)
-unmarked_then None n rows i x within is free rising e = rw e tt
-unmarked_then (Some marks) n rows i x within is free rising e =
-    let next : Contains (marks ++ entries_of (now_of (take i rows))) x.now.entry → ⊥ = λ there.
-        by_part (Contains-append_cases marks (entries_of (now_of (take i rows))) x.now.entry there) in
-    rw e next
+unmarked_then None n rows i x within is free rising e = λ all q. (let bad : None ≡ Some all = sym e ∙ q in cc)
+unmarked_then (Some marks) n rows i x within is free rising e = λ all q there.
+    let whole : marks ++ entries_of (now_of (take i rows)) ≡ all = (let same : Some (marks ++ entries_of (now_of (take i rows))) ≡ Some all = sym e ∙ q in cc) in
+    by_part (Contains-append_cases marks (entries_of (now_of (take i rows))) x.now.entry (subst (λ (es : List ℕ). Contains es x.now.entry) (sym whole) there))
   where
     by_part : Contains marks x.now.entry ⊎ Contains (entries_of (now_of (take i rows))) x.now.entry → ⊥
-    by_part (inl old) = let P : Bor Row → Type 0 = λ r. Contains marks r.now.entry → ⊥ in subst P (sym is) (free i x within) old
-    by_part (inr new) =
-        let less : x.now.entry < x.now.entry = All-contains (λ (m : ℕ). m < x.now.entry) (entries_of (now_of (take i rows))) x.now.entry (earlier-lower rows i x within is rising) new in
-        omega arith
+    by_part (inl old) = (let P : Bor Row → Type 0 = λ r. Contains marks r.now.entry → ⊥ in subst P (sym is) (free marks refl i x within)) old
+    by_part (inr new) = not_earlier rows i x within is rising new
 
 pub unmarked_next : (a b : Told) (rows : List (Bor Row)) (i : ℕ) (x : Bor Row) → i < length rows → x ≡ get_or rows i x
     → ForSome a.marks (λ all. All (λ row. Contains all row.now.entry → ⊥) rows) → AllPairs (λ one other. one.now.entry < other.now.entry) rows

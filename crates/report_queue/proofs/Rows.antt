@@ -2,14 +2,14 @@
 use Rattle.std.proofs.Common.{◌≡◌, ℕ, zero, suc, ◌+◌, ◌<◌, ◌≤◌, arith, Bool, true, false, ◌&&◌, not, List, [], ◌∷◌, ◌++◌, length, map, take, drop, filter, get_or, if◌then◌else◌, refl, sym, ap, subst, ◌∙◌}
 use Rattle.std.specs.Prelude.{All, AllPairs, Contains, ◌==◌}
 use Rattle.std.specs.List.{list_any}
-use Rattle.std.proofs.lemmas.List.{get_or-map, length-append, length-take, take-append-drop, take_all, take_at, take_more, take-append-le}
-use Rattle.std.proofs.lemmas.List.Elements.{All-contains_itself, All-filter, All-take, All-weaker, filter-append, filter_passes}
+use Rattle.std.proofs.lemmas.List.{get_or-map, get_or-take, get_or_read, length-append, length-take, take-append-drop, take_all, take_at, take_more}
+use Rattle.std.proofs.lemmas.List.Elements.{All-contains, All-contains_itself, All-filter, All-map, All-take, All-weaker, filter-append, filter_passes}
 use Rattle.std.proofs.lemmas.List.Kept.{AllPairs-filter}
 use Rattle.std.proofs.lemmas.Bool.{eq-eqb}
 use Rattle.history_keeper.specs.declared.row.Row.{Row}
 use Rattle.history_keeper.specs.Histories.{IsHistory}
 use Rattle.history_keeper.proofs.Prefixes.{front-pairs}
-use Rattle.report_queue.specs.Sending.{due, is_due, is_judged, is_marked}
+use Rattle.report_queue.specs.Sending.{due, entries_of, is_due, is_judged, is_marked}
 
 -- ---- the first that pass a test
 
@@ -102,3 +102,20 @@ due-unmarked rows marks n =
     not-true : (b : Bool) → b ≡ true → not b ≡ true → ⊥
     not-true true y n = cc
     not-true false y n = cc
+
+-- ---- rows that rise
+
+-- The entries before a place are lower than the one there.
+pub lower-before : (rows : List Row) (at : ℕ) (row : Row) → at < length rows → row ≡ get_or rows at row → AllPairs (λ (a b : Row). a.entry < b.entry) rows → All (λ (n : ℕ). n < row.entry) (entries_of (take at rows))
+lower-before rows at row within is rising =
+    All-map (λ (n : ℕ). n < row.entry) (λ (r : Row). r.entry) (take at rows)
+    (λ k d lt.
+    let low : k < at = omega (arith, length-take at rows) in
+    let P : Row → Type 0 = λ r. r.entry < row.entry in
+    let Q : Row → Type 0 = λ r. (get_or rows k d).entry < r.entry in
+    subst P (sym (get_or-take at rows k d low)) (subst Q (sym (get_or_read rows at row within is d)) (rising k at d low within)))
+
+pub not_before : (rows : List Row) (at : ℕ) (row : Row) → at < length rows → row ≡ get_or rows at row → AllPairs (λ (a b : Row). a.entry < b.entry) rows → Contains (entries_of (take at rows)) row.entry → ⊥
+not_before rows at row within is rising there =
+    let less : row.entry < row.entry = All-contains (λ (n : ℕ). n < row.entry) (entries_of (take at rows)) row.entry (lower-before rows at row within is rising) there in
+    omega arith

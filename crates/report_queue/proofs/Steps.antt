@@ -1,8 +1,8 @@
 -- From what the parts of a call did to what the call leaves.
-use Rattle.std.proofs.Common.{◌≡◌, ℕ, ◌+◌, ◌-◌, ◌<◌, ◌≤◌, arith, List, [], ◌∷◌, ◌++◌, length, map, take, drop, get_or, Bor, refl, sym, ap, subst, ◌∙◌, ◌⊎◌, inl, inr, append_assoc}
+use Rattle.std.proofs.Common.{◌≡◌, ℕ, ◌+◌, ◌-◌, ◌<◌, ◌≤◌, arith, true, List, [], ◌∷◌, ◌++◌, length, map, take, drop, get_or, Bor, refl, sym, ap, subst, ◌∙◌, ◌⊎◌, inl, inr, append_assoc}
 use Rattle.std.specs.Prelude.{All, AllPairs, Contains, Option, Some, None, option_map, unwrap_or, Result, Ok, Err, IfSome, flat_map}
 use Rattle.std.specs.Option.{ForSome}
-use Rattle.std.proofs.lemmas.List.{append-nil, get_or-map, length-append, length-map, take-append-drop, take_all, take_at, take_more, take-take}
+use Rattle.std.proofs.lemmas.List.{append-nil, get_or-map, length-append, length-map, map-append, take-append-drop, take_all, take_at, take_more}
 use Rattle.std.proofs.lemmas.List.Concat.{flat_map-append}
 use Rattle.std.proofs.lemmas.List.Elements.{All-take}
 use Rattle.history_keeper.proofs.Prefixes.{front-pairs}
@@ -20,8 +20,8 @@ use Rattle.report_queue.specs.Lines.{line}
 use Rattle.report_queue.specs.Marking.{with_doubt, with_entry}
 use Rattle.report_queue.specs.Sending.{due, entries_of, is_judged, lines, IsFront, Sent, UpToLast}
 use Rattle.report_queue.specs.Stops.{Told, HasSent, StopsAt, StopsIn, stop_of}
-use Rattle.report_queue.proofs.Marked.{more-marks, no-marks}
-use Rattle.report_queue.proofs.Rows.{due-judged, due-of_rows, due-rise, due-unmarked}
+use Rattle.report_queue.proofs.Marked.{more-marks, no-marks, now_of}
+use Rattle.report_queue.proofs.Rows.{due-judged, due-of_rows, due-rise, due-unmarked, not_before}
 
 -- ---- texts up to the last line
 
@@ -90,6 +90,11 @@ pub opened : (loaded : List ℕ) (old middle : Told) → (middle.marks ≡ old.m
 opened loaded old middle e h =
     let all = private_opened loaded old.marks old.doubt middle.marks e h in
     record { before = all.0; is_before = all.1; found = all.2; told = all.3 }
+
+-- The same, over a call that left the marks.
+pub opened_then : (loaded : List ℕ) (old middle : Told) (m : Option (List ℕ)) → (m ≡ old.marks) ⊎ (m ≡ option_map (with_doubt old.doubt) old.marks) → middle.marks ≡ m → IfSome m (λ all. loaded ≡ all) → Opened loaded old middle
+opened_then loaded old middle m e same h =
+    opened loaded old middle (subst (λ (n : Option (List ℕ)). (n ≡ old.marks) ⊎ (n ≡ option_map (with_doubt old.doubt) old.marks)) (sym same) e) (subst (λ (n : Option (List ℕ)). IfSome n (λ all. loaded ≡ all)) (sym same) h)
 
 -- Where nothing was loaded any list serves that is told.
 pub some_told : (o : Option (List ℕ)) → IfSome o (λ all. unwrap_or o [] ≡ all)
@@ -177,14 +182,21 @@ ends_whole rows max count old middle new loaded h o quiet s c =
     (rw s.doubt tt)
     (record { sent = whole; text = ap lines (sym whole); settled = s.doubt }, c ∙ ap length (sym whole))
 
--- The row at a place of a rising list isn't among those before it.
-not_before : (rows : List Row) (at : ℕ) (row : Row) → at < length rows → row ≡ get_or rows at row → AllPairs (λ (a b : Row). a.entry < b.entry) rows → Contains (entries_of (take at rows)) row.entry → ⊥
-not_before rows at row within is rising there = ?
-
 -- It stopped at a row.
 pub ends_at : (rows : List Row) (max : ℕ) (stop : SendStop) (old middle new : Told) (loaded : List ℕ) → IsHistory rows → Opened loaded old middle → middle.taken ≡ old.taken
     → StopsIn (take max (due loaded rows)) stop middle new → Sends rows max (Err stop) old new
-ends_at rows max SinkFault old middle new loaded h o quiet s = ?
+ends_at rows max SinkFault old middle new loaded h o quiet s =
+    let all : List Row = take max (due loaded rows) in
+    let front : List Row = take s.at all in
+    let cut : TookFront (line s.row) s.middle.taken new.taken = s.stops.2 in
+    let parts : take (s.at + 1) all ≡ front ++ s.row ∷ [] = take_more all s.at s.row s.within ∙ ap (λ (r : Row). front ++ r ∷ []) (sym s.is_there) in
+    sends rows max (s.at + 1) (Err SinkFault) old middle new loaded (lines front ++ cut.front) h o
+    (subst (λ (rs : List Row). UpToLast rs (lines front ++ cut.front)) (sym parts) (lines_broken front s.row cut.front cut.rest cut.parts))
+    (s.stops.0 ∙ ap (option_map (with_entry s.row.entry)) s.before.marks ∙ more-marks middle.marks (entries_of front) (s.row.entry ∷ [])
+    ∙ ap (λ (es : List ℕ). option_map (λ (marks : List ℕ). marks ++ es) middle.marks) (sym (map-append (λ (r : Row). r.entry) front (s.row ∷ [])) ∙ ap entries_of (sym parts)))
+    (subst (λ (t : Option (List ℕ)). Took (lines front ++ cut.front) t new.taken) quiet (took_more (lines front) cut.front middle.taken s.middle.taken new.taken s.before.taken cut.took))
+    (rw s.stops.1 tt)
+    s.stops.1
 ends_at rows max KeeperFault old middle new loaded h o quiet s =
     let all : List Row = take max (due loaded rows) in
     let front : List Row = take s.at all in
@@ -201,3 +213,53 @@ ends_at rows max NoMemory old middle new loaded h o quiet s =
     (rw (s.stops.2, ← quiet) s.before.taken)
     (rw s.stops.1 tt)
     refl
+
+-- The keeper of marks refused before a row was sent.
+pub early_refused : (rows : List Row) (max : ℕ) (result : Result ℕ SendStop) (stop : SendStop) (refusal : KeeperRefusal) (old new : Told) (loaded : List ℕ) → result ≡ Err stop → stop ≡ stop_of refusal
+    → IsHistory rows → Opened loaded old new → new.taken ≡ old.taken → Sends rows max result old new
+early_refused rows max result stop refusal old new loaded e f h o quiet = rw (e, f) (ends_early rows max (stop_of refusal) old new loaded h o quiet (no_sink_fault refusal))
+
+-- There was no memory before a row was sent.
+pub early_no_memory : (rows : List Row) (max : ℕ) (result : Result ℕ SendStop) (stop : SendStop) (old new : Told) (loaded : List ℕ) → result ≡ Err stop → stop ≡ NoMemory
+    → IsHistory rows → Opened loaded old new → new.taken ≡ old.taken → Sends rows max result old new
+early_no_memory rows max result stop old new loaded e f h o quiet = rw (e, f) (ends_early rows max NoMemory old new loaded h o quiet (λ bad. cc))
+
+-- ---- over references to the rows that are due
+
+module _ (rows : List Row) (max : ℕ) (loaded slice : List ℕ) (refs items : List (Bor Row)) where
+  pub due_refs : refs ≡ items → now_of items ≡ take max (due slice rows) → slice ≡ loaded → now_of refs ≡ take max (due loaded rows)
+  due_refs r d s = ap now_of r ∙ d ∙ ap (λ (marks : List ℕ). take max (due marks rows)) s
+
+  due_free_in : (all : List ℕ) → now_of refs ≡ take max (due loaded rows) → loaded ≡ all → All (λ (row : Bor Row). Contains all row.now.entry → ⊥) refs
+  due_free_in all e same k d within there =
+      let at : get_or (now_of refs) k d.now ≡ (get_or refs k d).now = get_or-map (λ (row : Bor Row). row.now) refs k d d.now within in
+      let free : All (λ (row : Row). Contains all row.entry → ⊥) (now_of refs) =
+          subst (λ (rs : List Row). All (λ (row : Row). Contains all row.entry → ⊥) rs) (sym e) (subst (λ (marks : List ℕ). All (λ (row : Row). Contains marks row.entry → ⊥) (take max (due loaded rows))) same (due-unmarked rows loaded max)) in
+      subst (λ (row : Row). Contains all row.entry → ⊥) at (free k d.now (omega (arith, length-map refs (λ (row : Bor Row). row.now)))) there
+
+  pub due_free : (o m : Option (List ℕ)) → now_of refs ≡ take max (due loaded rows) → IfSome m (λ all. loaded ≡ all) → o ≡ m → ForSome o (λ all. All (λ (row : Bor Row). Contains all row.now.entry → ⊥) refs)
+  due_free o m e h same all q =
+      let told : m ≡ Some all = sym same ∙ q in
+      let there : loaded ≡ all = rw told at h in
+      due_free_in all e there
+
+  pub due_rising : IsHistory rows → now_of refs ≡ take max (due loaded rows) → AllPairs (λ (one other : Bor Row). one.now.entry < other.now.entry) refs
+  due_rising h e i j d before within =
+      let rise : AllPairs (λ (a b : Row). a.entry < b.entry) (now_of refs) = subst (λ (rs : List Row). AllPairs (λ (a b : Row). a.entry < b.entry) rs) (sym e) (due-rise rows loaded max h) in
+      let long : length (now_of refs) ≡ length refs = length-map refs (λ (row : Bor Row). row.now) in
+      let one : get_or (now_of refs) i d.now ≡ (get_or refs i d).now = get_or-map (λ (row : Bor Row). row.now) refs i d d.now (omega arith) in
+      let two : get_or (now_of refs) j d.now ≡ (get_or refs j d).now = get_or-map (λ (row : Bor Row). row.now) refs j d d.now within in
+      subst (λ (row : Row). (get_or refs i d).now.entry < row.entry) two
+      (subst (λ (row : Row). row.entry < (get_or (now_of refs) j d.now).entry) one (rise i j d.now before (omega arith)))
+
+-- The sending of one of them stopped.
+pub ends_at_one : (rows : List Row) (max : ℕ) (result : Result ℕ SendStop) (stop : SendStop) (field : SendStop) (old middle new : Told) (loaded : List ℕ) (sent : List Row) → result ≡ Err stop → stop ≡ field
+    → IsHistory rows → Opened loaded old middle → middle.taken ≡ old.taken → sent ≡ take max (due loaded rows) → StopsIn sent field middle new → Sends rows max result old new
+ends_at_one rows max result stop field old middle new loaded sent e f h o quiet same s =
+    rw (e, f) (ends_at rows max field old middle new loaded h o quiet (subst (λ (rs : List Row). StopsIn rs field middle new) same s))
+
+-- All of them were sent.
+pub ends_all : (rows : List Row) (max count : ℕ) (old middle new : Told) (loaded : List ℕ) (sent : List Row) → IsHistory rows → Opened loaded old middle → middle.taken ≡ old.taken → sent ≡ take max (due loaded rows)
+    → HasSent sent middle new → count ≡ length sent → Sends rows max (Ok count) old new
+ends_all rows max count old middle new loaded sent h o quiet same s c =
+    ends_whole rows max count old middle new loaded h o quiet (subst (λ (rs : List Row). HasSent rs middle new) same s) (c ∙ ap length same)
