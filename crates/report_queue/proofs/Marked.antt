@@ -71,7 +71,7 @@ not_earlier : (rows : List (Bor Row)) (i : ℕ) (x : Bor Row) → i < length row
     → Contains (entries_of (now_of (take i rows))) x.now.entry → ⊥
 not_earlier rows i x within is rising there =
     let there_too : Contains (entries_of (take i (now_of rows))) x.now.entry =
-        subst (λ (rs : List Row). Contains (entries_of rs) x.now.entry) (sym (take-map (λ (row : Bor Row). row.now) i rows)) there in
+    subst (λ (rs : List Row). Contains (entries_of rs) x.now.entry) (sym (take-map (λ (row : Bor Row). row.now) i rows)) there in
     not_before (now_of rows) i x.now (omega (arith, length-map rows (λ (row : Bor Row). row.now)))
     (ap (λ (r : Bor Row). r.now) is ∙ sym (get_or-map (λ (row : Bor Row). row.now) rows i x x.now within))
     (pairs_map (λ (a b : Row). a.entry < b.entry) (λ (row : Bor Row). row.now) rows rising) there_too

@@ -17,7 +17,7 @@ use Rattle.report_queue.specs.Sending.{due, entries_of, is_due, is_judged, is_ma
 pub found_enough : (p : Row → Bool) (rows found : List Row) (i n : ℕ) → found ≡ filter p (take i rows) → length found ≡ n → found ≡ take n (filter p rows)
 found_enough p rows found i n h long =
     let parts : filter p rows ≡ found ++ filter p (drop i rows) =
-        ap (filter p) (sym (take-append-drop i rows)) ∙ filter-append p (take i rows) (drop i rows) ∙ ap (λ (xs : List Row). xs ++ filter p (drop i rows)) (sym h) in
+    ap (filter p) (sym (take-append-drop i rows)) ∙ filter-append p (take i rows) (drop i rows) ∙ ap (λ (xs : List Row). xs ++ filter p (drop i rows)) (sym h) in
     sym (ap (take n) parts ∙ take_at found (filter p (drop i rows)) n long)
 
 -- All were looked at, and no more were found.

@@ -234,7 +234,7 @@ module _ (rows : List Row) (max : ℕ) (loaded slice : List ℕ) (refs items : L
   due_free_in all e same k d within there =
       let at : get_or (now_of refs) k d.now ≡ (get_or refs k d).now = get_or-map (λ (row : Bor Row). row.now) refs k d d.now within in
       let free : All (λ (row : Row). Contains all row.entry → ⊥) (now_of refs) =
-          subst (λ (rs : List Row). All (λ (row : Row). Contains all row.entry → ⊥) rs) (sym e) (subst (λ (marks : List ℕ). All (λ (row : Row). Contains marks row.entry → ⊥) (take max (due loaded rows))) same (due-unmarked rows loaded max)) in
+      subst (λ (rs : List Row). All (λ (row : Row). Contains all row.entry → ⊥) rs) (sym e) (subst (λ (marks : List ℕ). All (λ (row : Row). Contains marks row.entry → ⊥) (take max (due loaded rows))) same (due-unmarked rows loaded max)) in
       subst (λ (row : Row). Contains all row.entry → ⊥) at (free k d.now (omega (arith, length-map refs (λ (row : Bor Row). row.now)))) there
 
   pub due_free : (o m : Option (List ℕ)) → now_of refs ≡ take max (due loaded rows) → IfSome m (λ all. loaded ≡ all) → o ≡ m → ForSome o (λ all. All (λ (row : Bor Row). Contains all row.now.entry → ⊥) refs)

@@ -10,7 +10,7 @@ use Rattle.report_queue.proofs.due.unmarked_rows.Goals as goal
 pub returns-then-len-max : goal.returns-then-len-max
 returns-then-len-max c =
     let long : length (map (λ (row : Bor Row). row.now) c.loop-row.found.items) ≡ c.args.max =
-        length-map c.loop-row.found.items (λ (row : Bor Row). row.now) ∙ sym c.loop-row.found.ok.0 ∙ sym c.len.ensures ∙ c.if-len-max.true in
+    length-map c.loop-row.found.items (λ (row : Bor Row). row.now) ∙ sym c.loop-row.found.ok.0 ∙ sym c.len.ensures ∙ c.if-len-max.true in
     found_enough (λ (row : Row). is_judged row.state && not (contains nat_eq c.args.marked.now row.entry)) c.args.rows.now _ c.loop-row.row-index c.args.max c.loop-row.invariant.found long
 
 pub loop-row-preserved : goal.loop-row-preserved

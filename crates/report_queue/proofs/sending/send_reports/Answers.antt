@@ -29,27 +29,27 @@ returns-in_err-due-clause-sends g c =
 pub send_each-requires-clause-unmarked : goal.send_each-requires-clause-unmarked
 send_each-requires-clause-unmarked g c =
     let same : now_of c.deref-2.result.now ≡ take c.args.max (due c.in_ok-loaded.loaded.items c.args.rows.now) =
-        due_refs c.args.rows.now c.args.max c.in_ok-loaded.loaded.items c.deref.result.now c.deref-2.result.now c.in_ok-due.due.items c.deref-2.ensures.value c.in_ok-due.ensures c.deref.ensures.value in
+    due_refs c.args.rows.now c.args.max c.in_ok-loaded.loaded.items c.deref.result.now c.deref-2.result.now c.in_ok-due.due.items c.deref-2.ensures.value c.in_ok-due.ensures c.deref.ensures.value in
     due_free c.args.rows.now c.args.max c.in_ok-loaded.loaded.items c.deref.result.now c.deref-2.result.now c.in_ok-due.due.items _ _ same c.in_ok-loaded.ensures.answer c.load.ensures.unchanged
 
 pub send_each-requires-clause-rising : goal.send_each-requires-clause-rising
 send_each-requires-clause-rising g c =
     let same : now_of c.deref-2.result.now ≡ take c.args.max (due c.in_ok-loaded.loaded.items c.args.rows.now) =
-        due_refs c.args.rows.now c.args.max c.in_ok-loaded.loaded.items c.deref.result.now c.deref-2.result.now c.in_ok-due.due.items c.deref-2.ensures.value c.in_ok-due.ensures c.deref.ensures.value in
+    due_refs c.args.rows.now c.args.max c.in_ok-loaded.loaded.items c.deref.result.now c.deref-2.result.now c.in_ok-due.due.items c.deref-2.ensures.value c.in_ok-due.ensures c.deref.ensures.value in
     due_rising c.args.rows.now c.args.max c.in_ok-loaded.loaded.items c.deref.result.now c.deref-2.result.now c.in_ok-due.due.items c.requires same
 
 pub returns-in_err-send_each-clause-sends : goal.returns-in_err-send_each-clause-sends
 returns-in_err-send_each-clause-sends g c =
     let p = err_from_is_err_and c.from_residual-in_err-send_each.result c.from_residual-in_err-send_each.ensures.1 in
     let same : now_of c.deref-2.result.now ≡ take c.args.max (due c.in_ok-loaded.loaded.items c.args.rows.now) =
-        due_refs c.args.rows.now c.args.max c.in_ok-loaded.loaded.items c.deref.result.now c.deref-2.result.now c.in_ok-due.due.items c.deref-2.ensures.value c.in_ok-due.ensures c.deref.ensures.value in
+    due_refs c.args.rows.now c.args.max c.in_ok-loaded.loaded.items c.deref.result.now c.deref-2.result.now c.in_ok-due.due.items c.deref-2.ensures.value c.in_ok-due.ensures c.deref.ensures.value in
     ends_at_one c.args.rows.now c.args.max c.from_residual-in_err-send_each.result _ _ _ _ _ c.in_ok-loaded.loaded.items (now_of c.deref-2.result.now) p.1 p.2 c.requires
     (opened_then _ _ _ (g.M.MarkKeeper.marks c.reopen.new.self) c.in_ok-reopen.ensures.reopened.0 c.load.ensures.unchanged c.in_ok-loaded.ensures.answer) refl same c.in_err-send_each.ensures.sends
 
 pub returns-clause-sends : goal.returns-clause-sends
 returns-clause-sends g c =
     let same : now_of c.deref-2.result.now ≡ take c.args.max (due c.in_ok-loaded.loaded.items c.args.rows.now) =
-        due_refs c.args.rows.now c.args.max c.in_ok-loaded.loaded.items c.deref.result.now c.deref-2.result.now c.in_ok-due.due.items c.deref-2.ensures.value c.in_ok-due.ensures c.deref.ensures.value in
+    due_refs c.args.rows.now c.args.max c.in_ok-loaded.loaded.items c.deref.result.now c.deref-2.result.now c.in_ok-due.due.items c.deref-2.ensures.value c.in_ok-due.ensures c.deref.ensures.value in
     ends_all c.args.rows.now c.args.max c.len.result _ _ _ c.in_ok-loaded.loaded.items (now_of c.deref-2.result.now) c.requires
     (opened_then _ _ _ (g.M.MarkKeeper.marks c.reopen.new.self) c.in_ok-reopen.ensures.reopened.0 c.load.ensures.unchanged c.in_ok-loaded.ensures.answer) refl same c.in_ok-send_each.ensures.sends
     (c.len.ensures ∙ c.in_ok-due.due.ok.0 ∙ ap length (sym c.deref-2.ensures.value) ∙ sym (length-map c.deref-2.result.now (λ (row : Bor Row). row.now)))
