@@ -1,6 +1,6 @@
 -- Rows that are sent one after the other, over references to them.
 use Rattle.std.proofs.Common.{◌≡◌, ℕ, ◌+◌, ◌<◌, ◌≤◌, arith, List, [], ◌∷◌, ◌++◌, length, map, take, get_or, Bor, refl, sym, ap, subst, ◌∙◌, ◌⊎◌, inl, inr, append_assoc}
-use Rattle.std.specs.Prelude.{All, AllPairs, Contains, Option, Some, None, option_map, flat_map}
+use Rattle.std.specs.Prelude.{All, AllPairs, Contains, Option, Some, None, option_map}
 use Rattle.std.specs.Option.{ForSome}
 use Rattle.std.proofs.lemmas.List.{append-nil, get_or-map, length-map, map-append, take-map, take_all, take_more}
 use Rattle.std.proofs.lemmas.List.Concat.{flat_map-append}

@@ -1,12 +1,12 @@
 -- No entry is marked by two calls: the marks only grow, and a call marks none that it finds.
-use Rattle.std.proofs.Common.{◌≡◌, ◌≢◌, ℕ, zero, suc, ◌+◌, ◌<◌, ◌≤◌, arith, List, [], ◌∷◌, ◌++◌, length, map, take, get_or, refl, sym, ap, subst, ◌∙◌, ◌⊎◌, inl, inr}
+use Rattle.std.proofs.Common.{◌≡◌, ◌≢◌, ℕ, zero, suc, ◌+◌, ◌<◌, arith, List, [], ◌∷◌, ◌++◌, length, get_or, sym, ap, subst, ◌∙◌, ◌⊎◌, inl, inr}
 use Rattle.std.specs.Prelude.{All, AllPairs, Contains, Option, Some, None, slice_get, flat_map}
 use Rattle.std.specs.List.{AllAdjacentBelow}
 use Rattle.std.proofs.lemmas.List.Elements.{All-append, All-cons, All-nil, All-contains, All-head, All-map, All-tail, All-weaker, Contains-append_left, Contains-append_right, Contains-get_or}
 use Rattle.std.proofs.lemmas.List.Kept.{AllPairs-cons}
 use Rattle.history_keeper.specs.declared.row.Row.{Row}
-use Rattle.report_queue.specs.Calls.{Call, Leaves, Follows, Begins, Marks}
-use Rattle.report_queue.specs.Laws.{InTurn, MarkedOnce, SentOnce}
+use Rattle.report_queue.specs.Calls.{Call, Leaves, Follows, Begins}
+use Rattle.report_queue.specs.Laws.{MarkedOnce, SentOnce}
 use Rattle.report_queue.specs.Marking.{with_doubt}
 use Rattle.report_queue.specs.Sending.{entries_of}
 use Rattle.report_queue.proofs.Pairs.{pairs_none, pairs_append, pairs_map}

@@ -1,7 +1,6 @@
 -- Rows that are found one after the other; what is known of rows that are due.
 use Rattle.std.proofs.Common.{◌≡◌, ℕ, zero, suc, ◌+◌, ◌<◌, ◌≤◌, arith, Bool, true, false, ◌&&◌, not, List, [], ◌∷◌, ◌++◌, length, map, take, drop, filter, get_or, if◌then◌else◌, refl, sym, ap, subst, ◌∙◌}
 use Rattle.std.specs.Prelude.{All, AllPairs, Contains, ◌==◌}
-use Rattle.std.specs.List.{list_any}
 use Rattle.std.proofs.lemmas.List.{get_or-map, get_or-take, get_or_read, length-append, length-take, take-append-drop, take_all, take_at, take_more}
 use Rattle.std.proofs.lemmas.List.Elements.{All-contains, All-contains_itself, All-filter, All-map, All-take, All-weaker, filter-append, filter_passes}
 use Rattle.std.proofs.lemmas.List.Kept.{AllPairs-filter}

@@ -1,6 +1,6 @@
 -- From what the parts of a call did to what the call leaves.
-use Rattle.std.proofs.Common.{◌≡◌, ℕ, ◌+◌, ◌-◌, ◌<◌, ◌≤◌, arith, true, List, [], ◌∷◌, ◌++◌, length, map, take, drop, get_or, Bor, refl, sym, ap, subst, ◌∙◌, ◌⊎◌, inl, inr, append_assoc}
-use Rattle.std.specs.Prelude.{All, AllPairs, Contains, Option, Some, None, option_map, unwrap_or, Result, Ok, Err, IfSome, flat_map}
+use Rattle.std.proofs.Common.{◌≡◌, ℕ, ◌+◌, ◌-◌, ◌<◌, arith, true, List, [], ◌∷◌, ◌++◌, length, take, drop, get_or, Bor, refl, sym, ap, subst, ◌∙◌, ◌⊎◌, inl, inr, append_assoc}
+use Rattle.std.specs.Prelude.{All, AllPairs, Contains, Option, Some, None, option_map, unwrap_or, Result, Ok, Err, IfSome}
 use Rattle.std.specs.Option.{ForSome}
 use Rattle.std.proofs.lemmas.List.{append-nil, get_or-map, length-append, length-map, map-append, take-append-drop, take_all, take_at, take_more}
 use Rattle.std.proofs.lemmas.List.Concat.{flat_map-append}
@@ -14,12 +14,12 @@ use Rattle.history_keeper.specs.declared.refusal.KeeperRefusal.TheVariants as re
 use Rattle.history_keeper.specs.Histories.{IsHistory}
 use Rattle.report_queue.specs.declared.stop.SendStop.{SendStop}
 use Rattle.report_queue.specs.declared.stop.SendStop.TheVariants.{SinkFault, KeeperFault, NoMemory}
-use Rattle.report_queue.specs.Answers.{Answers, IsWhole, Sends}
-use Rattle.report_queue.specs.Calls.{Call, IsUnwritten, Leaves, Marks}
+use Rattle.report_queue.specs.Answers.{Answers, Sends}
+use Rattle.report_queue.specs.Calls.{Call, IsUnwritten, Marks}
 use Rattle.report_queue.specs.Lines.{line}
 use Rattle.report_queue.specs.Marking.{with_doubt, with_entry}
 use Rattle.report_queue.specs.Sending.{due, entries_of, is_judged, lines, IsFront, Sent, UpToLast}
-use Rattle.report_queue.specs.Stops.{Told, HasSent, StopsAt, StopsIn, stop_of}
+use Rattle.report_queue.specs.Stops.{Told, HasSent, StopsIn, stop_of}
 use Rattle.report_queue.proofs.Marked.{more-marks, no-marks, now_of}
 use Rattle.report_queue.proofs.Rows.{due-judged, due-of_rows, due-rise, due-unmarked, not_before}
 

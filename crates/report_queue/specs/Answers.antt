@@ -1,5 +1,5 @@
 -- What a call that sends reports answers.
-use Rattle.std.specs.Prelude.{◌≡◌, ℕ, List, length, take, Option, None, option_map, Result, Ok, Err, IfSome}
+use Rattle.std.specs.Prelude.{◌≡◌, ℕ, List, length, take, None, option_map, Result, Ok, Err, IfSome}
 use Rattle.outer_traits.specs.Sinks.{Took}
 use Rattle.history_keeper.specs.declared.row.Row.{Row}
 use Rattle.report_queue.specs.declared.stop.SendStop.{SendStop}

@@ -1,5 +1,5 @@
 -- What a call that sends reports leaves, whether it ended or was stopped.
-use Rattle.std.specs.Prelude.{◌≡◌, ◌⊎◌, ℕ, ◌+◌, ◌<◌, List, ◌++◌, length, take, Option, IfSome, Contains, slice_get, Some}
+use Rattle.std.specs.Prelude.{◌≡◌, ◌⊎◌, ℕ, ◌<◌, List, ◌++◌, length, take, Option, IfSome, Contains, slice_get, Some}
 use Rattle.history_keeper.specs.declared.row.Row.{Row}
 use Rattle.report_queue.specs.Marking.{with_doubt}
 use Rattle.report_queue.specs.Sending.{due, entries_of, lines, IsFront, Sent}

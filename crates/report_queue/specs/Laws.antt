@@ -1,5 +1,5 @@
 -- No report is sent twice.
-use Rattle.std.specs.Prelude.{◌≡◌, ◌≢◌, ℕ, List, length, flat_map, All, AllPairs}
+use Rattle.std.specs.Prelude.{◌≢◌, ℕ, List, length, flat_map, All, AllPairs}
 use Rattle.std.specs.List.{AllAdjacentBelow}
 use Rattle.report_queue.specs.Calls.{Call, Leaves, Follows, Begins}
 use Rattle.report_queue.specs.Sending.{entries_of}

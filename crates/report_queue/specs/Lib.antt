@@ -4,6 +4,7 @@ pub mod Laws
 pub mod Lines
 pub mod Marking
 pub mod Memories
+pub mod Reports
 pub mod Sending
 pub mod Stops
 pub use Rattle.outer_traits.specs.Faults

@@ -11,6 +11,7 @@ pub mod laws;
 pub mod line;
 pub mod mark_keeper;
 pub mod memory_marks;
+pub mod reporting;
 pub mod sending;
 pub mod stop;
 #[cfg(test)]
@@ -19,5 +20,6 @@ mod tests;
 pub use line::line_of;
 pub use mark_keeper::MarkKeeper;
 pub use memory_marks::{DoubtfulMark, MemoryMarks};
+pub use reporting::{ReportEnd, Reported, report_history};
 pub use sending::send_reports;
 pub use stop::SendStop;
