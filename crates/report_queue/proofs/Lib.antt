@@ -1,4 +1,3 @@
-pub mod Ends
 pub mod Marked
 pub mod Once
 pub mod Pairs
