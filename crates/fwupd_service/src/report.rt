@@ -1,5 +1,5 @@
 //! The command `report`.
-ghost use Rattle.std.specs.Prelude.{◌≡◌, ◌≤◌, [], None, Some};
+ghost use Rattle.std.specs.Prelude.{◌≡◌, ◌≤◌, ◌⊎◌, [], None, Some};
 ghost use Rattle.outer_traits.specs.Faults.{Rose};
 ghost use Rattle.command_words.specs.declared.command.Command.TheVariants as commands;
 ghost use Rattle.daemon_core.specs.Reading.{place_told};
@@ -59,6 +59,7 @@ pub(crate) fn report<P: Shelf, K: Keeper, M: MarkKeeper, T: Sink>(
     ensures rows_stay { K.rows result.keeper ≡ K.rows keeper }
     ensures fault_told { FaultTold (Some (commands.Report max)) result.status (K.faults keeper) (K.faults result.keeper) (M.faults marks) (M.faults result.marks) }
     ensures sink_fault { result.status ≡ Status.SinkFault → Rose (T.faults out.old) (T.faults out.new) }
+    ensures sink_quiet { (result.status ≡ Status.SinkFault) ⊎ (T.faults out.new ≡ T.faults out.old) }
     ensures marks_counts { M.faults marks ≤ M.faults result.marks }
     ensures sink_counts { T.faults out.old ≤ T.faults out.new }
     ensures shelves { result.shelves.items ≡ shelves.items }
