@@ -247,6 +247,8 @@ def apply_quirk(sheet, key, value):
         sheet["version-format"] = value
     elif key in sizes and number_in(value) is not None and number_in(value) <= 4194304:
         sheet[sizes[key]] = number_in(value)
+    elif key == "InstallDuration" and number_in(value) is not None and number_in(value) <= 4294967295:
+        sheet["duration"] = number_in(value)
     elif key == "Flags":
         for flag in elements:
             word = flag.removeprefix("~")
@@ -331,6 +333,8 @@ class Row:
     digest: str
     flags: list
     state: str
+    duration: int
+    protocol: str
     reason: int = 0
 
 
@@ -534,7 +538,8 @@ class Campaign:
 
     def add_row(self, client, item, found, state):
         row = Row(len(self.rows) + 1, item["tag"], client, found.board.sheet["device"], found.board.version,
-                  found.release["version"], found.release["sha256"], item.get("flags", []), state)
+                  found.release["version"], found.release["sha256"], item.get("flags", []), state,
+                  found.board.sheet.get("duration", 0), found.board.sheet.get("protocol", "-"))
         self.rows.append(row)
         return row
 
@@ -604,7 +609,7 @@ class Campaign:
 
     def row_text(self, row):
         port = next((it.port for it in self.devices if it.sheet["device"] == row.device), row.device)
-        return f"{row.entry} {row.tag} {port} {row.old} {row.new} {row.state} {row.reason}"
+        return f"{row.entry} {row.tag} {port} {row.old} {row.new} {row.state} {row.reason} {row.duration} {row.protocol}"
 
     @staticmethod
     def release_text(board, component, release):

@@ -48,16 +48,16 @@ def real_history(path, rows=1, more=(), before=()):
     of an empty database, and more of the one that was made."""
     schema = (
         "CREATE TABLE schema (number INTEGER NOT NULL) STRICT",
-        "CREATE TABLE history (entry INTEGER PRIMARY KEY, tag TEXT NOT NULL UNIQUE, client INTEGER NOT NULL, device BLOB NOT NULL, component TEXT NOT NULL, version_old TEXT NOT NULL, version_new TEXT NOT NULL, digest BLOB NOT NULL, flags INTEGER NOT NULL, state INTEGER NOT NULL, reason INTEGER NOT NULL, time_added INTEGER NOT NULL, time_changed INTEGER NOT NULL) STRICT",
-        "INSERT INTO schema VALUES (1)",
+        "CREATE TABLE history2 (entry INTEGER PRIMARY KEY, tag TEXT NOT NULL UNIQUE, client INTEGER NOT NULL, device BLOB NOT NULL, component TEXT NOT NULL, version_old TEXT NOT NULL, version_new TEXT NOT NULL, digest BLOB NOT NULL, flags INTEGER NOT NULL, state INTEGER NOT NULL, reason INTEGER NOT NULL, time_added INTEGER NOT NULL, time_changed INTEGER NOT NULL, duration INTEGER NOT NULL, protocol TEXT, retry_of INTEGER) STRICT",
+        "INSERT INTO schema VALUES (2)",
     )
     base = sqlite3.connect(path, isolation_level=None)
     for it in (*before, *schema):
         base.execute(it)
-    row = (1, bytes(20), "com.example.hub", "1.0.0", "1.1.0", bytes(32), 0, 2, 0, 10, 20)
+    row = (1, bytes(20), "com.example.hub", "1.0.0", "1.1.0", bytes(32), 0, 2, 0, 10, 20, 0, None, None)
     base.execute("BEGIN")
     base.executemany(
-        f"INSERT INTO history VALUES ({', '.join('?' * 13)})", ((i, f"old{i}", *row) for i in range(1, rows + 1))
+        f"INSERT INTO history2 VALUES ({', '.join('?' * 16)})", ((i, f"old{i}", *row) for i in range(1, rows + 1))
     )
     base.execute("COMMIT")
     for it in more:
@@ -154,34 +154,36 @@ NO_ROWS = [
     ("component", "'" + "x" * 65 + "'"), ("version_old", "''"), ("version_new", "'a b'"), ("digest", "x''"),
     ("digest", "zeroblob(33)"), ("flags", "256"), ("flags", "-1"), ("state", "0"), ("state", "5"), ("state", "101"),
     ("reason", "-1"), ("reason", "1000"), ("time_added", "-1"), ("time_changed", "-9223372036854775808"),
+    ("duration", "-1"), ("duration", "4294967296"), ("protocol", "'a b'"), ("retry_of", "-1"), ("retry_of", "4294967296"),
 ]
 
 
 def no_row(site, number):
     """A row that no row stands for."""
     column, value = NO_ROWS[number]
-    real_history(db(site), 3, [f"UPDATE history SET {column} = {value} WHERE entry = 2"])
+    real_history(db(site), 3, [f"UPDATE history2 SET {column} = {value} WHERE entry = 2"])
     fault = fault_unless(run(site), 7)
     return fault and f"{column} = {value}: {fault}"
 
 
 # Histories that are other ones than the program makes: what is done to a real one, and which statuses may come.
 OTHERS = [
-    ("an entry 0", ["UPDATE history SET entry = 0 WHERE entry = 1"], (7, 9)),
-    ("an entry below 0", ["UPDATE history SET entry = -5 WHERE entry = 1"], (7, 9)),
-    ("an entry past all", ["UPDATE history SET entry = 9223372036854775807 WHERE entry = 3"], (7, 9)),
-    ("a row that is missing", ["DELETE FROM history WHERE entry = 2"], (9,)),
-    ("another number", ["UPDATE schema SET number = 2"], (7,)),
+    ("an entry 0", ["UPDATE history2 SET entry = 0 WHERE entry = 1"], (7, 9)),
+    ("an entry below 0", ["UPDATE history2 SET entry = -5 WHERE entry = 1"], (7, 9)),
+    ("an entry past all", ["UPDATE history2 SET entry = 9223372036854775807 WHERE entry = 3"], (7, 9)),
+    ("a row that is missing", ["DELETE FROM history2 WHERE entry = 2"], (9,)),
+    ("another number", ["UPDATE schema SET number = 3"], (7,)),
+    ("the older number", ["UPDATE schema SET number = 1"], (7,)),
     ("no number", ["DELETE FROM schema"], (7,)),
     ("two numbers", ["INSERT INTO schema VALUES (1)"], (7,)),
-    ("no table history", ["DROP TABLE history"], (7,)),
+    ("no table of the rows", ["DROP TABLE history2"], (7,)),
     ("no table schema", ["DROP TABLE schema"], (7,)),
-    ("a column less", ["ALTER TABLE history DROP COLUMN reason"], (7,)),
-    ("a column of another name", ["ALTER TABLE history RENAME COLUMN reason TO cause"], (7,)),
-    ("a view for a table", ["ALTER TABLE history RENAME TO h", "CREATE VIEW history AS SELECT * FROM h"], (7,)),
-    ("an index more", ["CREATE INDEX by_client ON history (client)"], (0, 7)),
-    ("a trigger", ["CREATE TRIGGER t AFTER INSERT ON history BEGIN DELETE FROM history; END"], (0, 7)),
-    ("two open rows of one device", ["UPDATE history SET state = 100 WHERE entry < 3"], (9,)),
+    ("a column less", ["ALTER TABLE history2 DROP COLUMN reason"], (7,)),
+    ("a column of another name", ["ALTER TABLE history2 RENAME COLUMN reason TO cause"], (7,)),
+    ("a view for a table", ["ALTER TABLE history2 RENAME TO h", "CREATE VIEW history2 AS SELECT * FROM h"], (7,)),
+    ("an index more", ["CREATE INDEX by_client ON history2 (client)"], (0, 7)),
+    ("a trigger", ["CREATE TRIGGER t AFTER INSERT ON history2 BEGIN DELETE FROM history2; END"], (0, 7)),
+    ("two open rows of one device", ["UPDATE history2 SET state = 100 WHERE entry < 3"], (9,)),
 ]
 
 
@@ -196,7 +198,7 @@ def other_history(site, number):
 
 def another_column(site, random):
     """A history with a column more is none of this program's: nothing is played, and it is left as it is."""
-    real_history(db(site), 1, ["ALTER TABLE history ADD COLUMN more INTEGER"])
+    real_history(db(site), 1, ["ALTER TABLE history2 ADD COLUMN more INTEGER"])
     return refused_and_kept(site)
 
 

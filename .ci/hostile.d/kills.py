@@ -74,10 +74,10 @@ def rows_fault(site):
         sound = base.execute("PRAGMA integrity_check").fetchone()[0]
         if sound != "ok":
             return f"SQLite says of the history: {sound!r}"
-        begun = base.execute("SELECT tag FROM history WHERE state = ?", (BEGUN,)).fetchall()
+        begun = base.execute("SELECT tag FROM history2 WHERE state = ?", (BEGUN,)).fetchall()
         if begun:
             return f"rows stay begun: {begun!r}"
-        twice = base.execute("SELECT tag FROM history GROUP BY tag HAVING count(*) > 1").fetchall()
+        twice = base.execute("SELECT tag FROM history2 GROUP BY tag HAVING count(*) > 1").fetchall()
         return f"tags with two rows: {twice!r}" if twice else None
     finally:
         base.close()

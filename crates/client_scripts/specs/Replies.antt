@@ -161,10 +161,19 @@ unfoldable pub asked_text : List DeviceView → Row → List ℕ
 asked_text views row =
     decimal row.entry ++ codes " " ++ row.tag ++ codes " " ++ device_text views row.device ++ codes " " ++ row.version_old
 
--- A row: that front, the version of the release, its state and its reason.
+-- A protocol, and a dash where there is none.
+abbrev pub protocol_text : Option (List ℕ) → List ℕ
+protocol_text None = codes "-"
+protocol_text (Some protocol) = protocol
+
+-- The end of a row's line: how long an install takes, and its protocol.
+unfoldable pub terms_text : Row → List ℕ
+terms_text row = codes " " ++ decimal row.duration ++ codes " " ++ protocol_text row.protocol
+
+-- A row: that front, the version of the release, its state and its reason, and that end.
 unfoldable pub row_text : List DeviceView → Row → List ℕ
 row_text views row =
-    asked_text views row ++ codes " " ++ row.version_new ++ codes " " ++ state_word row.state ++ codes " " ++ decimal row.reason
+    asked_text views row ++ codes " " ++ row.version_new ++ codes " " ++ state_word row.state ++ codes " " ++ decimal row.reason ++ terms_text row
 
 abbrev pub row_line : List DeviceView → Row → List ℕ
 row_line views row = reply_line (row_text views row)

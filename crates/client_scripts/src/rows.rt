@@ -1,12 +1,13 @@
 //! Rows, as a client is told of them.
 ghost use Rattle.std.specs.Prelude.{◌≡◌, ◌++◌, ◌≤◌, flat_map, length, take, reverse, Some, OnOk};
 ghost use Rattle.std.specs.Option.{option_copied};
-ghost use Rattle.client_scripts.specs.Replies.{asked_text, history_reply, port_or_id, results_reply, row_line, row_text, row_or_none, settle_reply, waits_or_nothing};
+ghost use Rattle.client_scripts.specs.Replies.{asked_text, history_reply, port_or_id, protocol_text, results_reply, row_line, row_text, row_or_none, settle_reply, terms_text, waits_or_nothing};
 
 use crate::lines::{LINES_MAX, put_left_out, put_no_device, put_none};
 use crate::named::{device_with, newest_of};
 use crate::parts::put_number;
 use crate::words::state_word;
+use fw_base::Name;
 use fw_facts::{DeviceView, Seen};
 use guid_ids::DeviceId;
 use history_keeper::Row;
@@ -88,7 +89,28 @@ fn put_row_text(out: &mut Vec<u8>, views: &[DeviceView], row: &Row) -> Result<()
     out.extend_from_slice(b" ")?;
     out.extend_from_slice(state_word(row.state).as_bytes())?;
     out.extend_from_slice(b" ")?;
-    put_number(out, u64::from(row.reason))
+    put_number(out, u64::from(row.reason))?;
+    put_terms(out, row)
+}
+
+// The end of a row's line.
+#[tactic(auto, unfolding(crate::specs::Replies::terms_text))]
+fn put_terms(out: &mut Vec<u8>, row: &Row) -> Result<(), AllocError>
+    ensures { OnOk result (out.new.items ≡ out.old.items ++ terms_text row.now) }
+{
+    out.extend_from_slice(b" ")?;
+    put_number(out, u64::from(row.duration))?;
+    out.extend_from_slice(b" ")?;
+    put_protocol(out, &row.protocol)
+}
+
+fn put_protocol(out: &mut Vec<u8>, protocol: &Option<Name>) -> Result<(), AllocError>
+    ensures { OnOk result (out.new.items ≡ out.old.items ++ protocol_text protocol.now) }
+{
+    match protocol {
+        None => out.extend_from_slice(b"-"),
+        Some(protocol) => out.extend_from_slice(protocol.bytes()),
+    }
 }
 
 // The front of a row's line.

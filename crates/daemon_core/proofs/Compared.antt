@@ -2,13 +2,13 @@
 use Rattle.std.proofs.Common.{◌≡◌, ℕ, zero, suc, true, false, ◌+◌, ◌<◌, ◌≤◌, List, [], ◌∷◌, refl, ap, sym, ◌∙◌, arith, length, take}
 use Rattle.std.proofs.lemmas.Bool.{eqb-true, eq-eqb}
 use Rattle.std.proofs.lemmas.Option.{slice_get_past}
-use Rattle.std.specs.Prelude.{Some, None, ◌==◌, slice_get}
+use Rattle.std.specs.Prelude.{Bool, Option, Some, None, ◌==◌, slice_get}
 use Rattle.std.specs.Str.{bytes_eq}
 use Rattle.history_keeper.specs.declared.row.Row.{Row}
 use Rattle.history_keeper.specs.declared.row.RowState.{RowState}
 use Rattle.update_log.proofs.Openings.{bytes-same, bytes-self}
 use Rattle.update_log.proofs.StrokeFacts.{and-true}
-use Rattle.daemon_core.specs.Comparing.{DifferFirstAt, number_of, same_request, same_row, same_state}
+use Rattle.daemon_core.specs.Comparing.{DifferFirstAt, number_of, same_optional, same_request, same_row, same_state, same_terms}
 
 state-same : (a b : RowState) → (number_of a == number_of b) ≡ true → a ≡ b
 state-same RowState.Pending RowState.Pending h = refl
@@ -37,9 +37,22 @@ state-same RowState.Begun RowState.Failed h = cc
 state-same RowState.Begun RowState.NeedsReboot h = cc
 state-same RowState.Begun RowState.Begun h = refl
 
+optional-same : {A : Type 0} (same : A → A → Bool) → ((x y : A) → same x y ≡ true → x ≡ y) → (a b : Option A) → same_optional same a b ≡ true → a ≡ b
+optional-same same is None None h = refl
+optional-same same is (Some x) (Some y) h = ap (λ (z : _). Some z) (is x y h)
+optional-same same is None (Some y) h = cc
+optional-same same is (Some x) None h = cc
+
+optional-self : {A : Type 0} (same : A → A → Bool) → ((x : A) → same x x ≡ true) → (a : Option A) → same_optional same a a ≡ true
+optional-self same is None = refl
+optional-self same is (Some x) = is x
+
 pub row-same : (a b : Row) → same_row a b ≡ true → a ≡ b
 row-same a b h =
-    let both = and-true (same_request a b) (same_state a b) h in
+    let all = and-true _ (same_state a b) h in
+    let both = and-true (same_request a b) (same_terms a b) all.0 in
+    let q3 = and-true _ (same_optional (λ m n. m == n) a.retry_of b.retry_of) both.1 in
+    let q2 = and-true (a.duration == b.duration) (same_optional bytes_eq a.protocol b.protocol) q3.0 in
     let r9 = and-true _ (a.flags == b.flags) both.0 in
     let r8 = and-true _ (bytes_eq a.digest b.digest) r9.0 in
     let r7 = and-true _ (bytes_eq a.version_new b.version_new) r8.0 in
@@ -48,7 +61,7 @@ row-same a b h =
     let r4 = and-true _ (bytes_eq a.device b.device) r5.0 in
     let r3 = and-true _ (a.client == b.client) r4.0 in
     let r2 = and-true (a.entry == b.entry) (bytes_eq a.tag b.tag) r3.0 in
-    let s4 = and-true _ (a.time_changed == b.time_changed) both.1 in
+    let s4 = and-true _ (a.time_changed == b.time_changed) all.1 in
     let s3 = and-true _ (a.time_added == b.time_added) s4.0 in
     let s2 = and-true (number_of a.state == number_of b.state) (a.reason == b.reason) s3.0 in
     let e1 : a.entry ≡ b.entry = eqb-true a.entry b.entry r2.0 in
@@ -64,21 +77,27 @@ row-same a b h =
     let f2 : a.reason ≡ b.reason = eqb-true a.reason b.reason s2.1 in
     let f3 : a.time_added ≡ b.time_added = eqb-true a.time_added b.time_added s3.1 in
     let f4 : a.time_changed ≡ b.time_changed = eqb-true a.time_changed b.time_changed s4.1 in
-    let made : ℕ → List ℕ → ℕ → List ℕ → List ℕ → List ℕ → List ℕ → List ℕ → ℕ → RowState → ℕ → ℕ → ℕ → Row =
-    λ n t c d m o v g f s r y z. record { entry = n; tag = t; client = c; device = d; component = m; version_old = o; version_new = v; digest = g; flags = f; state = s; reason = r; time_added = y; time_changed = z } in
-    ap (λ n. made n a.tag a.client a.device a.component a.version_old a.version_new a.digest a.flags a.state a.reason a.time_added a.time_changed) e1
-    ∙ ap (λ n. made b.entry n a.client a.device a.component a.version_old a.version_new a.digest a.flags a.state a.reason a.time_added a.time_changed) e2
-    ∙ ap (λ n. made b.entry b.tag n a.device a.component a.version_old a.version_new a.digest a.flags a.state a.reason a.time_added a.time_changed) e3
-    ∙ ap (λ n. made b.entry b.tag b.client n a.component a.version_old a.version_new a.digest a.flags a.state a.reason a.time_added a.time_changed) e4
-    ∙ ap (λ n. made b.entry b.tag b.client b.device n a.version_old a.version_new a.digest a.flags a.state a.reason a.time_added a.time_changed) e5
-    ∙ ap (λ n. made b.entry b.tag b.client b.device b.component n a.version_new a.digest a.flags a.state a.reason a.time_added a.time_changed) e6
-    ∙ ap (λ n. made b.entry b.tag b.client b.device b.component b.version_old n a.digest a.flags a.state a.reason a.time_added a.time_changed) e7
-    ∙ ap (λ n. made b.entry b.tag b.client b.device b.component b.version_old b.version_new n a.flags a.state a.reason a.time_added a.time_changed) e8
-    ∙ ap (λ n. made b.entry b.tag b.client b.device b.component b.version_old b.version_new b.digest n a.state a.reason a.time_added a.time_changed) e9
-    ∙ ap (λ n. made b.entry b.tag b.client b.device b.component b.version_old b.version_new b.digest b.flags n a.reason a.time_added a.time_changed) f1
-    ∙ ap (λ n. made b.entry b.tag b.client b.device b.component b.version_old b.version_new b.digest b.flags b.state n a.time_added a.time_changed) f2
-    ∙ ap (λ n. made b.entry b.tag b.client b.device b.component b.version_old b.version_new b.digest b.flags b.state b.reason n a.time_changed) f3
-    ∙ ap (λ n. made b.entry b.tag b.client b.device b.component b.version_old b.version_new b.digest b.flags b.state b.reason b.time_added n) f4
+    let g1 : a.duration ≡ b.duration = eqb-true a.duration b.duration q2.0 in
+    let g2 : a.protocol ≡ b.protocol = optional-same bytes_eq bytes-same a.protocol b.protocol q2.1 in
+    let g3 : a.retry_of ≡ b.retry_of = optional-same (λ m n. m == n) eqb-true a.retry_of b.retry_of q3.1 in
+    let made : ℕ → List ℕ → ℕ → List ℕ → List ℕ → List ℕ → List ℕ → List ℕ → ℕ → RowState → ℕ → ℕ → ℕ → ℕ → Option (List ℕ) → Option ℕ → Row =
+    λ n t c d m o v g f s r y z u p l. record { entry = n; tag = t; client = c; device = d; component = m; version_old = o; version_new = v; digest = g; flags = f; state = s; reason = r; time_added = y; time_changed = z; duration = u; protocol = p; retry_of = l } in
+    ap (λ n. made n a.tag a.client a.device a.component a.version_old a.version_new a.digest a.flags a.state a.reason a.time_added a.time_changed a.duration a.protocol a.retry_of) e1
+    ∙ ap (λ n. made b.entry n a.client a.device a.component a.version_old a.version_new a.digest a.flags a.state a.reason a.time_added a.time_changed a.duration a.protocol a.retry_of) e2
+    ∙ ap (λ n. made b.entry b.tag n a.device a.component a.version_old a.version_new a.digest a.flags a.state a.reason a.time_added a.time_changed a.duration a.protocol a.retry_of) e3
+    ∙ ap (λ n. made b.entry b.tag b.client n a.component a.version_old a.version_new a.digest a.flags a.state a.reason a.time_added a.time_changed a.duration a.protocol a.retry_of) e4
+    ∙ ap (λ n. made b.entry b.tag b.client b.device n a.version_old a.version_new a.digest a.flags a.state a.reason a.time_added a.time_changed a.duration a.protocol a.retry_of) e5
+    ∙ ap (λ n. made b.entry b.tag b.client b.device b.component n a.version_new a.digest a.flags a.state a.reason a.time_added a.time_changed a.duration a.protocol a.retry_of) e6
+    ∙ ap (λ n. made b.entry b.tag b.client b.device b.component b.version_old n a.digest a.flags a.state a.reason a.time_added a.time_changed a.duration a.protocol a.retry_of) e7
+    ∙ ap (λ n. made b.entry b.tag b.client b.device b.component b.version_old b.version_new n a.flags a.state a.reason a.time_added a.time_changed a.duration a.protocol a.retry_of) e8
+    ∙ ap (λ n. made b.entry b.tag b.client b.device b.component b.version_old b.version_new b.digest n a.state a.reason a.time_added a.time_changed a.duration a.protocol a.retry_of) e9
+    ∙ ap (λ n. made b.entry b.tag b.client b.device b.component b.version_old b.version_new b.digest b.flags n a.reason a.time_added a.time_changed a.duration a.protocol a.retry_of) f1
+    ∙ ap (λ n. made b.entry b.tag b.client b.device b.component b.version_old b.version_new b.digest b.flags b.state n a.time_added a.time_changed a.duration a.protocol a.retry_of) f2
+    ∙ ap (λ n. made b.entry b.tag b.client b.device b.component b.version_old b.version_new b.digest b.flags b.state b.reason n a.time_changed a.duration a.protocol a.retry_of) f3
+    ∙ ap (λ n. made b.entry b.tag b.client b.device b.component b.version_old b.version_new b.digest b.flags b.state b.reason b.time_added n a.duration a.protocol a.retry_of) f4
+    ∙ ap (λ n. made b.entry b.tag b.client b.device b.component b.version_old b.version_new b.digest b.flags b.state b.reason b.time_added b.time_changed n a.protocol a.retry_of) g1
+    ∙ ap (λ n. made b.entry b.tag b.client b.device b.component b.version_old b.version_new b.digest b.flags b.state b.reason b.time_added b.time_changed b.duration n a.retry_of) g2
+    ∙ ap (λ n. made b.entry b.tag b.client b.device b.component b.version_old b.version_new b.digest b.flags b.state b.reason b.time_added b.time_changed b.duration b.protocol n) g3
 
 self-eqb : (n : ℕ) → (n == n) ≡ true
 self-eqb n = eq-eqb n n refl
@@ -95,6 +114,9 @@ row-self a =
       bytes-self a.version_new,
       bytes-self a.digest,
       self-eqb a.flags,
+      self-eqb a.duration,
+      optional-self bytes_eq bytes-self a.protocol,
+      optional-self (λ m n. m == n) self-eqb a.retry_of,
       self-eqb (number_of a.state),
       self-eqb a.reason,
       self-eqb a.time_added,

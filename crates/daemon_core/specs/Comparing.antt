@@ -1,5 +1,5 @@
 -- Rows that are the same, and where two lists of them differ.
-use Rattle.std.specs.Prelude.{◌≡◌, ◌==◌, ◌&&◌, ℕ, Bool, List, take, slice_get}
+use Rattle.std.specs.Prelude.{◌≡◌, ◌==◌, ◌&&◌, ℕ, Bool, true, false, List, Option, Some, None, take, slice_get}
 use Rattle.std.specs.Str.{bytes_eq}
 use Rattle.history_keeper.specs.declared.row.Row.{Row}
 use Rattle.history_keeper.specs.declared.row.RowState.{RowState}
@@ -25,6 +25,16 @@ same_request a b =
     && bytes_eq a.digest b.digest
     && (a.flags == b.flags)
 
+-- Two values that may be missing are the same.
+abbrev pub same_optional : {A : Type 0} → (A → A → Bool) → Option A → Option A → Bool
+same_optional same None None = true
+same_optional same (Some a) (Some b) = same a b
+same_optional same _ _ = false
+
+-- They tell the same duration and protocol, and try the same row again.
+abbrev pub same_terms : Row → Row → Bool
+same_terms a b = (a.duration == b.duration) && same_optional bytes_eq a.protocol b.protocol && same_optional (λ m n. m == n) a.retry_of b.retry_of
+
 -- They have come as far.
 abbrev pub same_state : Row → Row → Bool
 same_state a b =
@@ -32,7 +42,7 @@ same_state a b =
 
 -- They are one.
 abbrev pub same_row : Row → Row → Bool
-same_row a b = same_request a b && same_state a b
+same_row a b = same_request a b && same_terms a b && same_state a b
 
 -- Two lists are the same before this place, and differ there: one may have ended.
 pub record DifferFirstAt (left right : List Row) (at : ℕ) : Type 0 where

@@ -1,12 +1,13 @@
 //! Rows that were loaded, and those of the log.
-ghost use Rattle.std.specs.Prelude.{◌≡◌, ◌++◌, ◌∷◌, [], IfOk, MatchOption, map};
+ghost use Rattle.std.specs.Prelude.{◌≡◌, ◌==◌, ◌++◌, ◌∷◌, [], IfOk, MatchOption, map};
 ghost use Rattle.history_keeper.specs.Changes.{changed, with_state};
-ghost use Rattle.daemon_core.specs.Comparing.{DifferFirstAt, number_of, same_request, same_row, same_state};
+ghost use Rattle.daemon_core.specs.Comparing.{DifferFirstAt, number_of, same_optional, same_request, same_row, same_state, same_terms};
 ghost use Rattle.std.specs.Str.{bytes_eq};
 
-use fw_base::NoMemory;
+use fw_base::{Name, NoMemory};
 use history_keeper::{Change, Row, RowState};
 use std::alloc::Global;
+use std::slice;
 
 /// The first place where two lists of rows differ, and none where they are the same.
 pub(crate) fn first_difference(left: &[Row], right: &[Row]) -> Option<usize>
@@ -45,7 +46,7 @@ fn with_row(alloc: Global, rows: &[Row], row: &Row) -> Result<Vec<Row>, NoMemory
     ensures { IfOk result (λ all. all.items ≡ rows.now ++ row.now ∷ []) }
 {
     let mut all = Vec::from_slice(alloc, rows)?;
-    all.push(*row)?;
+    all.extend_from_slice(slice::from_ref(row))?;
     Ok(all)
 }
 
@@ -84,7 +85,7 @@ fn stated(row: Row, entry: u32, state: RowState, reason: u8, time: u64) -> Row
 fn same_row(left: &Row, right: &Row) -> bool
     ensures { result ≡ same_row left.now right.now }
 {
-    same_request(left, right) && same_state(left, right)
+    same_request(left, right) && same_terms(left, right) && same_state(left, right)
 }
 
 fn same_request(left: &Row, right: &Row) -> bool
@@ -99,6 +100,34 @@ fn same_request(left: &Row, right: &Row) -> bool
         && same_bytes(left.version_new.bytes(), right.version_new.bytes())
         && same_bytes(&left.digest, &right.digest)
         && left.flags == right.flags
+}
+
+fn same_terms(left: &Row, right: &Row) -> bool
+    ensures { result ≡ same_terms left.now right.now }
+{
+    left.duration == right.duration
+        && same_protocol(&left.protocol, &right.protocol)
+        && same_link(left.retry_of, right.retry_of)
+}
+
+fn same_protocol(left: &Option<Name>, right: &Option<Name>) -> bool
+    ensures { result ≡ same_optional bytes_eq left.now right.now }
+{
+    match (left, right) {
+        (Some(left), Some(right)) => same_bytes(left.bytes(), right.bytes()),
+        (None, None) => true,
+        (Some(_), None) | (None, Some(_)) => false,
+    }
+}
+
+fn same_link(left: Option<u32>, right: Option<u32>) -> bool
+    ensures { result ≡ same_optional (λ a b. a == b) left right }
+{
+    match (left, right) {
+        (Some(left), Some(right)) => left == right,
+        (None, None) => true,
+        (Some(_), None) | (None, Some(_)) => false,
+    }
 }
 
 fn same_bytes(left: &[u8], right: &[u8]) -> bool

@@ -51,6 +51,9 @@ fn row(entry: u32, port: &str, version: &str, flags: u8, state: RowState) -> Res
         reason: 0,
         time_added: 500,
         time_changed: 600,
+        duration: 0,
+        protocol: None,
+        retry_of: None,
     })
 }
 

@@ -26,6 +26,9 @@ fn row(entry: u32, tag: &[u8], device: &[u8], state: RowState) -> Result<Row, Fa
         reason: 0,
         time_added: 1000,
         time_changed: 1000,
+        duration: 0,
+        protocol: None,
+        retry_of: None,
     })
 }
 

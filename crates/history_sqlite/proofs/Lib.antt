@@ -1,5 +1,10 @@
 pub mod Effects
+pub mod Inserting
+pub mod Layouts
 pub mod Making
 pub mod Opening
 pub mod ReadBack
+pub mod Selecting
+pub mod TakingOver
 pub mod TellingLemmas
+pub mod Updating

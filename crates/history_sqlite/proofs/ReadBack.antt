@@ -1,13 +1,15 @@
 -- A row that is read from the columns of a row is that row. One is read, where its texts are names and versions.
-use Rattle.std.proofs.Common.{◌≡◌, ◌⊎◌, inl, inr, ℕ, ◌<◌, ◌^◌, pos, Bool, true, false, nat_lt, ◌==◌, if◌then◌else◌, List, [], ◌∷◌, map, length, position, Option, Some, None, Result, Ok, Err, refl, ap, arith}
+use Rattle.std.proofs.Common.{◌≡◌, ◌⊎◌, inl, inr, ℕ, ◌<◌, ◌^◌, pos, Bool, true, false, nat_lt, ◌==◌, if◌then◌else◌, List, [], ◌∷◌, ◌++◌, map, length, position, Option, Some, None, option_map, IfSome, Result, Ok, Err, refl, sym, ap, ◌∙◌, arith}
 use Rattle.std.specs.Result.{result_ok}
 use Rattle.fw_base.specs.Names.{name_read, name_unless, is_no_name_byte}
 use Rattle.version_formats.specs.Versions.{version_read, version_unless, is_no_version_byte}
+use Rattle.sqlite.specs.declared.types.Value.{Value}
 use Rattle.sqlite.specs.declared.types.Value.TheVariants.{Int, Text, Blob}
+use Rattle.sqlite.specs.Values.{or_null}
 use Rattle.history_keeper.specs.declared.row.Row.{Row}
 use Rattle.history_keeper.specs.declared.row.RowState.{RowState}
 use Rattle.history_keeper.specs.declared.row.RowState.TheVariants.{Pending, Success, Failed, NeedsReboot, Begun}
-use Rattle.history_sqlite.specs.Columns.{◌>>=◌, columns_of, row_read, HasTexts, number_in, bytes_in, name_in, version_in, state_in, state_number}
+use Rattle.history_sqlite.specs.Columns.{◌>>=◌, columns_of, older_columns_of, row_read, older_row_read, taken_over, optional, HasTexts, number_in, bytes_in, name_in, version_in, state_in, state_number}
 
 step : {A B : Type 0} (o : Option A) (a : A) (f : A → Option B) (b : B) → (o ≡ None) ⊎ (o ≡ Some a) → (o >>= f) ≡ Some b → f a ≡ Some b
 step o a f b (inl none) h = absurd (let e = rw none at h in cc)
@@ -59,8 +61,8 @@ state_given Begun = refl
 some_same : {A : Type 0} (a b : A) → Some a ≡ Some b → b ≡ a
 some_same a b h = cc
 
-pub read_back : (row r : Row) → row_read (columns_of row) ≡ Some r → r ≡ row
-read_back row r h0 =
+older_read_back : (row r : Row) (more : List Value) → older_row_read (older_columns_of row ++ more) ≡ Some r → r ≡ taken_over row
+older_read_back row r more h0 =
     let h1 = step (number_in (2 ^ 32) (Int (pos row.entry))) row.entry _ r (none_or (number_in (2 ^ 32) (Int (pos row.entry))) row.entry (number_same (2 ^ 32) row.entry)) h0 in
     let h2 = step (name_in (Text row.tag)) row.tag _ r (none_or (name_in (Text row.tag)) row.tag (name_same row.tag)) h1 in
     let h3 = step (number_in (2 ^ 32) (Int (pos row.client))) row.client _ r (none_or (number_in (2 ^ 32) (Int (pos row.client))) row.client (number_same (2 ^ 32) row.client)) h2 in
@@ -74,7 +76,30 @@ read_back row r h0 =
     let h11 = step (number_in (2 ^ 8) (Int (pos row.reason))) row.reason _ r (none_or (number_in (2 ^ 8) (Int (pos row.reason))) row.reason (number_same (2 ^ 8) row.reason)) h10 in
     let h12 = step (number_in (2 ^ 64) (Int (pos row.time_added))) row.time_added _ r (none_or (number_in (2 ^ 64) (Int (pos row.time_added))) row.time_added (number_same (2 ^ 64) row.time_added)) h11 in
     let h13 = step (number_in (2 ^ 64) (Int (pos row.time_changed))) row.time_changed _ r (none_or (number_in (2 ^ 64) (Int (pos row.time_changed))) row.time_changed (number_same (2 ^ 64) row.time_changed)) h12 in
-    some_same row r h13
+    some_same (taken_over row) r h13
+
+mapped : {A : Type 0} (o : Option A) (a : A) (x : Option A) → ((y : A) → o ≡ Some y → y ≡ a) → option_map (λ (y : A). Some y) o ≡ Some x → x ≡ Some a
+mapped None a x same h = absurd cc
+mapped (Some y) a x same h = let e : Some y ≡ x = cc in sym e ∙ ap (λ (z : _). Some z) (same y refl)
+
+text_same : (t x : Option (List ℕ)) → optional name_in (or_null Text t) ≡ Some x → x ≡ t
+text_same None x h = let e : Some None ≡ Some x = h in some_same None x e
+text_same (Some t) x h = mapped (name_in (Text t)) t x (name_same t) h
+
+link_same : (n x : Option ℕ) → optional (number_in (2 ^ 32)) (or_null (λ (k : ℕ). Int (pos k)) n) ≡ Some x → x ≡ n
+link_same None x h = let e : Some None ≡ Some x = h in some_same None x e
+link_same (Some n) x h = mapped (number_in (2 ^ 32) (Int (pos n))) n x (number_same (2 ^ 32) n) h
+
+abbrev last_columns : Row → List Value
+last_columns row = Int (pos row.duration) ∷ or_null Text row.protocol ∷ or_null (λ (k : ℕ). Int (pos k)) row.retry_of ∷ []
+
+pub read_back : (row r : Row) → row_read (columns_of row) ≡ Some r → r ≡ row
+read_back row r h0 =
+    let h1 = step (older_row_read (columns_of row)) (taken_over row) _ r (none_or (older_row_read (columns_of row)) (taken_over row) (λ x e. older_read_back row x (last_columns row) e)) h0 in
+    let h2 = step (number_in (2 ^ 32) (Int (pos row.duration))) row.duration _ r (none_or (number_in (2 ^ 32) (Int (pos row.duration))) row.duration (number_same (2 ^ 32) row.duration)) h1 in
+    let h3 = step (optional name_in (or_null Text row.protocol)) row.protocol _ r (none_or (optional name_in (or_null Text row.protocol)) row.protocol (text_same row.protocol)) h2 in
+    let h4 = step (optional (number_in (2 ^ 32)) (or_null (λ (k : ℕ). Int (pos k)) row.retry_of)) row.retry_of _ r (none_or (optional (number_in (2 ^ 32)) (or_null (λ (k : ℕ). Int (pos k)) row.retry_of)) row.retry_of (link_same row.retry_of)) h3 in
+    some_same row r h4
 
 pub all_back : (rows read : List Row) → map (λ (r : Row). Some r) read ≡ map row_read (map columns_of rows) → read ≡ rows
 all_back [] [] h = refl
@@ -85,6 +110,17 @@ all_back (row ∷ rows) (r ∷ read) h =
     let rest : map (λ (r : Row). Some r) read ≡ map row_read (map columns_of rows) = cc in
     let a = read_back row r first in
     let b = all_back rows read rest in
+    rw (a, b)
+
+pub older_all_back : (rows read : List Row) → map (λ (r : Row). Some r) read ≡ map older_row_read (map older_columns_of rows) → read ≡ map taken_over rows
+older_all_back [] [] h = refl
+older_all_back [] (r ∷ read) h = absurd cc
+older_all_back (row ∷ rows) [] h = absurd cc
+older_all_back (row ∷ rows) (r ∷ read) h =
+    let first : older_row_read (older_columns_of row) ≡ Some r = cc in
+    let rest : map (λ (r : Row). Some r) read ≡ map older_row_read (map older_columns_of rows) = cc in
+    let a = older_read_back row r [] first in
+    let b = older_all_back rows read rest in
     rw (a, b)
 
 next : {A B : Type 0} (o : Option A) (a : A) (f : A → Option B) (b : Option B) → o ≡ Some a → f a ≡ b → (o >>= f) ≡ b
@@ -102,6 +138,14 @@ name_given t read = ap result_ok read
 version_given : (t : List ℕ) → version_read t ≡ Ok t → version_in (Text t) ≡ Some t
 version_given t read = ap result_ok read
 
+text_given : (t : Option (List ℕ)) → IfSome t (λ name. name_read name ≡ Ok name) → optional name_in (or_null Text t) ≡ Some t
+text_given None read = refl
+text_given (Some t) read = ap (option_map (λ (name : List ℕ). Some name)) (name_given t read)
+
+link_given : (n : Option ℕ) → IfSome n (λ k. k < 2 ^ 32) → optional (number_in (2 ^ 32)) (or_null (λ (k : ℕ). Int (pos k)) n) ≡ Some n
+link_given None below = refl
+link_given (Some n) below = ap (option_map (λ (k : ℕ). Some k)) (number_given (2 ^ 32) n below)
+
 -- The numbers are in the ranges of their types, and the bytes are as many as theirs have.
 pub record HasRanges (row : Row) : Type 0 where
   pub entry : row.entry < 2 ^ 32
@@ -112,9 +156,11 @@ pub record HasRanges (row : Row) : Type 0 where
   pub reason : row.reason < 2 ^ 8
   pub time_added : row.time_added < 2 ^ 64
   pub time_changed : row.time_changed < 2 ^ 64
+  pub duration : row.duration < 2 ^ 32
+  pub retry_of : IfSome row.retry_of (λ k. k < 2 ^ 32)
 
-pub is_read_back : (row : Row) → HasRanges row → HasTexts row → row_read (columns_of row) ≡ Some row
-is_read_back row ranges texts =
+older_is_read_back : (row : Row) (more : List Value) → HasRanges row → HasTexts row → older_row_read (older_columns_of row ++ more) ≡ Some (taken_over row)
+older_is_read_back row more ranges texts =
     next _ row.entry _ _ (number_given (2 ^ 32) row.entry ranges.entry)
     (next _ row.tag _ _ (name_given row.tag texts.tag)
     (next _ row.client _ _ (number_given (2 ^ 32) row.client ranges.client)
@@ -128,3 +174,10 @@ is_read_back row ranges texts =
     (next _ row.reason _ _ (number_given (2 ^ 8) row.reason ranges.reason)
     (next _ row.time_added _ _ (number_given (2 ^ 64) row.time_added ranges.time_added)
     (next _ row.time_changed _ _ (number_given (2 ^ 64) row.time_changed ranges.time_changed) refl))))))))))))
+
+pub is_read_back : (row : Row) → HasRanges row → HasTexts row → row_read (columns_of row) ≡ Some row
+is_read_back row ranges texts =
+    next _ (taken_over row) _ _ (older_is_read_back row (last_columns row) ranges texts)
+    (next _ row.duration _ _ (number_given (2 ^ 32) row.duration ranges.duration)
+    (next _ row.protocol _ _ (text_given row.protocol texts.protocol)
+    (next _ row.retry_of _ _ (link_given row.retry_of ranges.retry_of) refl)))

@@ -1,8 +1,10 @@
 -- What a keeper tells after each statement.
-use Rattle.std.proofs.Common.{◌≡◌, pos, Bool, true, false, List, [], ◌∷◌, map, Option, Some, None, IsTrue, option_map, unwrap_or, refl, sym, ap, subst, ◌∙◌}
+use Rattle.std.proofs.Common.{◌≡◌, ℕ, pos, Bool, true, false, List, [], ◌∷◌, map, Option, Some, None, IsTrue, option_map, unwrap_or, refl, sym, ap, subst, ◌∙◌}
 use Rattle.std.specs.Option.{ForSome}
-use Rattle.sqlite.specs.declared.types.Value.TheVariants.{Int}
+use Rattle.sqlite.specs.declared.types.Value.TheVariants.{Int, Text}
+use Rattle.sqlite.specs.Values.{or_null}
 use Rattle.sqlite.specs.State.{State, HasCleanDisk}
+use Rattle.sqlite_schema.specs.Names.{same_name}
 use Rattle.history_keeper.specs.declared.row.Row.{Row}
 use Rattle.history_keeper.specs.declared.row.RowState.{RowState}
 use Rattle.history_keeper.specs.declared.row.RowState.TheVariants.{Pending, Success, Failed, NeedsReboot, Begun}
@@ -10,9 +12,9 @@ use Rattle.history_keeper.specs.declared.change.Change.{Change}
 use Rattle.history_keeper.specs.declared.plan.Doubt.{Doubt}
 use Rattle.history_keeper.specs.Changes.{Suits, changed}
 use Rattle.history_keeper.specs.Memories.{kept}
-use Rattle.history_sqlite.specs.Columns.{state_in, state_number}
-use Rattle.history_sqlite.specs.Tables.{stored, HoldsRows, Loads, Makes}
-use Rattle.history_sqlite.specs.Telling.{row_in, rows_in, told, Knows, SuitsDoubt, Settles}
+use Rattle.history_sqlite.specs.Columns.{state_in, state_number, text_in, integer_in}
+use Rattle.history_sqlite.specs.Tables.{Layout, history_schema, rows_tree, stored, HoldsRows, Loads, Makes}
+use Rattle.history_sqlite.specs.Telling.{row_in, tree_of_rows, rows_in, told, Knows, SuitsDoubt, Settles}
 
 state_again : (s : RowState) → unwrap_or (state_in (Int (pos (state_number s)))) Begun ≡ s
 state_again Pending = refl
@@ -21,16 +23,32 @@ state_again Failed = refl
 state_again NeedsReboot = refl
 state_again Begun = refl
 
+text_again : (t : Option (List ℕ)) → text_in (or_null Text t) ≡ t
+text_again None = refl
+text_again (Some t) = refl
+
+link_again : (n : Option ℕ) → integer_in (or_null (λ (k : ℕ). Int (pos k)) n) ≡ n
+link_again None = refl
+link_again (Some n) = refl
+
 row_again : (row : Row) → row_in (stored row) ≡ row
-row_again row = ap (λ (s : RowState). record row { state = s }) (state_again row.state)
+row_again row =
+    ap (λ (s : RowState). record row { state = s; protocol = text_in (or_null Text row.protocol); retry_of = integer_in (or_null (λ (k : ℕ). Int (pos k)) row.retry_of) }) (state_again row.state)
+    ∙ ap (λ (t : Option (List ℕ)). record row { protocol = t; retry_of = integer_in (or_null (λ (k : ℕ). Int (pos k)) row.retry_of) }) (text_again row.protocol)
+    ∙ ap (λ (n : Option ℕ). record row { retry_of = n }) (link_again row.retry_of)
 
 rows_again : (rows : List Row) → map row_in (map stored rows) ≡ rows
 rows_again [] = refl
 rows_again (row ∷ rows) = rw (row_again row, rows_again rows)
 
+tree_is : (layout : Layout) → tree_of_rows (history_schema layout) ≡ rows_tree layout
+unfolding same_name
+tree_is Layout.Anew = refl
+tree_is Layout.TakenOver = refl
+
 -- the table that holds these rows is read as them
 pub told_rows : (s : State) (rows : List Row) → HoldsRows s rows → rows_in s ≡ rows
-told_rows s rows h = ap (map row_in) h.table ∙ rows_again rows
+told_rows s rows h = ap (λ (tree : ℕ). map row_in (s.now.trees tree)) (ap tree_of_rows h.schema ∙ tree_is h.layout) ∙ ap (map row_in) h.table ∙ rows_again rows
 
 pub knows : (s : State) (rows : List Row) → HoldsRows s rows → HoldsRows s (rows_in s)
 knows s rows h = subst (HoldsRows s) (sym (told_rows s rows h)) h

@@ -1,5 +1,5 @@
 -- The tables, and what the database holds where they have rows.
-use Rattle.std.specs.Prelude.{◌≡◌, ℕ, ◌+◌, pos, true, false, List, [], ◌∷◌, ◌++◌, map, length, codes, Some, None, IsTrue}
+use Rattle.std.specs.Prelude.{◌≡◌, ℕ, ℤ, ◌+◌, pos, true, false, List, [], ◌∷◌, ◌++◌, map, length, codes, Some, None, IsTrue}
 use Rattle.sqlite.specs.declared.types.Value.{Value}
 use Rattle.sqlite.specs.declared.types.Value.TheVariants.{Null, Int, Text, Blob}
 use Rattle.sqlite.specs.Kind.TheVariants.{Integer, Text as Words, Blob as Bytes}
@@ -113,7 +113,7 @@ stored row = older_stored row ++ Int (pos row.duration) ∷ or_null Text row.pro
 
 -- The table of the number has one row, and it is this number.
 abbrev pub IsNumbered : ℕ → List (List Value) → Type 0
-IsNumbered number table = (id : Value) × (table ≡ (id ∷ Int (pos number) ∷ []) ∷ [])
+IsNumbered number table = (id : ℤ) × (table ≡ (Int id ∷ Int (pos number) ∷ []) ∷ [])
 
 -- The number of the schema that is written and read.
 abbrev pub schema_number : ℕ

@@ -50,4 +50,3 @@ WritesOver old new rows = (older : List Row) → HoldsOlderRows old older → Ar
 abbrev pub MayWriteOver : State → List Row → Trees → Type 0
 MayWriteOver old rows trees =
     (older : List Row) → HoldsOlderRows old older → AreNumbered 1 rows → IsNumbered schema_number (trees 0) × (trees (rows_tree Layout.TakenOver) ≡ map stored rows)
-

@@ -2,7 +2,7 @@
 ghost use Rattle.std.specs.Prelude.{◌≡◌, [], false, IsTrue, Any, map, Some, None, IfOk, IfErr, OnOk, OnErr};
 ghost use Rattle.std.specs.List.{AllByRecursion};
 ghost use Rattle.sqlite.specs.Held.{state};
-ghost use Rattle.sqlite.specs.State.{HasCleanDisk, Shown, Survives};
+ghost use Rattle.sqlite.specs.State.{HasCleanDisk, KeepsCommit, Shown, Survives};
 ghost use Rattle.history_sqlite.specs.Causes.{older_select_text, FailsToLoadOlder, FailsToTakeOver, IsNotCopied, IsNotWritten, IsUnanswered};
 ghost use Rattle.history_sqlite.specs.Columns.{older_row_read};
 ghost use Rattle.history_sqlite.specs.Tables.{GivesOlder, KeepsOlder, LoadsOlder, TakesAll, TakesOver};
@@ -52,9 +52,7 @@ fn load_older_rows<D: Alter>(
 }
 
 // The columns of all rows of schema 1, by their entries.
-fn select_older<D: Alter>(
-    connection: &mut Connection<D>,
-) -> Result<Vec<sqlite::Row>, KeeperRefusal>
+fn select_older<D: Alter>(connection: &mut Connection<D>) -> Result<Vec<sqlite::Row>, KeeperRefusal>
     ensures gives { HasCleanDisk (state D.Store connection.new) → IfOk result (λ shown. GivesOlder (state D.Store connection.old) (state D.Store connection.new) shown.items) }
     ensures refused { HasCleanDisk (state D.Store connection.new) → IsTrue (state D.Store connection.new).is_open → OnErr result (KeepsOlder (state D.Store connection.old) (state D.Store connection.new)) }
     ensures cause { HasCleanDisk (state D.Store connection.new) → result ≡ Err KeeperRefusal.Fault → IsUnanswered older_select_text (state D.Store connection.old) (state D.Store connection.new) }
@@ -107,32 +105,32 @@ fn copy_over<D: Alter>(connection: &mut Connection<D>, rows: &[Row]) -> Result<(
 }
 
 // The statements of the transaction.
-fn write_over<D: Alter>(
-    transaction: &mut Transaction<'_, D>,
-    rows: &[Row],
-) -> Result<(), Error>
+fn write_over<D: Alter>(transaction: &mut Transaction<'_, D>, rows: &[Row]) -> Result<(), Error>
     requires { AllByRecursion IsTimelyRow rows.now }
     ensures same_reference { transaction.new.conn.ghost_name ≡ transaction.old.conn.ghost_name }
     ensures copies { HasCleanDisk (state D.Store transaction.new.conn.now) → OnOk result (CopiesOver (state D.Store transaction.old.conn.now) (state D.Store transaction.new.conn.now) rows.now) }
     ensures cause { HasCleanDisk (state D.Store transaction.new.conn.now) → IsTrue transaction.old.conn.now.in_transaction → IfErr result (IsNotWritten D.Store) }
+    ensures inside { HasCleanDisk (state D.Store transaction.new.conn.now) → IsTrue transaction.old.conn.now.in_transaction → OnOk result (IsTrue transaction.new.conn.now.in_transaction) }
+    ensures kept { HasCleanDisk (state D.Store transaction.new.conn.now) → IsTrue transaction.old.conn.now.in_transaction → KeepsCommit (state D.Store transaction.old.conn.now) (state D.Store transaction.new.conn.now) }
     ensures survives { Survives (state D.Store transaction.old.conn.now) (state D.Store transaction.new.conn.now) (λ _. ⊥) }
 {
-    transaction.execute("CREATE TABLE history2 (entry INTEGER PRIMARY KEY, tag TEXT NOT NULL UNIQUE, client INTEGER NOT NULL, device BLOB NOT NULL, component TEXT NOT NULL, version_old TEXT NOT NULL, version_new TEXT NOT NULL, digest BLOB NOT NULL, flags INTEGER NOT NULL, state INTEGER NOT NULL, reason INTEGER NOT NULL, time_added INTEGER NOT NULL, time_changed INTEGER NOT NULL, duration INTEGER NOT NULL, protocol TEXT, retry_of INTEGER) STRICT", &[])?;
+    transaction.execute(
+        "CREATE TABLE history2 (entry INTEGER PRIMARY KEY, tag TEXT NOT NULL UNIQUE, client INTEGER NOT NULL, device BLOB NOT NULL, component TEXT NOT NULL, version_old TEXT NOT NULL, version_new TEXT NOT NULL, digest BLOB NOT NULL, flags INTEGER NOT NULL, state INTEGER NOT NULL, reason INTEGER NOT NULL, time_added INTEGER NOT NULL, time_changed INTEGER NOT NULL, duration INTEGER NOT NULL, protocol TEXT, retry_of INTEGER) STRICT",
+        &[],
+    )?;
     insert_each(transaction, rows)?;
     transaction.execute("UPDATE schema SET number = 2", &[])?;
     Ok(())
 }
 
 // Puts these rows into the table of the rows, one insert in each turn.
-fn insert_each<D: Alter>(
-    transaction: &mut Transaction<'_, D>,
-    rows: &[Row],
-) -> Result<(), Error>
+fn insert_each<D: Alter>(transaction: &mut Transaction<'_, D>, rows: &[Row]) -> Result<(), Error>
     requires { AllByRecursion IsTimelyRow rows.now }
     ensures same_reference { transaction.new.conn.ghost_name ≡ transaction.old.conn.ghost_name }
     ensures copies { HasCleanDisk (state D.Store transaction.new.conn.now) → OnOk result (CopiesAll (state D.Store transaction.old.conn.now) (state D.Store transaction.new.conn.now) rows.now) }
     ensures inside { HasCleanDisk (state D.Store transaction.new.conn.now) → IsTrue transaction.old.conn.now.in_transaction → OnOk result (IsTrue transaction.new.conn.now.in_transaction) }
     ensures cause { HasCleanDisk (state D.Store transaction.new.conn.now) → IsTrue transaction.old.conn.now.in_transaction → IfErr result (IsNotWritten D.Store) }
+    ensures kept { HasCleanDisk (state D.Store transaction.new.conn.now) → IsTrue transaction.old.conn.now.in_transaction → KeepsCommit (state D.Store transaction.old.conn.now) (state D.Store transaction.new.conn.now) }
     ensures survives { Survives (state D.Store transaction.old.conn.now) (state D.Store transaction.new.conn.now) (λ _. ⊥) }
 {
     for row in rows {
@@ -142,15 +140,13 @@ fn insert_each<D: Alter>(
 }
 
 // Puts a row behind those of the table.
-fn insert_inside<D: Alter>(
-    transaction: &mut Transaction<'_, D>,
-    row: &Row,
-) -> Result<(), Error>
+fn insert_inside<D: Alter>(transaction: &mut Transaction<'_, D>, row: &Row) -> Result<(), Error>
     requires { IsTimelyRow row.now }
     ensures same_reference { transaction.new.conn.ghost_name ≡ transaction.old.conn.ghost_name }
     ensures copies { HasCleanDisk (state D.Store transaction.new.conn.now) → OnOk result (Copies (state D.Store transaction.old.conn.now) (state D.Store transaction.new.conn.now) row.now) }
     ensures inside { HasCleanDisk (state D.Store transaction.new.conn.now) → IsTrue transaction.old.conn.now.in_transaction → OnOk result (IsTrue transaction.new.conn.now.in_transaction) }
     ensures cause { HasCleanDisk (state D.Store transaction.new.conn.now) → IsTrue transaction.old.conn.now.in_transaction → IfErr result (IsNotWritten D.Store) }
+    ensures kept { HasCleanDisk (state D.Store transaction.new.conn.now) → IsTrue transaction.old.conn.now.in_transaction → KeepsCommit (state D.Store transaction.old.conn.now) (state D.Store transaction.new.conn.now) }
     ensures survives { Survives (state D.Store transaction.old.conn.now) (state D.Store transaction.new.conn.now) (λ _. ⊥) }
 {
     let columns = columns_of_row(row);

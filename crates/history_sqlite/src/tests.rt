@@ -6,7 +6,7 @@ ghost use Rattle.history_sqlite.specs.Telling.{told_by};
 
 use crate::{FileKeeper, SqlKeeper};
 use fw_base::Name;
-use guid_ids::device_id;
+use guid_ids::{DeviceId, device_id};
 use history_keeper::{Change, Keeper, KeeperPlan, KeeperRefusal, Row, RowState};
 use sqlite::{Connection, MemStore};
 use std::alloc::Global;
@@ -34,7 +34,20 @@ fn row(entry: u32, tag: &[u8], device: &[u8], state: RowState) -> Result<Row, Fa
         reason: 0,
         time_added: 1000,
         time_changed: 1001,
+        duration: 30,
+        protocol: Some(Name::read(b"org.usb.dfu")?),
+        retry_of: Some(9),
     })
+}
+
+// The row as schema 1 tells it.
+fn older(row: Row) -> Row {
+    Row {
+        duration: 0,
+        protocol: None,
+        retry_of: None,
+        ..row
+    }
 }
 
 // Each field by itself, as numbers and bytes.
@@ -52,6 +65,9 @@ fn is_same(a: &Row, b: &Row) -> bool {
         && a.reason == b.reason
         && a.time_added == b.time_added
         && a.time_changed == b.time_changed
+        && a.duration == b.duration
+        && a.protocol == b.protocol
+        && a.retry_of == b.retry_of
 }
 
 // A keeper over memory that tells no rows.
@@ -152,7 +168,26 @@ fn planned_loads_and_reopenings_fail(rt: HostRuntime) -> Result<(), Fail> {
 
 const SCHEMA: &str = "CREATE TABLE schema (number INTEGER NOT NULL) STRICT;";
 
-const HISTORY: &str = "CREATE TABLE history (
+const HISTORY: &str = "CREATE TABLE history2 (
+  entry INTEGER PRIMARY KEY,
+  tag TEXT NOT NULL UNIQUE,
+  client INTEGER NOT NULL,
+  device BLOB NOT NULL,
+  component TEXT NOT NULL,
+  version_old TEXT NOT NULL,
+  version_new TEXT NOT NULL,
+  digest BLOB NOT NULL,
+  flags INTEGER NOT NULL,
+  state INTEGER NOT NULL,
+  reason INTEGER NOT NULL,
+  time_added INTEGER NOT NULL,
+  time_changed INTEGER NOT NULL,
+  duration INTEGER NOT NULL,
+  protocol TEXT,
+  retry_of INTEGER
+) STRICT;";
+
+const OLDER_HISTORY: &str = "CREATE TABLE history (
   entry INTEGER PRIMARY KEY,
   tag TEXT NOT NULL UNIQUE,
   client INTEGER NOT NULL,
@@ -169,11 +204,12 @@ const HISTORY: &str = "CREATE TABLE history (
 ) STRICT;";
 
 // Columns and rules of the tables that are other ones than a keeper makes.
-const OTHER_COLUMNS: [(&str, &str); 6] = [
+const OTHER_COLUMNS: [(&str, &str); 7] = [
     (
-        "  time_changed INTEGER NOT NULL\n",
-        "  time_changed INTEGER NOT NULL,\n  more INTEGER\n",
+        "  retry_of INTEGER\n",
+        "  retry_of INTEGER,\n  more INTEGER\n",
     ),
+    ("  protocol TEXT,\n", "  protocol TEXT NOT NULL,\n"),
     (
         "  flags INTEGER NOT NULL,\n  state INTEGER NOT NULL,\n",
         "  state INTEGER NOT NULL,\n  flags INTEGER NOT NULL,\n",
@@ -208,7 +244,7 @@ fn found(alloc: Global, tables: &str, rows: &str) -> Result<usize, KeeperRefusal
 fn other_tables_and_rows_are_a_fault(rt: HostRuntime) -> Result<(), Fail> {
     let alloc = rt.alloc();
     let tables = format!(in alloc; "{SCHEMA}{HISTORY}")?;
-    let one = "INSERT INTO schema (number) VALUES (1);";
+    let one = "INSERT INTO schema (number) VALUES (2);";
     assert!(rt; found(alloc, "", "") == Ok(0));
     assert!(rt; found(alloc, tables.as_str(), one) == Ok(0));
     assert!(rt; found(alloc, SCHEMA, one) == Err(KeeperRefusal::Fault));
@@ -222,52 +258,83 @@ fn other_tables_and_rows_are_a_fault(rt: HostRuntime) -> Result<(), Fail> {
         );
     }
     let cases = [
-        ("INSERT INTO schema VALUES (1), (1);", "", None),
-        ("INSERT INTO schema VALUES (2);", "", None),
+        ("INSERT INTO schema VALUES (2), (2);", "", None),
+        ("INSERT INTO schema VALUES (1);", "", None),
+        ("INSERT INTO schema VALUES (3);", "", None),
         ("", "", None),
         (
             one,
-            "(1, 't', 1, x'0000000000000000000000000000000000000000', 'c', '1', '2', x'0000000000000000000000000000000000000000000000000000000000000000', 0, 100, 0, 5, 5)",
+            "(1, 't', 1, x'0000000000000000000000000000000000000000', 'c', '1', '2', x'0000000000000000000000000000000000000000000000000000000000000000', 0, 100, 0, 5, 5, 0, NULL, NULL)",
             Some(1),
         ),
         (
             one,
-            "(1, 't', 1, x'00000000000000000000000000000000000000', 'c', '1', '2', x'0000000000000000000000000000000000000000000000000000000000000000', 0, 100, 0, 5, 5)",
+            "(1, 't', 1, x'00000000000000000000000000000000000000', 'c', '1', '2', x'0000000000000000000000000000000000000000000000000000000000000000', 0, 100, 0, 5, 5, 0, NULL, NULL)",
             None,
         ),
         (
             one,
-            "(1, 't', 1, x'0000000000000000000000000000000000000000', 'c', '1', '2', x'00000000000000000000000000000000000000000000000000000000000000', 0, 100, 0, 5, 5)",
+            "(1, 't', 1, x'0000000000000000000000000000000000000000', 'c', '1', '2', x'00000000000000000000000000000000000000000000000000000000000000', 0, 100, 0, 5, 5, 0, NULL, NULL)",
             None,
         ),
         (
             one,
-            "(1, 't', 1, x'0000000000000000000000000000000000000000', 'c', '1', '2', x'0000000000000000000000000000000000000000000000000000000000000000', 0, 5, 0, 5, 5)",
+            "(1, 't', 1, x'0000000000000000000000000000000000000000', 'c', '1', '2', x'0000000000000000000000000000000000000000000000000000000000000000', 0, 5, 0, 5, 5, 0, NULL, NULL)",
             None,
         ),
         (
             one,
-            "(1, 't', -1, x'0000000000000000000000000000000000000000', 'c', '1', '2', x'0000000000000000000000000000000000000000000000000000000000000000', 0, 4, 0, 5, 5)",
+            "(1, 't', -1, x'0000000000000000000000000000000000000000', 'c', '1', '2', x'0000000000000000000000000000000000000000000000000000000000000000', 0, 4, 0, 5, 5, 0, NULL, NULL)",
             None,
         ),
         (
             one,
-            "(4294967296, 't', 1, x'0000000000000000000000000000000000000000', 'c', '1', '2', x'0000000000000000000000000000000000000000000000000000000000000000', 0, 3, 0, 5, 5)",
+            "(4294967296, 't', 1, x'0000000000000000000000000000000000000000', 'c', '1', '2', x'0000000000000000000000000000000000000000000000000000000000000000', 0, 3, 0, 5, 5, 0, NULL, NULL)",
             None,
         ),
         (
             one,
-            "(1, 't u', 1, x'0000000000000000000000000000000000000000', 'c', '1', '2', x'0000000000000000000000000000000000000000000000000000000000000000', 0, 2, 0, 5, 5)",
+            "(1, 't u', 1, x'0000000000000000000000000000000000000000', 'c', '1', '2', x'0000000000000000000000000000000000000000000000000000000000000000', 0, 2, 0, 5, 5, 0, NULL, NULL)",
             None,
         ),
         (
             one,
-            "(1, 't', 1, x'0000000000000000000000000000000000000000', 'c', '', '2', x'0000000000000000000000000000000000000000000000000000000000000000', 0, 1, 0, 5, 5)",
+            "(1, 't', 1, x'0000000000000000000000000000000000000000', 'c', '', '2', x'0000000000000000000000000000000000000000000000000000000000000000', 0, 1, 0, 5, 5, 0, NULL, NULL)",
             None,
         ),
         (
             one,
-            "(1, 't', 1, x'0000000000000000000000000000000000000000', 'c', '1', '2', x'0000000000000000000000000000000000000000000000000000000000000000', 256, 1, 0, 5, 5)",
+            "(1, 't', 1, x'0000000000000000000000000000000000000000', 'c', '1', '2', x'0000000000000000000000000000000000000000000000000000000000000000', 256, 1, 0, 5, 5, 0, NULL, NULL)",
+            None,
+        ),
+        (
+            one,
+            "(1, 't', 1, x'0000000000000000000000000000000000000000', 'c', '1', '2', x'0000000000000000000000000000000000000000000000000000000000000000', 0, 100, 0, 5, 5, 4294967295, 'org.usb.dfu', 4294967295)",
+            Some(1),
+        ),
+        (
+            one,
+            "(1, 't', 1, x'0000000000000000000000000000000000000000', 'c', '1', '2', x'0000000000000000000000000000000000000000000000000000000000000000', 0, 100, 0, 5, 5, 4294967296, NULL, NULL)",
+            None,
+        ),
+        (
+            one,
+            "(1, 't', 1, x'0000000000000000000000000000000000000000', 'c', '1', '2', x'0000000000000000000000000000000000000000000000000000000000000000', 0, 100, 0, 5, 5, -1, NULL, NULL)",
+            None,
+        ),
+        (
+            one,
+            "(1, 't', 1, x'0000000000000000000000000000000000000000', 'c', '1', '2', x'0000000000000000000000000000000000000000000000000000000000000000', 0, 100, 0, 5, 5, 0, 't u', NULL)",
+            None,
+        ),
+        (
+            one,
+            "(1, 't', 1, x'0000000000000000000000000000000000000000', 'c', '1', '2', x'0000000000000000000000000000000000000000000000000000000000000000', 0, 100, 0, 5, 5, 0, NULL, -1)",
+            None,
+        ),
+        (
+            one,
+            "(1, 't', 1, x'0000000000000000000000000000000000000000', 'c', '1', '2', x'0000000000000000000000000000000000000000000000000000000000000000', 0, 100, 0, 5, 5, 0, NULL, 4294967296)",
             None,
         ),
     ];
@@ -275,13 +342,72 @@ fn other_tables_and_rows_are_a_fault(rt: HostRuntime) -> Result<(), Fail> {
         let rows = if values.is_empty() {
             format!(in alloc; "{number}")?
         } else {
-            format!(in alloc; "{number} INSERT INTO history VALUES {values};")?
+            format!(in alloc; "{number} INSERT INTO history2 VALUES {values};")?
         };
         assert!(rt;
             found(alloc, tables.as_str(), rows.as_str()).ok() == want,
             "{rows}"
         );
     }
+    Ok(())
+}
+
+// Two rows of schema 1, as this tool or another wrote them.
+const OLDER_ROWS: &str = "INSERT INTO schema VALUES (1);
+INSERT INTO history VALUES
+  (2, 't2', 3, x'0202020202020202020202020202020202020202', 'org.example.board', '1.0.0', '1.1.0', x'0707070707070707070707070707070707070707070707070707070707070707', 5, 100, 0, 1000, 1001),
+  (1, 't1', 3, x'0101010101010101010101010101010101010101', 'org.example.board', '1.0.0', '1.1.0', x'0707070707070707070707070707070707070707070707070707070707070707', 5, 3, 10, 1000, 1001);";
+
+// The rows that a keeper over this database finds, which are left in it as they were where it is no keeper's.
+fn taken_over(alloc: Global, tables: &str, rows: &str) -> Result<Vec<Row>, KeeperRefusal> {
+    let mut connection = match Connection::open_in_memory(alloc) {
+        Ok(connection) => connection,
+        Err(_) => return Err(KeeperRefusal::NoMemory),
+    };
+    if connection.execute_batch(tables).is_err() || connection.execute_batch(rows).is_err() {
+        return Err(KeeperRefusal::NoMemory);
+    }
+    let keeper = SqlKeeper::adopt(alloc, connection)?;
+    // Another keeper over the same database finds what the first one left.
+    let mut again = SqlKeeper::adopt(alloc, keeper.into_connection())?;
+    again.load(alloc)
+}
+
+#[test]
+fn older_rows_are_taken_over(rt: HostRuntime) -> Result<(), Fail> {
+    let alloc = rt.alloc();
+    let tables = format!(in alloc; "{SCHEMA}{OLDER_HISTORY}")?;
+    let rows = taken_over(alloc, tables.as_str(), OLDER_ROWS)?;
+    let mut first = older(row(1, b"t1", b"usb1", RowState::Failed)?);
+    first.device = DeviceId::from_bytes([1; 20]);
+    first.reason = 10;
+    let mut second = older(row(2, b"t2", b"usb2", RowState::Begun)?);
+    second.device = DeviceId::from_bytes([2; 20]);
+    assert_eq!(rt; rows.len(), 2);
+    assert!(rt; is_same(&rows[0], &first));
+    assert!(rt; is_same(&rows[1], &second));
+    Ok(())
+}
+
+#[test]
+fn tables_that_are_not_taken_over(rt: HostRuntime) -> Result<(), Fail> {
+    let alloc = rt.alloc();
+    let older = format!(in alloc; "{SCHEMA}{OLDER_HISTORY}")?;
+    let all = format!(in alloc; "{SCHEMA}{HISTORY}{OLDER_HISTORY}")?;
+    let one = "INSERT INTO schema VALUES (1);";
+    let two = "INSERT INTO schema VALUES (2);";
+    assert!(rt; found(alloc, older.as_str(), one) == Ok(0));
+    assert!(rt; found(alloc, older.as_str(), two) == Err(KeeperRefusal::Fault));
+    assert!(rt; found(alloc, older.as_str(), "") == Err(KeeperRefusal::Fault));
+    assert!(rt; found(alloc, OLDER_HISTORY, "") == Err(KeeperRefusal::Fault));
+    assert!(rt; found(alloc, all.as_str(), one) == Err(KeeperRefusal::Fault));
+    assert!(rt; found(alloc, all.as_str(), two) == Ok(0));
+    let more = older.replace(
+        alloc,
+        "  time_changed INTEGER NOT NULL\n",
+        "  time_changed INTEGER NOT NULL,\n  more INTEGER\n",
+    )?;
+    assert!(rt; found(alloc, more.as_str(), one) == Err(KeeperRefusal::Fault));
     Ok(())
 }
 
@@ -330,21 +456,31 @@ fn another_file_is_left_as_it_was(rt: HostRuntime) -> Result<(), Fail> {
     fs::create_dir(&rt, "history_sqlite_left")?;
     let tables = format!(in alloc; "{SCHEMA}{HISTORY}")?;
     let strange =
+        "INSERT INTO schema VALUES (2); INSERT INTO history2 VALUES (1, 't', 1, x'00', 'c', '1', '2', x'00', 0, 100, 0, 5, 5, 0, NULL, NULL);";
+    let older_tables = format!(in alloc; "{SCHEMA}{OLDER_HISTORY}")?;
+    let older_strange =
         "INSERT INTO schema VALUES (1); INSERT INTO history VALUES (1, 't', 1, x'00', 'c', '1', '2', x'00', 0, 100, 0, 5, 5);";
     make_file(
         &rt,
         "history_sqlite_left/number.db",
         tables.as_str(),
-        "INSERT INTO schema VALUES (2);",
+        "INSERT INTO schema VALUES (3);",
     )?;
     assert!(rt; is_left(&rt, "history_sqlite_left/number.db")?);
     make_file(&rt, "history_sqlite_left/row.db", tables.as_str(), strange)?;
     assert!(rt; is_left(&rt, "history_sqlite_left/row.db")?);
     make_file(
         &rt,
+        "history_sqlite_left/older.db",
+        older_tables.as_str(),
+        older_strange,
+    )?;
+    assert!(rt; is_left(&rt, "history_sqlite_left/older.db")?);
+    make_file(
+        &rt,
         "history_sqlite_left/table.db",
         SCHEMA,
-        "INSERT INTO schema VALUES (1);",
+        "INSERT INTO schema VALUES (2);",
     )?;
     assert!(rt; is_left(&rt, "history_sqlite_left/table.db")?);
     fs::write(

@@ -209,6 +209,9 @@ fn row(alloc: Global, entry: u32) -> Result<Row, Fail> {
         reason: 0,
         time_added: 10,
         time_changed: 20,
+        duration: 0,
+        protocol: None,
+        retry_of: None,
     })
 }
 

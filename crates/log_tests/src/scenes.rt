@@ -178,6 +178,9 @@ pub fn row(
         reason: 0,
         time_added: 7,
         time_changed: 7,
+        duration: 0,
+        protocol: None,
+        retry_of: None,
     })
 }
 

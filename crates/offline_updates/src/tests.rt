@@ -21,6 +21,9 @@ fn row(entry: u32, state: RowState) -> Result<Row, Fail> {
         reason: 0,
         time_added: 1000,
         time_changed: 1000,
+        duration: 0,
+        protocol: None,
+        retry_of: None,
     })
 }
 

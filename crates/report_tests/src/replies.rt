@@ -40,12 +40,12 @@ const REPLIES: [(Scene, Ask, &str); 31] = [
     (
         Scene::Installed,
         Ask::History,
-        "  1 t1 usb1 1.0.0 1.1.0 success 0\n",
+        "  1 t1 usb1 1.0.0 1.1.0 success 0 0 -\n",
     ),
     (
         Scene::Installed,
         Ask::Results("usb1"),
-        "  1 t1 usb1 1.0.0 1.1.0 success 0\n",
+        "  1 t1 usb1 1.0.0 1.1.0 success 0 0 -\n",
     ),
     (Scene::Installed, Ask::Settle("usb1"), "  nothing\n"),
     (
@@ -76,7 +76,7 @@ const REPLIES: [(Scene, Ask, &str); 31] = [
     (
         Scene::Unplugged,
         Ask::Results("usb1"),
-        "  1 t1 usb1 1.0.0 1.1.0 success 0\n",
+        "  1 t1 usb1 1.0.0 1.1.0 success 0 0 -\n",
     ),
     (
         Scene::Unplugged,
@@ -118,12 +118,12 @@ const REPLIES: [(Scene, Ask, &str); 31] = [
     (
         Scene::Hindered,
         Ask::History,
-        "  4 t4 f416d44c605f8de852340c776b1f6c75258bf1e6 1.0.0 1.1.0 needs-reboot 0\n  3 t3 a6dfdeaa3a44a4c52d44284847d7160892b4017e 1.0.0 1.1.0 begun 0\n  2 t2 usb1 1.0.0 1.1.0 pending 0\n  1 t1 usb1 1.0.0 1.1.0 failed 4\n",
+        "  4 t4 f416d44c605f8de852340c776b1f6c75258bf1e6 1.0.0 1.1.0 needs-reboot 0 0 -\n  3 t3 a6dfdeaa3a44a4c52d44284847d7160892b4017e 1.0.0 1.1.0 begun 0 0 -\n  2 t2 usb1 1.0.0 1.1.0 pending 0 30 org.usb.dfu\n  1 t1 usb1 1.0.0 1.1.0 failed 4 0 -\n",
     ),
     (
         Scene::Hindered,
         Ask::Results("usb1"),
-        "  2 t2 usb1 1.0.0 1.1.0 pending 0\n",
+        "  2 t2 usb1 1.0.0 1.1.0 pending 0 30 org.usb.dfu\n",
     ),
     (Scene::Hindered, Ask::Results("usb2"), "  none\n"),
     (Scene::Hindered, Ask::Settle("usb1"), "  waits 2\n"),
@@ -135,7 +135,7 @@ const REPLIES: [(Scene, Ask, &str); 31] = [
     (
         Scene::Begun,
         Ask::History,
-        "  1 t9 usb1 1.1.0 1.2.0 begun 0\n",
+        "  1 t9 usb1 1.1.0 1.2.0 begun 0 0 -\n",
     ),
     (Scene::Begun, Ask::Settle("usb1"), "  waits 1\n"),
 ];
@@ -249,7 +249,7 @@ fn rows_from(alloc: Global, newest: u32, last: &str) -> Result<String, Fail> {
     let mut text = String::new(alloc);
     for at in 0..newest.min(64) {
         let entry = newest.saturating_sub(at);
-        text.push_str(&format!(in alloc; "  {entry} t{entry} usb1 1.0.0 1.1.0 success 0\n")?)?;
+        text.push_str(&format!(in alloc; "  {entry} t{entry} usb1 1.0.0 1.1.0 success 0 0 -\n")?)?;
     }
     text.push_str(last)?;
     Ok(text)

@@ -204,6 +204,9 @@ fn row(alloc: Global, entry: u32, port: &str, state: RowState, reason: u8) -> Re
         reason,
         time_added: 1000,
         time_changed: 1000,
+        duration: 0,
+        protocol: None,
+        retry_of: None,
     })
 }
 
@@ -269,7 +272,10 @@ const WORDS: &str =
 fn hindered_rows(alloc: Global) -> Result<Vec<Row>, Fail> {
     let mut rows = Vec::new(alloc);
     rows.push(row(alloc, 1, "usb1", RowState::Failed, 4)?)?;
-    rows.push(row(alloc, 2, "usb1", RowState::Pending, 0)?)?;
+    let mut second = row(alloc, 2, "usb1", RowState::Pending, 0)?;
+    second.duration = 30;
+    second.protocol = Some(Name::read(b"org.usb.dfu")?);
+    rows.push(second)?;
     rows.push(row(alloc, 3, "gone", RowState::Begun, 0)?)?;
     rows.push(row(alloc, 4, "away", RowState::NeedsReboot, 0)?)?;
     Ok(rows)

@@ -15,7 +15,7 @@ const PIECES: [&str; 10] = [
     "client 1 get-devices\n  usb1 1.1.0 runtime flags updatable problems - guids 2082b5e0-7a64-478a-b1b2-e3404fab6dad name\n",
     "client 1 get-releases usb1\n  com.example.hub 1.1.0 urgency unknown size 14 same\n  com.example.hub 1.0.0 urgency unknown size 14 older\n",
     "client 1 get-upgrades usb1\n  none\n",
-    "client 1 get-history\n  1 t1 usb1 1.0.0 1.1.0 success 0\n",
+    "client 1 get-history\n  1 t1 usb1 1.0.0 1.1.0 success 0 0 -\n",
     "client 1 settle usb1\n  nothing\n",
     "client 1 unplug usb1 done\n",
     "client 1 get-upgrades usb1\n  refused 1 no-device\n",

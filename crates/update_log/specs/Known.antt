@@ -113,7 +113,8 @@ refusal_number (Refusal.Payload note) = 14
 refusal_number Refusal.RowsFull = 15
 refusal_number Refusal.KeeperFault = 16
 
--- The row that an accepted request adds. Its version is that of the release, as the catalogue has it.
+-- The row that an accepted request adds. Its version is that of the release, as the catalogue has it, and its duration and protocol are
+-- those of the device's sheet.
 abbrev pub new_row : ℕ → ℕ → ℕ → Request → RowState → Target → Row
 new_row entry time client request state t =
     record {
@@ -130,6 +131,9 @@ new_row entry time client request state t =
       reason = 0;
       time_added = time;
       time_changed = time;
+      duration = t.view.sheet.duration;
+      protocol = t.view.sheet.protocol;
+      retry_of = None;
     }
 
 -- The change that adds it, with the next entry.

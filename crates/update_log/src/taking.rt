@@ -42,6 +42,9 @@ pub fn new_row(
         reason: 0,
         time_added: time,
         time_changed: time,
+        duration: target.view.sheet.duration,
+        protocol: target.view.sheet.protocol,
+        retry_of: None,
     })
 }
 

@@ -1,7 +1,8 @@
 use Rattle.std.proofs.Common.{◌≡◌, ◌∙◌, sym}
 use Rattle.history_keeper.specs.declared.refusal.KeeperRefusal.TheVariants.{Fault}
 use Rattle.sqlite.specs.Held.{state}
-use Rattle.history_sqlite.proofs.Effects.{adds, stays, refused_stays}
+use Rattle.history_sqlite.proofs.Effects.{stays, refused_stays}
+use Rattle.history_sqlite.proofs.Inserting.{adds}
 use Rattle.history_sqlite.proofs.statements.insert.Goals as goal
 
 pub returns-in-Ok-clause-adds : goal.returns-in-Ok-clause-adds

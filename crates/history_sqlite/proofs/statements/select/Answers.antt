@@ -1,7 +1,7 @@
 use Rattle.std.proofs.Common.{◌≡◌, ◌∙◌, sym}
 use Rattle.history_keeper.specs.declared.refusal.KeeperRefusal.TheVariants.{Fault}
 use Rattle.sqlite.specs.Held.{state}
-use Rattle.history_sqlite.proofs.Effects.{gives, gives_nothing}
+use Rattle.history_sqlite.proofs.Selecting.{gives, gives_nothing}
 use Rattle.history_sqlite.proofs.statements.select.Goals as goal
 
 pub returns-in-Ok-clause-gives : goal.returns-in-Ok-clause-gives

@@ -7,7 +7,7 @@ use Rattle.sqlite.proofs.StateLemmas.{survives_then}
 use Rattle.sqlite.proofs.Callers.{survives_begin}
 use Rattle.history_sqlite.specs.Tables.{HoldsRows, IsNumbered, MakesBoth, no_schema, schema_number}
 use Rattle.history_sqlite.proofs.Making.{makes, made_within}
-use Rattle.history_sqlite.proofs.Opening.{not_again, in_one}
+use Rattle.history_sqlite.proofs.Opening.{not_again, older_not_again, in_one}
 use Rattle.history_sqlite.proofs.tables.make_tables.Goals as goal
 
 pub returns-clause-opens : goal.returns-clause-opens
@@ -27,14 +27,17 @@ returns-clause-opens g c clean =
     let second = c.in_ok-execute-2.ensures.runs clean2 first.1.mode in
     let third = c.in_ok-execute-3.ensures.runs clean3 second.1.mode in
     let last = c.in_ok-commit.ensures.ok late in (
-      λ rows holds. absurd (not_again (state g.D.Store start) (state g.D.Store one) c.in_ok-execute.field-0 (rw begun holds.schema) first.0),
-      λ blank.
-          let was : start.schema ≡ no_schema = rw begun blank.schema in
-          let limit : start.step_limit ≡ None = rw begun blank.unlimited in
-          subst (λ h. HoldsRows (state g.D.Store h) []) same
-          (makes (state g.D.Store start) (state g.D.Store one) (state g.D.Store two) (state g.D.Store three) (state g.D.Store end) c.in_ok-execute.field-0 c.in_ok-execute-2.field-0 c.in_ok-execute-3.field-0
-          was first.0 second.0 third.0 last.1
-          (c.commit.ensures.survives.limit ∙ c.execute-3.ensures.survives.limit ∙ c.execute-2.ensures.survives.limit ∙ c.execute.ensures.survives.limit ∙ limit)),
+      λ rows holds. absurd (not_again holds.layout (state g.D.Store start) (state g.D.Store one) c.in_ok-execute.field-0 (rw begun holds.schema) first.0),
+      (
+        λ rows holds. absurd (older_not_again (state g.D.Store start) (state g.D.Store one) c.in_ok-execute.field-0 (rw begun holds.schema) first.0),
+        λ blank.
+            let was : start.schema ≡ no_schema = rw begun blank.schema in
+            let limit : start.step_limit ≡ None = rw begun blank.unlimited in
+            subst (λ h. HoldsRows (state g.D.Store h) []) same
+            (makes (state g.D.Store start) (state g.D.Store one) (state g.D.Store two) (state g.D.Store three) (state g.D.Store end) c.in_ok-execute.field-0 c.in_ok-execute-2.field-0 c.in_ok-execute-3.field-0
+            was first.0 second.0 third.0 last.1
+            (c.commit.ensures.survives.limit ∙ c.execute-3.ensures.survives.limit ∙ c.execute-2.ensures.survives.limit ∙ c.execute.ensures.survives.limit ∙ limit)),
+      ),
     )
 
 pub returns-then-not-is_autocommit-clause-cause : goal.returns-then-not-is_autocommit-clause-cause

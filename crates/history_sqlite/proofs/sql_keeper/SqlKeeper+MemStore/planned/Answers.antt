@@ -10,7 +10,7 @@ use Rattle.history_sqlite.proofs.TellingLemmas.{knows, told_rows}
 use Rattle.history_sqlite.proofs.sql_keeper.SqlKeeper+MemStore.planned.Goals as goal
 
 made : (old new : Held MemStore) → IsEmpty (state over_memory old) → IsNew old → (HasCleanDisk (state over_memory new) → Opens (state over_memory old) (state over_memory new)) → HoldsRows (state over_memory new) []
-made old new empty fresh opens = (opens (memory_is_clean new)).1 (record { is_open = empty.0.is_open; schema = empty.2; autocommit = empty.0.autocommit; unlimited = fresh.unlimited })
+made old new empty fresh opens = (opens (memory_is_clean new)).1.1 (record { is_open = empty.0.is_open; schema = empty.2; autocommit = empty.0.autocommit; unlimited = fresh.unlimited })
 
 pub invariant_of-result : goal.invariant_of-result
 invariant_of-result c =

@@ -1,7 +1,9 @@
-use Rattle.std.proofs.Common.{◌≡◌, ◌⊎◌, [], Err, inl, inr, subst}
+use Rattle.std.proofs.Common.{◌≡◌, [], map, Err, inl, inr, subst}
 use Rattle.std.proofs.lemmas.Result.{err_from_is_err_and}
 use Rattle.history_keeper.specs.declared.refusal.KeeperRefusal.TheVariants.{Fault}
-use Rattle.history_sqlite.specs.Finding.{HasNeither, IsOurs, FailsToOpen}
+use Rattle.history_sqlite.specs.Causes.{FailsToOpen}
+use Rattle.history_sqlite.specs.Columns.{taken_over}
+use Rattle.history_sqlite.specs.Finding.{IsAdopted}
 use Rattle.sqlite.specs.Held.{state}
 use Rattle.history_sqlite.proofs.Opening.{opened_after, unlimited}
 use Rattle.history_sqlite.proofs.sql_keeper.SqlKeeper.adopt_planned.Goals as goal
@@ -12,10 +14,10 @@ returns-clause-opens g c clean =
     let set = c.set_step_limit.new.self in
     let made = c.open_tables.new.connection in
     let opens = opened_after (state g.D.Store first) (state g.D.Store set) (state g.D.Store made) (unlimited g.D.Store first set c.set_step_limit.ensures) (c.in_ok-open_tables.ensures.opens (c.load_rows.ensures.clean clean)) in
-    let loads = c.in_ok-_rows.ensures.loads clean in (λ rows holds. (loads rows (opens.0 rows holds)).1, λ blank. (loads [] (opens.1 blank)).1)
+    let loads = c.in_ok-_rows.ensures.loads clean in (λ rows holds. (loads rows (opens.0 rows holds)).1, (λ rows holds. (loads (map taken_over rows) (opens.1.0 rows holds)).1, λ blank. (loads [] (opens.1.1 blank)).1))
 
-pub returns-clause-ours : goal.returns-clause-ours
-returns-clause-ours g c clean = subst (λ h. HasNeither h.schema ⊎ IsOurs g.D.Store h) c.set_step_limit.ensures (c.in_ok-open_tables.ensures.ours (c.load_rows.ensures.clean clean))
+pub returns-clause-adopted : goal.returns-clause-adopted
+returns-clause-adopted g c clean = subst (IsAdopted g.D.Store) c.set_step_limit.ensures (c.in_ok-open_tables.ensures.adopted (c.load_rows.ensures.clean clean))
 
 pub returns-in_err-open_tables-clause-cause : goal.returns-in_err-open_tables-clause-cause
 returns-in_err-open_tables-clause-cause g c is =
