@@ -1,5 +1,5 @@
 //! The report of the whole history.
-ghost use Rattle.std.specs.Prelude.{◌≡◌, ◌≤◌, [], None, IfSome};
+ghost use Rattle.std.specs.Prelude.{◌≡◌, ◌≤◌, ◌⊎◌, [], None, IfSome};
 ghost use Rattle.outer_traits.specs.Faults.{Rose};
 ghost use Rattle.report_queue.specs.Reports.{end_of, IsBeforeMarks, IsRead, Reports};
 
@@ -54,6 +54,7 @@ pub fn report_history<K: Keeper, M: MarkKeeper, T: Sink>(
     ensures history_fault { result.end ≡ ReportEnd.HistoryFault → Rose (K.faults keeper.old) (K.faults keeper.new) }
     ensures mark_fault { result.end ≡ ReportEnd.MarkFault → Rose (M.faults marks.old) (M.faults marks.new) }
     ensures sink_fault { result.end ≡ ReportEnd.SinkFault → Rose (T.faults out.old) (T.faults out.new) }
+    ensures sink_quiet { (result.end ≡ ReportEnd.SinkFault) ⊎ (T.faults out.new ≡ T.faults out.old) }
     ensures counts_rows { K.faults keeper.old ≤ K.faults keeper.new }
     ensures counts_marks { M.faults marks.old ≤ M.faults marks.new }
     ensures counts_out { T.faults out.old ≤ T.faults out.new }
@@ -97,6 +98,7 @@ fn report_rows<M: MarkKeeper, T: Sink>(
     ensures out_stays { IsBeforeMarks result → out.new ≡ out.old }
     ensures mark_fault { result ≡ ReportEnd.MarkFault → Rose (M.faults marks.old) (M.faults marks.new) }
     ensures sink_fault { result ≡ ReportEnd.SinkFault → Rose (T.faults out.old) (T.faults out.new) }
+    ensures sink_quiet { (result ≡ ReportEnd.SinkFault) ⊎ (T.faults out.new ≡ T.faults out.old) }
     ensures counts_marks { M.faults marks.old ≤ M.faults marks.new }
     ensures counts_out { T.faults out.old ≤ T.faults out.new }
 {

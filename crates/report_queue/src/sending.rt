@@ -1,5 +1,5 @@
 //! The sending of reports.
-ghost use Rattle.std.specs.Prelude.{◌≡◌, ◌≤◌, ◌<◌, None, All, AllPairs, Contains, map, IsErrOf};
+ghost use Rattle.std.specs.Prelude.{◌≡◌, ◌≤◌, ◌<◌, None, All, AllPairs, Contains, map, IsErrOf, OnOk};
 ghost use Rattle.std.specs.Option.{ForSome};
 ghost use Rattle.outer_traits.specs.Faults.{Rose};
 ghost use Rattle.history_keeper.specs.Histories.{IsHistory};
@@ -31,6 +31,9 @@ pub fn send_reports<M: MarkKeeper, T: Sink>(
     ensures sends { Sends rows.now max result (record { marks = M.marks marks.old; doubt = M.doubt marks.old; taken = T.taken out.old }) (record { marks = M.marks marks.new; doubt = M.doubt marks.new; taken = T.taken out.new }) }
     ensures keeper_fault { IsErrOf result SendStop.KeeperFault → Rose (M.faults marks.old) (M.faults marks.new) }
     ensures sink_fault { IsErrOf result SendStop.SinkFault → Rose (T.faults out.old) (T.faults out.new) }
+    ensures quiet { OnOk result (T.faults out.new ≡ T.faults out.old) }
+    ensures quiet_keeper { IsErrOf result SendStop.KeeperFault → T.faults out.new ≡ T.faults out.old }
+    ensures quiet_no_memory { IsErrOf result SendStop.NoMemory → T.faults out.new ≡ T.faults out.old }
     ensures counts_marks { M.faults marks.old ≤ M.faults marks.new }
     ensures counts_out { T.faults out.old ≤ T.faults out.new }
 {
@@ -54,6 +57,9 @@ fn send_each<M: MarkKeeper, T: Sink>(
     ensures sends { SendsEach (map (λ row. row.now) rows.now) result (record { marks = M.marks marks.old; doubt = M.doubt marks.old; taken = T.taken out.old }) (record { marks = M.marks marks.new; doubt = M.doubt marks.new; taken = T.taken out.new }) }
     ensures keeper_fault { IsErrOf result SendStop.KeeperFault → Rose (M.faults marks.old) (M.faults marks.new) }
     ensures sink_fault { IsErrOf result SendStop.SinkFault → Rose (T.faults out.old) (T.faults out.new) }
+    ensures quiet { OnOk result (T.faults out.new ≡ T.faults out.old) }
+    ensures quiet_keeper { IsErrOf result SendStop.KeeperFault → T.faults out.new ≡ T.faults out.old }
+    ensures quiet_no_memory { IsErrOf result SendStop.NoMemory → T.faults out.new ≡ T.faults out.old }
     ensures counts_marks { M.faults marks.old ≤ M.faults marks.new }
     ensures counts_out { T.faults out.old ≤ T.faults out.new }
 {
@@ -75,6 +81,9 @@ fn send_row<M: MarkKeeper, T: Sink>(
     ensures sends { SendsRow row.now result (record { marks = M.marks marks.old; doubt = M.doubt marks.old; taken = T.taken out.old }) (record { marks = M.marks marks.new; doubt = M.doubt marks.new; taken = T.taken out.new }) }
     ensures keeper_fault { IsErrOf result SendStop.KeeperFault → Rose (M.faults marks.old) (M.faults marks.new) }
     ensures sink_fault { IsErrOf result SendStop.SinkFault → Rose (T.faults out.old) (T.faults out.new) }
+    ensures quiet { OnOk result (T.faults out.new ≡ T.faults out.old) }
+    ensures quiet_keeper { IsErrOf result SendStop.KeeperFault → T.faults out.new ≡ T.faults out.old }
+    ensures quiet_no_memory { IsErrOf result SendStop.NoMemory → T.faults out.new ≡ T.faults out.old }
     ensures counts_marks { M.faults marks.old ≤ M.faults marks.new }
     ensures counts_out { T.faults out.old ≤ T.faults out.new }
 {

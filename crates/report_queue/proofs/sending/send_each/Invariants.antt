@@ -1,4 +1,4 @@
-use Rattle.std.proofs.Common.{◌≤◌, take}
+use Rattle.std.proofs.Common.{◌≡◌, ◌≤◌, take}
 use Rattle.report_queue.specs.Stops.{HasSent}
 use Rattle.report_queue.proofs.Marked.{now_of}
 use Rattle.report_queue.proofs.sending.send_each.Given as goal
@@ -10,4 +10,5 @@ invariant-loop-row g l = record {
       (record { marks = g.M.MarkKeeper.marks l.marks; doubt = g.M.MarkKeeper.doubt l.marks; taken = g.T.Sink.taken l.out });
   counts_marks : g.M.MarkKeeper.faults l.fn.marks ≤ g.M.MarkKeeper.faults l.marks;
   counts_out : g.T.Sink.faults l.fn.out ≤ g.T.Sink.faults l.out;
+  quiet : g.T.Sink.faults l.out ≡ g.T.Sink.faults l.fn.out;
 }
