@@ -128,7 +128,7 @@ fn sole_if(word: &[u8], is_sole: bool) -> Option<&[u8]>
 }
 
 /// A number from 1 to a limit.
-fn number_within(most: u32, word: &[u8]) -> Option<u32>
+pub fn number_within(most: u32, word: &[u8]) -> Option<u32>
     ensures { result ≡ number_within 1 most word.now }
 {
     let number = read_decimal(word).ok()?;

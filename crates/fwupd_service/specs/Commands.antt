@@ -1,5 +1,5 @@
 -- What a run of the program comes to, by its words.
-use Rattle.std.specs.Prelude.{◌≡◌, ◌⊎◌, ◌≤◌, ℕ, Bool, true, false, List, [], Option, Some, None}
+use Rattle.std.specs.Prelude.{◌≡◌, ◌⊎◌, ◌≤◌, ℕ, List, [], Option, Some, None}
 use Rattle.outer_traits.specs.Sinks.{Took, TookFront}
 use Rattle.fw_facts.specs.declared.machine.MachineFacts.{MachineFacts}
 use Rattle.history_keeper.specs.declared.change.Change.{Change}
@@ -19,16 +19,6 @@ use Rattle.run_status.specs.declared.status.Status.TheVariants as statuses
 use Rattle.fwupd_service.specs.Makes.{MakeEnds}
 use Rattle.fwupd_service.specs.Tops.{Left, NothingBegan, RunEnds}
 
--- Whether the words play over the history: `run` alone does.
-abbrev pub keeps_history : Option Command → Bool
-keeps_history None = false
-keeps_history (Some commands.Run) = true
-keeps_history (Some commands.Check) = false
-keeps_history (Some commands.Remotes) = false
-keeps_history (Some (commands.Explain port version)) = false
-keeps_history (Some (commands.Ids texts)) = false
-keeps_history (Some (commands.Make boards clients)) = false
-
 -- The shelves are those that came, but under `run`, whose clients fetch from them.
 abbrev pub KeepsShelves : {P : Type 0} → Option Command → List P → List P → Type 0
 KeepsShelves None old new = new ≡ old
@@ -38,6 +28,7 @@ KeepsShelves (Some commands.Remotes) old new = new ≡ old
 KeepsShelves (Some (commands.Explain port version)) old new = new ≡ old
 KeepsShelves (Some (commands.Ids texts)) old new = new ≡ old
 KeepsShelves (Some (commands.Make boards clients)) old new = new ≡ old
+KeepsShelves (Some (commands.Report max)) old new = new ≡ old
 
 -- No campaign began, and the keeper is as it came.
 pub record NothingHappened {K : Type 0} (keeper : K) (left : Left K) : Type 0 where
@@ -93,7 +84,14 @@ pub record NothingDone {K : Type 0} (keeper : K) (left : Left K) (old new before
   pub unread : new ≡ old
   pub nothing : NothingBegan keeper left before after
 
--- The numbers of `make` are within their limits; the other commands have none.
+-- `report`: nothing was read from the source, no campaign began, and the rows are left.
+pub record Looked {K : Type 0} (told : K → Option (List Row)) (keeper : K) (left : Left K) (old new : Option (List ℕ)) : Type 0 where
+  pub unread : new ≡ old
+  pub log : left.log ≡ []
+  pub boards : left.boards ≡ None
+  pub rows_stay : told left.keeper ≡ told keeper
+
+-- The numbers of `make` and of `report` are within their limits; the other commands have none.
 pub record IsWithin (least most n : ℕ) : Type 0 where
   pub low : least ≤ n
   pub high : n ≤ most
@@ -109,6 +107,7 @@ CommandFits commands.Check = Unit {0}
 CommandFits commands.Remotes = Unit {0}
 CommandFits (commands.Explain port version) = Unit {0}
 CommandFits (commands.Ids texts) = Unit {0}
+CommandFits (commands.Report max) = IsWithin 1 65536 max
 
 -- The command ends so.
 abbrev pub CommandEnds : {K : Type 0} → (K → Option (List Row)) → (K → Option Change) → (K → ℕ) → List ShelfTold → List ShelfTold → List PluginSheet → (MachineFacts → List PluginVetoes) → Command → Status → K → Left K → Option (List ℕ) → Option (List ℕ) → Option (List ℕ) → Option (List ℕ) → Type 0
@@ -124,6 +123,8 @@ CommandEnds told doubted faults shelves now sheets vetoes (commands.Explain port
     Explained sheets vetoes port version status keeper left old new before after
 CommandEnds told doubted faults shelves now sheets vetoes (commands.Ids texts) status keeper left old new before after =
     Identified texts status keeper left old new before after
+CommandEnds told doubted faults shelves now sheets vetoes (commands.Report max) status keeper left old new before after =
+    Looked told keeper left old new
 
 -- Words that are no command do nothing; those that are one do what it does, unless there was no memory to
 -- read them.

@@ -13,12 +13,13 @@ mod others;
 mod own_keeper;
 mod playing;
 pub mod ran;
+mod report;
 pub mod reporting;
 mod run;
 mod telling;
 pub mod top;
 
-pub use keeping::keeps_history;
+pub use keeping::{Kept, kept_by};
 pub use ran::Ran;
 pub use run_status::Status;
 pub use top::run_campaign;

@@ -9,7 +9,7 @@ ghost use Rattle.fwupd_service.specs.Begins.{CanBePlayed, IsReadyFor};
 ghost use Rattle.fwupd_service.specs.Tops.{RunEnds, Went, stop_status};
 
 use crate::playing::play;
-use crate::ran::Ran;
+use crate::ran::RunLeft;
 use crate::reporting::reported;
 use campaign_inputs::{ClientLimit, OpenStop, Ready, open_campaign};
 use history_keeper::Keeper;
@@ -37,7 +37,7 @@ pub(crate) fn run<
     plugins: Vec<Box<dyn Plugin>>,
     gate: &G,
     out: &mut T,
-) -> Ran<P, K>
+) -> RunLeft<P, K>
     requires few_plugins { length plugins.items ≤ 64 }
     requires no_doubt { K.doubt keeper ≡ None }
     ensures ends { RunEnds K.rows K.doubt K.faults (shelves_told P.files P.faults shelves.items) (shelves_told P.files P.faults result.shelves.items) (map (λ p. own_sheet p) plugins.items)
@@ -55,7 +55,7 @@ pub(crate) fn run<
     let limit = ClientLimit::Shelves(shelves.len());
     match open_campaign(alloc, source, limit, plugins) {
         Ok(ready) => run_ready(rt, alloc, ready, shelves, keeper, gate, out),
-        Err(stop) => Ran::nothing(alloc, stop_status(stop), shelves, keeper),
+        Err(stop) => RunLeft::nothing(alloc, stop_status(stop), shelves, keeper),
     }
 }
 
@@ -82,7 +82,7 @@ fn run_ready<R: Threads + Wait + Sync, P: Shelf + Send, K: Keeper + Send, T: Sin
     keeper: K,
     gate: &G,
     out: &mut T,
-) -> Ran<P, K>
+) -> RunLeft<P, K>
     requires ready { CanBePlayed ready.campaign }
     requires shelves { IsReadyFor (length shelves.items) (length ready.plugins.items) ready.campaign }
     requires no_doubt { K.doubt keeper ≡ None }
@@ -97,6 +97,6 @@ fn run_ready<R: Threads + Wait + Sync, P: Shelf + Send, K: Keeper + Send, T: Sin
     let (outcome, shelves) = play(rt, alloc, ready, shelves, keeper, gate);
     match outcome {
         Ok(played) => reported(alloc, played, shelves, out),
-        Err(keeper) => Ran::nothing(alloc, Status::NoMemory, shelves, keeper),
+        Err(keeper) => RunLeft::nothing(alloc, Status::NoMemory, shelves, keeper),
     }
 }

@@ -6,11 +6,13 @@ ghost use Rattle.std.specs.Prelude.{◌≡◌, None};
 
 use board_plugins::{Capsule, Flash, Loader, Power};
 use fw_base::NoMemory;
-use fwupd_service::{Ran, Status, keeps_history, run_campaign};
+use fwupd_service::{Kept, Ran, Status, kept_by, run_campaign};
 use history_keeper::{Keeper, KeeperRefusal, MemoryKeeper};
 use history_sqlite::FileKeeper;
+use marks_sqlite::FileMarks;
 use outer_traits::{FolderShelf, NoGate, ReadSource, WriteSink};
 use plugin_trait::Plugin;
+use report_queue::{MarkKeeper, MemoryMarks};
 use std::io::{BufWriter, IsTerminal, Write};
 use std::process::ExitCode;
 use std::rt::{HostRuntime, Runtime};
@@ -25,13 +27,16 @@ const SHELF: &str = "payloads";
 /// The file of the history, in the folder where the program is called.
 const HISTORY: &str = "history.db";
 
+/// The file of the marks of reported rows, in the folder where the program is called.
+const MARKS: &str = "reports.db";
+
 /// How many bytes of the output are gathered before they are handed on.
 const GATHERED: usize = 65_536;
 
 /// How many shelves there are, one for each client.
 const SHELVES: u32 = 16;
 
-/// Runs the command of the command line, over the history where it is one that keeps it. `host` is the same
+/// Runs the command of the command line, over the keepers that it is about. `host` is the same
 /// runtime, of which the history's file and the shelves are made. `NoMemory` comes only where the words, the
 /// shelves or the plugins couldn't be made.
 fn run<R: Runtime + AllocGlobal + Threads + Wait + Sync>(
@@ -52,10 +57,10 @@ fn run<R: Runtime + AllocGlobal + Threads + Wait + Sync>(
     for word in &words {
         texts.push(word.as_bytes())?;
     }
-    if keeps_history(alloc, &texts)? {
-        run_over_history(rt, host, &texts)
-    } else {
-        run_over_nothing(rt, host, &texts)
+    match kept_by(alloc, &texts)? {
+        Kept::Nothing => run_over_nothing(rt, host, &texts),
+        Kept::History => run_over_history(rt, host, &texts),
+        Kept::HistoryAndMarks => report_over_files(rt, host, &texts),
     }
 }
 
@@ -68,7 +73,7 @@ fn run_over_history<R: Runtime + AllocGlobal + Threads + Wait + Sync>(
     match FileKeeper::open(host, HISTORY) {
         Ok(history) => {
             FileKeeper::crosses();
-            run_over(rt, host, words, history)
+            run_gathered(rt, host, words, history)
         }
         Err(KeeperRefusal::Fault) => Ok(Status::KeeperFault),
         Err(KeeperRefusal::NoMemory) => Ok(Status::NoMemory),
@@ -83,17 +88,65 @@ fn run_over_nothing<R: Runtime + AllocGlobal + Threads + Wait + Sync>(
 ) -> Result<Status, NoMemory> {
     let alloc = rt.alloc();
     let unused = MemoryKeeper::new(Vec::new(alloc), Vec::new(alloc));
-    run_over(rt, host, words, unused)
+    run_gathered(rt, host, words, unused)
 }
 
-/// Hands the words and a keeper to the top call, with the real input, output, shelves and plugins. The output is
-/// gathered, so that a long report takes few calls of the system; what can't be handed on at the end is a fault
-/// of writing, whatever came before.
-fn run_over<R: Runtime + AllocGlobal + Threads + Wait + Sync, K: Keeper + Send + Drop>(
+/// Opens the history and the marks in their files, and runs over both. Each line goes out by itself: a line that is
+/// gathered would be lost by a stop, though its row is marked.
+fn report_over_files<R: Runtime + AllocGlobal + Threads + Wait + Sync>(
+    rt: &R,
+    host: &HostRuntime,
+    words: &[&[u8]],
+) -> Result<Status, NoMemory> {
+    let history = match FileKeeper::open(host, HISTORY) {
+        Ok(history) => history,
+        Err(KeeperRefusal::Fault) => return Ok(Status::KeeperFault),
+        Err(KeeperRefusal::NoMemory) => return Ok(Status::NoMemory),
+    };
+    let marks = match FileMarks::open(host, MARKS) {
+        Ok(marks) => marks,
+        Err(KeeperRefusal::Fault) => return Ok(Status::KeeperFault),
+        Err(KeeperRefusal::NoMemory) => return Ok(Status::NoMemory),
+    };
+    FileKeeper::crosses();
+    run_over(rt, host, words, history, marks, &mut io::writer(rt))
+}
+
+/// Runs over a keeper of the history, without marks. The output is gathered, so that a long report takes few calls of
+/// the system; what can't be handed on at the end is a fault of writing, whatever came before.
+fn run_gathered<R: Runtime + AllocGlobal + Threads + Wait + Sync, K: Keeper + Send + Drop>(
     rt: &R,
     host: &HostRuntime,
     words: &[&[u8]],
     keeper: K,
+) -> Result<Status, NoMemory>
+    requires no_doubt { K.doubt keeper ≡ None }
+{
+    let alloc = rt.alloc();
+    let Ok(mut gathered) = BufWriter::with_capacity(alloc, GATHERED, io::writer(rt)) else {
+        return Err(NoMemory);
+    };
+    let unused = MemoryMarks::new(Vec::new(alloc), Vec::new(alloc));
+    let status = run_over(rt, host, words, keeper, unused, &mut gathered)?;
+    match gathered.flush() {
+        Ok(()) => Ok(status),
+        Err(_) => Ok(Status::SinkFault),
+    }
+}
+
+/// Hands the words and the keepers to the top call, with the real input, shelves and plugins.
+fn run_over<
+    R: Runtime + AllocGlobal + Threads + Wait + Sync,
+    K: Keeper + Send + Drop,
+    M: MarkKeeper + Drop,
+    W: Write,
+>(
+    rt: &R,
+    host: &HostRuntime,
+    words: &[&[u8]],
+    keeper: K,
+    marks: M,
+    output: &mut W,
 ) -> Result<Status, NoMemory>
     requires no_doubt { K.doubt keeper ≡ None }
 {
@@ -105,10 +158,7 @@ fn run_over<R: Runtime + AllocGlobal + Threads + Wait + Sync, K: Keeper + Send +
     plugins.push(Box::new(alloc, Power::new(alloc)?)?)?;
     let shelves = shelves(host)?;
     let mut source = ReadSource::new(rt.reader());
-    let Ok(mut gathered) = BufWriter::with_capacity(alloc, GATHERED, io::writer(rt)) else {
-        return Err(NoMemory);
-    };
-    let mut sink = WriteSink::new(&mut gathered);
+    let mut sink = WriteSink::new(output);
     let ran = run_campaign(
         rt,
         alloc,
@@ -116,6 +166,7 @@ fn run_over<R: Runtime + AllocGlobal + Threads + Wait + Sync, K: Keeper + Send +
         &mut source,
         shelves,
         keeper,
+        marks,
         plugins,
         &NoGate,
         &mut sink,
@@ -126,12 +177,10 @@ fn run_over<R: Runtime + AllocGlobal + Threads + Wait + Sync, K: Keeper + Send +
         opening: _,
         boards: _,
         keeper: _,
+        marks: _,
         shelves: _,
     } = ran;
-    match gathered.flush() {
-        Ok(()) => Ok(status),
-        Err(_) => Ok(Status::SinkFault),
-    }
+    Ok(status)
 }
 
 /// The shelves, all over one folder.

@@ -16,6 +16,7 @@ Commands:
   explain PORT VERSION  tells which requirements hold for the device there
   ids TEXT ..           writes the GUID of each text
   make N [--clients C]  plays a generated campaign of N boards and C clients
+  report [--max N]      writes a line for each settled install, and each once
 
 The document comes on standard input; fwupdemu-document(5) and docs/FORMATS.md
 describe it. `run` takes payloads from the folder payloads/, and keeps its
