@@ -11,13 +11,18 @@ _fwupdemu() {
         ;;
     esac
     if [ "$COMP_CWORD" -eq 1 ]; then
-        mapfile -t COMPREPLY < <(compgen -W 'run check remotes explain plan update ids make' -- "$current")
+        mapfile -t COMPREPLY < <(compgen -W 'run check remotes explain plan update ids make report' -- "$current")
         return
     fi
     case ${COMP_WORDS[1]} in
     make)
         case $current in
         -*) mapfile -t COMPREPLY < <(compgen -W '--clients' -- "$current") ;;
+        esac
+        ;;
+    report)
+        case $current in
+        -*) mapfile -t COMPREPLY < <(compgen -W '--max' -- "$current") ;;
         esac
         ;;
     esac

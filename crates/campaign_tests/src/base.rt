@@ -13,6 +13,7 @@ use history_keeper::{Keeper, MemoryKeeper};
 use history_sqlite::SqlKeeper;
 use outer_traits::{MemoryShelf, MemorySink, MemorySource};
 use plugin_trait::Plugin;
+use report_queue::MemoryMarks;
 use sqlite::MemStore;
 use std::alloc::Global;
 use std::sync::{Arc, Wait};
@@ -227,7 +228,7 @@ fn all_begun(alloc: Global, boards: &Option<HomeBoards>) -> Result<Vec<u32>, Fai
 /// What a campaign left, and its keeper.
 fn left_by<K: Drop>(
     alloc: Global,
-    ran: Ran<WaitingShelf<'_>, K>,
+    ran: Ran<WaitingShelf<'_>, K, MemoryMarks>,
     sink: &MemorySink,
     meeting: &Meeting,
 ) -> Result<(Left, K), Fail> {
@@ -237,6 +238,7 @@ fn left_by<K: Drop>(
         opening: _,
         boards,
         keeper,
+        marks: _,
         shelves: _,
     } = ran;
     let left = Left {
@@ -278,6 +280,7 @@ fn campaign<R: Threads + Wait + Sync, K: Keeper + Send + Drop>(
         &mut source,
         shelves,
         keeper,
+        MemoryMarks::new(Vec::new(alloc), Vec::new(alloc)),
         plugins,
         &gate,
         &mut sink,

@@ -91,6 +91,24 @@ const TAGS: [Case; 15] = [
     ),
 ];
 
+const REPORT: [Case; 15] = [
+    (&[b"report"], "report 65536"),
+    (&[b"report", b"--"], "report 65536"),
+    (&[b"report", b"--max", b"1"], "report 1"),
+    (&[b"report", b"--max=65536"], "report 65536"),
+    (&[b"report", b"--max=7", b"--"], "report 7"),
+    (&[b"report", b"--max", b"0"], "usage"),
+    (&[b"report", b"--max", b"65537"], "usage"),
+    (&[b"report", b"--max", b"07"], "usage"),
+    (&[b"report", b"--max"], "usage"),
+    (&[b"report", b"--max="], "usage"),
+    (&[b"report", b"--max", b"1", b"--max", b"1"], "usage"),
+    (&[b"report", b"--max=1", b"--max=1"], "usage"),
+    (&[b"report", b"--", b"--max=1"], "usage"),
+    (&[b"report", b"1"], "usage"),
+    (&[b"report", b"--clients=1"], "usage"),
+];
+
 const MAKE: [Case; 24] = [
     (&[b"make", b"10"], "make 10 4"),
     (&[b"make", b"1", b"--clients", b"1"], "make 1 1"),
@@ -153,6 +171,7 @@ fn shown_command(alloc: Global, command: &Command) -> Result<String, AllocError>
         Command::Update { tag } => shown_tag(alloc, "update", tag),
         Command::Ids { texts } => shown_texts(alloc, texts.items()),
         Command::Make { boards, clients } => format!(in alloc; "make {boards} {clients}"),
+        Command::Report { max } => format!(in alloc; "report {max}"),
     }
 }
 
@@ -203,6 +222,12 @@ fn texts(rt: HostRuntime) -> Result<(), Fail> {
 #[test]
 fn boards_and_clients(rt: HostRuntime) -> Result<(), Fail> {
     assert_eq!(rt; first_other(rt.alloc(), &MAKE)?.as_str(), "");
+    Ok(())
+}
+
+#[test]
+fn lines_at_most(rt: HostRuntime) -> Result<(), Fail> {
+    assert_eq!(rt; first_other(rt.alloc(), &REPORT)?.as_str(), "");
     Ok(())
 }
 

@@ -107,6 +107,22 @@ clients_of words = clients_from (before_first is_option words) (drop (position_o
 abbrev pub make_by : List (List ℕ) → Clients → Option Command
 make_by behind clients = option_and_then (make_of clients.count) (values_of clients.others behind)
 
+-- ---- `report`
+
+-- `--max=` and a number
+abbrev pub is_joined_max : List ℕ → Bool
+is_joined_max word = starts_with nat_eq word (codes "--max=")
+
+-- the most lines: the number of the option, in the word or behind it, and 65,536 without one
+abbrev pub max_of : List (List ℕ) → Option ℕ
+max_of [] = Some 65536
+max_of (option ∷ []) = if is_joined_max option then number_within 1 65536 (drop 6 option) else None
+max_of (option ∷ number ∷ more) = if bytes_eq option (codes "--max") && is_none more then number_within 1 65536 number else None
+
+-- the option or nothing, and no value
+abbrev pub report_of : List (List ℕ) → List (List ℕ) → Option Command
+report_of before behind = if is_none behind then option_map (λ max. commands.Report max) (max_of before) else None
+
 -- ---- all commands
 
 -- a command with these values
@@ -124,6 +140,7 @@ by_values name values =
 abbrev pub command_by : List ℕ → List (List ℕ) → List (List ℕ) → Option Command
 command_by name before behind =
     if bytes_eq name (codes "make") then option_and_then (make_by behind) (clients_of before)
+    else if bytes_eq name (codes "report") then report_of before behind
     else if bytes_eq name (codes "ids") then option_and_then ids_of (values_of before behind)
     else option_and_then (by_values name) (values_of before behind)
 

@@ -25,6 +25,8 @@ pub enum Command {
     Ids { texts: Listed<Text> },
     /// Plays a campaign that is made for 1 to 256 boards and 1 to 16 clients.
     Make { boards: u32, clients: u32 },
+    /// Writes a report of each judged row that wasn't reported yet, 1 to 65,536 of them.
+    Report { max: u32 },
 }
 
 /// Why words are no command.

@@ -8,6 +8,7 @@ pub mod command;
 mod make;
 mod parts;
 pub mod reading;
+mod report;
 pub mod text;
 mod values;
 

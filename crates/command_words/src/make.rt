@@ -105,7 +105,7 @@ fn made(clients: u32, front: &[&[u8]], more: &[&[u8]], behind: &[&[u8]]) -> Opti
 }
 
 /// A number from 1 to a limit.
-fn number_within(most: u32, word: &[u8]) -> Option<u32>
+pub fn number_within(most: u32, word: &[u8]) -> Option<u32>
     ensures { result ≡ number_within 1 most word.now }
 {
     let number = read_decimal(word).ok()?;

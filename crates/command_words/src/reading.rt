@@ -5,6 +5,7 @@ ghost use Rattle.command_words.specs.Commands.{Reads, by_values, command_by, com
 use crate::command::{Command, WordsFault};
 use crate::make::make;
 use crate::parts::{any_dashed, part};
+use crate::report::report;
 use crate::values::{alone, explain, ids, plan, update};
 use std::alloc::Global;
 
@@ -35,6 +36,9 @@ fn command(
 {
     if name == b"make".as_slice() {
         return make(before, behind).ok_or(WordsFault::Usage);
+    }
+    if name == b"report".as_slice() {
+        return report(before, behind).ok_or(WordsFault::Usage);
     }
     if any_dashed(before) {
         return Err(WordsFault::Usage);

@@ -1,4 +1,4 @@
--- The numbers of `make` are within their limits, and the tags of `plan` and `update` are tags of plans.
+-- The numbers of `make` and of `report` are within their limits, and the tags of `plan` and `update` are tags of plans.
 use Rattle.std.proofs.Common.{◌≡◌, ℕ, ◌≤◌, ◌==◌, List, [], ◌∷◌, length, position, Bool, true, false, ◌&&◌, cond, Option, Some, None, Result, Ok, Err, if◌then◌else◌, refl, sym, ap, ◌∙◌, subst, arith, nat_le, nat_lt, drop}
 use Rattle.std.specs.Prelude.{codes, option_and_then, option_map}
 use Rattle.std.specs.List.{before_first, after_first, position_or_len}
@@ -12,7 +12,7 @@ use Rattle.version_formats.specs.Versions.{version_read}
 use Rattle.fw_base.specs.Decimals.{number_read}
 use Rattle.command_words.specs.declared.command.Command.{Command}
 use Rattle.command_words.specs.declared.command.Command.TheVariants as commands
-use Rattle.command_words.specs.Commands.{Clients, by_values, clients_by, clients_from, clients_next, clients_of, command_by, command_of, explain_of, explained, ids_of, is_joined, is_none, is_option, make_by, make_of, number_within, plan_of, sole_of, tag_of, tag_read, update_of}
+use Rattle.command_words.specs.Commands.{Clients, by_values, clients_by, clients_from, clients_next, clients_of, command_by, command_of, explain_of, explained, ids_of, is_joined, is_joined_max, is_none, is_option, make_by, make_of, max_of, number_within, plan_of, report_of, sole_of, tag_of, tag_read, update_of}
 use Rattle.command_words.specs.Parts.{is_end, values_of}
 use Rattle.update_plans.specs.Tags.{IsTag}
 use Rattle.fwupd_service.specs.Commands.{CommandFits, IsWithin}
@@ -129,12 +129,24 @@ values-fit name values =
 ids-fit : (texts : List (List ℕ)) → Holds CommandFits (ids_of texts)
 ids-fit texts = holds-if CommandFits _ (Some (commands.Ids texts)) None tt tt
 
+max-within : (words : List (List ℕ)) → Holds (IsWithin 1 65536) (max_of words)
+max-within [] = record { low = omega arith; high = omega arith }
+max-within (option ∷ []) = holds-if (IsWithin 1 65536) (is_joined_max option) (number_within 1 65536 (drop 6 option)) None (within 1 65536 (drop 6 option)) tt
+max-within (option ∷ number ∷ more) =
+    holds-if (IsWithin 1 65536) (bytes_eq option (codes "--max") && is_none more) (number_within 1 65536 number) None (within 1 65536 number) tt
+
+report-fits : (before behind : List (List ℕ)) → Holds CommandFits (report_of before behind)
+report-fits before behind =
+    holds-if CommandFits (is_none behind) (option_map (λ max. commands.Report max) (max_of before)) None
+    (holds-map (IsWithin 1 65536) CommandFits (λ max. commands.Report max) (max_of before) (max-within before) (λ max w. w)) tt
+
 by-fits : (name : List ℕ) (before behind : List (List ℕ)) → Holds CommandFits (command_by name before behind)
 by-fits name before behind =
     holds-if CommandFits (bytes_eq name (codes "make")) _ _ (holds-then Few CommandFits (make_by behind) (clients_of before) (from-few (before_first is_option before) (drop (position_or_len is_option before) before)) (λ clients few. make-fits behind clients few))
+    (holds-if CommandFits (bytes_eq name (codes "report")) _ _ (report-fits before behind)
     (holds-if CommandFits (bytes_eq name (codes "ids")) _ _
     (holds-then (λ (v : List (List ℕ)). Unit {0}) CommandFits ids_of (values_of before behind) (holds-any _) (λ v u. ids-fit v))
-    (holds-then (λ (v : List (List ℕ)). Unit {0}) CommandFits (by_values name) (values_of before behind) (holds-any _) (λ v u. values-fit name v)))
+    (holds-then (λ (v : List (List ℕ)). Unit {0}) CommandFits (by_values name) (values_of before behind) (holds-any _) (λ v u. values-fit name v))))
 
 command-fits : (words : List (List ℕ)) → Holds CommandFits (command_of words)
 command-fits [] = tt

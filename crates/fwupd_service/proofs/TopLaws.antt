@@ -39,6 +39,7 @@ keeps-same (Some commands.Remotes) old new e = e
 keeps-same (Some (commands.Explain port version)) old new e = e
 keeps-same (Some (commands.Ids texts)) old new e = e
 keeps-same (Some (commands.Make boards clients)) old new e = e
+keeps-same (Some (commands.Report max)) old new e = e
 
 -- Shelves that nobody used stay.
 pub stay-same : (shelves : List ShelfTold) → ShelvesStay shelves shelves

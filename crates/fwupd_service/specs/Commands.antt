@@ -1,9 +1,10 @@
 -- What a run of the program comes to, by its words.
-use Rattle.std.specs.Prelude.{◌≡◌, ◌⊎◌, ◌≤◌, ℕ, Bool, true, false, List, [], length, Option, Some, None}
+use Rattle.std.specs.Prelude.{◌≡◌, ◌⊎◌, ◌≤◌, ℕ, List, [], length, Option, Some, None}
 use Rattle.outer_traits.specs.Sinks.{Took, TookFront}
 use Rattle.fw_facts.specs.declared.machine.MachineFacts.{MachineFacts}
 use Rattle.history_keeper.specs.declared.change.Change.{Change}
 use Rattle.history_keeper.specs.declared.row.Row.{Row}
+use Rattle.history_keeper.specs.Keepers.{StillTold}
 use Rattle.plugin_order.specs.declared.sheet.PluginSheet.{PluginSheet}
 use Rattle.update_log.specs.declared.facts.PluginVetoes.{PluginVetoes}
 use Rattle.client_plays.specs.Tools.{ShelfTold}
@@ -22,18 +23,6 @@ use Rattle.update_plans.specs.Tags.{IsTag}
 use Rattle.fwupd_service.specs.Tops.{Left, NothingBegan, RunEnds}
 use Rattle.fwupd_service.specs.Updates.{PlanEnds, UpdateEnds}
 
--- Whether the words read the history: `run`, `plan` and `update` do.
-abbrev pub keeps_history : Option Command → Bool
-keeps_history None = false
-keeps_history (Some commands.Run) = true
-keeps_history (Some (commands.Plan tag)) = true
-keeps_history (Some (commands.Update tag)) = true
-keeps_history (Some commands.Check) = false
-keeps_history (Some commands.Remotes) = false
-keeps_history (Some (commands.Explain port version)) = false
-keeps_history (Some (commands.Ids texts)) = false
-keeps_history (Some (commands.Make boards clients)) = false
-
 -- The shelves are those that came, but under `run` and `update`, whose clients fetch from them.
 abbrev pub KeepsShelves : {P : Type 0} → Option Command → List P → List P → Type 0
 KeepsShelves None old new = new ≡ old
@@ -45,6 +34,7 @@ KeepsShelves (Some commands.Remotes) old new = new ≡ old
 KeepsShelves (Some (commands.Explain port version)) old new = new ≡ old
 KeepsShelves (Some (commands.Ids texts)) old new = new ≡ old
 KeepsShelves (Some (commands.Make boards clients)) old new = new ≡ old
+KeepsShelves (Some (commands.Report max)) old new = new ≡ old
 
 -- No campaign began, and the keeper is as it came.
 pub record NothingHappened {K : Type 0} (keeper : K) (left : Left K) : Type 0 where
@@ -100,8 +90,15 @@ pub record NothingDone {K : Type 0} (keeper : K) (left : Left K) (old new before
   pub unread : new ≡ old
   pub nothing : NothingBegan keeper left before after
 
--- The numbers of `make` are within their limits, and the tags of `plan` and `update` are tags of plans; the other
--- commands have none.
+-- `report`: nothing was read from the source, no campaign began, and what the keeper tells it told as it came.
+pub record Looked {K : Type 0} (told : K → List Row → Type 0) (keeper : K) (left : Left K) (old new : Option (List ℕ)) : Type 0 where
+  pub unread : new ≡ old
+  pub log : left.log ≡ []
+  pub boards : left.boards ≡ None
+  pub rows_stay : StillTold (told keeper) (told left.keeper)
+
+-- The numbers of `make` and of `report` are within their limits, and the tags of `plan` and `update` are tags of
+-- plans; the other commands have none.
 pub record IsWithin (least most n : ℕ) : Type 0 where
   pub low : least ≤ n
   pub high : n ≤ most
@@ -119,6 +116,7 @@ CommandFits commands.Check = Unit {0}
 CommandFits commands.Remotes = Unit {0}
 CommandFits (commands.Explain port version) = Unit {0}
 CommandFits (commands.Ids texts) = Unit {0}
+CommandFits (commands.Report max) = IsWithin 1 65536 max
 
 -- The command ends so.
 abbrev pub CommandEnds : {K Q : Type 0} → (K → List Row → Type 0) → (K → Option Change) → (K → ℕ) → List ShelfTold → List ShelfTold → List PluginSheet → (MachineFacts → List PluginVetoes) → PluginWords Q → Command → Status → K → Left K → Option (List ℕ) → Option (List ℕ) → Option (List ℕ) → Option (List ℕ) → Type 0
@@ -138,6 +136,8 @@ CommandEnds told doubted faults shelves now sheets vetoes words (commands.Explai
     Explained sheets vetoes port version status keeper left old new before after
 CommandEnds told doubted faults shelves now sheets vetoes words (commands.Ids texts) status keeper left old new before after =
     Identified texts status keeper left old new before after
+CommandEnds told doubted faults shelves now sheets vetoes words (commands.Report max) status keeper left old new before after =
+    Looked told keeper left old new
 
 -- Words that are no command do nothing; those that are one do what it does, unless there was no memory to
 -- read them.

@@ -9,6 +9,8 @@ pub mod Loads
 pub mod Updates
 pub mod Commands
 pub mod Complete
+pub mod Keepers
+pub mod Reported
 pub use Rattle.outer_traits.specs.Faults as OuterTraitsFaults
 pub use Rattle.outer_traits.specs.Plans
 pub use Rattle.outer_traits.specs.Sinks
@@ -23,6 +25,8 @@ pub use Rattle.update_log.specs.Once
 pub use Rattle.update_log.specs.Pasts
 pub use Rattle.update_log.specs.Shows
 pub use Rattle.report_text.specs.Report
+pub use Rattle.report_queue.specs.Reports
+pub use Rattle.report_queue.specs.Stops as ReportQueueStops
 pub use Rattle.site_making.specs.Made
 pub use Rattle.site_making.specs.Settled as SiteMakingSettled
 pub use Rattle.command_words.specs.Commands as CommandWordsCommands

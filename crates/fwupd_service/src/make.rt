@@ -11,7 +11,7 @@ ghost use Rattle.fwupd_service.specs.Makes.{MadeOrNothing, MakeEnds, order_statu
 
 use crate::own_keeper::OwnKeeper;
 use crate::playing::{Played, play};
-use crate::ran::Ran;
+use crate::ran::RunLeft;
 use crate::reporting::{status_of, write_summed};
 use campaign_inputs::{Ready, make_campaign};
 use fw_base::NoMemory;
@@ -39,7 +39,7 @@ pub(crate) fn make<R: Threads + Wait + Sync, P, K, T: Sink, G: Gate + Sync>(
     plugins: Vec<Box<dyn Plugin>>,
     gate: &G,
     out: &mut T,
-) -> Ran<P, K>
+) -> RunLeft<P, K>
     requires some_boards { 1 ≤ boards }
     requires few_boards { boards ≤ 256 }
     requires some_clients { 1 ≤ clients }
@@ -59,7 +59,7 @@ pub(crate) fn make<R: Threads + Wait + Sync, P, K, T: Sink, G: Gate + Sync>(
         Ok(ready) => make_ready(
             rt, alloc, boards, clients, ready, shelves, keeper, gate, out,
         ),
-        Err(fault) => Ran::nothing(alloc, order_status(fault), shelves, keeper),
+        Err(fault) => RunLeft::nothing(alloc, order_status(fault), shelves, keeper),
     }
 }
 
@@ -104,7 +104,7 @@ fn make_ready<R: Threads + Wait + Sync, P, K, T: Sink, G: Gate + Sync>(
     keeper: K,
     gate: &G,
     out: &mut T,
-) -> Ran<P, K>
+) -> RunLeft<P, K>
     requires ready { CanBePlayed ready.campaign }
     requires shelves { IsReadyFor clients (length ready.plugins.items) ready.campaign }
     ensures went { MadeOrNothing boards clients (steps_at (λ p. steps p) ready.plugins.items) result.status ready.campaign keeper
@@ -117,13 +117,13 @@ fn make_ready<R: Threads + Wait + Sync, P, K, T: Sink, G: Gate + Sync>(
 {
     let own = match own_shelves(alloc, clients) {
         Ok(own) => own,
-        Err(NoMemory) => return Ran::nothing(alloc, Status::NoMemory, shelves, keeper),
+        Err(NoMemory) => return RunLeft::nothing(alloc, Status::NoMemory, shelves, keeper),
     };
     let own_keeper = OwnKeeper::new(alloc);
     let (outcome, _own) = play(rt, alloc, ready, own, own_keeper, gate);
     match outcome {
         Ok(played) => summed(alloc, boards, clients, played, shelves, keeper, out),
-        Err(_own_keeper) => Ran::nothing(alloc, Status::NoMemory, shelves, keeper),
+        Err(_own_keeper) => RunLeft::nothing(alloc, Status::NoMemory, shelves, keeper),
     }
 }
 
@@ -136,7 +136,7 @@ fn summed<P, K, T: Sink>(
     shelves: Vec<P>,
     keeper: K,
     out: &mut T,
-) -> Ran<P, K>
+) -> RunLeft<P, K>
     ensures reported { IsReported result.status played.ran.ending played.ran.wanting played.log
         (summary boards clients played.log) (T.taken out.old) (T.taken out.new) }
     ensures left { IsLeft played.log played.opening played.boards keeper shelves.items result.log result.opening result.boards result.keeper result.shelves.items }
@@ -153,7 +153,7 @@ fn summed<P, K, T: Sink>(
         opening,
     } = played;
     let written = write_summed(alloc, boards, clients, &log, out);
-    Ran {
+    RunLeft {
         status: status_of(written, &ran, &log),
         log,
         opening,

@@ -5,7 +5,7 @@ ghost use Rattle.outer_traits.specs.Faults.{Rose};
 ghost use Rattle.fwupd_service.specs.Commands.{Checked, Explained, NothingHappened, RemotesTold, Written, ended_status};
 ghost use Rattle.command_outputs.specs.Printed.{ids_output};
 
-use crate::ran::Ran;
+use crate::ran::RunLeft;
 use command_outputs::{OutputStop, write_ids};
 use command_words::Text;
 use document_commands::{Ended, check, explain, remotes};
@@ -39,7 +39,7 @@ pub(crate) fn run_check<S: Source, P: Shelf, K: Keeper, T: Sink>(
     shelves: Vec<P>,
     keeper: K,
     out: &mut T,
-) -> Ran<P, K>
+) -> RunLeft<P, K>
     ensures ends { Checked result.status keeper
         (record { log = result.log; opening = result.opening; boards = result.boards; keeper = result.keeper })
         (S.left source.old) (S.left source.new) (T.taken out.old) (T.taken out.new) }
@@ -52,7 +52,7 @@ pub(crate) fn run_check<S: Source, P: Shelf, K: Keeper, T: Sink>(
     ensures shelves { result.shelves.items ≡ shelves.items }
 {
     let ended = check(alloc, source, out);
-    Ran::nothing(alloc, ended_status(ended), shelves, keeper)
+    RunLeft::nothing(alloc, ended_status(ended), shelves, keeper)
 }
 
 /// The command `remotes`.
@@ -62,7 +62,7 @@ pub(crate) fn run_remotes<S: Source, P: Shelf, K: Keeper, T: Sink>(
     shelves: Vec<P>,
     keeper: K,
     out: &mut T,
-) -> Ran<P, K>
+) -> RunLeft<P, K>
     ensures ends { RemotesTold result.status keeper
         (record { log = result.log; opening = result.opening; boards = result.boards; keeper = result.keeper })
         (S.left source.old) (S.left source.new) (T.taken out.old) (T.taken out.new) }
@@ -75,7 +75,7 @@ pub(crate) fn run_remotes<S: Source, P: Shelf, K: Keeper, T: Sink>(
     ensures shelves { result.shelves.items ≡ shelves.items }
 {
     let ended = remotes(alloc, source, out);
-    Ran::nothing(alloc, ended_status(ended), shelves, keeper)
+    RunLeft::nothing(alloc, ended_status(ended), shelves, keeper)
 }
 
 /// The command `explain`.
@@ -88,7 +88,7 @@ pub(crate) fn run_explain<S: Source, P: Shelf, K: Keeper, T: Sink>(
     keeper: K,
     plugins: Vec<Box<dyn Plugin>>,
     out: &mut T,
-) -> Ran<P, K>
+) -> RunLeft<P, K>
     requires few_plugins { length plugins.items ≤ 64 }
     ensures ends { Explained (map (λ p. own_sheet p) plugins.items)
         (λ machine. map (λ p. vetoes_of (own_sheet p) (vetoes_on p machine)) plugins.items)
@@ -104,7 +104,7 @@ pub(crate) fn run_explain<S: Source, P: Shelf, K: Keeper, T: Sink>(
     ensures shelves { result.shelves.items ≡ shelves.items }
 {
     let ended = explain(alloc, source, port, version, plugins, out);
-    Ran::nothing(alloc, ended_status(ended), shelves, keeper)
+    RunLeft::nothing(alloc, ended_status(ended), shelves, keeper)
 }
 
 /// The command `ids`.
@@ -114,7 +114,7 @@ pub(crate) fn run_ids<P: Shelf, K: Keeper, T: Sink>(
     shelves: Vec<P>,
     keeper: K,
     out: &mut T,
-) -> Ran<P, K>
+) -> RunLeft<P, K>
     ensures written { Written (ids_output texts.now) result.status (T.taken out.old) (T.taken out.new) }
     ensures nothing { NothingHappened keeper (record { log = result.log; opening = result.opening; boards = result.boards; keeper = result.keeper }) }
     ensures sink_fault { result.status ≡ Status.SinkFault → Rose (T.faults out.old) (T.faults out.new) }
@@ -127,5 +127,5 @@ pub(crate) fn run_ids<P: Shelf, K: Keeper, T: Sink>(
         Err(OutputStop::SinkFault) => Status::SinkFault,
         Err(OutputStop::NoMemory) => Status::NoMemory,
     };
-    Ran::nothing(alloc, status, shelves, keeper)
+    RunLeft::nothing(alloc, status, shelves, keeper)
 }

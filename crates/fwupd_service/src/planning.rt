@@ -9,7 +9,7 @@ ghost use Rattle.update_plans.specs.Tags.{IsTag};
 ghost use Rattle.fwupd_service.specs.Updates.{PlanEnds, PlanGoes, WasPrinted, printed_plan};
 
 use crate::loading::{Loaded, load, load_status};
-use crate::ran::Ran;
+use crate::ran::RunLeft;
 use crate::run::stop_status;
 use campaign_inputs::{ClientLimit, open_campaign};
 use campaign_plans::{plan_first, write_plan};
@@ -31,7 +31,7 @@ pub(crate) fn plan<S: Source, P: Shelf, K: Keeper, T: Sink>(
     keeper: K,
     plugins: Vec<Box<dyn Plugin>>,
     out: &mut T,
-) -> Ran<P, K>
+) -> RunLeft<P, K>
     requires few_plugins { length plugins.items ≤ 64 }
     requires no_doubt { K.doubt keeper ≡ None }
     requires tag { IsTag tag }
@@ -50,7 +50,7 @@ pub(crate) fn plan<S: Source, P: Shelf, K: Keeper, T: Sink>(
     let limit = ClientLimit::Shelves(shelves.len());
     match open_campaign(alloc, source, limit, plugins) {
         Ok(ready) => plan_campaign(alloc, &ready.campaign, tag, shelves, keeper, out),
-        Err(stop) => Ran::nothing(alloc, stop_status(stop), shelves, keeper),
+        Err(stop) => RunLeft::nothing(alloc, stop_status(stop), shelves, keeper),
     }
 }
 
@@ -62,7 +62,7 @@ fn plan_campaign<P, K: Keeper, T: Sink>(
     shelves: Vec<P>,
     keeper: K,
     out: &mut T,
-) -> Ran<P, K>
+) -> RunLeft<P, K>
     requires begins { CanBegin campaign.now }
     requires no_doubt { K.doubt keeper ≡ None }
     requires tag { IsTag tag }
@@ -79,9 +79,9 @@ fn plan_campaign<P, K: Keeper, T: Sink>(
     match stop {
         None => {
             let status = print(alloc, campaign, &rows, &tag, out);
-            Ran::loaded(alloc, status, rows, shelves, keeper)
+            RunLeft::loaded(alloc, status, rows, shelves, keeper)
         }
-        Some(stop) => Ran::loaded(alloc, load_status(stop), rows, shelves, keeper),
+        Some(stop) => RunLeft::loaded(alloc, load_status(stop), rows, shelves, keeper),
     }
 }
 

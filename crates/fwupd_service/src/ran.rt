@@ -9,10 +9,22 @@ use std::alloc::Global;
 use update_log::Log;
 
 /// How a run of the program ended, and what it leaves: everything that happened in it, the rows before, the
-/// boards as it left them, the keeper and the shelves. Where no campaign began nothing happened and there are
-/// no boards; the rows are those that `plan` or `update` loaded, or none.
+/// boards as it left them, the keepers and the shelves. Where no campaign began nothing happened and there are
+/// no boards; the rows are those that `plan`, `update` or `report` loaded, or none.
 #[derive(Drop)]
-pub struct Ran<P, K> {
+pub struct Ran<P, K, M> {
+    pub status: Status,
+    pub log: Log,
+    pub opening: Listed<Row>,
+    pub boards: Option<HomeBoards>,
+    pub keeper: K,
+    pub marks: M,
+    pub shelves: Vec<P>,
+}
+
+/// What a command leaves that knows nothing of marks.
+#[derive(Drop)]
+pub(crate) struct RunLeft<P, K> {
     pub status: Status,
     pub log: Log,
     pub opening: Listed<Row>,
@@ -21,9 +33,43 @@ pub struct Ran<P, K> {
     pub shelves: Vec<P>,
 }
 
-impl<P, K> Ran<P, K> {
+impl<P, K> RunLeft<P, K> {
+    /// The same, beside the marks as they came.
+    pub(crate) fn with_marks<M>(self, marks: M) -> Ran<P, K, M>
+        ensures status { result.status ≡ self.status }
+        ensures log { result.log ≡ self.log }
+        ensures opening { result.opening ≡ self.opening }
+        ensures boards { result.boards ≡ self.boards }
+        ensures keeper { result.keeper ≡ self.keeper }
+        ensures marks { result.marks ≡ marks }
+        ensures shelves { result.shelves ≡ self.shelves }
+    {
+        let RunLeft {
+            status,
+            log,
+            opening,
+            boards,
+            keeper,
+            shelves,
+        } = self;
+        Ran {
+            status,
+            log,
+            opening,
+            boards,
+            keeper,
+            marks,
+            shelves,
+        }
+    }
+
     /// No campaign began.
-    pub(crate) fn nothing(alloc: Global, status: Status, shelves: Vec<P>, keeper: K) -> Ran<P, K>
+    pub(crate) fn nothing(
+        alloc: Global,
+        status: Status,
+        shelves: Vec<P>,
+        keeper: K,
+    ) -> RunLeft<P, K>
         ensures status { result.status ≡ status }
         ensures log { result.log ≡ [] }
         ensures opening { result.opening ≡ [] }
@@ -31,7 +77,7 @@ impl<P, K> Ran<P, K> {
         ensures keeper { result.keeper ≡ keeper }
         ensures shelves { result.shelves.items ≡ shelves.items }
     {
-        Ran::loaded(alloc, status, Vec::new(alloc), shelves, keeper)
+        RunLeft::loaded(alloc, status, Vec::new(alloc), shelves, keeper)
     }
 
     /// No campaign began, and a load of the history gave those rows.
@@ -41,7 +87,7 @@ impl<P, K> Ran<P, K> {
         rows: Vec<Row>,
         shelves: Vec<P>,
         keeper: K,
-    ) -> Ran<P, K>
+    ) -> RunLeft<P, K>
         ensures status { result.status ≡ status }
         ensures log { result.log ≡ [] }
         ensures opening { result.opening ≡ rows.items }
@@ -49,7 +95,7 @@ impl<P, K> Ran<P, K> {
         ensures keeper { result.keeper ≡ keeper }
         ensures shelves { result.shelves.items ≡ shelves.items }
     {
-        Ran {
+        RunLeft {
             status,
             log: Listed::of(Vec::new(alloc)),
             opening: Listed::of(rows),

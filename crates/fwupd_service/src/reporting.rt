@@ -13,7 +13,7 @@ ghost use Rattle.fwupd_service.specs.Telling.{any_fault, any_want};
 ghost use Rattle.campaign_runs.specs.declared.ending.Ending.TheVariants as endings;
 
 use crate::playing::Played;
-use crate::ran::Ran;
+use crate::ran::RunLeft;
 use crate::telling::{any_fault, any_want};
 use campaign_runs::{Ending, Ran as CampaignRan};
 use history_keeper::Row;
@@ -121,7 +121,7 @@ pub(crate) fn reported<P, K, T: Sink>(
     played: Played<K>,
     shelves: Vec<P>,
     out: &mut T,
-) -> Ran<P, K>
+) -> RunLeft<P, K>
     requires few { length played.facts.sheets ≤ 256 }
     requires legal { (c : Campaign) × (c.facts ≡ played.facts) × Legal c played.opening played.log }
     requires history { IsHistory played.opening ⊎ AllFaults (past_of played.log) }
@@ -141,7 +141,7 @@ pub(crate) fn reported<P, K, T: Sink>(
         opening,
     } = played;
     let written = write_reported(alloc, &facts, opening.items(), &log, out);
-    Ran {
+    RunLeft {
         status: status_of(written, &ran, &log),
         log,
         opening,

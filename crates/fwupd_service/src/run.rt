@@ -11,7 +11,7 @@ ghost use Rattle.fwupd_service.specs.Tops.{RunEnds, Went, stop_status};
 ghost use Rattle.plugin_trait.specs.Steps.{steps_at};
 
 use crate::playing::play;
-use crate::ran::Ran;
+use crate::ran::RunLeft;
 use crate::reporting::reported;
 use campaign_inputs::{ClientLimit, OpenStop, Ready, open_campaign};
 use history_keeper::Keeper;
@@ -39,7 +39,7 @@ pub(crate) fn run<
     plugins: Vec<Box<dyn Plugin>>,
     gate: &G,
     out: &mut T,
-) -> Ran<P, K>
+) -> RunLeft<P, K>
     requires few_plugins { length plugins.items ≤ 64 }
     requires no_doubt { K.doubt keeper ≡ None }
     ensures ends { RunEnds K.tells K.doubt K.faults (shelves_told P.files P.faults shelves.items) (shelves_told P.files P.faults result.shelves.items) (map (λ p. own_sheet p) plugins.items)
@@ -58,7 +58,7 @@ pub(crate) fn run<
     let limit = ClientLimit::Shelves(shelves.len());
     match open_campaign(alloc, source, limit, plugins) {
         Ok(ready) => run_ready(rt, alloc, ready, shelves, keeper, gate, out),
-        Err(stop) => Ran::nothing(alloc, stop_status(stop), shelves, keeper),
+        Err(stop) => RunLeft::nothing(alloc, stop_status(stop), shelves, keeper),
     }
 }
 
@@ -91,7 +91,7 @@ pub(crate) fn run_ready<
     keeper: K,
     gate: &G,
     out: &mut T,
-) -> Ran<P, K>
+) -> RunLeft<P, K>
     requires ready { CanBePlayed ready.campaign }
     requires shelves { IsReadyFor (length shelves.items) (length ready.plugins.items) ready.campaign }
     requires no_doubt { K.doubt keeper ≡ None }
@@ -106,6 +106,6 @@ pub(crate) fn run_ready<
     let (outcome, shelves) = play(rt, alloc, ready, shelves, keeper, gate);
     match outcome {
         Ok(played) => reported(alloc, played, shelves, out),
-        Err(keeper) => Ran::nothing(alloc, Status::NoMemory, shelves, keeper),
+        Err(keeper) => RunLeft::nothing(alloc, Status::NoMemory, shelves, keeper),
     }
 }

@@ -7,17 +7,20 @@ ghost use Rattle.site_making.specs.Settled.{vetoes_of};
 ghost use Rattle.command_words.specs.Commands.{command_of};
 ghost use Rattle.fwupd_service.specs.Commands.{CommandEnds, CommandFits, KeepsShelves, WordsEnd};
 ghost use Rattle.fwupd_service.specs.Plugged.{plugin_words};
+ghost use Rattle.fwupd_service.specs.Reported.{FaultTold, KeepsMarks, MarksTold};
 
 use crate::make::make;
 use crate::others::{run_check, run_explain, run_ids, run_remotes};
 use crate::planning::plan;
-use crate::ran::Ran;
+use crate::ran::{Ran, RunLeft};
+use crate::report::report;
 use crate::run::run;
 use crate::update::update;
 use command_words::{Command, WordsFault, read_words};
 use history_keeper::Keeper;
 use outer_traits::{Gate, Shelf, Sink, Source};
 use plugin_trait::Plugin;
+use report_queue::MarkKeeper;
 use run_status::Status;
 use std::alloc::Global;
 use std::sync::Wait;
@@ -28,14 +31,16 @@ use std::thread::Threads;
 /// `run` reads a document from the source, plays its campaign over the shelves, the keeper and the plugins,
 /// and writes the report of what happened to the sink. `plan` writes which installs bring each device as far as
 /// it can come, and `update` plays them in the document's first boot. `make` plays a generated campaign over a keeper and
-/// shelves of its own, and writes what its log counts. `check`, `remotes`, `explain` and `ids` play none. The clients of
-/// a boot run on threads, and the gate is told of each step of a client before it is made. There are at most
-/// 64 plugins, and the keeper is in no doubt.
+/// shelves of its own, and writes what its log counts. `check`, `remotes`, `explain` and `ids` play none, and neither does
+/// `report`: it reads the history of the keeper, and writes a line for each judged row that isn't marked, which it marks
+/// before. The clients of a boot run on threads, and the gate is told of each step of a client before it is made. There
+/// are at most 64 plugins, and the keeper of the history is in no doubt.
 pub fn run_campaign<
     R: Threads + Wait + Sync,
     S: Source,
     P: Shelf + Send,
     K: Keeper + Send,
+    M: MarkKeeper,
     T: Sink,
     G: Gate + Sync,
 >(
@@ -45,10 +50,11 @@ pub fn run_campaign<
     source: &mut S,
     shelves: Vec<P>,
     keeper: K,
+    marks: M,
     plugins: Vec<Box<dyn Plugin>>,
     gate: &G,
     out: &mut T,
-) -> Ran<P, K>
+) -> Ran<P, K, M>
     requires few_plugins { length plugins.items ≤ 64 }
     requires no_doubt { K.doubt keeper ≡ None }
     // What the words make of it: the status, and under each what came, what is true of the log and the boards
@@ -68,13 +74,25 @@ pub fn run_campaign<
     // The shelves come back, each with its files, and but for `run` and `update` they are those that came.
     ensures shelves { ShelvesStay (shelves_told P.files P.faults shelves.items) (shelves_told P.files P.faults result.shelves.items) }
     ensures own_shelves { KeepsShelves (command_of (map (λ word. word.now) words.now)) shelves.items result.shelves.items }
+    // The marks: those that came, but under `report`, of which it is told what was marked and written.
+    ensures own_marks { KeepsMarks (command_of (map (λ word. word.now) words.now)) marks result.marks }
+    ensures marks_told { MarksTold K.tells (command_of (map (λ word. word.now) words.now)) result.status keeper
+        (record { log = result.log; opening = result.opening; boards = result.boards; keeper = result.keeper })
+        (record { marks = M.marks marks; doubt = M.doubt marks; taken = T.taken out.old })
+        (record { marks = M.marks result.marks; doubt = M.doubt result.marks; taken = T.taken out.new }) }
+    ensures fault_told { FaultTold (command_of (map (λ word. word.now) words.now)) result.status (K.faults keeper) (K.faults result.keeper) (M.faults marks) (M.faults result.marks) }
+    ensures marks_counts { M.faults marks ≤ M.faults result.marks }
 {
     match read_words(alloc, words) {
         Ok(command) => obey(
-            rt, alloc, &command, source, shelves, keeper, plugins, gate, out,
+            rt, alloc, &command, source, shelves, keeper, marks, plugins, gate, out,
         ),
-        Err(WordsFault::Usage) => Ran::nothing(alloc, Status::Usage, shelves, keeper),
-        Err(WordsFault::NoMemory) => Ran::nothing(alloc, Status::NoMemory, shelves, keeper),
+        Err(WordsFault::Usage) => {
+            RunLeft::nothing(alloc, Status::Usage, shelves, keeper).with_marks(marks)
+        }
+        Err(WordsFault::NoMemory) => {
+            RunLeft::nothing(alloc, Status::NoMemory, shelves, keeper).with_marks(marks)
+        }
     }
 }
 
@@ -84,6 +102,7 @@ fn obey<
     S: Source,
     P: Shelf + Send,
     K: Keeper + Send,
+    M: MarkKeeper,
     T: Sink,
     G: Gate + Sync,
 >(
@@ -93,10 +112,11 @@ fn obey<
     source: &mut S,
     shelves: Vec<P>,
     keeper: K,
+    marks: M,
     plugins: Vec<Box<dyn Plugin>>,
     gate: &G,
     out: &mut T,
-) -> Ran<P, K>
+) -> Ran<P, K, M>
     requires fits { CommandFits command.now }
     requires few_plugins { length plugins.items ≤ 64 }
     requires no_doubt { K.doubt keeper ≡ None }
@@ -114,25 +134,37 @@ fn obey<
     ensures sink_counts { T.faults out.old ≤ T.faults out.new }
     ensures shelves { ShelvesStay (shelves_told P.files P.faults shelves.items) (shelves_told P.files P.faults result.shelves.items) }
     ensures own_shelves { KeepsShelves (Some command.now) shelves.items result.shelves.items }
+    ensures own_marks { KeepsMarks (Some command.now) marks result.marks }
+    ensures marks_told { MarksTold K.tells (Some command.now) result.status keeper
+        (record { log = result.log; opening = result.opening; boards = result.boards; keeper = result.keeper })
+        (record { marks = M.marks marks; doubt = M.doubt marks; taken = T.taken out.old })
+        (record { marks = M.marks result.marks; doubt = M.doubt result.marks; taken = T.taken out.new }) }
+    ensures fault_told { FaultTold (Some command.now) result.status (K.faults keeper) (K.faults result.keeper) (M.faults marks) (M.faults result.marks) }
+    ensures marks_counts { M.faults marks ≤ M.faults result.marks }
 {
     match command {
-        Command::Run => run(rt, alloc, source, shelves, keeper, plugins, gate, out),
-        Command::Make { boards, clients } => {
-            make(
-                rt, alloc, *boards, *clients, shelves, keeper, plugins, gate, out,
-            )
+        Command::Run => {
+            run(rt, alloc, source, shelves, keeper, plugins, gate, out).with_marks(marks)
         }
-        Command::Plan { tag } => plan(alloc, source, *tag, shelves, keeper, plugins, out),
+        Command::Make { boards, clients } => make(
+            rt, alloc, *boards, *clients, shelves, keeper, plugins, gate, out,
+        )
+        .with_marks(marks),
+        Command::Plan { tag } => {
+            plan(alloc, source, *tag, shelves, keeper, plugins, out).with_marks(marks)
+        }
         Command::Update { tag } => update(
             rt, alloc, source, *tag, shelves, keeper, plugins, gate, out,
-        ),
-        Command::Check => run_check(alloc, source, shelves, keeper, out),
-        Command::Remotes => run_remotes(alloc, source, shelves, keeper, out),
-        Command::Explain { port, version } => {
-            run_explain(
-                alloc, source, *port, *version, shelves, keeper, plugins, out,
-            )
+        ).with_marks(marks),
+        Command::Check => run_check(alloc, source, shelves, keeper, out).with_marks(marks),
+        Command::Remotes => run_remotes(alloc, source, shelves, keeper, out).with_marks(marks),
+        Command::Explain { port, version } => run_explain(
+            alloc, source, *port, *version, shelves, keeper, plugins, out,
+        )
+        .with_marks(marks),
+        Command::Ids { texts } => {
+            run_ids(alloc, texts.items(), shelves, keeper, out).with_marks(marks)
         }
-        Command::Ids { texts } => run_ids(alloc, texts.items(), shelves, keeper, out),
+        Command::Report { max } => report(alloc, *max, shelves, keeper, marks, out),
     }
 }

@@ -12,7 +12,7 @@ ghost use Rattle.fwupd_service.specs.Updates.{UpdateEnds, UpdateGoes};
 ghost use Rattle.plugin_trait.specs.Steps.{steps_at};
 
 use crate::loading::{Loaded, load, load_status};
-use crate::ran::Ran;
+use crate::ran::RunLeft;
 use crate::run::{run_ready, stop_status};
 use campaign_inputs::{ClientLimit, Ready, open_campaign};
 use campaign_plans::updated;
@@ -44,7 +44,7 @@ pub(crate) fn update<
     plugins: Vec<Box<dyn Plugin>>,
     gate: &G,
     out: &mut T,
-) -> Ran<P, K>
+) -> RunLeft<P, K>
     requires few_plugins { length plugins.items ≤ 64 }
     requires no_doubt { K.doubt keeper ≡ None }
     requires tag { IsTag tag }
@@ -64,7 +64,7 @@ pub(crate) fn update<
     let limit = ClientLimit::Shelves(shelves.len());
     match open_campaign(alloc, source, limit, plugins) {
         Ok(ready) => update_campaign(rt, alloc, ready, tag, shelves, keeper, gate, out),
-        Err(stop) => Ran::nothing(alloc, stop_status(stop), shelves, keeper),
+        Err(stop) => RunLeft::nothing(alloc, stop_status(stop), shelves, keeper),
     }
 }
 
@@ -84,7 +84,7 @@ fn update_campaign<
     keeper: K,
     gate: &G,
     out: &mut T,
-) -> Ran<P, K>
+) -> RunLeft<P, K>
     requires begins { CanBegin ready.campaign }
     requires ready { CanBePlayed ready.campaign }
     requires shelves { IsReadyFor (length shelves.items) (length ready.plugins.items) ready.campaign }
@@ -101,7 +101,7 @@ fn update_campaign<
     let mut keeper = keeper;
     let Loaded { rows, stop } = load(alloc, &mut keeper);
     if let Some(stop) = stop {
-        return Ran::loaded(alloc, load_status(stop), rows, shelves, keeper);
+        return RunLeft::loaded(alloc, load_status(stop), rows, shelves, keeper);
     }
     let Ready { campaign, plugins } = ready;
     match updated(alloc, campaign, &rows, &tag) {
@@ -109,6 +109,6 @@ fn update_campaign<
             let ready = Ready { campaign, plugins };
             run_ready(rt, alloc, ready, shelves, keeper, gate, out)
         }
-        Err(NoMemory) => Ran::loaded(alloc, Status::NoMemory, rows, shelves, keeper),
+        Err(NoMemory) => RunLeft::loaded(alloc, Status::NoMemory, rows, shelves, keeper),
     }
 }

@@ -5,11 +5,13 @@
 ghost use Rattle.std.specs.Prelude.{◌≡◌, None};
 
 use fw_base::NoMemory;
-use fwupd_service::{Ran, Status, keeps_history};
+use fwupd_service::{Kept, Ran, Status, kept_by};
 use history_keeper::{Keeper, KeeperRefusal, MemoryKeeper};
 use history_sqlite::FileKeeper;
 use host_service::run_over_folder;
+use marks_sqlite::FileMarks;
 use outer_traits::{ReadSource, WriteSink};
+use report_queue::{MarkKeeper, MemoryMarks};
 use sqlite::{Start, Unknown};
 use std::io::{BufWriter, IsTerminal, Write};
 use std::process::ExitCode;
@@ -25,10 +27,13 @@ const SHELF: &str = "payloads";
 /// The file of the history, in the folder where the program is called.
 const HISTORY: &str = "history.db";
 
+/// The file of the marks of reported rows, in the folder where the program is called.
+const MARKS: &str = "reports.db";
+
 /// How many bytes of the output are gathered before they are handed on.
 const GATHERED: usize = 65_536;
 
-/// Runs the command of the command line, over the history where it is one that keeps it. `host` is the same
+/// Runs the command of the command line, over the keepers that it is about. `host` is the same
 /// runtime, of which the history's file and the shelves are made. `NoMemory` comes only where the words, the
 /// shelves or the plugins couldn't be made.
 fn run<R: Runtime + AllocGlobal + Threads + Wait + Sync>(
@@ -49,10 +54,10 @@ fn run<R: Runtime + AllocGlobal + Threads + Wait + Sync>(
     for word in &words {
         texts.push(word.as_bytes())?;
     }
-    if keeps_history(alloc, &texts)? {
-        run_over_history(rt, host, &texts, Unknown)
-    } else {
-        run_over_nothing(rt, host, &texts)
+    match kept_by(alloc, &texts)? {
+        Kept::Nothing => run_over_nothing(rt, host, &texts),
+        Kept::History => run_over_history(rt, host, &texts, Unknown),
+        Kept::HistoryAndMarks => report_over_files(rt, host, &texts, Unknown),
     }
 }
 
@@ -67,7 +72,7 @@ fn run_over_history<R: Runtime + AllocGlobal + Threads + Wait + Sync, S: Start +
     match FileKeeper::open(host, HISTORY, start) {
         Ok(history) => {
             FileKeeper::<S>::crosses();
-            run_over(rt, host, words, history)
+            run_gathered(rt, host, words, history)
         }
         Err(KeeperRefusal::Fault) => Ok(Status::KeeperFault),
         Err(KeeperRefusal::NoMemory) => Ok(Status::NoMemory),
@@ -82,13 +87,34 @@ fn run_over_nothing<R: Runtime + AllocGlobal + Threads + Wait + Sync>(
 ) -> Result<Status, NoMemory> {
     let alloc = rt.alloc();
     let unused = MemoryKeeper::new(Vec::new(alloc), Vec::new(alloc));
-    run_over(rt, host, words, unused)
+    run_gathered(rt, host, words, unused)
 }
 
-/// Hands the words and a keeper to the top call, with the real input and output. The output is gathered, so that
-/// a long report takes few calls of the system; what can't be handed on at the end is a fault of writing, whatever
-/// came before.
-fn run_over<R: Runtime + AllocGlobal + Threads + Wait + Sync, K: Keeper + Send + Drop>(
+/// Opens the history and the marks in their files, and runs over both. Each line goes out by itself: a line that is
+/// gathered would be lost by a stop, though its row is marked.
+fn report_over_files<R: Runtime + AllocGlobal + Threads + Wait + Sync, S: Start + Send>(
+    rt: &R,
+    host: &HostRuntime,
+    words: &[&[u8]],
+    start: S,
+) -> Result<Status, NoMemory> {
+    let history = match FileKeeper::open(host, HISTORY, start) {
+        Ok(history) => history,
+        Err(KeeperRefusal::Fault) => return Ok(Status::KeeperFault),
+        Err(KeeperRefusal::NoMemory) => return Ok(Status::NoMemory),
+    };
+    let marks = match FileMarks::open(host, MARKS) {
+        Ok(marks) => marks,
+        Err(KeeperRefusal::Fault) => return Ok(Status::KeeperFault),
+        Err(KeeperRefusal::NoMemory) => return Ok(Status::NoMemory),
+    };
+    FileKeeper::<S>::crosses();
+    run_over(rt, host, words, history, marks, &mut io::writer(rt))
+}
+
+/// Runs over a keeper of the history, without marks. The output is gathered, so that a long report takes few calls of
+/// the system; what can't be handed on at the end is a fault of writing, whatever came before.
+fn run_gathered<R: Runtime + AllocGlobal + Threads + Wait + Sync, K: Keeper + Send + Drop>(
     rt: &R,
     host: &HostRuntime,
     words: &[&[u8]],
@@ -96,11 +122,36 @@ fn run_over<R: Runtime + AllocGlobal + Threads + Wait + Sync, K: Keeper + Send +
 ) -> Result<Status, NoMemory>
     requires no_doubt { K.doubt keeper ≡ None }
 {
-    let mut source = ReadSource::new(rt.reader());
-    let Ok(mut gathered) = BufWriter::with_capacity(rt.alloc(), GATHERED, io::writer(rt)) else {
+    let alloc = rt.alloc();
+    let Ok(mut gathered) = BufWriter::with_capacity(alloc, GATHERED, io::writer(rt)) else {
         return Err(NoMemory);
     };
-    let mut sink = WriteSink::new(&mut gathered);
+    let unused = MemoryMarks::new(Vec::new(alloc), Vec::new(alloc));
+    let status = run_over(rt, host, words, keeper, unused, &mut gathered)?;
+    match gathered.flush() {
+        Ok(()) => Ok(status),
+        Err(_) => Ok(Status::SinkFault),
+    }
+}
+
+/// Hands the words and the keepers to the top call, with the real input.
+fn run_over<
+    R: Runtime + AllocGlobal + Threads + Wait + Sync,
+    K: Keeper + Send + Drop,
+    M: MarkKeeper + Drop,
+    W: Write,
+>(
+    rt: &R,
+    host: &HostRuntime,
+    words: &[&[u8]],
+    keeper: K,
+    marks: M,
+    output: &mut W,
+) -> Result<Status, NoMemory>
+    requires no_doubt { K.doubt keeper ≡ None }
+{
+    let mut source = ReadSource::new(rt.reader());
+    let mut sink = WriteSink::new(output);
     let plugins = Vec::new(rt.alloc());
     let ran = run_over_folder(
         rt,
@@ -110,6 +161,7 @@ fn run_over<R: Runtime + AllocGlobal + Threads + Wait + Sync, K: Keeper + Send +
         SHELF,
         plugins,
         keeper,
+        marks,
         &mut sink,
     )?;
     let Ran {
@@ -118,12 +170,10 @@ fn run_over<R: Runtime + AllocGlobal + Threads + Wait + Sync, K: Keeper + Send +
         opening: _,
         boards: _,
         keeper: _,
+        marks: _,
         shelves: _,
     } = ran;
-    match gathered.flush() {
-        Ok(()) => Ok(status),
-        Err(_) => Ok(Status::SinkFault),
-    }
+    Ok(status)
 }
 
 /// Tells how a run ended that didn't end well: in one line, and at a terminal with the help for it.

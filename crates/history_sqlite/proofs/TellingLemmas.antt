@@ -163,26 +163,6 @@ pub still_settled : (first old new : State) (doubt left : Option Doubt) → (Has
 still_settled first old new doubt left clean was_open keeps s =
     record { no_doubt = s.no_doubt; settles = λ c o rows holds suits. keeps c o (kept doubt rows) (s.settles (clean c) (was_open c o) rows holds suits) }
 
-  -- a call that leaves the rows leaves what is told
-  pub after_keeping : (tells : Bool) (doubt : Option Doubt) → Knows tells lasts old doubt → (HasCleanDisk new → IsTrue new.is_open → Keeps old new)
-      → (told tells new ≡ told tells old) × Knows tells lasts new doubt
-  after_keeping true doubt k keeps =
-      let r = keeps (lasting k.0).0 (lasting k.0).1 (rows_in old) k.1 in
-      let same = told_rows new (rows_in old) r in (ap Some same, (k.0, knows new (rows_in old) r, subst (SuitsDoubt doubt) (sym same) k.2))
-  after_keeping false doubt k keeps = (refl, tt)
-
-  -- the rows that are loaded are those that are told
-  pub told_loaded : {V E : Type 0} (items : V → List Row) (r : Result V E) (tells : Bool) (doubt : Option Doubt) → Knows tells lasts old doubt
-      → (HasCleanDisk new → IfOk r (λ loaded. Loads old new (items loaded))) → IfOk r (λ loaded. IfSome (told tells old) (λ all. items loaded ≡ all))
-  told_loaded items (Ok loaded) true doubt k loads = (loads (lasting k.0).0 (rows_in old) k.1).0
-  told_loaded items (Ok loaded) false doubt k loads = tt
-  told_loaded items (Err e) tells doubt k loads = tt
-
--- a load leaves the rows, whatever it answers
-pub load_keeps : {V E : Type 0} (items : V → List Row) (old new : State) (r : Result V E) → IfOk r (λ loaded. Loads old new (items loaded)) → OnErr r (Keeps old new) → Keeps old new
-load_keeps items old new (Ok loaded) loads refused = λ rows holds. (loads rows holds).1
-load_keeps items old new (Err e) loads refused = refused
-
 kept_is : (change : Change) (keep : Bool) (rows : List Row) → keep ≡ true → kept (Some (record { change = change; keep = keep })) rows ≡ changed change rows
 kept_is change true rows h = refl
 kept_is change false rows h = absurd cc

@@ -80,8 +80,8 @@ pub fn number_of(state: RowState) -> i64
     }
 }
 
-// The integer in a column, where it has one from 0 on.
-pub(crate) fn integer_at(columns: &sqlite::Row, at: usize) -> Option<u64>
+/// The integer in a column, where it has one from 0 on.
+pub fn integer_at(columns: &sqlite::Row, at: usize) -> Option<u64>
     ensures read { result ≡ integer_in (column columns.now at) }
     ensures signed { IfSome result (λ number. number ≤ 2 ^ 63 - 1) }
 {

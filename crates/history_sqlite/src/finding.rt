@@ -140,7 +140,8 @@ fn has_older(schema: &Schema) -> bool
     }
 }
 
-fn table_of<'a>(tables: &'a [Table], name: &[u8]) -> Option<&'a Table>
+/// The table of that name, where the schema has one.
+pub fn table_of<'a>(tables: &'a [Table], name: &[u8]) -> Option<&'a Table>
     ensures { option_copied result ≡ table_with name.now tables.now }
 {
     tables.iter().find(|table| table.is_named(name))
@@ -210,7 +211,8 @@ fn is_older_table(table: &Table) -> bool
         && has_no_rules(table)
 }
 
-fn wanted(name: &'static [u8], kind: Kind, is_required: bool) -> WantedColumn
+/// A column as it is made.
+pub fn wanted(name: &'static [u8], kind: Kind, is_required: bool) -> WantedColumn
     ensures { result ≡ record { name = name.entry; kind = kind; is_required = is_required } }
 {
     WantedColumn {
@@ -220,7 +222,8 @@ fn wanted(name: &'static [u8], kind: Kind, is_required: bool) -> WantedColumn
     }
 }
 
-fn are_columns(columns: &[Column], wanted: &[WantedColumn]) -> bool
+/// Whether these are the columns that are wanted, in their order: STRICT, with no default, compared byte by byte.
+pub fn are_columns(columns: &[Column], wanted: &[WantedColumn]) -> bool
     ensures { IsTrue result ↔ (columns.now ≡ map column_of wanted.now) }
 {
     match (columns, wanted) {
@@ -260,7 +263,8 @@ fn is_lone_tag(uniques: &Items<Items<usize>>) -> bool
     }
 }
 
-fn has_no_rules(table: &Table) -> bool
+/// Whether no CHECK and no reference binds the table's rows.
+pub fn has_no_rules(table: &Table) -> bool
     ensures { IsTrue result ↔ ((table.now.checks ≡ []) × (table.now.references ≡ [])) }
 {
     table.checks.roots.is_empty() && table.references.is_empty()

@@ -5,6 +5,7 @@ ghost use Rattle.client_plays.specs.Has.{shelves_told};
 ghost use Rattle.command_words.specs.Commands.{command_of};
 ghost use Rattle.fwupd_service.specs.Commands.{WordsEnd};
 ghost use Rattle.fwupd_service.specs.Plugged.{plugin_words};
+ghost use Rattle.fwupd_service.specs.Reported.{FaultTold, KeepsMarks, MarksTold};
 ghost use Rattle.host_service.specs.Brought.{folder_shelves, program_sheets, program_vetoes};
 
 use crate::brought::shelves_over;
@@ -14,6 +15,7 @@ use fwupd_service::{Ran, run_campaign};
 use history_keeper::Keeper;
 use outer_traits::{FolderShelf, NoGate, Shelf, Sink, Source};
 use plugin_trait::Plugin;
+use report_queue::MarkKeeper;
 use run_status::Status;
 use std::rt::{HostRuntime, Runtime};
 use std::sync::Wait;
@@ -26,6 +28,7 @@ pub fn run_over_folder<
     R: Runtime + AllocGlobal + Threads + Wait + Sync,
     S: Source,
     K: Keeper + Send + Drop,
+    M: MarkKeeper + Drop,
     T: Sink,
 >(
     rt: &R,
@@ -35,8 +38,9 @@ pub fn run_over_folder<
     folder: &str,
     mut plugins: Vec<Box<dyn Plugin>>,
     keeper: K,
+    marks: M,
     out: &mut T,
-) -> Result<Ran<FolderShelf<HostRuntime>, K>, NoMemory>
+) -> Result<Ran<FolderShelf<HostRuntime>, K, M>, NoMemory>
     requires no_plugins { plugins.items ≡ [] }
     requires no_doubt { K.doubt keeper ≡ None }
     ensures ends { IfOk result (λ ran. WordsEnd K.tells K.doubt K.faults folder_shelves
@@ -49,6 +53,13 @@ pub fn run_over_folder<
     ensures source_quiet { IfOk result (λ ran. (ran.status ≡ Status.SourceFault) ⊎ (S.faults source.new ≡ S.faults source.old)) }
     ensures sink_fault { IfOk result (λ ran. ran.status ≡ Status.SinkFault → Rose (T.faults out.old) (T.faults out.new)) }
     ensures sink_quiet { IfOk result (λ ran. (ran.status ≡ Status.SinkFault) ⊎ (T.faults out.new ≡ T.faults out.old)) }
+    ensures own_marks { IfOk result (λ ran. KeepsMarks (command_of (map (λ word. word.now) words.now)) marks ran.marks) }
+    ensures marks_told { IfOk result (λ ran. MarksTold K.tells (command_of (map (λ word. word.now) words.now)) ran.status keeper
+        (record { log = ran.log; opening = ran.opening; boards = ran.boards; keeper = ran.keeper })
+        (record { marks = M.marks marks; doubt = M.doubt marks; taken = T.taken out.old })
+        (record { marks = M.marks ran.marks; doubt = M.doubt ran.marks; taken = T.taken out.new })) }
+    ensures fault_told { IfOk result (λ ran. FaultTold (command_of (map (λ word. word.now) words.now)) ran.status (K.faults keeper) (K.faults ran.keeper) (M.faults marks) (M.faults ran.marks)) }
+    ensures marks_counts { IfOk result (λ ran. M.faults marks ≤ M.faults ran.marks) }
 {
     let alloc = rt.alloc();
     plugins.push(Box::new(alloc, Flash::new(alloc)?)?)?;
@@ -57,6 +68,6 @@ pub fn run_over_folder<
     plugins.push(Box::new(alloc, Power::new(alloc)?)?)?;
     let shelves = shelves_over(host, folder)?;
     Ok(run_campaign(
-        rt, alloc, words, source, shelves, keeper, plugins, &NoGate, out,
+        rt, alloc, words, source, shelves, keeper, marks, plugins, &NoGate, out,
     ))
 }

@@ -9,6 +9,7 @@ use fwupd_service::{Ran, run_campaign};
 use history_keeper::Keeper;
 use outer_traits::{MemoryShelf, MemorySink, MemorySource, NoGate};
 use plugin_trait::Plugin;
+use report_queue::MemoryMarks;
 use std::alloc::Global;
 use std::sync::Wait;
 use std::test::Fail;
@@ -105,7 +106,7 @@ fn all_begun(boards: &Option<HomeBoards>) -> usize {
 /// What a run left, and its keeper.
 fn left_by<K: Drop>(
     alloc: Global,
-    ran: Ran<MemoryShelf, K>,
+    ran: Ran<MemoryShelf, K, MemoryMarks>,
     sink: &MemorySink,
 ) -> Result<(Left, K), Fail> {
     let Ran {
@@ -114,6 +115,7 @@ fn left_by<K: Drop>(
         opening: _,
         boards,
         keeper,
+        marks: _,
         shelves: _,
     } = ran;
     let left = Left {
@@ -146,6 +148,7 @@ pub(crate) fn run<R: Threads + Wait + Sync, K: Keeper + Send + Drop>(
         &mut source,
         shelves,
         keeper,
+        MemoryMarks::new(Vec::new(alloc), Vec::new(alloc)),
         plugins,
         &NoGate,
         &mut sink,

@@ -18,6 +18,7 @@ Commands:
   update TAG            makes these installs in the document's first boot
   ids TEXT ..           writes the GUID of each text
   make N [--clients C]  plays a generated campaign of N boards and C clients
+  report [--max N]      writes a line for each settled install, and each once
 
 The document comes on standard input; fwupdemu-document(5) and docs/FORMATS.md
 describe it. `run` and `update` take payloads from the folder payloads/, and

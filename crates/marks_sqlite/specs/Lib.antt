@@ -1,0 +1,9 @@
+pub mod Causes
+pub mod Finding
+pub mod Keeping
+pub mod Tables
+pub mod Telling
+pub use Rattle.outer_traits.specs.Faults
+pub use Rattle.outer_traits.specs.Plans
+pub use Rattle.history_sqlite.specs.Refusals
+pub use Rattle.report_queue.specs.Marking

@@ -1,0 +1,14 @@
+pub mod Answers
+pub mod Calls
+pub mod Laws
+pub mod Lines
+pub mod Marking
+pub mod Memories
+pub mod Reports
+pub mod Sending
+pub mod Stops
+pub use Rattle.outer_traits.specs.Faults
+pub use Rattle.outer_traits.specs.Plans
+pub use Rattle.outer_traits.specs.Sinks
+pub use Rattle.history_keeper.specs.Histories
+pub use Rattle.history_keeper.specs.Keepers

@@ -1,0 +1,13 @@
+//! Laws of the definitions alone.
+ghost use Rattle.report_queue.specs.Laws.{MarkedOnce, SentOnce};
+
+/// Whatever calls come over one keeper of marks, and wherever they stop, no entry is marked by two of them, and none
+/// twice by one.
+pub fn marked_once()
+    ensures { MarkedOnce }
+{}
+
+/// Of the outputs of such calls no two begin a line of one entry.
+pub fn sent_once()
+    ensures { SentOnce }
+{}
