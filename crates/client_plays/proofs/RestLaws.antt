@@ -58,6 +58,10 @@ more-done faults true client Play old new p =
 more-done faults false client Play old new p =
     record { moments = p.ended.moments; did = p.ended.did; more = (inr refl, p.ended.ends); rest = p.rest }
 
+pub more-wanting : {K : Type 0} (faults : K → ℕ) (wanting : Bool) (client : ℕ) (Play : List Moment → Type 0) (old new : Housed K) → HousePlayed faults Played.NoMemory client Play old new → HouseOnceMore faults (Some true) wanting client Play old new
+more-wanting faults wanting client Play old new p =
+    record { moments = p.ended.moments; did = p.ended.did; more = (inl refl, inr p.ended.ends); rest = p.rest }
+
 -- Nothing was done yet.
 pub so_far-nothing : {K X : Type 0} (faults : K → ℕ) (wanting : Bool) (client : ℕ) (Play : X → List Moment → Type 0) (h : Housed K) → IsIdle (past h) → SoFar faults wanting client Play [] h h
 so_far-nothing faults wanting client Play h i =
