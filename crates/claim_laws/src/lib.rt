@@ -10,5 +10,5 @@ pub mod laws;
 
 pub use laws::{
     boots_complete, campaigns_complete, claims_complete, first_is_named, installs_complete,
-    resumptions_complete,
+    installs_finish, resumptions_complete,
 };
