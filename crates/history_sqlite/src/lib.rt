@@ -15,8 +15,6 @@ pub mod sql_keeper;
 pub mod statements;
 pub mod tables;
 pub mod taking_over;
-#[cfg(test)]
-mod tests;
 
 pub use columns::read_row;
 pub use file_keeper::FileKeeper;

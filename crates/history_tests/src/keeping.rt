@@ -4,10 +4,10 @@ ghost use Rattle.sqlite.specs.Steps.{over_memory};
 ghost use Rattle.history_sqlite.specs.Keeping.{doubtful};
 ghost use Rattle.history_sqlite.specs.Telling.{told_by};
 
-use crate::{FileKeeper, SqlKeeper};
 use fw_base::Name;
 use guid_ids::{DeviceId, device_id};
 use history_keeper::{Change, Keeper, KeeperPlan, KeeperRefusal, Row, RowState};
+use history_sqlite::{FileKeeper, SqlKeeper};
 use sqlite::{Connection, MemStore};
 use std::alloc::Global;
 use std::fs;
@@ -423,13 +423,13 @@ fn one_more(rt: &HostRuntime, path: &str) -> Result<usize, Fail> {
 
 #[test]
 fn a_file_keeps_its_rows(rt: HostRuntime) -> Result<(), Fail> {
-    let _ = fs::remove_dir_all(&rt, "history_sqlite_kept");
-    fs::create_dir(&rt, "history_sqlite_kept")?;
+    let _ = fs::remove_dir_all(&rt, "history_tests_kept");
+    fs::create_dir(&rt, "history_tests_kept")?;
     for count in 0..3 {
-        let found = one_more(&rt, "history_sqlite_kept/history.db")?;
+        let found = one_more(&rt, "history_tests_kept/history.db")?;
         assert_eq!(rt; found, count);
     }
-    fs::remove_dir_all(&rt, "history_sqlite_kept")?;
+    fs::remove_dir_all(&rt, "history_tests_kept")?;
     Ok(())
 }
 
@@ -452,8 +452,8 @@ fn is_left(rt: &HostRuntime, path: &str) -> Result<bool, Fail> {
 #[test]
 fn another_file_is_left_as_it_was(rt: HostRuntime) -> Result<(), Fail> {
     let alloc = rt.alloc();
-    let _ = fs::remove_dir_all(&rt, "history_sqlite_left");
-    fs::create_dir(&rt, "history_sqlite_left")?;
+    let _ = fs::remove_dir_all(&rt, "history_tests_left");
+    fs::create_dir(&rt, "history_tests_left")?;
     let tables = format!(in alloc; "{SCHEMA}{HISTORY}")?;
     let strange =
         "INSERT INTO schema VALUES (2); INSERT INTO history2 VALUES (1, 't', 1, x'00', 'c', '1', '2', x'00', 0, 100, 0, 5, 5, 0, NULL, NULL);";
@@ -462,38 +462,38 @@ fn another_file_is_left_as_it_was(rt: HostRuntime) -> Result<(), Fail> {
         "INSERT INTO schema VALUES (1); INSERT INTO history VALUES (1, 't', 1, x'00', 'c', '1', '2', x'00', 0, 100, 0, 5, 5);";
     make_file(
         &rt,
-        "history_sqlite_left/number.db",
+        "history_tests_left/number.db",
         tables.as_str(),
         "INSERT INTO schema VALUES (3);",
     )?;
-    assert!(rt; is_left(&rt, "history_sqlite_left/number.db")?);
-    make_file(&rt, "history_sqlite_left/row.db", tables.as_str(), strange)?;
-    assert!(rt; is_left(&rt, "history_sqlite_left/row.db")?);
+    assert!(rt; is_left(&rt, "history_tests_left/number.db")?);
+    make_file(&rt, "history_tests_left/row.db", tables.as_str(), strange)?;
+    assert!(rt; is_left(&rt, "history_tests_left/row.db")?);
     make_file(
         &rt,
-        "history_sqlite_left/older.db",
+        "history_tests_left/older.db",
         older_tables.as_str(),
         older_strange,
     )?;
-    assert!(rt; is_left(&rt, "history_sqlite_left/older.db")?);
+    assert!(rt; is_left(&rt, "history_tests_left/older.db")?);
     make_file(
         &rt,
-        "history_sqlite_left/table.db",
+        "history_tests_left/table.db",
         SCHEMA,
         "INSERT INTO schema VALUES (2);",
     )?;
-    assert!(rt; is_left(&rt, "history_sqlite_left/table.db")?);
+    assert!(rt; is_left(&rt, "history_tests_left/table.db")?);
     fs::write(
         &rt,
-        "history_sqlite_left/no.db",
+        "history_tests_left/no.db",
         b"no database at all, but a text of some length",
     )?;
-    assert!(rt; is_left(&rt, "history_sqlite_left/no.db")?);
-    fs::write(&rt, "history_sqlite_left/byte.db", b"x")?;
-    assert!(rt; is_left(&rt, "history_sqlite_left/byte.db")?);
+    assert!(rt; is_left(&rt, "history_tests_left/no.db")?);
+    fs::write(&rt, "history_tests_left/byte.db", b"x")?;
+    assert!(rt; is_left(&rt, "history_tests_left/byte.db")?);
     assert!(rt;
-        SqlKeeper::file(&rt, "history_sqlite_left/none/no.db").err() == Some(KeeperRefusal::Fault)
+        SqlKeeper::file(&rt, "history_tests_left/none/no.db").err() == Some(KeeperRefusal::Fault)
     );
-    fs::remove_dir_all(&rt, "history_sqlite_left")?;
+    fs::remove_dir_all(&rt, "history_tests_left")?;
     Ok(())
 }
