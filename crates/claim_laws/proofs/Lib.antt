@@ -7,3 +7,4 @@ pub mod Told
 pub mod Standing
 pub mod Completing
 pub mod Boots
+pub mod Finished

@@ -85,7 +85,7 @@ module _ (facts : Facts) (files : Files) where
   module _ {X : Type 0} (client : ℕ) (Play : X → List Moment → Type 0) (Cause : Type 0) (whole : (x : X) → IsTold Cause (Play x)) where
     told-back : Cause → IsTold Cause (GivesBack client)
     told-back cause [] g before = tt
-    told-back cause (m ∷ []) g before = (told-one Cause before m _ g.1 cause, tt)
+    told-back cause (m ∷ []) g before = (told-one Cause before m (Event.GiveBack client g.0) g.1 cause, tt)
     told-back cause (m ∷ n ∷ moments) g before = absurd g
 
     told-left : Cause → (x : X) → IsTold Cause (Leaves client (Play x))
@@ -122,7 +122,7 @@ module _ (facts : Facts) (files : Files) where
 module _ (facts : Facts) (opening : List Row) (means : Means) (Cause : Type 0) where
   told-update : (steps : PluginSteps) (client entry : ℕ) (payload : SealedBytes) (board : BoardState) → IsTold facts means.files Cause (StepsPlay steps client entry payload board)
   told-update steps client entry payload board [] p before = absurd p
-  told-update steps client entry payload board (m ∷ []) p before = (told-one facts means.files Cause before m _ p.2 tt, tt)
+  told-update steps client entry payload board (m ∷ []) p before = (told-one facts means.files Cause before m (Event.Finish client entry p.0 p.1) p.2 tt, tt)
   told-update steps client entry payload board (m ∷ n ∷ moments) p before = (
     told-one facts means.files Cause before m _ p.1.started_is tt,
     (told-one facts means.files Cause (Some m.event) n _ p.1.ended_is tt, told-update steps client entry payload p.0 moments p.2 (Some n.event)),
@@ -145,13 +145,13 @@ module _ (facts : Facts) (opening : List Row) (means : Means) (Cause : Type 0) w
   told-after_ask : (client : ℕ) (request : Request) (answer : AskAnswer) (moments : List Moment) → AfterAsk facts opening means client request answer moments
       → AllTold facts means.files Cause (Some (Event.Ask client request None answer)) moments
   told-after_ask client request (AskAnswer.Hold blocks release) moments p = told-claim client request blocks release moments p
-  told-after_ask client request (AskAnswer.Kept entry state) moments p = told-nothing facts means.files Cause moments p _
-  told-after_ask client request (AskAnswer.Refused refusal) moments p = told-nothing facts means.files Cause moments p _
+  told-after_ask client request (AskAnswer.Kept entry state) moments p = told-nothing facts means.files Cause moments p (Some (Event.Ask client request None (AskAnswer.Kept entry state)))
+  told-after_ask client request (AskAnswer.Refused refusal) moments p = told-nothing facts means.files Cause moments p (Some (Event.Ask client request None (AskAnswer.Refused refusal)))
 
   told-install : (client : ℕ) (request : Request) → IsTold facts means.files Cause (InstallPlays facts opening means client request)
   told-install client request [] p before = absurd p
   told-install client request (m ∷ moments) p before = (
-    told-one facts means.files Cause before m _ p.1 tt,
+    told-one facts means.files Cause before m (Event.Ask client request None p.0) p.1 tt,
     subst (λ (x : Event). AllTold facts means.files Cause (Some x) moments) (sym p.1) (told-after_ask client request p.0 moments p.2),
   )
 
@@ -199,12 +199,12 @@ module _ (facts : Facts) (opening : List Row) (means : Means) (Cause : Type 0) w
   told-pending : (entry : ℕ) → IsTold facts means.files Cause (PendingPlays facts opening means entry)
   told-pending entry [] p before = absurd p
   told-pending entry (m ∷ moments) p before = (
-    told-one facts means.files Cause before m _ p.2 tt,
+    told-one facts means.files Cause before m (Event.Ask 0 p.0 (Some entry) p.1) p.2 tt,
     subst (λ (x : Event). AllTold facts means.files Cause (Some x) moments) (sym p.2) (told-resume entry p.0 p.1 moments p.3),
   )
 
   told-task : (task : Task) → IsTold facts means.files Cause (TaskPlays facts opening means task)
-  told-task (ToJudge entry) moments p before = told-alone facts means.files Cause _ (λ m s o. told-one facts means.files Cause o m _ s.3 tt) moments p before
+  told-task (ToJudge entry) moments p before = told-alone facts means.files Cause _ (λ m s o. told-one facts means.files Cause o m (Event.Judge 0 entry s.0 s.1 s.2) s.3 tt) moments p before
   told-task (ToResume entry) moments p before = told-pending entry moments p before
 
 -- ---- what was played in a boot

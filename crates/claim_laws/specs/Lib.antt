@@ -1,6 +1,7 @@
 pub mod Complete
 pub mod FirstRefusal
 pub mod Installs
+pub mod Finished
 pub use Rattle.outer_traits.specs.Shelves as OuterTraitsShelves
 pub use Rattle.plugin_trait.specs.Steps as PluginTraitSteps
 pub use Rattle.update_log.specs.Holding

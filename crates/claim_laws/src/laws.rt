@@ -1,6 +1,7 @@
 //! Laws of the definitions alone.
 ghost use Rattle.claim_laws.specs.Complete.{ClaimsComplete, InstallsComplete, ResumptionsComplete};
 ghost use Rattle.claim_laws.specs.FirstRefusal.{FirstIsNamed};
+ghost use Rattle.claim_laws.specs.Finished.{InstallsFinish};
 ghost use Rattle.claim_laws.specs.Installs.{BootsComplete, CampaignsComplete};
 
 use plugin_trait::Plugin;
@@ -38,4 +39,10 @@ pub fn boots_complete<Q: Plugin>()
 /// So does each boot of a campaign whose scripts were played.
 pub fn campaigns_complete<Q: Plugin>()
     ensures { CampaignsComplete Q.steps }
+{}
+
+/// In a boot that stayed on, where no memory was wanting: each install of a script that meets all conditions at
+/// its time takes the next entry and is finished, unless its shelf failed.
+pub fn installs_finish<Q: Plugin>()
+    ensures { InstallsFinish Q.steps }
 {}

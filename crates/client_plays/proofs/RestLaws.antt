@@ -52,6 +52,10 @@ more-done signs true client Play old new p =
 more-done signs false client Play old new p =
     record { moments = p.ended.moments; did = p.ended.did; more = (inr refl, p.ended.ends); rest = p.rest }
 
+pub more-wanting : {K : Type 0} (signs : Signs K) (wanting : Bool) (client : ℕ) (Play : List Moment → Type 0) (old new : Housed K) → HousePlayed signs Played.NoMemory client Play old new → HouseOnceMore signs (Some true) wanting client Play old new
+more-wanting signs wanting client Play old new p =
+    record { moments = p.ended.moments; did = p.ended.did; more = (inl refl, inr p.ended.ends); rest = p.rest }
+
 -- Nothing was done yet.
 pub so_far-nothing : {K X : Type 0} (signs : Signs K) (wanting : Bool) (client : ℕ) (Play : X → List Moment → Type 0) (h : Housed K) → IsIdle (past h) → SoFar signs wanting client Play [] h h
 so_far-nothing signs wanting client Play h i =
