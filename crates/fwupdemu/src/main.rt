@@ -2,15 +2,12 @@
 //! plugins and shelves, and ends with its status.
 #![tactic(auto)]
 
-ghost use Rattle.std.specs.Prelude.{◌≡◌, None};
-
 use fw_base::NoMemory;
 use fwupd_service::{Ran, Status, keeps_history};
-use history_keeper::{Keeper, KeeperRefusal, MemoryKeeper};
-use history_sqlite::FileKeeper;
-use host_service::run_over_folder;
-use outer_traits::{ReadSource, WriteSink};
-use sqlite::{Start, Unknown};
+use history_keeper::{KeeperRefusal, MemoryKeeper};
+use host_service::{run_over_file, run_over_folder};
+use outer_traits::{FolderShelf, ReadSource, WriteSink};
+use sqlite::Unknown;
 use std::io::{BufWriter, IsTerminal, Write};
 use std::process::ExitCode;
 use std::rt::{HostRuntime, Runtime};
@@ -50,58 +47,48 @@ fn run<R: Runtime + AllocGlobal + Threads + Wait + Sync>(
         texts.push(word.as_bytes())?;
     }
     if keeps_history(alloc, &texts)? {
-        run_over_history(rt, host, &texts, Unknown)
+        run_over_history(rt, host, &texts)
     } else {
         run_over_nothing(rt, host, &texts)
     }
 }
 
-/// Opens the history in its file, and runs over it. `start` stands for what the file held: whatever it held,
-/// the keeper's contract is that of a file which held it.
-fn run_over_history<R: Runtime + AllocGlobal + Threads + Wait + Sync, S: Start + Send>(
-    rt: &R,
-    host: &HostRuntime,
-    words: &[&[u8]],
-    start: S,
-) -> Result<Status, NoMemory> {
-    match FileKeeper::open(host, HISTORY, start) {
-        Ok(history) => {
-            FileKeeper::<S>::crosses();
-            run_over(rt, host, words, history)
-        }
-        Err(KeeperRefusal::Fault) => Ok(Status::KeeperFault),
-        Err(KeeperRefusal::NoMemory) => Ok(Status::NoMemory),
-    }
-}
-
-/// Runs a command that keeps no history, over a keeper that stays unused.
-fn run_over_nothing<R: Runtime + AllocGlobal + Threads + Wait + Sync>(
+/// Runs over the history in its file. What that file held is unknown to the program: the contract of
+/// `run_over_file` speaks of whatever it held. The output is gathered, so that a long report takes few calls of the
+/// system; what can't be handed on at the end is a fault of writing, whatever came before.
+fn run_over_history<R: Runtime + AllocGlobal + Threads + Wait + Sync>(
     rt: &R,
     host: &HostRuntime,
     words: &[&[u8]],
 ) -> Result<Status, NoMemory> {
-    let alloc = rt.alloc();
-    let unused = MemoryKeeper::new(Vec::new(alloc), Vec::new(alloc));
-    run_over(rt, host, words, unused)
-}
-
-/// Hands the words and a keeper to the top call, with the real input and output. The output is gathered, so that
-/// a long report takes few calls of the system; what can't be handed on at the end is a fault of writing, whatever
-/// came before.
-fn run_over<R: Runtime + AllocGlobal + Threads + Wait + Sync, K: Keeper + Send + Drop>(
-    rt: &R,
-    host: &HostRuntime,
-    words: &[&[u8]],
-    keeper: K,
-) -> Result<Status, NoMemory>
-    requires no_doubt { K.doubt keeper ≡ None }
-{
     let mut source = ReadSource::new(rt.reader());
     let Ok(mut gathered) = BufWriter::with_capacity(rt.alloc(), GATHERED, io::writer(rt)) else {
         return Err(NoMemory);
     };
     let mut sink = WriteSink::new(&mut gathered);
-    let ran = run_over_folder(rt, host, words, &mut source, SHELF, keeper, &mut sink)?;
+    let ran = match run_over_file(
+        rt,
+        host,
+        words,
+        &mut source,
+        SHELF,
+        HISTORY,
+        Unknown,
+        &mut sink,
+    ) {
+        Ok(ran) => ran,
+        Err(KeeperRefusal::Fault) => return Ok(Status::KeeperFault),
+        Err(KeeperRefusal::NoMemory) => return Ok(Status::NoMemory),
+    };
+    let status = status_of(ran);
+    match gathered.flush() {
+        Ok(()) => Ok(status),
+        Err(_) => Ok(Status::SinkFault),
+    }
+}
+
+/// The status of a run. All else that it left is let go of.
+fn status_of<K: Drop>(ran: Ran<FolderShelf<HostRuntime>, K>) -> Status {
     let Ran {
         status,
         log: _,
@@ -110,6 +97,25 @@ fn run_over<R: Runtime + AllocGlobal + Threads + Wait + Sync, K: Keeper + Send +
         keeper: _,
         shelves: _,
     } = ran;
+    status
+}
+
+/// Runs a command that keeps no history, over a keeper that stays unused. The output is gathered as by
+/// `run_over_history`.
+fn run_over_nothing<R: Runtime + AllocGlobal + Threads + Wait + Sync>(
+    rt: &R,
+    host: &HostRuntime,
+    words: &[&[u8]],
+) -> Result<Status, NoMemory> {
+    let alloc = rt.alloc();
+    let unused = MemoryKeeper::new(Vec::new(alloc), Vec::new(alloc));
+    let mut source = ReadSource::new(rt.reader());
+    let Ok(mut gathered) = BufWriter::with_capacity(alloc, GATHERED, io::writer(rt)) else {
+        return Err(NoMemory);
+    };
+    let mut sink = WriteSink::new(&mut gathered);
+    let ran = run_over_folder(rt, host, words, &mut source, SHELF, unused, &mut sink)?;
+    let status = status_of(ran);
     match gathered.flush() {
         Ok(()) => Ok(status),
         Err(_) => Ok(Status::SinkFault),
