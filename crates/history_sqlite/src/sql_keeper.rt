@@ -91,6 +91,11 @@ impl SqlKeeper<MemStore> {
             Err(error) => Err(refusal_of_error(error)),
         }
     }
+
+    /// A keeper in memory that may tell its rows tells them at each moment: its connection is never shut.
+    pub fn known(&self)
+        ensures { self.now.tells ≡ true → (all : List Row) × TellsRows over_memory (Unit {0}) self.now all }
+    {}
 }
 
 impl<S: Start> SqlKeeper<FileStore<FileFrom<S>>> {
