@@ -2,17 +2,15 @@
 //! plugins and shelves, and ends with its status.
 #![tactic(auto)]
 
-ghost use Rattle.std.specs.Prelude.{◌≡◌, None};
-
 use fw_base::NoMemory;
 use fwupd_service::{Kept, Ran, Status, kept_by};
-use history_keeper::{Keeper, KeeperRefusal, MemoryKeeper};
+use history_keeper::{KeeperRefusal, MemoryKeeper};
 use history_sqlite::FileKeeper;
-use host_service::run_over_folder;
+use host_service::{run_over_file, run_over_folder};
 use marks_sqlite::FileMarks;
-use outer_traits::{ReadSource, WriteSink};
-use report_queue::{MarkKeeper, MemoryMarks};
-use sqlite::{Start, Unknown};
+use outer_traits::{FolderShelf, ReadSource, WriteSink};
+use report_queue::MemoryMarks;
+use sqlite::Unknown;
 use std::io::{BufWriter, IsTerminal, Write};
 use std::process::ExitCode;
 use std::rt::{HostRuntime, Runtime};
@@ -56,49 +54,55 @@ fn run<R: Runtime + AllocGlobal + Threads + Wait + Sync>(
     }
     match kept_by(alloc, &texts)? {
         Kept::Nothing => run_over_nothing(rt, host, &texts),
-        Kept::History => run_over_history(rt, host, &texts, Unknown),
-        Kept::HistoryAndMarks => report_over_files(rt, host, &texts, Unknown),
+        Kept::History => run_over_history(rt, host, &texts),
+        Kept::HistoryAndMarks => report_over_files(rt, host, &texts),
     }
 }
 
-/// Opens the history in its file, and runs over it. `start` stands for what the file held: whatever it held,
-/// the keeper's contract is that of a file which held it.
-fn run_over_history<R: Runtime + AllocGlobal + Threads + Wait + Sync, S: Start + Send>(
-    rt: &R,
-    host: &HostRuntime,
-    words: &[&[u8]],
-    start: S,
-) -> Result<Status, NoMemory> {
-    match FileKeeper::open(host, HISTORY, start) {
-        Ok(history) => {
-            FileKeeper::<S>::crosses();
-            run_gathered(rt, host, words, history)
-        }
-        Err(KeeperRefusal::Fault) => Ok(Status::KeeperFault),
-        Err(KeeperRefusal::NoMemory) => Ok(Status::NoMemory),
-    }
-}
-
-/// Runs a command that keeps no history, over a keeper that stays unused.
-fn run_over_nothing<R: Runtime + AllocGlobal + Threads + Wait + Sync>(
+/// Runs over the history in its file. What that file held is unknown to the program: the contract of
+/// `run_over_file` speaks of whatever it held. The output is gathered, so that a long report takes few calls of the
+/// system; what can't be handed on at the end is a fault of writing, whatever came before.
+fn run_over_history<R: Runtime + AllocGlobal + Threads + Wait + Sync>(
     rt: &R,
     host: &HostRuntime,
     words: &[&[u8]],
 ) -> Result<Status, NoMemory> {
-    let alloc = rt.alloc();
-    let unused = MemoryKeeper::new(Vec::new(alloc), Vec::new(alloc));
-    run_gathered(rt, host, words, unused)
+    let mut source = ReadSource::new(rt.reader());
+    let Ok(mut gathered) = BufWriter::with_capacity(rt.alloc(), GATHERED, io::writer(rt)) else {
+        return Err(NoMemory);
+    };
+    let mut sink = WriteSink::new(&mut gathered);
+    let unused = MemoryMarks::new(Vec::new(rt.alloc()), Vec::new(rt.alloc()));
+    let ran = match run_over_file(
+        rt,
+        host,
+        words,
+        &mut source,
+        SHELF,
+        HISTORY,
+        Unknown,
+        unused,
+        &mut sink,
+    ) {
+        Ok(ran) => ran,
+        Err(KeeperRefusal::Fault) => return Ok(Status::KeeperFault),
+        Err(KeeperRefusal::NoMemory) => return Ok(Status::NoMemory),
+    };
+    let status = status_of(ran);
+    match gathered.flush() {
+        Ok(()) => Ok(status),
+        Err(_) => Ok(Status::SinkFault),
+    }
 }
 
-/// Opens the history and the marks in their files, and runs over both. Each line goes out by itself: a line that is
+/// Opens the history and the marks in their files, and reports the rows. Each line goes out by itself: a line that is
 /// gathered would be lost by a stop, though its row is marked.
-fn report_over_files<R: Runtime + AllocGlobal + Threads + Wait + Sync, S: Start + Send>(
+fn report_over_files<R: Runtime + AllocGlobal + Threads + Wait + Sync>(
     rt: &R,
     host: &HostRuntime,
     words: &[&[u8]],
-    start: S,
 ) -> Result<Status, NoMemory> {
-    let history = match FileKeeper::open(host, HISTORY, start) {
+    let history = match FileKeeper::open(host, HISTORY, Unknown) {
         Ok(history) => history,
         Err(KeeperRefusal::Fault) => return Ok(Status::KeeperFault),
         Err(KeeperRefusal::NoMemory) => return Ok(Status::NoMemory),
@@ -108,62 +112,26 @@ fn report_over_files<R: Runtime + AllocGlobal + Threads + Wait + Sync, S: Start 
         Err(KeeperRefusal::Fault) => return Ok(Status::KeeperFault),
         Err(KeeperRefusal::NoMemory) => return Ok(Status::NoMemory),
     };
-    FileKeeper::<S>::crosses();
-    run_over(rt, host, words, history, marks, &mut io::writer(rt))
-}
-
-/// Runs over a keeper of the history, without marks. The output is gathered, so that a long report takes few calls of
-/// the system; what can't be handed on at the end is a fault of writing, whatever came before.
-fn run_gathered<R: Runtime + AllocGlobal + Threads + Wait + Sync, K: Keeper + Send + Drop>(
-    rt: &R,
-    host: &HostRuntime,
-    words: &[&[u8]],
-    keeper: K,
-) -> Result<Status, NoMemory>
-    requires no_doubt { K.doubt keeper ≡ None }
-{
-    let alloc = rt.alloc();
-    let Ok(mut gathered) = BufWriter::with_capacity(alloc, GATHERED, io::writer(rt)) else {
-        return Err(NoMemory);
-    };
-    let unused = MemoryMarks::new(Vec::new(alloc), Vec::new(alloc));
-    let status = run_over(rt, host, words, keeper, unused, &mut gathered)?;
-    match gathered.flush() {
-        Ok(()) => Ok(status),
-        Err(_) => Ok(Status::SinkFault),
-    }
-}
-
-/// Hands the words and the keepers to the top call, with the real input.
-fn run_over<
-    R: Runtime + AllocGlobal + Threads + Wait + Sync,
-    K: Keeper + Send + Drop,
-    M: MarkKeeper + Drop,
-    W: Write,
->(
-    rt: &R,
-    host: &HostRuntime,
-    words: &[&[u8]],
-    keeper: K,
-    marks: M,
-    output: &mut W,
-) -> Result<Status, NoMemory>
-    requires no_doubt { K.doubt keeper ≡ None }
-{
+    FileKeeper::<Unknown>::crosses();
     let mut source = ReadSource::new(rt.reader());
-    let mut sink = WriteSink::new(output);
-    let plugins = Vec::new(rt.alloc());
+    let mut output = io::writer(rt);
+    let mut sink = WriteSink::new(&mut output);
     let ran = run_over_folder(
         rt,
         host,
         words,
         &mut source,
         SHELF,
-        plugins,
-        keeper,
+        Vec::new(rt.alloc()),
+        history,
         marks,
         &mut sink,
     )?;
+    Ok(status_of(ran))
+}
+
+/// The status of a run. All else that it left is let go of.
+fn status_of<K: Drop, M: Drop>(ran: Ran<FolderShelf<HostRuntime>, K, M>) -> Status {
     let Ran {
         status,
         log: _,
@@ -173,7 +141,40 @@ fn run_over<
         marks: _,
         shelves: _,
     } = ran;
-    Ok(status)
+    status
+}
+
+/// Runs a command that keeps no history, over a keeper that stays unused. The output is gathered as by
+/// `run_over_history`.
+fn run_over_nothing<R: Runtime + AllocGlobal + Threads + Wait + Sync>(
+    rt: &R,
+    host: &HostRuntime,
+    words: &[&[u8]],
+) -> Result<Status, NoMemory> {
+    let alloc = rt.alloc();
+    let unused = MemoryKeeper::new(Vec::new(alloc), Vec::new(alloc));
+    let unused_marks = MemoryMarks::new(Vec::new(alloc), Vec::new(alloc));
+    let mut source = ReadSource::new(rt.reader());
+    let Ok(mut gathered) = BufWriter::with_capacity(alloc, GATHERED, io::writer(rt)) else {
+        return Err(NoMemory);
+    };
+    let mut sink = WriteSink::new(&mut gathered);
+    let ran = run_over_folder(
+        rt,
+        host,
+        words,
+        &mut source,
+        SHELF,
+        Vec::new(alloc),
+        unused,
+        unused_marks,
+        &mut sink,
+    )?;
+    let status = status_of(ran);
+    match gathered.flush() {
+        Ok(()) => Ok(status),
+        Err(_) => Ok(Status::SinkFault),
+    }
 }
 
 /// Tells how a run ended that didn't end well: in one line, and at a terminal with the help for it.

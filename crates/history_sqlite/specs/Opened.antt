@@ -4,6 +4,8 @@ use Rattle.sqlite.specs.Schema.{Schema}
 use Rattle.sqlite.specs.Tree.{Trees}
 use Rattle.sqlite.specs.Effect.{IsDatabase}
 use Rattle.sqlite.specs.Files.{AreFoundIn}
+use Rattle.sqlite_disk.specs.declared.start.Start as start
+use Rattle.sqlite_wal.specs.Files.{image_at}
 use Rattle.sqlite_wal.specs.Recovery.{Image}
 use Rattle.history_keeper.specs.declared.row.Row.{Row}
 use Rattle.history_sqlite.specs.Columns.{taken_over}
@@ -38,3 +40,7 @@ HasHistory schema trees rows = HasTable schema trees rows ⊎ (HasOlderTable sch
 -- The files held these rows as they were opened: whichever database is found in them has them.
 abbrev pub FilesHold : Image → List Row → Type 0
 FilesHold image rows = (schema : Schema) (trees : Trees) → AreFoundIn image trees → IsDatabase (record { schema = schema; trees = trees }) → HasHistory schema trees rows
+
+-- The same of the files that a start stands for.
+abbrev pub StartHolds : {S : Type 0} → start.Ghosts S → List Row → Type 0
+StartHolds first rows = FilesHold (image_at first) rows

@@ -1,5 +1,6 @@
 -- What a keeper over a database tells.
 use Rattle.std.specs.Prelude.{◌≡◌, ℕ, Bool, true, false, List, Option, Some, None, IsTrue}
+use Rattle.sqlite_disk.specs.declared.start.Start as start
 use Rattle.sqlite.specs.Store.{Ghosts}
 use Rattle.sqlite.specs.Held.{state}
 use Rattle.sqlite.specs.State.{State, HasCleanDisk}
@@ -8,6 +9,7 @@ use Rattle.history_keeper.specs.declared.plan.Doubt.{Doubt}
 use Rattle.history_keeper.specs.declared.plan.KeeperPlan.{KeeperPlan}
 use Rattle.history_keeper.specs.Changes.{Suits}
 use Rattle.history_keeper.specs.Memories.{kept}
+use Rattle.history_sqlite.specs.Opened.{StartHolds}
 use Rattle.history_sqlite.specs.Tables.{HoldsRows}
 use Rattle.history_sqlite.specs.Keeping.{Keeping}
 
@@ -25,6 +27,14 @@ pub record TellsSo (tells : Bool) (supposed : Type 0) (s : State) (all : List Ro
 
 abbrev pub TellsRows : {D : Type 0} → Ghosts D → Type 0 → Keeping D → List Row → Type 0
 TellsRows store supposed keeping all = TellsSo keeping.tells supposed (database store keeping) all
+
+-- The files that a start stands for held the rows of a history.
+abbrev pub HeldSome : {S : Type 0} → start.Ghosts S → Type 0
+HeldSome first = (rows : List Row) × StartHolds first rows
+
+-- A keeper over such files tells these rows.
+abbrev pub TellsHeld : {S D : Type 0} → start.Ghosts S → Ghosts D → Keeping D → List Row → Type 0
+TellsHeld first store keeping all = TellsRows store (HeldSome first) keeping all
 
 -- The doubtful change suits the rows, and its times fit the table.
 abbrev pub SuitsDoubt : Option Doubt → List Row → Type 0

@@ -3,7 +3,6 @@ ghost use Rattle.std.specs.Prelude.{◌≡◌, ◌≢◌, ◌≤◌, ◌⊎◌, 
 ghost use denote.Param.Send.{IsSend};
 ghost use Rattle.sqlite.specs.Files.{over_files};
 ghost use Rattle.sqlite.specs.State.{HasCleanDisk};
-ghost use Rattle.sqlite_wal.specs.Files.{image_at};
 ghost use Rattle.history_keeper.specs.declared.row.Row.{Row};
 ghost use Rattle.history_keeper.specs.Changes.{IsTimely, Suits};
 ghost use Rattle.history_keeper.specs.Keepers.{Committed, Reopened, StillSettled, StillTold};
@@ -11,9 +10,9 @@ ghost use Rattle.outer_traits.specs.Faults.{Rose};
 ghost use Rattle.outer_traits.specs.Plans.{one_more};
 ghost use Rattle.history_sqlite.specs.Causes.{IsRead, IsReadAgain, FailsToLoad, FailsToMake, FailsToSettle};
 ghost use Rattle.history_sqlite.specs.Keeping.{planned, doubtful, after_fault};
-ghost use Rattle.history_sqlite.specs.Opened.{FilesHold};
+ghost use Rattle.history_sqlite.specs.Opened.{StartHolds};
 ghost use Rattle.history_sqlite.specs.Tables.{Keeps, Loads, Makes};
-ghost use Rattle.history_sqlite.specs.Telling.{database, IsSettled, IsUnused, Settles, TellsRows};
+ghost use Rattle.history_sqlite.specs.Telling.{database, IsSettled, IsUnused, Settles, TellsHeld};
 ghost use Rattle.history_sqlite.specs.contracts.file_keeper.FileKeeper.{the_row};
 
 use crate::sql_keeper::SqlKeeper;
@@ -42,7 +41,7 @@ impl<S: Start> FileKeeper<S> {
     /// history, it tells these rows, while the disk returns what was written.
     pub fn open(rt: &HostRuntime, path: &str, start: S) -> Result<FileKeeper<S>, KeeperRefusal>
         ensures unused { IfOk result (λ new. IsUnused true [] new.keeper) }
-        ensures tells { IfOk result (λ new. (rows : List Row) → FilesHold (image_at S.Start) rows → HasCleanDisk (database over_files new.keeper) → TellsRows over_files ((all : List Row) × FilesHold (image_at S.Start) all) new.keeper rows) }
+        ensures tells { IfOk result (λ new. (rows : List Row) → StartHolds S.Start rows → HasCleanDisk (database over_files new.keeper) → TellsHeld S.Start over_files new.keeper rows) }
     {
         let keeper = SqlKeeper::file(rt, path, start)?;
         Ok(FileKeeper { keeper })
@@ -66,12 +65,10 @@ fn part_crosses<T: Send>()
 
 impl<S: Start> Keeper for FileKeeper<S> {
     ghost use Rattle.sqlite.specs.Files.{over_files};
-    ghost use Rattle.sqlite_wal.specs.Files.{image_at};
     ghost use Rattle.history_sqlite.specs.Keeping.{doubtful};
-    ghost use Rattle.history_sqlite.specs.Opened.{FilesHold};
-    ghost use Rattle.history_sqlite.specs.Telling.{IsSettled, TellsRows};
+    ghost use Rattle.history_sqlite.specs.Telling.{IsSettled, TellsHeld};
 
-    ghost tells = { λ s. TellsRows over_files ((rows : List Row) × FilesHold (image_at S.Start) rows) s.keeper };
+    ghost tells = { λ s. TellsHeld S.Start over_files s.keeper };
 
     ghost doubt = { λ s. doubtful s.keeper };
 
@@ -94,8 +91,8 @@ impl<S: Start> Keeper for FileKeeper<S> {
         ensures uncounted { result ≡ Err KeeperRefusal.NoMemory → self.new.keeper.calls ≡ self.old.keeper.calls }
         ensures plan { self.new.keeper.plan ≡ self.old.keeper.plan }
         ensures clean { HasCleanDisk (database over_files self.new.keeper) → HasCleanDisk (database over_files self.old.keeper) }
-        ensures answer { IfOk result (λ loaded. (all : List Row) → TellsRows over_files ((rows : List Row) × FilesHold (image_at S.Start) rows) self.new.keeper all → loaded.items ≡ all) }
-        ensures unchanged { StillTold (TellsRows over_files ((rows : List Row) × FilesHold (image_at S.Start) rows) self.old.keeper) (TellsRows over_files ((rows : List Row) × FilesHold (image_at S.Start) rows) self.new.keeper) }
+        ensures answer { IfOk result (λ loaded. (all : List Row) → TellsHeld S.Start over_files self.new.keeper all → loaded.items ≡ all) }
+        ensures unchanged { StillTold (TellsHeld S.Start over_files self.old.keeper) (TellsHeld S.Start over_files self.new.keeper) }
         ensures no_doubt { doubtful self.new.keeper ≡ None }
         ensures settled { StillSettled (IsSettled over_files) self.old.keeper self.new.keeper }
         ensures cause { result ≡ Err KeeperRefusal.Fault → Rose self.old.keeper.faults self.new.keeper.faults }
@@ -107,7 +104,7 @@ impl<S: Start> Keeper for FileKeeper<S> {
 
     fn commit(&mut self, change: &Change) -> Result<(), KeeperRefusal>
         requires no_doubt { doubtful self.old.keeper ≡ None }
-        requires suits { (all : List Row) → TellsRows over_files ((rows : List Row) × FilesHold (image_at S.Start) rows) self.old.keeper all → Suits change.now all }
+        requires suits { (all : List Row) → TellsHeld S.Start over_files self.old.keeper all → Suits change.now all }
         requires timely { IsTimely change.now }
         ensures makes { HasCleanDisk (database over_files self.new.keeper) → OnOk result (Makes (database over_files self.old.keeper) (database over_files self.new.keeper) change.now) }
         ensures refused { HasCleanDisk (database over_files self.new.keeper) → IsTrue (database over_files self.new.keeper).is_open → OnErr result (Keeps (database over_files self.old.keeper) (database over_files self.new.keeper)) }
@@ -119,7 +116,7 @@ impl<S: Start> Keeper for FileKeeper<S> {
         ensures uncounted { result ≡ Err KeeperRefusal.NoMemory → self.new.keeper.calls ≡ self.old.keeper.calls }
         ensures plan { self.new.keeper.plan ≡ self.old.keeper.plan }
         ensures clean { HasCleanDisk (database over_files self.new.keeper) → HasCleanDisk (database over_files self.old.keeper) }
-        ensures committed { Committed change.now result (TellsRows over_files ((rows : List Row) × FilesHold (image_at S.Start) rows) self.old.keeper) (TellsRows over_files ((rows : List Row) × FilesHold (image_at S.Start) rows) self.new.keeper) (doubtful self.new.keeper) }
+        ensures committed { Committed change.now result (TellsHeld S.Start over_files self.old.keeper) (TellsHeld S.Start over_files self.new.keeper) (doubtful self.new.keeper) }
         ensures cause { result ≡ Err KeeperRefusal.Fault → Rose self.old.keeper.faults self.new.keeper.faults }
         ensures quiet { (result ≡ Err KeeperRefusal.Fault) ⊎ (self.new.keeper.faults ≡ self.old.keeper.faults) }
         ensures counts { self.old.keeper.faults ≤ self.new.keeper.faults }
@@ -138,7 +135,7 @@ impl<S: Start> Keeper for FileKeeper<S> {
         ensures uncounted { result ≡ Err KeeperRefusal.NoMemory → self.new.keeper.calls ≡ self.old.keeper.calls }
         ensures plan { self.new.keeper.plan ≡ self.old.keeper.plan }
         ensures clean { HasCleanDisk (database over_files self.new.keeper) → HasCleanDisk (database over_files self.old.keeper) }
-        ensures reopened { Reopened result (TellsRows over_files ((rows : List Row) × FilesHold (image_at S.Start) rows) self.old.keeper) (doubtful self.old.keeper) (TellsRows over_files ((rows : List Row) × FilesHold (image_at S.Start) rows) self.new.keeper) (doubtful self.new.keeper) }
+        ensures reopened { Reopened result (TellsHeld S.Start over_files self.old.keeper) (doubtful self.old.keeper) (TellsHeld S.Start over_files self.new.keeper) (doubtful self.new.keeper) }
         ensures settled { OnOk result (IsSettled over_files self.old.keeper self.new.keeper) }
         ensures still { OnErr result (StillSettled (IsSettled over_files) self.old.keeper self.new.keeper) }
         ensures cause { result ≡ Err KeeperRefusal.Fault → Rose self.old.keeper.faults self.new.keeper.faults }

@@ -1,8 +1,5 @@
 //! What may be supposed of a store.
-ghost use Rattle.std.specs.Prelude.{List};
-ghost use Rattle.history_keeper.specs.declared.row.Row.{Row};
-ghost use Rattle.sqlite_wal.specs.Files.{image_at};
-ghost use Rattle.history_sqlite.specs.Opened.{FilesHold};
+ghost use Rattle.history_sqlite.specs.Telling.{HeldSome};
 
 use sqlite::{Alter, FileFrom, FileStore, MemStore, Start};
 use sqlite_disk::{Disk, Fuse, Memory};
@@ -15,7 +12,7 @@ pub trait Origin: Disk {
 
 /// The files held the rows of a history, as `S` stands for what they held.
 impl<S: Start> Origin for FileFrom<S> {
-    ghost supposed = { (rows : List Row) × FilesHold (image_at S.Start) rows };
+    ghost supposed = { HeldSome S.Start };
 }
 
 impl Origin for Memory {}

@@ -4,7 +4,6 @@ ghost use Rattle.std.specs.Option.{option_copied};
 ghost use Rattle.sqlite.specs.Held.{state};
 ghost use Rattle.sqlite.specs.State.{HasCleanDisk};
 ghost use Rattle.sqlite.specs.Files.{over_files};
-ghost use Rattle.sqlite_wal.specs.Files.{image_at};
 ghost use Rattle.sqlite.specs.Steps.{over_memory};
 ghost use Rattle.history_keeper.specs.declared.row.Row.{Row};
 ghost use Rattle.history_keeper.specs.Changes.{IsTimely, Suits};
@@ -14,9 +13,9 @@ ghost use Rattle.outer_traits.specs.Plans.{one_more};
 ghost use Rattle.history_sqlite.specs.Causes.{IsRead, IsReadAgain, FailsToLoad, FailsToMake, FailsToSettle, IsUnadopted};
 ghost use Rattle.history_sqlite.specs.Finding.{IsAdopted};
 ghost use Rattle.history_sqlite.specs.Keeping.{planned, doubtful, after_fault};
-ghost use Rattle.history_sqlite.specs.Opened.{FilesHold};
+ghost use Rattle.history_sqlite.specs.Opened.{StartHolds};
 ghost use Rattle.history_sqlite.specs.Tables.{HasAny, Keeps, Loads, Makes, Opens};
-ghost use Rattle.history_sqlite.specs.Telling.{database, IsSettled, IsUnused, Settles, TellsRows};
+ghost use Rattle.history_sqlite.specs.Telling.{database, IsSettled, IsUnused, Settles, TellsHeld, TellsRows};
 
 use crate::database_files::open_path;
 use crate::lasting::Lasting;
@@ -92,6 +91,11 @@ impl SqlKeeper<MemStore> {
             Err(error) => Err(refusal_of_error(error)),
         }
     }
+
+    /// A keeper in memory that may tell its rows tells them at each moment: its connection is never shut.
+    pub fn known(&self)
+        ensures { self.now.tells ≡ true → (all : List Row) × TellsRows over_memory (Unit {0}) self.now all }
+    {}
 }
 
 impl<S: Start> SqlKeeper<FileStore<FileFrom<S>>> {
@@ -107,7 +111,7 @@ impl<S: Start> SqlKeeper<FileStore<FileFrom<S>>> {
         start: S,
     ) -> Result<SqlKeeper<FileStore<FileFrom<S>>>, KeeperRefusal>
         ensures unused { IfOk result (λ keeper. IsUnused true [] keeper) }
-        ensures tells { IfOk result (λ keeper. (rows : List Row) → FilesHold (image_at S.Start) rows → HasCleanDisk (database over_files keeper) → TellsRows over_files ((all : List Row) × FilesHold (image_at S.Start) all) keeper rows) }
+        ensures tells { IfOk result (λ keeper. (rows : List Row) → StartHolds S.Start rows → HasCleanDisk (database over_files keeper) → TellsHeld S.Start over_files keeper rows) }
     {
         let connection = open_path(rt, path, start)?;
         SqlKeeper::adopt_so(rt.alloc(), connection, Vec::new(rt.alloc()), true)
