@@ -305,7 +305,7 @@ module _ (s : Scene) (number : ℕ) (device : List ℕ) (view : DeviceView) (sho
           in-rest (inr e) = inr (among (λ r. goes_first s.facts at r ≡ true) rest z.at f.0 e)
 
           of : (list_any (is_release z.at) front ≡ true) ⊎ (list_any (is_release z.at) (at ∷ rest) ≡ true) → (z.at ≡ at) ⊎ (goes_first s.facts at z.at ≡ true)
-          of (inl e) = let no : passes z ≡ false = among Fails front z.at fail e z o.own in let bad : true ≡ false = sym t ∙ no in cc
+          of (inl e) = let fails : passes z ≡ false = among Fails front z.at fail e z o.own in let bad : true ≡ false = sym t ∙ fails in cc
           of (inr e) = in-rest (or-cases (is_release z.at at) (list_any (is_release z.at) rest) e)
 
       not-above : (z : Chosen) → One z → passes z ≡ true → is_lt (version_cmp y.release.version z.release.version) ≡ false
@@ -404,7 +404,7 @@ module _ (s : Scene) (number : ℕ) (device : List ℕ) (view : DeviceView) (sho
   tried-on front [] whole fail f there = sym (none-next (subst (AllByRecursion Fails) (sym (append-nil front) ∙ whole) fail))
   tried-on front (at ∷ rest) whole fail f there =
       of (is_gt (version_cmp (version_at s.facts at) shown)) refl
-      (λ no. tried-on (front ++ at ∷ []) rest (append_assoc front (at ∷ []) rest ∙ whole) (All-push Fails front at fail no) f.1 there.1)
+      (λ fails. tried-on (front ++ at ∷ []) rest (append_assoc front (at ∷ []) rest ∙ whole) (All-push Fails front at fail fails) f.1 there.1)
     where
       More : Type 0
       More = Fails at → tried s number view shown past rest ≡ next_step s number device past

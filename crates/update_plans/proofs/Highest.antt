@@ -113,7 +113,7 @@ find-behind : (p q : Chosen → Bool) (front back : List Chosen) (c : Chosen) �
 find-behind p q [] back c here that none = rw (here, that) refl
 find-behind p q (y ∷ front) back c here that none =
     by_test (p y) _
-    (λ t. let no : q y ≡ false = none.0 t in rw (t, no) (find-behind p q front back c here that none.1))
+    (λ t. let fails : q y ≡ false = none.0 t in rw (t, fails) (find-behind p q front back c here that none.1))
     (λ f. rw f (find-behind p q front back c here that none.1))
 
 any-behind : (p t : Chosen → Bool) (front back : List Chosen) (c : Chosen) → p c ≡ true → t c ≡ true → list_any t (filter p (front ++ c ∷ back)) ≡ true

@@ -188,7 +188,7 @@ module _ (s : Scene) (number : ℕ) (step : PlanStep) (chosen : Chosen) (past : 
   pub view-is : f.t.view ≡ view_in (live past) (known s.facts s.opening past) b
   view-is = some-same (sym f.view_is ∙ view-now s step.device b past board.1)
 
-  flags-are : has_flag DeviceFlag.NeedsReboot f.t.view.sheet.flags ≡ has_flag DeviceFlag.NeedsReboot b.sheet.flags
+  pub flags-are : has_flag DeviceFlag.NeedsReboot f.t.view.sheet.flags ≡ has_flag DeviceFlag.NeedsReboot b.sheet.flags
   flags-are = ap (λ (v : DeviceView). has_flag DeviceFlag.NeedsReboot v.sheet.flags) view-is
 
   pub device-is : f.t.view.sheet.device ≡ step.device
