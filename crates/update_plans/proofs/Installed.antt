@@ -1,6 +1,6 @@
 -- An install of a good step: each of its events is allowed, it ends as the course of its device does, and a plan may
 -- be made behind it.
-use Rattle.std.proofs.Common.{◌≡◌, ℕ, ◌+◌, ◌&&◌, ◌||◌, ◌==◌, Bool, true, false, List, [], ◌∷◌, ◌++◌, length, inl, refl, sym, ap, ◌∙◌, subst, arith}
+use Rattle.std.proofs.Common.{cond, ◌≡◌, ℕ, ◌+◌, ◌&&◌, ◌||◌, ◌==◌, Bool, true, false, List, [], ◌∷◌, ◌++◌, length, inl, refl, sym, ap, ◌∙◌, subst, arith}
 use Rattle.std.specs.Prelude.{Option, Some, None, find, nat_lt, option_map, option_and_then, unwrap_or, if◌then◌else◌}
 use Rattle.std.specs.Option.{option_map_or}
 use Rattle.std.specs.List.{AllByRecursion}
@@ -68,6 +68,10 @@ only-live past l e = ap (find (λ x. x.entry == l.entry)) e ∙ rw (eqb-self l.e
 
 none-left : (past : List Event) (l : LiveEntry) → live past ≡ l ∷ [] → without_entry l.entry (live past) ≡ []
 none-left past l e = ap (without_entry l.entry) e ∙ rw (eqb-self l.entry) refl
+
+none-found : {X : Type 0} (p : X → Bool) (xs : List X) → AllByRecursion (λ x. p x ≡ false) xs → find p xs ≡ None
+none-found p [] a = refl
+none-found p (x ∷ xs) a = ap (λ (b : Bool). cond b (Some x) (find p xs)) a.0 ∙ none-found p xs a.1
 
 module _ (s : Scene) (number : ℕ) (step : PlanStep) (chosen : Chosen) (past : List Event) (q : IsQuiet s past) (f : Found s number step chosen past) where
   abbrev entry : ℕ
@@ -273,7 +277,7 @@ module _ (s : Scene) (number : ℕ) (step : PlanStep) (chosen : Chosen) (past : 
   -- ---- the finish
 
   none-next : (t : Trace) → AllByRecursion (λ o. may_be_next t o ≡ false) all_ops → next_step t ≡ None
-  none-next t none = rw (none.0, none.1.0, none.1.1.0, none.1.1.1.0, none.1.1.1.1.0, none.1.1.1.1.1.0) refl
+  none-next t none = none-found (may_be_next t) all_ops none
 
   -- its board's view, as the log stands before the finish
   abbrev view_done : DeviceView
