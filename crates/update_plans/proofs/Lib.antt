@@ -22,3 +22,4 @@ pub mod Followed
 pub mod Put
 pub mod Choice
 pub mod Good
+pub mod Within
