@@ -23,3 +23,4 @@ pub mod Put
 pub mod Choice
 pub mod Good
 pub mod Within
+pub mod Sorting
