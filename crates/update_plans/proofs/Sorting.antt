@@ -100,15 +100,15 @@ never-before a b (inr (same, le)) =
 pub before-order : IsStrictWeakOrder comes_before
 before-order = record {
   one_way = λ x y h. by_test (comes_before y x) _ (λ t. absurd (before-once x y h t)) (λ f. f);
-  chain = λ x y z h k. never-before x z (later (no-earlier x y h) (no-earlier y z k));
+  chain = λ x y z h k. never-before x z (later x y z (no-earlier x y h) (no-earlier y z k));
 }
   where
-    later : {x y z : ReleaseRef} → (y.component < x.component) ⊎ ((y.component ≡ x.component) × (y.release ≤ x.release)) → (z.component < y.component) ⊎ ((z.component ≡ y.component) × (z.release ≤ y.release))
+    later : (x y z : ReleaseRef) → (y.component < x.component) ⊎ ((y.component ≡ x.component) × (y.release ≤ x.release)) → (z.component < y.component) ⊎ ((z.component ≡ y.component) × (z.release ≤ y.release))
         → (z.component < x.component) ⊎ ((z.component ≡ x.component) × (z.release ≤ x.release))
-    later (inl p) (inl q) = inl (omega (arith, p, q))
-    later (inl p) (inr (e, q)) = inl (omega (arith, p, e))
-    later (inr (e, p)) (inl q) = inl (omega (arith, e, q))
-    later (inr (e, p)) (inr (f, q)) = inr (f ∙ e, omega (arith, p, q))
+    later x y z (inl p) (inl q) = inl (omega (arith, p, q))
+    later x y z (inl p) (inr (e, q)) = inl (omega (arith, p, e))
+    later x y z (inr (e, p)) (inl q) = inl (omega (arith, e, q))
+    later x y z (inr (e, p)) (inr (f, q)) = inr (f ∙ e, omega (arith, p, q))
 
 -- ---- one order behind another
 
