@@ -1,6 +1,6 @@
 -- Plans that are made and checked step by step.
-use Rattle.std.proofs.Common.{◌≡◌, ℕ, zero, suc, ◌+◌, ◌-◌, ◌<◌, true, false, List, [], ◌∷◌, ◌++◌, length, map, append_assoc, length-append, refl, sym, ap, ◌∙◌, subst, arith}
-use Rattle.std.specs.Prelude.{Option, Some, None, option_map, slice_get}
+use Rattle.std.proofs.Common.{◌≡◌, ℕ, zero, suc, ◌+◌, ◌-◌, ◌<◌, Bool, true, false, List, [], ◌∷◌, ◌++◌, length, map, append_assoc, length-append, refl, sym, ap, ◌∙◌, subst, arith}
+use Rattle.std.specs.Prelude.{Option, Some, None, option_map, slice_get, if◌then◌else◌}
 use Rattle.std.specs.Option.{option_map_or}
 use Rattle.std.proofs.lemmas.List.{append-nil}
 use Rattle.fw_facts.specs.declared.view.DeviceView.{DeviceView}
@@ -142,11 +142,11 @@ chains-push s (x ∷ xs) device left number past =
 pub first_bad-good : (s : Scene) (number : ℕ) (step : PlanStep) (steps : List PlanStep) (past : List Event) → is_good s number step past ≡ true
     → first_bad s number (step ∷ steps) past ≡ first_bad s (number + 1) steps (installed s number step past)
 unfolding first_bad
-first_bad-good s number step steps past h = rw h refl
+first_bad-good s number step steps past h = ap (λ (b : Bool). if b then first_bad s (number + 1) steps (installed s number step past) else Some number) h
 
 pub first_bad-bad : (s : Scene) (number : ℕ) (step : PlanStep) (steps : List PlanStep) (past : List Event) → is_good s number step past ≡ false → first_bad s number (step ∷ steps) past ≡ Some number
 unfolding first_bad
-first_bad-bad s number step steps past h = rw h refl
+first_bad-bad s number step steps past h = ap (λ (b : Bool). if b then first_bad s (number + 1) steps (installed s number step past) else Some number) h
 
 pub first_bad-nil : (s : Scene) (number : ℕ) (past : List Event) → first_bad s number [] past ≡ None
 unfolding first_bad

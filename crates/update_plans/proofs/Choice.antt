@@ -1,15 +1,15 @@
 -- The first good release above the version shown, of releases from the highest down, is the highest that may come next.
-use Rattle.std.proofs.Common.{◌≡◌, ℕ, suc, ◌+◌, ◌<◌, ◌⊎◌, ◌&&◌, ◌||◌, ◌==◌, Bool, true, false, cond, nat_lt, List, [], ◌∷◌, ◌++◌, map, inl, inr, append_assoc, refl, sym, ap, ◌∙◌, subst, arith}
+use Rattle.std.proofs.Common.{◌≡◌, ℕ, suc, ◌+◌, ◌<◌, ◌⊎◌, ◌&&◌, ◌||◌, ◌==◌, Bool, true, false, cond, not, nat_lt, List, [], ◌∷◌, ◌++◌, map, inl, inr, append_assoc, refl, sym, ap, ◌∙◌, subst, arith}
 use Rattle.std.specs.Prelude.{All, AllPairs, Option, Some, None, filter, find, is_some, option_map, option_and_then, if◌then◌else◌}
 use Rattle.std.specs.Option.{option_map_or}
 use Rattle.std.specs.List.{AllByRecursion, list_any}
-use Rattle.std.specs.Ordering.{is_eq, is_gt, is_le, is_lt, ordering_reverse}
+use Rattle.std.specs.Ordering.{is_gt, is_le, is_lt, ordering_reverse}
 use Rattle.std.specs.declared.cmp.Ordering.{Ordering}
 use Rattle.std.specs.declared.cmp.Ordering.TheVariants.{Less, Equal, Greater}
 use Rattle.std.proofs.lemmas.Bool.{eqb-true, ltb-true}
 use Rattle.std.proofs.lemmas.List.Folds.{list_any-append}
 use Rattle.std.proofs.lemmas.List.Sorted.{list_any-IsPermutation}
-use Rattle.version_formats.specs.VersionOrder.{same_version, version_cmp}
+use Rattle.version_formats.specs.VersionOrder.{version_cmp}
 use Rattle.version_formats.proofs.VersionLaws.{version_cmp-back, version_cmp-reflexive, version_cmp-transitive}
 use Rattle.fw_facts.specs.declared.view.DeviceView.{DeviceView}
 use Rattle.fw_facts.specs.Views.{guids_of, version_of}
@@ -24,8 +24,9 @@ use Rattle.std.proofs.lemmas.List.{append-nil}
 use Rattle.update_log.specs.Known.{views}
 use Rattle.update_log.proofs.Lists.{All-append, All-both, All-map, All-push, by_test, eqb-self, find-passes}
 use Rattle.update_log.proofs.Openings.{bytes-same}
+use Rattle.update_log.proofs.RowsKept.{or-false}
 use Rattle.update_log.proofs.StrokeFacts.{and-true}
-use Rattle.update_plans.specs.Choosing.{IsHighestFirst, comes_before, goes_first, good_step, version_at, where_good}
+use Rattle.update_plans.specs.Choosing.{IsHighestFirst, comes_before, found_cmp, goes_first, good_step, is_higher, version_at, version_found, where_good}
 use Rattle.update_plans.specs.Plans.{Scene, accepts, has_id, highest, is_above, is_good, may_come, next_step, release_at, request_of, step_of, view_of, writes}
 use Rattle.update_plans.specs.RawNumbers.{raw_of}
 use Rattle.update_plans.specs.declared.plan.PlanStep.{PlanStep}
@@ -62,16 +63,6 @@ le-not a b h = ap is_lt (version_cmp-back a b) ∙ of (version_cmp a b) h
     of Equal h = refl
     of Greater h = cc
 
-lt-le : (o : Ordering) → is_lt o ≡ true → is_le o ≡ true
-lt-le Less h = refl
-lt-le Equal h = cc
-lt-le Greater h = cc
-
-eq-le : (o : Ordering) → is_eq o ≡ true → is_le (ordering_reverse o) ≡ true
-eq-le Less h = cc
-eq-le Equal h = refl
-eq-le Greater h = cc
-
 or-cases : (a b : Bool) → (a || b) ≡ true → (a ≡ true) ⊎ (b ≡ true)
 or-cases true b h = inl refl
 or-cases false b h = inr h
@@ -92,7 +83,7 @@ before-cases a b h = of (or-cases (nat_lt a.component b.component) _ h)
     of (inl t) = inl (ltb-true a.component b.component t)
     of (inr t) = let parts = and-true (a.component == b.component) (nat_lt a.release b.release) t in inr (eqb-true a.component b.component parts.0, ltb-true a.release b.release parts.1)
 
-before-once : (a b : ReleaseRef) → comes_before a b ≡ true → comes_before b a ≡ true → ⊥
+pub before-once : (a b : ReleaseRef) → comes_before a b ≡ true → comes_before b a ≡ true → ⊥
 before-once a b h k = of (before-cases a b h) (before-cases b a k)
   where
     of : (a.component < b.component) ⊎ ((a.component ≡ b.component) × (a.release < b.release)) → (b.component < a.component) ⊎ ((b.component ≡ a.component) × (b.release < a.release)) → ⊥
@@ -118,19 +109,19 @@ own-found (x ∷ xs) o = (
 
 -- ---- the order of the list
 
--- Each place goes before those behind it.
+-- None of the places behind one goes before it.
 abbrev pub Falls : Scene → List ReleaseRef → Type 0
 Falls s [] = Unit {0}
-Falls s (at ∷ rest) = AllByRecursion (λ r. goes_first s.facts at r ≡ true) rest × Falls s rest
+Falls s (at ∷ rest) = AllByRecursion (λ r. goes_first s.facts r at ≡ false) rest × Falls s rest
 
 each-of : {X : Type 0} (P : X → Type 0) (xs : List X) → All P xs → AllByRecursion P xs
 each-of P [] a = tt
 each-of P (x ∷ xs) a = (a 0 x (omega arith), each-of P xs (λ k d within. a (suc k) d (omega (arith, within))))
 
-falls : (s : Scene) (xs : List ReleaseRef) → AllPairs (λ a b. goes_first s.facts a b ≡ true) xs → Falls s xs
+falls : (s : Scene) (xs : List ReleaseRef) → AllPairs (λ a b. goes_first s.facts b a ≡ false) xs → Falls s xs
 falls s [] a = tt
 falls s (x ∷ xs) a = (
-  each-of (λ r. goes_first s.facts x r ≡ true) xs (λ k d within. a 0 (suc k) d (omega arith) (omega (arith, within))),
+  each-of (λ r. goes_first s.facts r x ≡ false) xs (λ k d within. a 0 (suc k) d (omega arith) (omega (arith, within))),
   falls s xs (λ i j d l m. a (suc i) (suc j) d (omega (arith, l)) (omega (arith, m))),
 )
 
@@ -187,9 +178,6 @@ module _ (s : Scene) (number : ℕ) (device : List ℕ) (view : DeviceView) (sho
 
   ones : AllByRecursion One all
   ones = All-both (λ y. release_at s y.at ≡ Some y) (IsIn all) One all (own-found all (catalogue-ordered s.facts.catalogue)) (each-in all) (λ y o i. record { own = o; inside = i })
-
-  version-own : (y : Chosen) → One y → version_at s.facts y.at ≡ y.release.version
-  version-own y o = ap (λ (f : Option Chosen). option_map_or (λ chosen. chosen.release.version) f []) o.own
 
   -- what passes is above, and its step is good
   record Passes (y : Chosen) : Type 0 where
@@ -261,23 +249,41 @@ module _ (s : Scene) (number : ℕ) (device : List ℕ) (view : DeviceView) (sho
       version-there : (at : ReleaseRef) (y : Chosen) → release_at s at ≡ Some y → version_at s.facts at ≡ y.release.version
       version-there at y own = ap (λ (f : Option Chosen). option_map_or (λ chosen. chosen.release.version) f []) own
 
-  not-higher : (at r : ReleaseRef) → goes_first s.facts at r ≡ true → is_le (version_cmp (version_at s.facts r) (version_at s.facts at)) ≡ true
-  not-higher at r g = of (or-cases (is_lt (version_cmp (version_at s.facts r) (version_at s.facts at))) _ g)
-    where
-      of : (is_lt (version_cmp (version_at s.facts r) (version_at s.facts at)) ≡ true) ⊎ ((same_version (version_at s.facts at) (version_at s.facts r) && comes_before at r) ≡ true) → is_le (version_cmp (version_at s.facts r) (version_at s.facts at)) ≡ true
-      of (inl t) = lt-le (version_cmp (version_at s.facts r) (version_at s.facts at)) t
-      of (inr t) =
-          let parts = and-true (same_version (version_at s.facts at) (version_at s.facts r)) (comes_before at r) t in
-          ap is_le (version_cmp-back (version_at s.facts at) (version_at s.facts r)) ∙ eq-le (version_cmp (version_at s.facts at) (version_at s.facts r)) parts.0
+  found-own : (at : ReleaseRef) (y : Chosen) → release_at s at ≡ Some y → version_found s.facts at ≡ Some y.release.version
+  found-own at y own = ap (option_map (λ (chosen : Chosen). chosen.release.version)) own
 
-  below-all : (at : ReleaseRef) (rest : List ReleaseRef) → Falls s (at ∷ rest) → is_gt (version_cmp (version_at s.facts at) shown) ≡ false → AllByRecursion Fails (at ∷ rest)
-  below-all at rest f h = (
+  -- whether a release has a higher version than another
+  higher-own : (a b : ReleaseRef) (y z : Chosen) → release_at s a ≡ Some y → release_at s b ≡ Some z → is_higher s.facts a b ≡ is_lt (version_cmp z.release.version y.release.version)
+  higher-own a b y z own other =
+      ap (λ (v : Option (List ℕ)). is_lt (found_cmp v (version_found s.facts a))) (found-own b z other)
+      ∙ ap (λ (v : Option (List ℕ)). is_lt (found_cmp (Some z.release.version) v)) (found-own a y own)
+
+  -- one that doesn't go before another has no higher version
+  not-higher : (at r : ReleaseRef) (x y : Chosen) → release_at s at ≡ Some x → release_at s r ≡ Some y → goes_first s.facts r at ≡ false → is_le (version_cmp y.release.version x.release.version) ≡ true
+  not-higher at r x y own other g =
+      let parts = or-false (is_higher s.facts r at) (not (is_higher s.facts at r) && comes_before r at) g in
+      back-le x.release.version y.release.version (sym (higher-own r at y x other own) ∙ parts.0)
+
+  below-all : (at : ReleaseRef) (rest : List ReleaseRef) (x : Chosen) → release_at s at ≡ Some x → Falls s (at ∷ rest) → is_gt (version_cmp (version_at s.facts at) shown) ≡ false → AllByRecursion Fails (at ∷ rest)
+  below-all at rest x own f h = (
     below at h,
-    All-map (λ r. goes_first s.facts at r ≡ true) Fails rest f.0
-        (λ r g.
-        let low : is_le (version_cmp (version_at s.facts at) shown) ≡ true = back-le shown (version_at s.facts at) (sym (back-gt (version_at s.facts at) shown) ∙ h) in
-        below r (back-gt (version_at s.facts r) shown ∙ le-not (version_at s.facts r) shown (version_cmp-transitive (version_at s.facts r) (version_at s.facts at) shown (not-higher at r g) low))),
+    All-map (λ r. goes_first s.facts r at ≡ false) Fails rest f.0 (λ r g y other. lower-fails r y other (not-higher at r x y own other g)),
   )
+    where
+      low : is_le (version_cmp x.release.version shown) ≡ true
+      low =
+          back-le shown x.release.version
+          (sym (back-gt x.release.version shown) ∙ ap (λ (v : List ℕ). is_gt (version_cmp v shown)) (sym (ap (λ (o : Option Chosen). option_map_or (λ chosen. chosen.release.version) o []) own)) ∙ h)
+
+      lower-fails : (r : ReleaseRef) (y : Chosen) → release_at s r ≡ Some y → is_le (version_cmp y.release.version x.release.version) ≡ true → passes y ≡ false
+      lower-fails r y other le =
+          by_test (passes y) _
+          (λ t.
+          let p = passing y t in
+          let no_more : is_gt (version_cmp y.release.version shown) ≡ false = back-gt y.release.version shown ∙ le-not y.release.version shown (version_cmp-transitive y.release.version x.release.version shown le low) in
+          let bad : true ≡ false = sym p.above ∙ no_more in
+          cc)
+          (λ f. f)
 
   -- the one that is found good is the highest
   chosen-highest : (front rest : List ReleaseRef) (at : ReleaseRef) → front ++ at ∷ rest ≡ places → AllByRecursion Fails front → Falls s (at ∷ rest) → (y : Chosen) → release_at s at ≡ Some y → passes y ≡ true
@@ -291,33 +297,28 @@ module _ (s : Scene) (number : ℕ) (device : List ℕ) (view : DeviceView) (sho
       at-is : y.at ≡ at
       at-is = release-same y.at at (find-passes (λ (c : Chosen). is_release c.at at) all y own)
 
-      one-y : version_at s.facts at ≡ y.release.version
-      one-y = ap (λ (g : Option Chosen). option_map_or (λ chosen. chosen.release.version) g []) own
-
       -- what passes is the one or stands behind it in the list
-      behind : (z : Chosen) → One z → passes z ≡ true → (z.at ≡ at) ⊎ (goes_first s.facts at z.at ≡ true)
+      behind : (z : Chosen) → One z → passes z ≡ true → (z.at ≡ at) ⊎ (goes_first s.facts z.at at ≡ false)
       behind z o t =
           let there : list_any (is_release z.at) (front ++ at ∷ rest) ≡ true = ap (list_any (is_release z.at)) whole ∙ listed z o t in
           of (or-cases (list_any (is_release z.at) front) (list_any (is_release z.at) (at ∷ rest)) (sym (list_any-append (is_release z.at) front (at ∷ rest)) ∙ there))
         where
-          in-rest : (is_release z.at at ≡ true) ⊎ (list_any (is_release z.at) rest ≡ true) → (z.at ≡ at) ⊎ (goes_first s.facts at z.at ≡ true)
+          in-rest : (is_release z.at at ≡ true) ⊎ (list_any (is_release z.at) rest ≡ true) → (z.at ≡ at) ⊎ (goes_first s.facts z.at at ≡ false)
           in-rest (inl e) = inl (release-same z.at at e)
-          in-rest (inr e) = inr (among (λ r. goes_first s.facts at r ≡ true) rest z.at f.0 e)
+          in-rest (inr e) = inr (among (λ r. goes_first s.facts r at ≡ false) rest z.at f.0 e)
 
-          of : (list_any (is_release z.at) front ≡ true) ⊎ (list_any (is_release z.at) (at ∷ rest) ≡ true) → (z.at ≡ at) ⊎ (goes_first s.facts at z.at ≡ true)
-          of (inl e) = let no : passes z ≡ false = among Fails front z.at fail e z o.own in let bad : true ≡ false = sym t ∙ no in cc
+          of : (list_any (is_release z.at) front ≡ true) ⊎ (list_any (is_release z.at) (at ∷ rest) ≡ true) → (z.at ≡ at) ⊎ (goes_first s.facts z.at at ≡ false)
+          of (inl e) = let fails : passes z ≡ false = among Fails front z.at fail e z o.own in let bad : true ≡ false = sym t ∙ fails in cc
           of (inr e) = in-rest (or-cases (is_release z.at at) (list_any (is_release z.at) rest) e)
 
       not-above : (z : Chosen) → One z → passes z ≡ true → is_lt (version_cmp y.release.version z.release.version) ≡ false
       not-above z o t = of (behind z o t)
         where
-          of : (z.at ≡ at) ⊎ (goes_first s.facts at z.at ≡ true) → is_lt (version_cmp y.release.version z.release.version) ≡ false
+          of : (z.at ≡ at) ⊎ (goes_first s.facts z.at at ≡ false) → is_lt (version_cmp y.release.version z.release.version) ≡ false
           of (inl e) =
               let same : z ≡ y = some-same (sym o.own ∙ ap (release_at s) e ∙ own) in
               ap (λ (c : Chosen). is_lt (version_cmp y.release.version c.release.version)) same ∙ ap is_lt (version_cmp-reflexive y.release.version)
-          of (inr g) =
-              le-not z.release.version y.release.version
-              (ap (λ (v : List ℕ). is_le (version_cmp v y.release.version)) (sym (version-own z o)) ∙ ap (λ (v : List ℕ). is_le (version_cmp (version_at s.facts z.at) v)) (sym one-y) ∙ not-higher at z.at g)
+          of (inr g) = le-not z.release.version y.release.version (not-higher at z.at y z own o.own g)
 
       -- and where it stands before it in the catalogue, it is lower
       lower : (z : Chosen) → One z → comes_before z.at y.at ≡ true → passes z ≡ true → is_lt (version_cmp z.release.version y.release.version) ≡ true
@@ -326,13 +327,16 @@ module _ (s : Scene) (number : ℕ) (device : List ℕ) (view : DeviceView) (sho
           before-at : comes_before z.at at ≡ true
           before-at = ap (comes_before z.at) (sym at-is) ∙ before
 
-          of_first : (is_lt (version_cmp (version_at s.facts z.at) (version_at s.facts at)) ≡ true) ⊎ ((same_version (version_at s.facts at) (version_at s.facts z.at) && comes_before at z.at) ≡ true) → is_lt (version_cmp z.release.version y.release.version) ≡ true
-          of_first (inl e) = ap (λ (v : List ℕ). is_lt (version_cmp v y.release.version)) (sym (version-own z o)) ∙ ap (λ (v : List ℕ). is_lt (version_cmp (version_at s.facts z.at) v)) (sym one-y) ∙ e
-          of_first (inr e) = let parts = and-true (same_version (version_at s.facts at) (version_at s.facts z.at)) (comes_before at z.at) e in absurd (before-once at z.at parts.1 before-at)
+          -- the part of the order that is left: it isn't the higher one, and stands before it
+          is-lower : (h : Bool) → is_higher s.facts at z.at ≡ h → (not h && comes_before z.at at) ≡ false → is_lt (version_cmp z.release.version y.release.version) ≡ true
+          is-lower true e g = sym (higher-own at z.at y z own o.own) ∙ e
+          is-lower false e g = let bad : true ≡ false = sym before-at ∙ g in cc
 
-          of : (z.at ≡ at) ⊎ (goes_first s.facts at z.at ≡ true) → is_lt (version_cmp z.release.version y.release.version) ≡ true
+          of : (z.at ≡ at) ⊎ (goes_first s.facts z.at at ≡ false) → is_lt (version_cmp z.release.version y.release.version) ≡ true
           of (inl e) = let bad : comes_before at at ≡ true = ap (λ (r : ReleaseRef). comes_before r at) (sym e) ∙ before-at in absurd (before-once at at bad bad)
-          of (inr g) = of_first (or-cases (is_lt (version_cmp (version_at s.facts z.at) (version_at s.facts at))) _ g)
+          of (inr g) =
+              let parts = or-false (is_higher s.facts z.at at) (not (is_higher s.facts at z.at) && comes_before z.at at) g in
+              is-lower (is_higher s.facts at z.at) refl parts.1
 
       front-of : {X : Type 0} (P : X → Type 0) (xs ys : List X) → AllByRecursion P (xs ++ ys) → AllByRecursion P xs
       front-of P [] ys a = tt
@@ -404,10 +408,14 @@ module _ (s : Scene) (number : ℕ) (device : List ℕ) (view : DeviceView) (sho
   tried-on front [] whole fail f there = sym (none-next (subst (AllByRecursion Fails) (sym (append-nil front) ∙ whole) fail))
   tried-on front (at ∷ rest) whole fail f there =
       of (is_gt (version_cmp (version_at s.facts at) shown)) refl
-      (λ no. tried-on (front ++ at ∷ []) rest (append_assoc front (at ∷ []) rest ∙ whole) (All-push Fails front at fail no) f.1 there.1)
+      (λ fails. tried-on (front ++ at ∷ []) rest (append_assoc front (at ∷ []) rest ∙ whole) (All-push Fails front at fail fails) f.1 there.1)
     where
       More : Type 0
       More = Fails at → tried s number view shown past rest ≡ next_step s number device past
+
+      below-so : (o : Option Chosen) → release_at s at ≡ o → is_some o ≡ true → is_gt (version_cmp (version_at s.facts at) shown) ≡ false → AllByRecursion Fails (at ∷ rest)
+      below-so None own t g = cc
+      below-so (Some x) own t g = below-all at rest x own f g
 
       there-is : (o : Option Chosen) → release_at s at ≡ o → is_some o ≡ true → is_gt (version_cmp (version_at s.facts at) shown) ≡ true → (step : PlanStep)
           → good_step s number view at (version_at s.facts at) past ≡ Some step → Some step ≡ next_step s number device past
@@ -422,7 +430,7 @@ module _ (s : Scene) (number : ℕ) (device : List ℕ) (view : DeviceView) (sho
       of : (b : Bool) → is_gt (version_cmp (version_at s.facts at) shown) ≡ b → More
           → (if b then first_some (good_step s number view at (version_at s.facts at) past) (tried s number view shown past rest) else None) ≡ next_step s number device past
       of true g more = good (good_step s number view at (version_at s.facts at) past) refl g more
-      of false g more = sym (none-next (subst (AllByRecursion Fails) whole (All-append Fails front (at ∷ rest) fail (below-all at rest f g))))
+      of false g more = sym (none-next (subst (AllByRecursion Fails) whole (All-append Fails front (at ∷ rest) fail (below-so (release_at s at) refl there.0 g))))
 
   -- So the first good one of the places is the next step.
   pub tried-next : AllByRecursion (λ at. is_some (release_at s at) ≡ true) places → tried s number view shown past places ≡ next_step s number device past

@@ -2,6 +2,7 @@
 use Rattle.std.proofs.Common.{◌≡◌, ℕ, suc, ◌+◌, ◌&&◌, ◌||◌, ◌==◌, Bool, true, false, not, List, [], ◌∷◌, ◌++◌, length, map, refl, sym, ap, ◌∙◌, subst, arith}
 use Rattle.std.specs.Prelude.{Option, Some, None, find, slice_get, option_map, unwrap_or, if◌then◌else◌}
 use Rattle.std.specs.List.{AllByRecursion}
+use Rattle.std.specs.Str.{bytes_eq}
 use Rattle.std.specs.Ordering.{is_eq, ordering_reverse}
 use Rattle.std.specs.declared.cmp.Ordering.{Ordering}
 use Rattle.std.specs.declared.cmp.Ordering.TheVariants.{Less, Equal, Greater}
@@ -290,7 +291,7 @@ module _ (s : Scene) (first : List Seen) (plans : List BootPlan) (number : ℕ) 
   on-device = (board s number step chosen q quiet f).1
 
   has-b : slice_get s.facts.sheets b.number ≡ Some b.sheet
-  has-b = All-find (HasSheet s.facts) _ (devices s.facts) b (has-sheets s.facts) on-device
+  has-b = All-find (HasSheet s.facts) (λ (x : Board). bytes_eq x.sheet.device step.device) (devices s.facts) b (has-sheets s.facts) on-device
 
   fresh-q : row_of (rows s.facts s.opening q) (next_entry s.facts s.opening q) ≡ None
   fresh-q = let k = kept s number step chosen q quiet f in row_of-past 1 (rows s.facts s.opening q) (next_entry s.facts s.opening q) k.rows_kept.valid.entries (omega arith)

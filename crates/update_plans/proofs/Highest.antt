@@ -90,19 +90,19 @@ pub record Parted (all : List Chosen) (c : Chosen) : Type 0 where
   pub whole : front ++ c ∷ back ≡ all
   pub before : AllByRecursion (λ y. comes_before y.at c.at ≡ true) front
 
-pub parted : (all : List Chosen) (at : ReleaseRef) (c : Chosen) → Ordered all → find (λ x. is_release x.at at) all ≡ Some c → Parted all c
-parted [] at c o e = cc
-parted (x ∷ xs) at c o e =
-    by_test (is_release x.at at) (Parted (x ∷ xs) c)
+pub parted : (all : List Chosen) (place : ReleaseRef) (c : Chosen) → Ordered all → find (λ x. is_release x.at place) all ≡ Some c → Parted all c
+parted [] place c o e = cc
+parted (x ∷ xs) place c o e =
+    by_test (is_release x.at place) (Parted (x ∷ xs) c)
     (λ t. let e' : Some x ≡ Some c = rw t at e in let same : x ≡ c = cc in subst (Parted (x ∷ xs)) same (record { front = []; back = xs; whole = refl; before = tt }))
     (λ f.
-    let e' : find (λ y. is_release y.at at) xs ≡ Some c = rw f at e in
-    let more : Parted xs c = parted xs at c o.1 e' in
+    let e' : find (λ y. is_release y.at place) xs ≡ Some c = rw f at e in
+    let more : Parted xs c = parted xs place c o.1 e' in
     record {
       front = x ∷ more.front;
       back = more.back;
       whole = ap (λ (ys : List Chosen). x ∷ ys) more.whole;
-      before = (All-find (λ y. comes_before x.at y.at ≡ true) (λ y. is_release y.at at) xs c o.0 e', more.before);
+      before = (All-find (λ y. comes_before x.at y.at ≡ true) (λ y. is_release y.at place) xs c o.0 e', more.before);
     })
 
 -- ---- the highest
@@ -113,7 +113,7 @@ find-behind : (p q : Chosen → Bool) (front back : List Chosen) (c : Chosen) �
 find-behind p q [] back c here that none = rw (here, that) refl
 find-behind p q (y ∷ front) back c here that none =
     by_test (p y) _
-    (λ t. let no : q y ≡ false = none.0 t in rw (t, no) (find-behind p q front back c here that none.1))
+    (λ t. let fails : q y ≡ false = none.0 t in rw (t, fails) (find-behind p q front back c here that none.1))
     (λ f. rw f (find-behind p q front back c here that none.1))
 
 any-behind : (p t : Chosen → Bool) (front back : List Chosen) (c : Chosen) → p c ≡ true → t c ≡ true → list_any t (filter p (front ++ c ∷ back)) ≡ true

@@ -1,6 +1,6 @@
 -- An install of a good step: each of its events is allowed, it ends as the course of its device does, and a plan may
 -- be made behind it.
-use Rattle.std.proofs.Common.{◌≡◌, ℕ, ◌+◌, ◌&&◌, ◌||◌, ◌==◌, Bool, true, false, List, [], ◌∷◌, ◌++◌, length, inl, refl, sym, ap, ◌∙◌, subst, arith}
+use Rattle.std.proofs.Common.{cond, ◌≡◌, ℕ, ◌+◌, ◌&&◌, ◌||◌, ◌==◌, Bool, true, false, List, [], ◌∷◌, ◌++◌, length, inl, refl, sym, ap, ◌∙◌, subst, arith}
 use Rattle.std.specs.Prelude.{Option, Some, None, find, nat_lt, option_map, option_and_then, unwrap_or, if◌then◌else◌}
 use Rattle.std.specs.Option.{option_map_or}
 use Rattle.std.specs.List.{AllByRecursion}
@@ -24,12 +24,13 @@ use Rattle.update_log.specs.declared.event.Op.{Op}
 use Rattle.update_log.specs.declared.event.Stored.{Stored}
 use Rattle.update_log.specs.declared.facts.Facts.{Facts}
 use Rattle.update_log.specs.declared.live.Held.{Held}
+use Rattle.update_log.specs.declared.live.LiveEntry.{LiveEntry}
 use Rattle.update_log.specs.declared.live.OpenStep.{OpenStep}
 use Rattle.update_log.specs.declared.refusal.FetchNote.{FetchNote}
 use Rattle.update_log.specs.declared.request.Request.{Request}
 use Rattle.update_log.specs.declared.trace.Trace.{Trace}
 use Rattle.update_log.specs.Boards.{Board}
-use Rattle.update_log.specs.Holding.{blocks_of, hold, holds, live, open_steps, step_open}
+use Rattle.update_log.specs.Holding.{blocks_of, hold, holds, live, live_entry, open_steps, step_open, without_entry}
 use Rattle.update_log.specs.Known.{Target, known, new_row, row_of, rows, rows_by, seen, target, view_of as view_in, views}
 use Rattle.update_log.specs.Known.Fate as fates
 use Rattle.update_log.specs.Legal.{ClaimAnswered, IsLegalUnlimited, UnchangedExactly, is_fetched, next_entry}
@@ -60,6 +61,17 @@ use Rattle.update_plans.proofs.Targets.{Found, found}
 
 some-same : {X : Type 0} {x y : X} → Some x ≡ Some y → x ≡ y
 some-same e = cc
+
+-- the one live entry is found, and none is left without it
+only-live : (past : List Event) (l : LiveEntry) → live past ≡ l ∷ [] → live_entry past l.entry ≡ Some l
+only-live past l e = ap (find (λ x. x.entry == l.entry)) e ∙ rw (eqb-self l.entry) refl
+
+none-left : (past : List Event) (l : LiveEntry) → live past ≡ l ∷ [] → without_entry l.entry (live past) ≡ []
+none-left past l e = ap (without_entry l.entry) e ∙ rw (eqb-self l.entry) refl
+
+none-found : {X : Type 0} (p : X → Bool) (xs : List X) → AllByRecursion (λ x. p x ≡ false) xs → find p xs ≡ None
+none-found p [] a = refl
+none-found p (x ∷ xs) a = ap (λ (b : Bool). cond b (Some x) (find p xs)) a.0 ∙ none-found p xs a.1
 
 module _ (s : Scene) (number : ℕ) (step : PlanStep) (chosen : Chosen) (past : List Event) (q : IsQuiet s past) (f : Found s number step chosen past) where
   abbrev entry : ℕ
@@ -188,7 +200,7 @@ module _ (s : Scene) (number : ℕ) (step : PlanStep) (chosen : Chosen) (past : 
   pub view-is : f.t.view ≡ view_in (live past) (known s.facts s.opening past) b
   view-is = some-same (sym f.view_is ∙ view-now s step.device b past board.1)
 
-  flags-are : has_flag DeviceFlag.NeedsReboot f.t.view.sheet.flags ≡ has_flag DeviceFlag.NeedsReboot b.sheet.flags
+  pub flags-are : has_flag DeviceFlag.NeedsReboot f.t.view.sheet.flags ≡ has_flag DeviceFlag.NeedsReboot b.sheet.flags
   flags-are = ap (λ (v : DeviceView). has_flag DeviceFlag.NeedsReboot v.sheet.flags) view-is
 
   pub device-is : f.t.view.sheet.device ≡ step.device
@@ -265,7 +277,7 @@ module _ (s : Scene) (number : ℕ) (step : PlanStep) (chosen : Chosen) (past : 
   -- ---- the finish
 
   none-next : (t : Trace) → AllByRecursion (λ o. may_be_next t o ≡ false) all_ops → next_step t ≡ None
-  none-next t none = rw (none.0, none.1.0, none.1.1.0, none.1.1.1.0, none.1.1.1.1.0, none.1.1.1.1.1.0) refl
+  none-next t none = none-found (may_be_next t) all_ops none
 
   -- its board's view, as the log stands before the finish
   abbrev view_done : DeviceView
@@ -332,7 +344,7 @@ module _ (s : Scene) (number : ℕ) (step : PlanStep) (chosen : Chosen) (past : 
       record { client = s.client; entry = entry; blocks = g.blocks },
       end_of s number step chosen past,
       record {
-        live = rw (g.live_is, eqb-self entry) refl;
+        live = only-live (done s number step chosen past) (record { client = s.client; entry = entry; blocks = g.blocks }) g.live_is;
         client_is = refl;
         open_none = g.closed;
         done = ap (option_and_then next_step) g.trace_is ∙ none-next cleaned.trace (none_left step.raw first refl);
@@ -353,7 +365,7 @@ module _ (s : Scene) (number : ℕ) (step : PlanStep) (chosen : Chosen) (past : 
     booted = g.booted;
     on = g.on;
     no_hold = g.holds_are;
-    none_live = rw (g.live_is, eqb-self entry) refl;
+    none_live = none-left (done s number step chosen past) (record { client = s.client; entry = entry; blocks = g.blocks }) g.live_is;
     client = q.client;
   }
 

@@ -11,7 +11,7 @@ use Rattle.fw_facts.specs.declared.seen.Mode.{Mode}
 use Rattle.fw_facts.specs.declared.seen.Seen.{Seen}
 use Rattle.fw_facts.specs.declared.view.DeviceView.{DeviceView}
 use Rattle.fw_facts.specs.Flags.{has_flag}
-use Rattle.fw_facts.specs.Views.{flags_of}
+use Rattle.fw_facts.specs.Views.{flags_of, is_home}
 use Rattle.history_keeper.specs.declared.row.Row.{Row}
 use Rattle.release_catalogue.specs.Lookup.{Chosen}
 use Rattle.update_log.specs.declared.event.Event.{Event}
@@ -23,8 +23,8 @@ use Rattle.update_log.specs.Holding.{holds, live, live_entry, open_steps, step_o
 use Rattle.update_log.specs.Known.{board_of, row_of, rows, seen}
 use Rattle.update_log.specs.Legal.{IsLegalUnlimited, ToldWhole}
 use Rattle.update_log.specs.Pasts.{boots, off}
-use Rattle.update_log.specs.Shows.{Campaign, EndShows, HasMode, HasRaw, IsPrefix, ModeAllowed, RawAllowed, digest_of, home_before, marks, raw_of as raw_taken, told}
-use Rattle.update_log.specs.Steps.{is_op, mode_of, next_op, next_step, op_number, trace}
+use Rattle.update_log.specs.Shows.{Campaign, EndShows, HasMode, HasRaw, IsPrefix, ModeAllowed, RawAllowed, digest_of, home_before, marks, raw_of as raw_taken, told, is_alike}
+use Rattle.update_log.specs.Steps.{is_op, mode_of, next_op, next_step, op_number, trace, with_step}
 use Rattle.update_log.proofs.Lists.{eqb-self, find-filter_none}
 use Rattle.update_log.proofs.TakenKept.{find-push_new}
 use Rattle.update_plans.specs.declared.course.Course.{Course}
@@ -199,8 +199,8 @@ module _ (s : Scene) (step : PlanStep) (chosen : Chosen) (first : List Seen) (pl
       let last : home_before s.facts first s.opening (starts op past) board ≡ Seen.Home g.raw g.mode = home-seen s.facts first s.opening (starts op past) board g.raw g.mode here in
       let home = after-home op (has_flag DeviceFlag.NeedsReboot course.trace.flags) step.raw g.raw g.mode in
       record {
-        stays = rw (here, shown, home.2) refl;
-        home = λ h. rw here refl;
+        stays = ap (λ (x : Seen). is_alike x (shows_next step.raw course op)) here ∙ ap (is_alike (Seen.Home g.raw g.mode)) (shown ∙ home.2);
+        home = λ h. ap is_home here;
         raw = λ raw mode e. raw-allowed raw mode last (raw-so op (has_flag DeviceFlag.NeedsReboot course.trace.flags) step.raw g.raw g.mode raw mode (sym shown ∙ e));
         mode = λ raw mode e. mode-allowed op entry chosen.release.digest (home_before s.facts first s.opening (starts op past) board) g.raw g.mode (has_flag DeviceFlag.NeedsReboot course.trace.flags) step.raw raw mode
             last (subst (λ (x : Seen). Suits op (mode_of x)) g.home suits) (sym shown ∙ e);
@@ -225,11 +225,17 @@ module _ (s : Scene) (step : PlanStep) (chosen : Chosen) (first : List Seen) (pl
     record { booted = λ h. g.booted; on = λ h. g.on },
     record {
       open_is = opened past course op g;
-      told_is = rw (digest-so past course g) (prefix-self (marks op entry chosen.release.digest));
-      whole = rw (digest-so past course g) (whole-self op (marks op entry chosen.release.digest));
+      told_is = subst (λ (digest : List ℕ). IsPrefix (marks op entry chosen.release.digest) (marks op entry digest)) (sym (digest-so past course g)) (prefix-self (marks op entry chosen.release.digest));
+      whole = subst (λ (digest : List ℕ). ToldWhole op (Ok tt) (marks op entry chosen.release.digest) (marks op entry digest)) (sym (digest-so past course g)) (whole-self op (marks op entry chosen.release.digest));
       shows = λ board t. end-shows past course op board g suits (that-board s (rows s.facts s.opening past) entry board b.number (board-found past course g) t);
     },
   )
+
+  -- the entry's trace has the step then
+  traced-on : (past : List Event) (course : Course) (op : Op) → Goes past course → trace s.facts s.opening entry (ended op course ∷ starts op past) ≡ Some (course_with step.raw course op).trace
+  traced-on past course op g =
+      ap (λ (t : Bool). if t then option_map (with_step (record { op = op; outcome = Ok tt; seen = shows_next step.raw course op })) (trace s.facts s.opening entry past) else trace s.facts s.opening entry past) (eqb-self entry)
+      ∙ ap (option_map (with_step (record { op = op; outcome = Ok tt; seen = shows_next step.raw course op }))) g.trace_is
 
   -- with the step the log goes on as the course does
   goes-with : (past : List Event) (course : Course) (op : Op) → Goes past course → is_next (next_step course.trace) op ≡ true → Suits op (mode_of course.seen) → Returns (course_with step.raw course op)
@@ -251,7 +257,7 @@ module _ (s : Scene) (step : PlanStep) (chosen : Chosen) (first : List Seen) (pl
         live_is = g.live_is;
         holds_are = g.holds_are;
         closed = find-filter_none (λ x. x.entry == entry) (open_steps (starts op past));
-        trace_is = rw (eqb-self entry, g.trace_is) refl;
+        trace_is = traced-on past course op g;
         flags_are = g.flags_are;
         seen_is = seen-ended s b (starts op past) s.client entry (ended op course) (shows_next step.raw course op) (board-found past course g) refl;
         raw_is = g.raw_is;
@@ -264,13 +270,25 @@ module _ (s : Scene) (step : PlanStep) (chosen : Chosen) (first : List Seen) (pl
   -- So the step, where it is the next one, keeps the log and the course together.
   pub goes-on : (past : List Event) (course : Course) (op : Op) → Goes past course → (is_next (next_step course.trace) op ≡ true → Suits op (mode_of course.seen)) → Returns (course_step step.raw course op)
       → Goes (with_op s step chosen entry past op) (course_step step.raw course op)
-  goes-on past course op g suits returns = go (is_next (next_step course.trace) op) refl
+  goes-on past course op g suits returns =
+      subst (λ (t : Bool). Goes (if t then shown-after (shown_after op (waits_for_boot s step.device past) step.raw (seen_of s step.device past)) else past) (course_step step.raw course op)) (sym next)
+      (go (is_next (next_step course.trace) op) refl)
     where
       next : is_next (next_op s.facts s.opening past entry) op ≡ is_next (next_step course.trace) op
       next = ap (λ (o : Option Trace). is_next (option_and_then next_step o) op) g.trace_is
 
-      go : (taken : Bool) → is_next (next_step course.trace) op ≡ taken → Goes (with_op s step chosen entry past op) (course_step step.raw course op)
+      shown-after : Seen → List Event
+      shown-after shown = Event.End s.client entry op (Ok tt) (marks op entry chosen.release.digest) shown ∷ starts op past
+
+      same : shows_next step.raw course op ≡ shown_after op (waits_for_boot s step.device past) step.raw (seen_of s step.device past)
+      same =
+          sym
+          (ap (λ (waits : Bool). shown_after op waits step.raw (seen_of s step.device past)) (waits-so past course g)
+          ∙ ap (shown_after op (has_flag DeviceFlag.NeedsReboot course.trace.flags) step.raw) (seen-so past course g))
+
+      go : (taken : Bool) → is_next (next_step course.trace) op ≡ taken
+          → Goes (if taken then shown-after (shown_after op (waits_for_boot s step.device past) step.raw (seen_of s step.device past)) else past) (if taken then course_with step.raw course op else course)
       go true e =
-          let whole : Goes (ended op course ∷ starts op past) (course_with step.raw course op) = goes-with past course op g e (suits e) (rw e at returns) in
-          rw (next, e, waits-so past course g, seen-so past course g) whole
-      go false e = rw (next, e) g
+          subst (λ (shown : Seen). Goes (shown-after shown) (course_with step.raw course op)) same
+          (goes-with past course op g e (suits e) (subst (λ (t : Bool). Returns (if t then course_with step.raw course op else course)) e returns))
+      go false e = g

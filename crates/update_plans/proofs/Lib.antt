@@ -22,3 +22,5 @@ pub mod Followed
 pub mod Put
 pub mod Choice
 pub mod Good
+pub mod Within
+pub mod Sorting

@@ -1,8 +1,10 @@
 -- The plan: each of its steps is good after those before it, and there are no more than its limit.
-use Rattle.std.proofs.Common.{◌≡◌, ℕ, zero, suc, ◌+◌, ◌-◌, ◌≤◌, Bool, true, false, List, [], ◌∷◌, ◌++◌, length, length-append, refl, sym, ap, ◌∙◌, arith}
+use Rattle.std.proofs.Common.{not, ◌≡◌, ℕ, zero, suc, ◌+◌, ◌-◌, ◌≤◌, Bool, true, false, List, [], ◌∷◌, ◌++◌, length, length-append, refl, sym, ap, ◌∙◌, arith}
 use Rattle.std.specs.Prelude.{Option, Some, None, filter, option_and_then, if◌then◌else◌}
 use Rattle.std.specs.Option.{option_map_or}
-use Rattle.std.specs.List.{AllByRecursion}
+use Rattle.std.specs.List.{AllByRecursion, list_any}
+use Rattle.std.specs.Ordering.{is_lt}
+use Rattle.version_formats.specs.VersionOrder.{version_cmp}
 use Rattle.fw_facts.specs.declared.view.DeviceView.{DeviceView}
 use Rattle.release_catalogue.specs.Lookup.{Chosen, all_releases}
 use Rattle.update_log.specs.declared.event.Event.{Event}
@@ -21,7 +23,7 @@ any-of (x ∷ xs) = (tt, any-of xs)
 -- the highest of those that pass is one that passes
 highest-passes : (p : Chosen → Bool) (all : List Chosen) (chosen : Chosen) → highest (filter p all) ≡ Some chosen → p chosen ≡ true
 highest-passes p all chosen h =
-    All-find (λ c. p c ≡ true) _ (filter p all) chosen (All-filter (λ (c : Chosen). Unit {0}) (λ c. p c ≡ true) p all (any-of all) (λ c u t. t)) h
+    All-find (λ c. p c ≡ true) (λ c. not (list_any (λ other. is_lt (version_cmp c.release.version other.release.version)) (filter p all))) (filter p all) chosen (All-filter (λ (c : Chosen). Unit {0}) (λ c. p c ≡ true) p all (any-of all) (λ c u t. t)) h
 
 pub next-good : (s : Scene) (number : ℕ) (device : List ℕ) (past : List Event) (step : PlanStep) → next_step s number device past ≡ Some step → is_good s number step past ≡ true
 unfolding next_step

@@ -1,11 +1,12 @@
 -- Releases from the highest down.
-use Rattle.std.specs.Prelude.{◌≡◌, ℕ, ◌==◌, ◌&&◌, ◌||◌, nat_lt, Bool, true, List, [], AllPairs, Option, Some, None, find, option_and_then, if◌then◌else◌}
-use Rattle.std.specs.List.{list_any}
+use Rattle.std.specs.Prelude.{◌≡◌, ℕ, ◌==◌, ◌&&◌, ◌||◌, nat_lt, Bool, false, not, List, [], AllPairs, Option, Some, None, find, option_map, option_and_then, if◌then◌else◌}
 use Rattle.std.specs.List.Sorted.{IsPermutation}
 use Rattle.std.specs.Option.{option_map_or}
 use Rattle.std.specs.Ordering.{is_lt}
+use Rattle.std.specs.declared.cmp.Ordering.{Ordering}
+use Rattle.std.specs.declared.cmp.Ordering.TheVariants.{Less, Equal, Greater}
 use Rattle.fw_facts.specs.declared.view.DeviceView.{DeviceView}
-use Rattle.version_formats.specs.VersionOrder.{same_version, version_cmp}
+use Rattle.version_formats.specs.VersionOrder.{version_cmp}
 use Rattle.release_catalogue.specs.declared.reference.ReleaseRef.{ReleaseRef}
 use Rattle.release_catalogue.specs.Lookup.{all_releases}
 use Rattle.release_catalogue.specs.Places.{matching_places}
@@ -21,24 +22,33 @@ abbrev pub version_at : Facts → ReleaseRef → List ℕ
 version_at facts at =
     option_map_or (λ chosen. chosen.release.version) (find (λ chosen. is_release chosen.at at) (all_releases facts.catalogue)) []
 
--- There is a release at the place.
-abbrev pub is_in_catalogue : Facts → ReleaseRef → Bool
-is_in_catalogue facts at = list_any (λ chosen. is_release chosen.at at) (all_releases facts.catalogue)
+-- The same, where there is a release.
+abbrev pub version_found : Facts → ReleaseRef → Option (List ℕ)
+version_found facts at = option_map (λ chosen. chosen.release.version) (find (λ chosen. is_release chosen.at at) (all_releases facts.catalogue))
+
+-- Versions in their order, and none below all.
+abbrev pub found_cmp : Option (List ℕ) → Option (List ℕ) → Ordering
+found_cmp None None = Equal
+found_cmp None (Some b) = Less
+found_cmp (Some a) None = Greater
+found_cmp (Some a) (Some b) = version_cmp a b
+
+-- The one release has a higher version than the other.
+abbrev pub is_higher : Facts → ReleaseRef → ReleaseRef → Bool
+is_higher facts a b = is_lt (found_cmp (version_found facts b) (version_found facts a))
 
 -- The one place stands before the other in the catalogue.
 abbrev pub comes_before : ReleaseRef → ReleaseRef → Bool
 comes_before a b = nat_lt a.component b.component || ((a.component == b.component) && nat_lt a.release b.release)
 
--- The one release goes before the other: it has the higher version, or an equal one and the earlier place.
+-- The one release goes before the other: it has the higher version, or no lower one and the earlier place.
 abbrev pub goes_first : Facts → ReleaseRef → ReleaseRef → Bool
-goes_first facts a b =
-    is_lt (version_cmp (version_at facts b) (version_at facts a))
-    || (same_version (version_at facts a) (version_at facts b) && comes_before a b)
+goes_first facts a b = is_higher facts a b || (not (is_higher facts b a) && comes_before a b)
 
--- The releases that match the GUIDs, each before those that it goes before.
+-- The releases that match the GUIDs, none behind one that it goes before.
 pub record IsHighestFirst (facts : Facts) (guids : List (List ℕ)) (places : List ReleaseRef) : Type 0 where
   pub same : IsPermutation (matching_places facts.catalogue guids) places
-  pub falling : AllPairs (λ a b. goes_first facts a b ≡ true) places
+  pub falling : AllPairs (λ a b. goes_first facts b a ≡ false) places
 
 -- The step that puts a release of that place and version on a device, where it has a raw number and is good.
 abbrev pub where_good : Scene → ℕ → List Event → PlanStep → Option PlanStep

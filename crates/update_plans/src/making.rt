@@ -7,7 +7,7 @@ ghost use Rattle.update_plans.specs.Following.{IsQuiet};
 ghost use Rattle.std.specs.Ordering.{is_gt};
 ghost use Rattle.version_formats.specs.VersionOrder.{version_cmp};
 ghost use Rattle.fw_facts.specs.Views.{guids_of};
-ghost use Rattle.update_plans.specs.Choosing.{IsHighestFirst, good_step, is_in_catalogue, version_at};
+ghost use Rattle.update_plans.specs.Choosing.{IsHighestFirst, found_cmp, good_step, version_found};
 ghost use Rattle.update_plans.specs.Plans.{after, chain, device_at, first_bad, next_step, plan, scene};
 ghost use Rattle.update_plans.specs.Tags.{IsTag};
 
@@ -124,11 +124,13 @@ fn highest_first(alloc: Global, planner: &Planner, at: usize) -> Result<Vec<Rele
 }
 
 fn compare_at(facts: &Facts, left: ReleaseRef, right: ReleaseRef) -> Ordering
-    ensures { is_in_catalogue facts.now left ≡ true → is_in_catalogue facts.now right ≡ true → result ≡ version_cmp (version_at facts.now left) (version_at facts.now right) }
+    ensures { result ≡ found_cmp (version_found facts.now left) (version_found facts.now right) }
 {
     match (release_at(facts, left), release_at(facts, right)) {
         (Some(left), Some(right)) => compare(&left.version, &right.version),
-        (Some(_), None) | (None, Some(_)) | (None, None) => Ordering::Equal,
+        (Some(_), None) => Ordering::Greater,
+        (None, Some(_)) => Ordering::Less,
+        (None, None) => Ordering::Equal,
     }
 }
 
