@@ -64,8 +64,8 @@ fn judged(alloc: Global, rows: &[Row]) -> Option<LoadStop>
     }
 }
 
-// A place, counted from 1, in 32 bits.
-fn place_told(at: usize) -> u32
+/// A place, counted from 1, in 32 bits.
+pub(crate) fn place_told(at: usize) -> u32
     ensures { result ≡ place_told at }
 {
     if at < u32::MAX as usize {

@@ -3,9 +3,9 @@ ghost use Rattle.std.specs.Prelude.{◌≡◌, ◌≤◌, ◌⊎◌, [], None, S
 ghost use Rattle.outer_traits.specs.Faults.{Rose};
 ghost use Rattle.history_keeper.specs.Keepers.{StillTold};
 ghost use Rattle.command_words.specs.declared.command.Command.TheVariants as commands;
-ghost use Rattle.daemon_core.specs.Reading.{place_told};
 ghost use Rattle.fwupd_service.specs.Reported.{report_status, FaultTold, ReportTold};
 
+use crate::loading::place_told;
 use crate::ran::Ran;
 use fw_base::Listed;
 use history_keeper::Keeper;
@@ -26,17 +26,6 @@ fn report_status(end: ReportEnd) -> Status
         ReportEnd::HistoryFault | ReportEnd::MarkFault => Status::KeeperFault,
         ReportEnd::SinkFault => Status::SinkFault,
         ReportEnd::NoMemory => Status::NoMemory,
-    }
-}
-
-// A place, counted from 1, in 32 bits.
-fn place_told(at: usize) -> u32
-    ensures { result ≡ place_told at }
-{
-    if at < u32::MAX as usize {
-        at as u32 + 1
-    } else {
-        u32::MAX
     }
 }
 
