@@ -14,8 +14,6 @@ pub mod memory_marks;
 pub mod reporting;
 pub mod sending;
 pub mod stop;
-#[cfg(test)]
-mod tests;
 
 pub use line::line_of;
 pub use mark_keeper::MarkKeeper;

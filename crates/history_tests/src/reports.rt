@@ -1,10 +1,10 @@
-//! What no clause says: that the calls succeed, the text of a line as a JSON reader has it, and what stops between the
+//! What no clause says of reports: that the calls succeed, the text of a line as a JSON reader has it, and what stops between the
 //! mark and the line come to.
-use crate::{MarkKeeper, MemoryMarks, SendStop, line_of, send_reports};
 use fw_base::Name;
 use guid_ids::device_id;
 use history_keeper::{KeeperPlan, Row, RowState};
 use outer_traits::MemorySink;
+use report_queue::{MarkKeeper, MemoryMarks, SendStop, line_of, send_reports};
 use serde_json::Value;
 use std::alloc::Global;
 use std::test::Fail;
