@@ -18,6 +18,7 @@ use Rattle.run_status.specs.declared.status.Status.{Status}
 use Rattle.fwupd_service.specs.Campaigns.{ShelvesStand, WasPlayed}
 use Rattle.fwupd_service.specs.Commands.{KeepsShelves}
 use Rattle.fwupd_service.specs.Ends.{IsReported}
+use Rattle.fwupd_service.specs.Reported.{KeepsMarks}
 use Rattle.fwupd_service.specs.Tops.{CampaignTold}
 use Rattle.fwupd_service.proofs.EndLaws.{campaign-ends}
 
@@ -40,6 +41,19 @@ keeps-same (Some (commands.Explain port version)) old new e = e
 keeps-same (Some (commands.Ids texts)) old new e = e
 keeps-same (Some (commands.Make boards clients)) old new e = e
 keeps-same (Some (commands.Report max)) old new e = e
+
+-- Marks that came back are kept by any command.
+pub marks-same : {M : Type 0} (command : Option Command) (old new : M) → new ≡ old → KeepsMarks command old new
+marks-same None old new e = e
+marks-same (Some commands.Run) old new e = e
+marks-same (Some (commands.Plan tag)) old new e = e
+marks-same (Some (commands.Update tag)) old new e = e
+marks-same (Some commands.Check) old new e = e
+marks-same (Some commands.Remotes) old new e = e
+marks-same (Some (commands.Explain port version)) old new e = e
+marks-same (Some (commands.Ids texts)) old new e = e
+marks-same (Some (commands.Make boards clients)) old new e = e
+marks-same (Some (commands.Report max)) old new e = tt
 
 -- Shelves that nobody used stay.
 pub stay-same : (shelves : List ShelfTold) → ShelvesStay shelves shelves

@@ -36,13 +36,7 @@ pub(crate) struct RunLeft<P, K> {
 impl<P, K> RunLeft<P, K> {
     /// The same, beside the marks as they came.
     pub(crate) fn with_marks<M>(self, marks: M) -> Ran<P, K, M>
-        ensures status { result.status ≡ self.status }
-        ensures log { result.log ≡ self.log }
-        ensures opening { result.opening ≡ self.opening }
-        ensures boards { result.boards ≡ self.boards }
-        ensures keeper { result.keeper ≡ self.keeper }
-        ensures marks { result.marks ≡ marks }
-        ensures shelves { result.shelves ≡ self.shelves }
+        ensures { result ≡ record { status = self.status; log = self.log; opening = self.opening; boards = self.boards; keeper = self.keeper; marks = marks; shelves = self.shelves } }
     {
         let RunLeft {
             status,
