@@ -2,7 +2,7 @@
 use Rattle.std.proofs.Common.{◌≡◌, ℕ, List, length, map, ap, sym, subst, ◌∙◌, arith}
 use Rattle.std.specs.Prelude.{◌==◌}
 use Rattle.std.specs.List.{list_any}
-use Rattle.update_log.specs.Core.{IsCore}
+use Rattle.update_log.specs.Core.{IsCore, core_of, spare}
 use Rattle.update_log.specs.declared.state.CoreState.TheInside.{Inside}
 
 -- The lists of a state, its room aside.
@@ -34,3 +34,8 @@ core-alike old new a k = record {
   boards = rw (a.boards, a.devices) k.boards;
   entries = rw (a.traces, a.live) k.entries;
 }
+
+-- So is what contracts see of it, its room aside.
+pub seen-alike : (old new : Inside) → Alike old new → new.rows.rows ≡ old.rows.rows → new.doubt ≡ old.doubt
+    → core_of new ≡ record (core_of old) { room = spare new; row_room = new.rows.room }
+seen-alike old new a r d = cc (a.log, r, a.devices, a.boards, a.traces, d)
