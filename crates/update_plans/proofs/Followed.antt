@@ -255,7 +255,7 @@ row-like entry time client request state a t m = ap (λ (sheet : Sheet). told sh
       time_changed = time;
       duration = sheet.duration;
       protocol = sheet.protocol;
-      retry_of = None;
+      retry_of = request.retry_of;
     }
 
 module _ (s : Scene) (first : List Seen) (plans : List BootPlan) (number : ℕ) (step : PlanStep) (chosen : Chosen) (p q : List Event) (same : Same s p q) (quiet : IsQuiet s q) (there : release_at s step.release ≡ Some chosen)

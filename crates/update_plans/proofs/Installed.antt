@@ -31,8 +31,7 @@ use Rattle.update_log.specs.declared.request.Request.{Request}
 use Rattle.update_log.specs.declared.trace.Trace.{Trace}
 use Rattle.update_log.specs.Boards.{Board}
 use Rattle.update_log.specs.Holding.{blocks_of, hold, holds, live, live_entry, open_steps, step_open, without_entry}
-use Rattle.update_log.specs.Known.{Target, known, new_row, row_of, rows, rows_by, seen, target, view_of as view_in, views}
-use Rattle.update_log.specs.Known.Fate as fates
+use Rattle.update_log.specs.Known.{Fate, Target, known, new_row, row_of, rows, rows_by, seen, target, view_of as view_in, views}
 use Rattle.update_log.specs.Legal.{ClaimAnswered, IsLegalUnlimited, UnchangedExactly, is_fetched, next_entry}
 use Rattle.update_log.specs.Pasts.{time_of}
 use Rattle.update_log.specs.Shows.{Campaign}
@@ -155,7 +154,7 @@ module _ (s : Scene) (number : ℕ) (step : PlanStep) (chosen : Chosen) (past : 
 
   rows-begun : rows s.facts s.opening begun ≡ rows s.facts s.opening past ++ row ∷ []
   rows-begun =
-      ap (λ (o : Option Target). rows_by fates.Made (option_map (λ t. Change.Add (new_row entry (time_of past) s.client asks RowState.Begun t)) o) (rows s.facts s.opening past)) f.target_is
+      ap (λ (o : Option Target). rows_by Fate.Made (option_map (λ t. Change.Add (new_row entry (time_of past) s.client asks RowState.Begun t)) o) (rows s.facts s.opening past)) f.target_is
 
   row-begun : row_of (rows s.facts s.opening begun) entry ≡ Some row
   row-begun =
