@@ -214,7 +214,7 @@ module _ (s : Scene) (step : PlanStep) (chosen : Chosen) (first : List Seen) (pl
             entry,
             chosen.release.digest,
             Contains-append_right (told s.facts s.opening (starts op past) board) (marks op entry chosen.release.digest) (Mark.Ended entry chosen.release.digest)
-                (subst (λ (o : Op). Contains (marks o entry chosen.release.digest) (Mark.Ended entry chosen.release.digest)) (sym write) (1, (omega arith, refl))),
+                (subst (λ (o : Op). Contains (marks o entry chosen.release.digest) (Mark.Ended entry chosen.release.digest)) (sym write) (1, omega arith, refl)),
             g.raw_is ∙ ap (λ (n : ℕ). Some n) same,
           ))
 
