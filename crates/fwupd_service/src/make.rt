@@ -107,7 +107,7 @@ fn make_ready<R: Threads + Wait + Sync, P, K, T: Sink, G: Gate + Sync>(
 ) -> RunLeft<P, K>
     requires ready { CanBePlayed ready.campaign }
     requires shelves { IsReadyFor clients (length ready.plugins.items) ready.campaign }
-    ensures went { MadeOrNothing boards clients (steps_at (λ p. steps p) ready.plugins.items) result.status ready.campaign keeper
+    ensures went { MadeOrNothing boards clients (steps_at (λ p. (Plugin-box p).steps p.value) ready.plugins.items) result.status ready.campaign keeper
         (record { log = result.log; opening = result.opening; boards = result.boards; keeper = result.keeper })
         (T.taken out.old) (T.taken out.new) }
     ensures sink_fault { result.status ≡ Status.SinkFault → Rose (T.faults out.old) (T.faults out.new) }

@@ -131,7 +131,7 @@ pub(crate) fn play<R: Threads + Wait + Sync, P: Shelf + Send, K: Keeper + Send, 
     requires ready { CanBePlayed ready.campaign }
     requires shelves { IsReadyFor (length shelves.items) (length ready.plugins.items) ready.campaign }
     requires no_doubt { K.doubt keeper ≡ None }
-    ensures played { IfOk result.0 (λ played. WasPlayed K.tells K.doubt K.faults (means_for (steps_at (λ p. steps p) ready.plugins.items) (shelves_told P.files P.faults shelves.items)) played.ran
+    ensures played { IfOk result.0 (λ played. WasPlayed K.tells K.doubt K.faults (means_for (steps_at (λ p. (Plugin-box p).steps p.value) ready.plugins.items) (shelves_told P.files P.faults shelves.items)) played.ran
         (with_plans ready.campaign.facts (map shown_by ready.campaign.boards.items) ready.campaign.boots)
         ready.campaign.scripts played.opening played.log played.boards keeper played.keeper) }
     ensures plans { IfOk result.0 (λ played. map (λ b. b.plan) played.boards ≡ map (λ b. b.plan) ready.campaign.boards.items) }

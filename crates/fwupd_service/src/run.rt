@@ -95,7 +95,7 @@ pub(crate) fn run_ready<
     requires ready { CanBePlayed ready.campaign }
     requires shelves { IsReadyFor (length shelves.items) (length ready.plugins.items) ready.campaign }
     requires no_doubt { K.doubt keeper ≡ None }
-    ensures went { Went K.tells K.doubt K.faults (shelves_told P.files P.faults shelves.items) (shelves_told P.files P.faults result.shelves.items) (steps_at (λ p. steps p) ready.plugins.items) result.status ready.campaign keeper
+    ensures went { Went K.tells K.doubt K.faults (shelves_told P.files P.faults shelves.items) (shelves_told P.files P.faults result.shelves.items) (steps_at (λ p. (Plugin-box p).steps p.value) ready.plugins.items) result.status ready.campaign keeper
         (record { log = result.log; opening = result.opening; boards = result.boards; keeper = result.keeper })
         (report ready.campaign.facts result.opening result.log) (T.taken out.old) (T.taken out.new) }
     ensures sink_fault { result.status ≡ Status.SinkFault → Rose (T.faults out.old) (T.faults out.new) }
