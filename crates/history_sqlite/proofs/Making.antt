@@ -29,22 +29,26 @@ use Rattle.history_sqlite.proofs.Layouts.{one_step_of}
 -- a table that is made
 module _ (before : Schema) (text : List ℕ) (made : Table) (is : command_of (understood before text) ≡ CreateTable) (whole : statement_of text (understood before text) ≡ text)
     (plain : IsPlain (understood before text)) (defined : table_defined_by text ≡ Ok made) (lacks : lacks_sequence (created before made) ≡ false) where
-  pub creates : (old new : State) (count : ℕ) → old.now.schema ≡ before → Executes text [] old new (Ok count)
-      → (new.now.schema ≡ created before made) × (new.now.trees (next_tree before) ≡ []) × KeepsRows before.tables old.now.trees new.now.trees
-  creates old new count has h =
-      let w = subst (λ t. Writes old new None CreateTable t [] count) whole (runs_as text [] old new before has CreateTable is plain count h) in
-      let all = went w.changed in
+  pub create_does : (old : State) (tally : Tally) (after : Database) → old.now.schema ≡ before → Does old.step_limit (mode_of old) [] old.now text None CreateTable (Ok (tally, after))
+      → (after.schema ≡ created before made) × (after.trees (next_tree before) ≡ []) × KeepsRows before.tables old.now.trees after.trees
+  create_does old tally after has changed =
+      let all = went changed in
       let first = went all.1 in
       let it = first.1 in
       let both : Ok it.table ≡ Ok made = sym it.defined ∙ defined in
       let same : it.table ≡ made = cc in
       let schema : first.0.schema ≡ created before made = it.is ∙ ap (λ s. created s it.table) has ∙ ap (created before) same in
       let none : lacks_sequence first.0.schema ≡ false = ap lacks_sequence schema ∙ lacks in
-      let now : new.now ≡ first.0 = ap (λ (p : Tally × Database). p.1) (same_value all.2) ∙ same_value (rw none at first.2) in (
+      let now : after ≡ first.0 = ap (λ (p : Tally × Database). p.1) (same_value all.2) ∙ same_value (rw none at first.2) in (
         ap (λ (d : Database). d.schema) now ∙ schema,
         ap (λ (d : Database). d.trees (next_tree before)) now ∙ subst (λ s. first.0.trees (next_tree s) ≡ []) has it.empty,
         subst (λ (d : Database). KeepsRows before.tables old.now.trees d.trees) (sym now) (subst (λ (s : Schema). KeepsRows s.tables old.now.trees first.0.trees) has it.others),
       )
+
+  pub creates : (old new : State) (count : ℕ) → old.now.schema ≡ before → Executes text [] old new (Ok count)
+      → (new.now.schema ≡ created before made) × (new.now.trees (next_tree before) ≡ []) × KeepsRows before.tables old.now.trees new.now.trees
+  creates old new count has h =
+      let w = subst (λ t. Writes old new None CreateTable t [] count) whole (runs_as text [] old new before has CreateTable is plain count h) in create_does old w.tally new.now has w.changed
 
 first_is : (command_of (understood no_schema create_schema_text) ≡ CreateTable) × (statement_of create_schema_text (understood no_schema create_schema_text) ≡ create_schema_text)
 unfolding understood everything

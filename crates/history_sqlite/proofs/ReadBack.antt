@@ -23,7 +23,7 @@ chosen : {A : Type 0} (b : Bool) (x y : A) → (if b then Some x else None) ≡ 
 chosen true x y h = cc
 chosen false x y h = absurd cc
 
-number_same : (end n m : ℕ) → number_in end (Int (pos n)) ≡ Some m → m ≡ n
+pub number_same : (end n m : ℕ) → number_in end (Int (pos n)) ≡ Some m → m ≡ n
 number_same end n m h = chosen (nat_lt n end) n m h
 
 bytes_same : (size : ℕ) (b x : List ℕ) → bytes_in size (Blob b) ≡ Some x → x ≡ b

@@ -1,5 +1,5 @@
 -- What a keeper tells after each statement.
-use Rattle.std.proofs.Common.{◌≡◌, ◌⊎◌, inl, inr, ℕ, pos, Bool, true, false, List, [], map, codes, Option, Some, None, Result, Ok, Err, OnErr, OnOk, IsTrue, option_map, unwrap_or, refl, sym, ap, subst, ◌∙◌}
+use Rattle.std.proofs.Common.{◌≡◌, ◌⊎◌, inl, inr, ℕ, pos, Bool, true, false, List, [], ◌∷◌, map, codes, Option, Some, None, Result, Ok, Err, OnErr, OnOk, IsTrue, option_map, unwrap_or, refl, sym, ap, subst, ◌∙◌}
 use Rattle.sqlite.specs.declared.types.Value.{Value}
 use Rattle.sqlite.specs.declared.types.Value.TheVariants.{Int, Text}
 use Rattle.sqlite.specs.Order.{column}
@@ -26,11 +26,11 @@ use Rattle.history_sqlite.specs.Telling.{Knows, SettledSo, Settles, SuitsDoubt, 
 
 -- ---- a table holds one list of rows: each is read back from what is stored
 
-whole : Value → ℕ
+abbrev whole : Value → ℕ
 whole (Int (pos n)) = n
 whole _ = 0
 
-row_in : List Value → Row
+abbrev row_in : List Value → Row
 row_in r = record {
   entry = whole (column r 0);
   tag = bytes (column r 2);
@@ -50,10 +50,10 @@ row_in r = record {
   retry_of = integer_in (column r 16);
 }
 
-tree_of_rows : Schema → ℕ
+abbrev tree_of_rows : Schema → ℕ
 tree_of_rows schema = unwrap_or (option_map (λ t. t.tree) (table_with (codes "history2") schema.tables)) 0
 
-rows_in : State → List Row
+abbrev rows_in : State → List Row
 rows_in s = map row_in (s.now.trees (tree_of_rows s.now.schema))
 
 state_again : (s : RowState) → unwrap_or (state_in (Int (pos (state_number s)))) Begun ≡ s

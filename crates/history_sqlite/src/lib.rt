@@ -17,6 +17,6 @@ pub mod tables;
 pub mod taking_over;
 
 pub use columns::read_row;
-pub use file_keeper::FileKeeper;
+pub use file_keeper::{FileKeeper, StoredKeeper};
 pub use lasting::Lasting;
 pub use sql_keeper::SqlKeeper;

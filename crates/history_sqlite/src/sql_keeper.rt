@@ -92,10 +92,13 @@ impl SqlKeeper<MemStore> {
         }
     }
 
-    /// A keeper in memory that may tell its rows tells them at each moment: its connection is never shut.
-    pub fn known(&self)
-        ensures { self.now.tells ≡ true → (all : List Row) × TellsRows over_memory (Unit {0}) self.now all }
-    {}
+    /// Whether it tells its rows. One that does tells some at each moment: its connection is never shut.
+    pub fn is_telling(&self) -> bool
+        ensures may { result ≡ self.now.tells }
+        ensures known { IsTrue result → (all : List Row) × TellsRows over_memory (Unit {0}) self.now all }
+    {
+        self.tells
+    }
 }
 
 impl<S: Start> SqlKeeper<FileStore<FileFrom<S>>> {

@@ -1,5 +1,6 @@
 -- What the statements do to the table of marks.
-use Rattle.std.proofs.Common.{◌≡◌, ◌⊎◌, inl, inr, ℕ, pos, negsuc, ◌+◌, ◌<◌, List, [], ◌∷◌, ◌++◌, length, map, drop, codes, false, None, Some, Ok, IsTrue, refl, sym, ap, subst, ◌∙◌, arith}
+use Rattle.std.proofs.Common.{◌≡◌, ◌⊎◌, inl, inr, ℕ, pos, negsuc, ◌+◌, ◌<◌, List, [], ◌∷◌, ◌++◌, length, map, drop, codes, true, false, None, Some, Ok, IsTrue, refl, sym, ap, subst, subst₂, ◌∙◌, arith}
+use Rattle.std.specs.Result.{is_ok}
 use Rattle.std.specs.Prelude.{flat_map, fold, ◌+ℤ◌}
 use Rattle.std.specs.List.{AllByRecursion}
 use Rattle.std.specs.List.Sorted.{IsPermutation}
@@ -22,10 +23,13 @@ use Rattle.sqlite.specs.Tree.{Trees, put_row, rowid, IsAscending}
 use Rattle.sqlite.specs.Rowids.TheVariants.{Chosen}
 use Rattle.sqlite.specs.Does.{Tally, Does, OnRows, lacks_sequence}
 use Rattle.sqlite.specs.Rows.{Written}
-use Rattle.sqlite.specs.Listing.{understood, reads_listing}
+use Rattle.sqlite.specs.Store.{Ghosts}
+use Rattle.sqlite.specs.Held.{Held, state}
+use Rattle.sqlite.specs.Listing.{understood, reads_listing, listing_schema}
 use Rattle.sqlite.specs.Effect.{Database}
 use Rattle.sqlite.specs.Change.{created}
-use Rattle.sqlite.specs.State.{State, mode_of, Executes, Shown, FailsToQuery}
+use Rattle.sqlite.specs.State.{State, mode_of, text_of, CommitsBy, Executes, ExecutesIn, MayCommit, Shown, FailsToQuery}
+use Rattle.sqlite.specs.Clock.{timed}
 use Rattle.sqlite_value.specs.Keys.{ascending}
 use Rattle.sqlite_schema.specs.declared.schema.Keys.{Keys}
 use Rattle.sqlite_rules.specs.Action.{works}
@@ -36,8 +40,9 @@ use Rattle.sqlite_tied.specs.Compute.{everything}
 use Rattle.sqlite.proofs.Callers.{IsPlain, command_of, one_step, reads_as, runs_as, statement_of}
 use Rattle.history_sqlite.proofs.Effects.{Stays, went, same_value, on_table, plain_at, query_stays, show_changes_nothing}
 use Rattle.history_sqlite.proofs.Inserting.{cast_null, cast_whole, lower}
+use Rattle.history_sqlite.proofs.Making.{creates, create_does}
 use Rattle.marks_sqlite.specs.Causes.{insert_text, select_text}
-use Rattle.marks_sqlite.specs.Tables.{create_text, marks_schema, no_schema, reported_table, shown_of, stored, stored_from, HoldsMarks, IsBlank}
+use Rattle.marks_sqlite.specs.Tables.{create_text, marks_schema, no_schema, reported_table, shown_of, stored, stored_from, HoldsMarks, IsBlank, LeavesTable, Opens}
 
 -- ---- a statement that is refused, or that only asks
 
@@ -72,6 +77,73 @@ create_is = (refl, refl)
 pub create_plain : IsPlain (understood no_schema create_text)
 unfolding understood everything
 create_plain = (refl, refl)
+
+-- an empty database in which it is made
+pub makes : (old new : State) (count : ℕ) → IsBlank old → new.step_limit ≡ old.step_limit → Executes create_text [] old new (Ok count) → HoldsMarks new []
+makes old new count blank limit ran =
+    let made = creates no_schema create_text reported_table create_is.0 create_is.1 create_plain reported_made refl old new count blank.schema ran in
+    let w = runs_as create_text [] old new no_schema blank.schema CreateTable create_is.0 create_plain count ran in
+    record {
+      is_open = w.shown.is_open;
+      schema = made.0;
+      settled = rw blank.autocommit at w.shown.committed_is;
+      autocommit = w.shown.mode ∙ blank.autocommit;
+      unlimited = limit ∙ blank.unlimited;
+      table = made.1;
+    }
+
+-- it isn't made twice
+made_twice : is_ok (understood marks_schema create_text) ≡ false
+unfolding understood listing_schema everything
+made_twice = refl
+
+pub not_again : (old new : State) (count : ℕ) → old.now.schema ≡ marks_schema → Executes create_text [] old new (Ok count) → ⊥
+unfolding ExecutesIn
+not_again old new count has h =
+    let e : is_ok (understood marks_schema create_text) ≡ true = ap is_ok (ap (λ s. understood s create_text) (sym has) ∙ h.1.is) in absurd (let f = made_twice in cc)
+
+-- a refusal leaves an empty database empty
+pub blank_stays : (old new : State) → IsBlank old → old.committed ≡ old.now → new.step_limit ≡ old.step_limit → IsTrue new.is_open → Stays old new → IsBlank new
+blank_stays old new b settled limit is_open (inl same) = record {
+  is_open = is_open;
+  schema = ap (λ (d : Database). d.schema) same.0.now_is ∙ b.schema;
+  autocommit = same.0.mode ∙ b.autocommit;
+  unlimited = limit ∙ b.unlimited;
+}
+blank_stays old new b settled limit is_open (inr back) = record {
+  is_open = is_open;
+  schema = ap (λ (d : Database). d.schema) ((back.undone is_open).0 ∙ settled) ∙ b.schema;
+  autocommit = back.autocommit;
+  unlimited = limit ∙ b.unlimited;
+}
+
+-- what a crash may leave of the making
+crash_left : (s : State) (db : Trees) → MayCommit s None CreateTable create_text [] db → IsBlank s → db 0 ≡ []
+crash_left s db (inl (inl is, same)) blank = absurd (let e = is in cc)
+crash_left s db (inl (inr named, same)) blank = absurd (let e = named.2 in cc)
+crash_left s db (inr w) blank =
+    let made = create_does no_schema create_text reported_table create_is.0 create_is.1 create_plain reported_made refl s w.1 w.2 blank.schema w.3 in
+    ap (λ (t : Trees). t 0) w.5 ∙ made.1
+
+pub crash_made : (s : State) (db : Trees) → CommitsBy create_text [] s db → IsBlank s → db 0 ≡ []
+unfolding CommitsBy
+crash_made s db h blank =
+    let known = sym h.1.is ∙ ap (λ k. understood k create_text) blank.schema in
+    let bare = subst IsPlain (sym known) create_plain in
+    let may : MayCommit s h.0.returning h.0.command (text_of create_text h.0) (timed [] h.0.formats h.1.now) db = h.2 in
+    let it = subst₂ (λ k t. MayCommit s None k t [] db) (ap command_of known ∙ create_is.0) (ap (statement_of create_text) known ∙ create_is.1) (rw (bare.0, bare.1) at may) in crash_left s db it blank
+
+-- ---- an opening
+
+pub opened_after : (old mid new : State) → LeavesTable old mid → Opens mid new → Opens old new
+opened_after old mid new left opens = (λ marks holds. opens.0 marks (left.0 marks holds), λ blank. opens.1 (left.1 blank))
+
+-- a step limit that is taken off changes nothing else
+pub unlimited : {D : Type 0} (g : Ghosts D) (old new : Held D) → new ≡ record old { step_limit = None } → LeavesTable (state g old) (state g new)
+unlimited g old new is = subst (λ h. LeavesTable (state g old) (state g h)) (sym is) (
+  λ marks h. record { is_open = h.is_open; schema = h.schema; settled = h.settled; autocommit = h.autocommit; unlimited = refl; table = h.table },
+  λ blank. record { is_open = blank.is_open; schema = blank.schema; autocommit = blank.autocommit; unlimited = refl },
+)
 
 -- ---- the insert: the place is one above the last
 

@@ -32,7 +32,7 @@ use Rattle.update_plans.specs.RawNumbers.{raw_of}
 use Rattle.update_plans.specs.declared.plan.PlanStep.{PlanStep}
 use Rattle.update_plans.proofs.Chained.{good-step}
 use Rattle.update_plans.proofs.Highest.{Ordered, Parted, catalogue-ordered, highest-is, highest-none, parted}
-use Rattle.update_plans.proofs.Targets.{found, release-same}
+use Rattle.update_plans.proofs.Targets.{found, release-same, tests}
 
 some-same : {X : Type 0} {x y : X} → Some x ≡ Some y → x ≡ y
 some-same e = cc
@@ -214,9 +214,8 @@ module _ (s : Scene) (number : ℕ) (device : List ℕ) (view : DeviceView) (sho
       let a : Asks y p.step = asks-so y p.step p.step_is in
       let g = good-step s number p.step past p.good in
       let same : g.chosen ≡ y = some-same (sym g.there ∙ ap (release_at s) a.at_is ∙ o.own) in
-      let tests = and-true (writes s p.step g.chosen past) _ g.good in
-      let accepted = and-true (accepts p.step.release (verdict s.facts s.opening past s.client (request_of s number p.step g.chosen) Stage.Ask)) _ tests.1 in
-      let f = found s number p.step g.chosen past g.there accepted.0 in
+      let all_so = tests s number p.step g.chosen past g.good in
+      let f = found s number p.step g.chosen past g.there all_so.asked_so in
       let seen : f.t.view ≡ view = some-same (sym f.view_is ∙ ap (λ (d : List ℕ). view_of s d past) (a.device_is ∙ device-own) ∙ here) in
       let one : f.t.chosen ≡ y = f.chosen_is ∙ same in
       let provided : provides (guids_of view) y.component ≡ true =

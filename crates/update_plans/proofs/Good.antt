@@ -17,7 +17,7 @@ use Rattle.update_log.specs.Known.{rows, views}
 use Rattle.update_log.specs.Verdicts.{verdict}
 use Rattle.update_plans.specs.Courses.{ends_well}
 use Rattle.update_plans.specs.Following.{IsQuiet}
-use Rattle.update_plans.specs.Plans.{Scene, accepts, has_id, is_good, is_good_with, release_at, request_of, view_of, writes}
+use Rattle.update_plans.specs.Plans.{Scene, accepts, asked, end_of, has_id, is_ended, is_good, is_good_with, release_at, request_of, view_of, writes}
 use Rattle.update_plans.specs.declared.plan.PlanStep.{PlanStep}
 use Rattle.update_plans.proofs.Installed.{good-is}
 use Rattle.update_plans.proofs.Released.{chosen_at, found_at}
@@ -64,12 +64,15 @@ pub good_no_device : (s : Scene) (number : ℕ) (step : PlanStep) (past : List E
 unfolding is_good
 good_no_device s number step past e = of (release_at s step.release)
   where
-    and-first : (a b : Bool) → a ≡ false → (a && b) ≡ false
-    and-first true b h = cc
-    and-first false b h = refl
+    first-false : (w a c e : Bool) → w ≡ false → (w && a && c && e) ≡ false
+    first-false true a c e h = cc
+    first-false false a c e h = refl
 
     bad : (chosen : Chosen) → is_good_with s number step past chosen ≡ false
-    bad chosen = and-first (writes s step chosen past) _ (ap (λ (o : Option DeviceView). option_map_or (λ view. same_version (render view.sheet.format step.raw) chosen.release.version) o false) e)
+    bad chosen =
+        first-false (writes s step chosen past) (accepts step.release (verdict s.facts s.opening past s.client (request_of s number step chosen) Stage.Ask))
+        (accepts step.release (verdict s.facts s.opening (asked s number step chosen past) s.client (request_of s number step chosen) (Stage.Claim step.release))) (is_ended (end_of s number step chosen past))
+        (ap (λ (o : Option DeviceView). option_map_or (λ view. same_version (render view.sheet.format step.raw) chosen.release.version) o false) e)
 
     of : (o : Option Chosen) → option_map_or (is_good_with s number step past) o false ≡ false
     of None = refl

@@ -19,7 +19,6 @@ use Rattle.update_log.specs.Known.{row_of, rows, views}
 use Rattle.update_log.specs.Legal.{IsLegalUnlimited, next_entry}
 use Rattle.update_log.specs.Verdicts.{verdict}
 use Rattle.update_log.proofs.Lists.{eqb-self}
-use Rattle.update_log.proofs.StrokeFacts.{and-true}
 use Rattle.update_log.specs.Shows.{Campaign, marks}
 use Rattle.update_log.specs.Steps.{all_ops, closing_at, closing_of, next_op, trace}
 use Rattle.update_plans.specs.Following.{IsQuiet}
@@ -27,7 +26,7 @@ use Rattle.update_plans.specs.Plans.{Scene, accepts, asked, done, end_by, end_of
 use Rattle.update_plans.specs.declared.plan.PlanStep.{PlanStep}
 use Rattle.update_plans.proofs.Installed.{goes-whole, installed-quiet}
 use Rattle.update_plans.proofs.Played.{Steps, left, with-steps}
-use Rattle.update_plans.proofs.Targets.{found}
+use Rattle.update_plans.proofs.Targets.{found, tests}
 
 -- ---- each event may come next
 
@@ -116,10 +115,8 @@ module _ (s : Scene) (number : ℕ) (step : PlanStep) (chosen : Chosen) (past : 
   module _ (there : release_at s step.release ≡ Some chosen) (good : is_good_with s number step past chosen ≡ true) where
     pub end-said : (t : Trace) → trace s.facts s.opening entry (done s number step chosen past) ≡ Some t → end_by s step.device entry t (done s number step chosen past) ≡ end_of s number step chosen past
     end-said t e =
-        let all = and-true (writes s step chosen past) _ good in
-        let accepted = and-true (accepts step.release (verdict s.facts s.opening past s.client (request_of s number step chosen) Stage.Ask)) _ all.1 in
-        let claimed = and-true (accepts step.release (verdict s.facts s.opening (asked s number step chosen past) s.client (request_of s number step chosen) (Stage.Claim step.release))) _ accepted.1 in
-        let g = goes-whole s number step chosen past q (found s number step chosen past there accepted.0) claimed.0 in
+        let all = tests s number step chosen past good in
+        let g = goes-whole s number step chosen past q (found s number step chosen past there all.asked_so) all.claimed_so in
         ap (λ (o : Option Row). unwrap_or (option_and_then (λ row. option_map (closing_of t row) (view_of s step.device (done s number step chosen past))) o) RowState.Begun) g.row_is
         ∙ ap (λ (device : List ℕ). unwrap_or (option_map (closing_of t g.row) (find (λ v. bytes_eq v.sheet.device device) (views s.facts s.opening (done s number step chosen past)))) RowState.Begun) (sym g.device_is)
         ∙ sym
