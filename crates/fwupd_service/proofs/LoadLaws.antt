@@ -1,11 +1,12 @@
 -- What `plan` and `update` come to, once the history was loaded.
-use Rattle.std.proofs.Common.{◌≡◌, ℕ, ◌+◌, ◌<◌, ◌≤◌, List, [], ◌∷◌, ◌++◌, length, map, Option, Some, None, refl, sym, ap, ◌∙◌, subst, inl, inr, arith}
-use Rattle.std.specs.Prelude.{◌-◌, ◌^◌, All}
+use Rattle.std.proofs.Common.{◌≡◌, ◌⊎◌, ℕ, ◌+◌, ◌<◌, ◌≤◌, List, [], ◌∷◌, ◌++◌, length, map, Option, Some, None, refl, sym, ap, ◌∙◌, subst, inl, inr, arith}
+use Rattle.std.specs.Prelude.{◌-◌, ◌^◌, All, Result, Ok, Err}
 use Rattle.std.specs.Option.{option_map_or}
 use Rattle.std.proofs.lemmas.List.Elements.{All-cons, All-head, All-nil}
 use Rattle.emulated_boards.specs.Boards.{BoardState}
 use Rattle.fw_facts.specs.declared.view.DeviceView.{DeviceView}
 use Rattle.history_keeper.specs.declared.change.Change.{Change}
+use Rattle.history_keeper.specs.declared.refusal.KeeperRefusal.{KeeperRefusal}
 use Rattle.history_keeper.specs.declared.row.Row.{Row}
 use Rattle.history_keeper.specs.Keepers.{StillTold}
 use Rattle.update_log.specs.declared.event.Event.{Event}
@@ -42,6 +43,15 @@ judged_says None came now rows before after judged told = (told, judged)
 judged_says (Some loads.KeeperFault) came now rows before after judged told = absurd judged
 judged_says (Some (loads.BadHistory entry)) came now rows before after judged told = (told, judged)
 judged_says (Some loads.NoMemory) came now rows before after judged told = inr told
+
+-- A load that tells no fault counted none.
+pub quiet-ok : {A E : Type 0} (x : A) (fault : E) (P Q : Type 0) → (Ok x ≡ Err fault) ⊎ Q → P ⊎ Q
+quiet-ok x fault P Q (inl e) = cc
+quiet-ok x fault P Q (inr q) = inr q
+
+pub quiet-other : {A : Type 0} (r : Result A KeeperRefusal) (P Q : Type 0) → r ≡ Err KeeperRefusal.NoMemory → (r ≡ Err KeeperRefusal.Fault) ⊎ Q → P ⊎ Q
+quiet-other r P Q n (inl e) = let bad = sym n ∙ e in cc
+quiet-other r P Q n (inr q) = inr q
 
 -- What is known of a load that stopped nothing.
 pub loaded-only : {K : Type 0} (told : K → List Row → Type 0) (doubted : K → Option Change) (faults : K → ℕ) (stop : Option LoadStop) (rows : List Row) (keeper middle : K)
