@@ -25,10 +25,6 @@ pub past_of_first : (boots : List BootPlan) (shown : List Seen) → past_of (fir
 past_of_first [] shown = refl
 past_of_first (boot ∷ boots) shown = refl
 
-pub few_first : (boots : List BootPlan) (shown : List Seen) → length (first_log boots shown) < 200000
-few_first [] shown = omega arith
-few_first (boot ∷ boots) shown = omega arith
-
 can_first : (facts : Facts) (rows : List Row) (tag : List ℕ) (boots : List BootPlan) (shown : List Seen) → IsHistory rows
     → length shown ≡ length facts.sheets → All IsFirstShown shown → CanBePlanned facts rows tag (first_log boots shown)
 can_first facts rows tag [] shown h count fine = inl refl
@@ -56,9 +52,6 @@ made_fine boards made = first_shown boards (All-weaker IsAsMade IsFresh (λ b h.
 
 pub as_many : (boards : List BoardState) (n : ℕ) → length boards ≡ n → length (map shown_by boards) ≡ n
 as_many boards n e = length-map boards shown_by ∙ e
-
-pub few_events : (boots : List BootPlan) (shown : List Seen) (log : List Event) → log ≡ first_log boots shown → length log < 200000
-few_events boots shown log e = rw e (few_first boots shown)
 
 -- What the plan over a state is, told of the boots.
 pub is_first_plan : (facts : Facts) (shown : List Seen) (boots : List BootPlan) (rows : List Row) (tag : List ℕ) (first : FirstPlan)

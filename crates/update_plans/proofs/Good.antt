@@ -47,16 +47,13 @@ good_no_release s number step past c e f =
 -- ---- the device
 
 -- the device of an ID is the one at the place that the selector finds
-pub looked_up : (s : Scene) (device : List ℕ) (past : List Event) → option_and_then (slice_get (views s.facts s.opening past)) (place (Selector.Id device) (views s.facts s.opening past)) ≡ view_of s device past
-looked_up s device past = of (position (names (Selector.Id device)) all) refl
+pub looked_up : (device : List ℕ) (all : List DeviceView) → option_and_then (slice_get all) (place (Selector.Id device) all) ≡ find (has_id device) all
+looked_up device all = of (position (names (Selector.Id device)) all) refl
   where
-    all : List DeviceView
-    all = views s.facts s.opening past
-
-    same : find (names (Selector.Id device)) all ≡ view_of s device past
+    same : find (names (Selector.Id device)) all ≡ find (has_id device) all
     same = find-same (names (Selector.Id device)) (has_id device) all (λ x. bytes_eq-symm device x.sheet.device)
 
-    of : (o : Option ℕ) → position (names (Selector.Id device)) all ≡ o → option_and_then (slice_get all) o ≡ view_of s device past
+    of : (o : Option ℕ) → position (names (Selector.Id device)) all ≡ o → option_and_then (slice_get all) o ≡ find (has_id device) all
     of None e = sym (found-none (names (Selector.Id device)) all e) ∙ same
     of (Some at) e = found-place (names (Selector.Id device)) all at e ∙ same
 

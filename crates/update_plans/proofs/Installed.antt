@@ -72,7 +72,7 @@ none-found p [] a = refl
 none-found p (x ∷ xs) a = ap (λ (b : Bool). cond b (Some x) (find p xs)) a.0 ∙ none-found p xs a.1
 
 module _ (s : Scene) (number : ℕ) (step : PlanStep) (chosen : Chosen) (past : List Event) (q : IsQuiet s past) (f : Found s number step chosen past) where
-  abbrev entry : ℕ
+  abbrev pub entry : ℕ
   entry = next_entry s.facts s.opening past
 
   -- the campaign with the scene's facts
@@ -85,7 +85,7 @@ module _ (s : Scene) (number : ℕ) (step : PlanStep) (chosen : Chosen) (past : 
   pub kept : PastKept s.facts s.opening past
   kept = past-kept-on here s.opening past q.history legal-here
 
-  abbrev asks : Request
+  abbrev pub asks : Request
   asks = request_of s number step chosen
 
   blocks_are : need f.t ≡ blocks_of chosen.release.size
@@ -145,13 +145,13 @@ module _ (s : Scene) (number : ℕ) (step : PlanStep) (chosen : Chosen) (past : 
 
   -- ---- what the claim makes of the log
 
-  abbrev begun : List Event
+  abbrev pub begun : List Event
   begun = taken s number step chosen (asked s number step chosen past)
 
-  abbrev row : Row
+  abbrev pub row : Row
   row = new_row entry (time_of past) s.client asks RowState.Begun f.t
 
-  rows-begun : rows s.facts s.opening begun ≡ rows s.facts s.opening past ++ row ∷ []
+  pub rows-begun : rows s.facts s.opening begun ≡ rows s.facts s.opening past ++ row ∷ []
   rows-begun =
       ap (λ (o : Option Target). rows_by Fate.Made (option_map (λ t. Change.Add (new_row entry (time_of past) s.client asks RowState.Begun t)) o) (rows s.facts s.opening past)) f.target_is
 
