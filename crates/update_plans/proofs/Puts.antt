@@ -35,7 +35,7 @@ use Rattle.history_keeper.specs.Changes.{with_state}
 use Rattle.update_log.proofs.Pasts.{past-push}
 use Rattle.update_log.proofs.Rows.{length-map}
 use Rattle.update_plans.specs.Following.{IsQuiet}
-use Rattle.update_plans.specs.Plans.{Scene, accepts, asked, done, end_of, has_id, installed, installed_with, is_good_with, is_next, release_at, request_of, seen_of, shown_after, taken, view_of, waits_for_boot, with_some}
+use Rattle.update_plans.specs.Plans.{Scene, accepts, asked, done, end_of, has_id, installed, installed_with, is_good, is_good_with, is_next, release_at, request_of, seen_of, shown_after, taken, view_of, waits_for_boot, with_some}
 use Rattle.update_plans.specs.Putting.{Begins, IsPutting, Making, end_on, ops_before, shown_on}
 use Rattle.update_plans.specs.declared.plan.PlanStep.{PlanStep}
 use Rattle.update_plans.proofs.Chained.{Good, good-step}
@@ -73,6 +73,16 @@ pub few-rows : (s : Scene) (number : ℕ) (step : PlanStep) (chosen : Chosen) (p
 few-rows s number step chosen past good =
     let all = tests s number step chosen past good in
     ltb-true (length (rows s.facts s.opening past)) 65536 (sym (accepted_twice s number step chosen past all.asked_so) ∙ all.claimed_so)
+
+pub few-good : (s : Scene) (number : ℕ) (step : PlanStep) (past : List Event) → is_good s number step past ≡ true → length (rows s.facts s.opening past) < 65536
+few-good s number step past h = let g = good-step s number step past h in few-rows s number step g.chosen past g.good
+
+-- and its release is there
+pub good-there : (s : Scene) (number : ℕ) (step : PlanStep) (past : List Event) → is_good s number step past ≡ true → option_map (λ (c : Chosen). c.release) (release_at s step.release) ≡ None → ⊥
+good-there s number step past h none =
+    let g = good-step s number step past h in
+    let bad : Some g.chosen.release ≡ None = sym (ap (option_map (λ (c : Chosen). c.release)) g.there) ∙ none in
+    cc
 
 -- ---- the ask and the claim
 
@@ -146,13 +156,13 @@ module _ (s : Scene) (step : PlanStep) (at : Making) (release : Release) (entry 
   released : good-one.chosen.release ≡ release
   released = release-of (release_at s step.release) good-one.chosen release good-one.there b.release_is
 
-  means : Means s at.number step good-one.chosen at.before request release blocks entry
-  means = record { request_is = request_is good-one.chosen released; release_is = sym released; blocks_are = blocks_are; entry_is = b.entry_is }
+  made_of : Means s at.number step good-one.chosen at.before request release blocks entry
+  made_of = record { request_is = request_is good-one.chosen released; release_is = sym released; blocks_are = blocks_are; entry_is = b.entry_is }
 
   pub begins-ask : IsNext s.facts s.opening (past_of core.log) (ask_made s step request blocks)
   begins-ask =
       subst (λ (past : List Event). IsNext s.facts s.opening past (ask_made s step request blocks)) (sym b.before_is)
-      (ask-next s at.number step good-one.chosen at.before b.quiet good-one.there good-one.good request release blocks entry means)
+      (ask-next s at.number step good-one.chosen at.before b.quiet good-one.there good-one.good request release blocks entry made_of)
 
   pub begins-ask-rows : length (rows s.facts s.opening (ask_made s step request blocks ∷ past_of core.log)) ≤ length core.rows + core.row_room
   begins-ask-rows = rows-fit s.facts s.opening core b.stands
@@ -162,12 +172,12 @@ module _ (s : Scene) (step : PlanStep) (at : Making) (release : Release) (entry 
 
   pub begins-claim : (now : List Event) → now ≡ core.log ++ ask_made s step request blocks ∷ [] → IsNext s.facts s.opening (past_of now) (claim_made s step request release entry)
   begins-claim now e =
-      claim-next s at.number step good-one.chosen at.before b.quiet good-one.there good-one.good request release blocks entry means (past_of now) (asked-past now e)
+      claim-next s at.number step good-one.chosen at.before b.quiet good-one.there good-one.good request release blocks entry made_of (past_of now) (asked-past now e)
 
   pub begins-claim-rows : (now : Core) → now.log ≡ core.log ++ ask_made s step request blocks ∷ [] → now.row_room + length now.rows ≡ core.row_room + length core.rows → 1 ≤ core.row_room
       → length (rows s.facts s.opening (claim_made s step request release entry ∷ past_of now.log)) ≤ length now.rows + now.row_room
   begins-claim-rows now e room one =
-      let more = rows-claimed s at.number step good-one.chosen at.before b.quiet good-one.there good-one.good request release blocks entry means (past_of now.log) (asked-past now.log e) in
+      let more = rows-claimed s at.number step good-one.chosen at.before b.quiet good-one.there good-one.good request release blocks entry made_of (past_of now.log) (asked-past now.log e) in
       let have : length core.rows ≡ length (rows s.facts s.opening at.before) = ap (λ (rs : List Row). length rs) (b.stands.rows ∙ ap (rows s.facts s.opening) b.before_is) in
       omega (arith, more, have, room, one)
 
@@ -179,7 +189,7 @@ module _ (s : Scene) (step : PlanStep) (at : Making) (release : Release) (entry 
     good = good-one.good;
     quiet = b.quiet;
     stands = stands;
-    past_is = put-taken s at.number step good-one.chosen at.before b.quiet good-one.there good-one.good request release blocks entry means core.log now new.log b.before_is e f;
+    past_is = put-taken s at.number step good-one.chosen at.before b.quiet good-one.there good-one.good request release blocks entry made_of core.log now new.log b.before_is e f;
   }
 
 -- ---- the steps
@@ -299,14 +309,14 @@ module _ (s : Scene) (step : PlanStep) (at : Making) (core : Core) (p : IsPuttin
     pub traced : trace s.facts s.opening entry (past_of core.log) ≡ Some t
     pub ends : end_on core.rows core.views step.device entry t ≡ end_of s at.number step p.chosen at.before
 
-  f : Found s at.number step p.chosen at.before
-  f = let all = tests s at.number step p.chosen at.before p.good in found s at.number step p.chosen at.before p.there all.asked_so
+  found_so : Found s at.number step p.chosen at.before
+  found_so = let all = tests s at.number step p.chosen at.before p.good in found s at.number step p.chosen at.before p.there all.asked_so
 
   pub ends-so : Ends
   ends-so =
       let all = tests s at.number step p.chosen at.before p.good in
-      let g = goes-whole s at.number step p.chosen at.before p.quiet f all.claimed_so in
-      let t : Trace = (cleaned s at.number step p.chosen at.before p.quiet f).trace in
+      let g = goes-whole s at.number step p.chosen at.before p.quiet found_so all.claimed_so in
+      let t : Trace = (cleaned s at.number step p.chosen at.before p.quiet found_so).trace in
       record {
         t = t;
         traced =

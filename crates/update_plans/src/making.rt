@@ -26,7 +26,6 @@ use version_formats::{Version, compare};
 
 /// Puts the steps of the plan over the log behind that log: for each device in the order of the walk, as
 /// long as there is one, the highest release that it can reach next.
-#[tactic(none)]
 pub fn plan_all(
     alloc: Global,
     asker: &Asker,
@@ -47,7 +46,6 @@ pub fn plan_all(
 }
 
 /// Whether each step is good after those before it. They are put behind the log.
-#[tactic(none)]
 pub fn check_all(asker: &Asker, state: &mut CoreState, steps: &[PlanStep]) -> Result<(), PlanStop>
     ghost opening: { List Row }
     requires tag { IsTag asker.now.tag.now }
@@ -69,7 +67,6 @@ pub fn check_all(asker: &Asker, state: &mut CoreState, steps: &[PlanStep]) -> Re
 }
 
 // Puts the steps of the device at a place behind the others, and takes them.
-#[tactic(none)]
 fn plan_device(
     alloc: Global,
     asker: &Asker,
@@ -132,7 +129,6 @@ fn side_of(seen: Seen) -> Option<Mode>
 
 // The releases for the side that the device shows, the highest first, and those of one version in
 // catalogue order.
-#[tactic(none)]
 fn highest_first(
     alloc: Global,
     facts: &Facts,
@@ -157,7 +153,6 @@ fn compare_at(facts: &Facts, left: ReleaseRef, right: ReleaseRef) -> Ordering
 }
 
 // The first step that is good, of releases above the version shown.
-#[tactic(none)]
 fn next_step(
     asker: &Asker,
     state: &CoreState,
@@ -179,7 +174,6 @@ fn next_step(
 }
 
 // The same, of releases from the highest down, as long as they are above the version shown.
-#[tactic(none)]
 fn first_good(
     asker: &Asker,
     state: &CoreState,
