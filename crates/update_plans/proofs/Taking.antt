@@ -1,6 +1,6 @@
 -- What the loops find and leave that make plans and check them.
 use Rattle.std.proofs.Common.{◌≡◌, ◌≢◌, ℕ, zero, suc, ◌+◌, ◌<◌, ◌≤◌, Bool, true, false, List, [], ◌∷◌, ◌++◌, length, map, drop, take, get_or, refl, sym, ap, ◌∙◌, subst, arith, add-one, drop-cons}
-use Rattle.std.specs.Prelude.{AllPairs, IfSome, Option, Some, None, find, slice_get, option_map, if◌then◌else◌}
+use Rattle.std.specs.Prelude.{AllPairs, IfSome, Option, Some, None, find, is_some, slice_get, option_map, if◌then◌else◌}
 use Rattle.std.specs.Option.{option_map_or}
 use Rattle.std.specs.Ordering.{is_gt}
 use Rattle.std.specs.Str.{bytes_eq}
@@ -35,10 +35,10 @@ some-same e = cc
 
 -- ---- places
 
-pub got-at : {X : Type 0} (xs : List X) (at : ℕ) (x : X) → at < length xs → x ≡ get_or xs at x → slice_get xs at ≡ Some x
-got-at [] at x within e = absurd (omega (arith, within))
-got-at {X} (y ∷ xs) zero x within e = ap (λ (z : X). Some z) (sym e)
-got-at (y ∷ xs) (suc at) x within e = got-at xs at x (omega (arith, within)) e
+pub got_at : {X : Type 0} (xs : List X) (at : ℕ) (x : X) → at < length xs → x ≡ get_or xs at x → slice_get xs at ≡ Some x
+got_at [] at x within e = absurd (omega (arith, within))
+got_at {X} (y ∷ xs) zero x within e = ap (λ (z : X). Some z) (sym e)
+got_at (y ∷ xs) (suc at) x within e = got_at xs at x (omega (arith, within)) e
 
 record IsAt {X : Type 0} (xs : List X) (at : ℕ) (x d : X) : Type 0 where
   within : at < length xs
@@ -154,3 +154,11 @@ module _ (s : Scene) (number : ℕ) (view : DeviceView) (shown : List ℕ) (past
   first-tried at more version found e f g =
       ap (tried_at s number view shown past at more) e ∙ ap (λ (b : Bool). if b then first_some (good_step s number view at version past) more else None) f
       ∙ ap (λ (o : Option PlanStep). first_some o more) (sym g)
+
+pub first-is : (o more : Option PlanStep) → is_some o ≡ true → first_some o more ≡ o
+first-is None more h = cc
+first-is (Some step) more h = refl
+
+pub first-none : (o more : Option PlanStep) → is_some o ≡ false → first_some o more ≡ more
+first-none None more h = refl
+first-none (Some step) more h = cc
