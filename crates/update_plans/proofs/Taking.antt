@@ -256,3 +256,9 @@ pub plan-done : (s : Scene) (before : List Event) (places : List ℕ) (steps : L
     → steps ≡ plan s before
 unfolding plan
 plan-done s before places steps walked e = e ∙ ap (λ (xs : List ℕ). chains s (map (device_at (views s.facts s.opening before)) xs) 8192 1 before) walked
+
+pub drop-whole : {X : Type 0} (n : ℕ) (xs : List X) → length xs ≤ n → drop n xs ≡ []
+drop-whole zero [] h = refl
+drop-whole zero (x ∷ xs) h = absurd (omega (arith, h))
+drop-whole (suc n) [] h = refl
+drop-whole (suc n) (x ∷ xs) h = drop-whole n xs (omega (arith, h))

@@ -4,7 +4,7 @@ use Rattle.update_log.specs.Known.{views}
 use Rattle.update_log.specs.Pasts.{past_of}
 use Rattle.update_plans.specs.Plans.{chain, chains, device_at, scene}
 use Rattle.update_plans.specs.Walks.{walk}
-use Rattle.update_plans.proofs.Taking.{below-at, device-kept, mapped-more, places-kept, plan-done, take-whole, turn-after, turn-chains}
+use Rattle.update_plans.proofs.Taking.{after-nil, below-at, chains-nil, device-kept, mapped-more, places-kept, plan-done, take-whole, turn-after, turn-chains}
 use Rattle.update_plans.proofs.Within.{AllBelow, walk-within}
 use Rattle.update_plans.proofs.making.plan_all.Goals as goal
 
@@ -58,3 +58,14 @@ returns g c =
     plan-done s before c.in_ok-places.places.items c.loop-at.steps.items (c.in_ok-places.ensures ∙ ap walk (c.views.ensures ∙ c.requires.stands.views))
     (c.loop-at.invariant.steps_are
     ∙ ap (λ (places : List ℕ). chains s (map (device_at here) places) 8192 1 before) (take-whole c.loop-at.at-index c.in_ok-places.places.items (omega (arith, c.loop-at-test.false))))
+
+pub loop-at-init : goal.loop-at-init
+loop-at-init g c =
+    let s = scene c.args.asker.now.facts.now g.opening c.args.asker.now.client c.args.asker.now.tag.now in
+    record {
+      steps_are = chains-nil s (past_of c.args.state.now.log);
+      past_is = after-nil s (past_of c.args.state.now.log);
+      few = omega arith;
+      stands = c.requires.stands;
+      quiet = c.requires.quiet;
+    }
