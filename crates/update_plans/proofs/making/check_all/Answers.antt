@@ -12,15 +12,7 @@ use Rattle.update_plans.proofs.making.check_all.Goals as goal
 pub install-requires : goal.install-requires
 install-requires g c =
     let i = c.loop-index.invariant in
-    record {
-      tag = c.requires.tag;
-      number = omega (arith, c.loop-index-test.true, c.requires.few_steps);
-      numbered = refl;
-      before = refl;
-      stands = i.stands;
-      quiet = i.quiet;
-      good = sym (c.is_good.ensures g.opening i.stands i.quiet) ∙ c.if-not-is_good.false;
-    }
+    (c.requires.0, (omega (arith, c.loop-index-test.true, c.requires.1.0), (refl, (refl, (i.stands, (i.quiet, (sym (c.is_good.ensures g.opening i.stands i.quiet) ∙ c.if-not-is_good.false, tt)))))))
 
 pub loop-index-preserved : goal.loop-index-preserved
 loop-index-preserved g c =

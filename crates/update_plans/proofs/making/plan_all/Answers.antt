@@ -15,14 +15,8 @@ plan_device-requires g c =
     let all : AllBelow (length c.args.state.now.views) c.in_ok-places.places.items =
     subst (AllBelow (length c.args.state.now.views)) (sym (c.in_ok-places.ensures ∙ ap walk c.views.ensures)) (walk-within c.args.state.now.views) in
     let below = below-at (length c.args.state.now.views) c.in_ok-places.places.items c.loop-at.at-index all c.loop-at-test.true in
-    let same = places-kept s c.args.state.now c.loop-at.state 0 c.requires.stands i.stands in
-    record {
-      place = omega (arith, below, same);
-      tag = c.requires.tag;
-      few_steps = i.few;
-      stands = i.stands;
-      quiet = i.quiet;
-    }
+    let same = places-kept s c.args.state.now c.loop-at.state 0 c.requires.1.0 i.stands in
+    (omega (arith, below, same), (c.requires.0, (i.few, (i.stands, (i.quiet, tt)))))
 
 pub loop-at-preserved : goal.loop-at-preserved
 loop-at-preserved g c =
@@ -33,7 +27,7 @@ loop-at-preserved g c =
     let here = views s.facts s.opening before in
     let xs = map (device_at here) (take c.loop-at.at-index c.in_ok-places.places.items) in
     let same : device_at c.loop-at.state.views at ≡ device_at here at =
-    device-kept s c.args.state.now c.loop-at.state at c.requires.stands i.stands ∙ ap (λ (vs : List DeviceView). device_at vs at) c.requires.stands.views in
+    device-kept s c.args.state.now c.loop-at.state at c.requires.1.0 i.stands ∙ ap (λ (vs : List DeviceView). device_at vs at) c.requires.1.0.views in
     let own = chain s (device_at c.loop-at.state.views at) (8192 - length c.loop-at.steps.items) (length c.loop-at.steps.items + 1) (past_of c.loop-at.state.log) in
     let put =
     c.in_ok-plan_device.ensures.steps
@@ -55,7 +49,7 @@ returns g c =
     let s = scene c.args.asker.now.facts.now g.opening c.args.asker.now.client c.args.asker.now.tag.now in
     let before = past_of c.args.state.now.log in
     let here = views s.facts s.opening before in
-    plan-done s before c.in_ok-places.places.items c.loop-at.steps.items (c.in_ok-places.ensures ∙ ap walk (c.views.ensures ∙ c.requires.stands.views))
+    plan-done s before c.in_ok-places.places.items c.loop-at.steps.items (c.in_ok-places.ensures ∙ ap walk (c.views.ensures ∙ c.requires.1.0.views))
     (c.loop-at.invariant.steps_are
     ∙ ap (λ (places : List ℕ). chains s (map (device_at here) places) 8192 1 before) (take-whole c.loop-at.at-index c.in_ok-places.places.items (omega (arith, c.loop-at-test.false))))
 
@@ -66,6 +60,6 @@ loop-at-init g c =
       steps_are = chains-nil s (past_of c.args.state.now.log);
       past_is = after-nil s (past_of c.args.state.now.log);
       few = omega arith;
-      stands = c.requires.stands;
-      quiet = c.requires.quiet;
+      stands = c.requires.1.0;
+      quiet = c.requires.1.1.0;
     }
