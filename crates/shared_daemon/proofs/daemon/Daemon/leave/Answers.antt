@@ -11,10 +11,6 @@ use Rattle.shared_daemon.proofs.Seeing.{log-named}
 use Rattle.shared_daemon.proofs.Turning.{added-begins, still-pass}
 use Rattle.shared_daemon.proofs.daemon.Daemon.leave.Goals as goal
 
-pub leave-requires-clause-adds : goal.leave-requires-clause-adds
-leave-requires-clause-adds g c =
-    subst (λ (h : Housed g.row.K.Denot). AddsAtMostOne maker_of c.args.turn.number c.args.turn.seen (chronicle h)) (sym c.state.ensures.value) c.requires.adds
-
 pub returns-clause-pass : goal.returns-clause-pass
 returns-clause-pass g c =
     let before : PassView Entry = c.requires.begun.0 in
