@@ -126,6 +126,13 @@ module _ {D : Type 0} (store : Ghosts D) (supposed : Type 0) (old new : Keeping 
       let made = makes t.clean r.0 r.1.holds (suits r.0 r.1) in
       (r.0, r.1, same_rows (database store new) all (changed change r.0) t.holds made)
 
+-- the doubtful change suits the rows that are told
+pub suits_told : {D : Type 0} (store : Ghosts D) (supposed : Type 0) (k : Keeping D) → Knows k.tells supposed (database store k) k.doubt → (it : Doubt) → k.doubt ≡ Some it → (all : List Row) → TellsRows store supposed k all → Suits it.change all
+suits_told store supposed k knows it is all t =
+    let known = subst (λ (b : Bool). Knows b supposed (database store k) k.doubt) t.may knows in
+    let r = known t.store_is t.clean t.holds.is_open in
+    subst (λ d. SuitsDoubt d all) is (subst (SuitsDoubt k.doubt) (same_rows (database store k) r.0 all r.1 t.holds) r.2)
+
 -- ---- a keeper over the same database
 
 module _ {D : Type 0} (store : Ghosts D) (old new : Keeping D) (same : new.connection ≡ old.connection) where
