@@ -1,5 +1,5 @@
 //! The steps of plans, made and checked over a log that goes on by them.
-ghost use Rattle.std.specs.Prelude.{◌≡◌, ◌≤◌, ◌<◌, ◌+◌, ◌-◌, ◌++◌, ◌⊎◌, ℕ, None, Some, List, IfOk, IfSome, OnOk, MatchResult, length, slice_get, vec_len};
+ghost use Rattle.std.specs.Prelude.{◌≡◌, ◌≤◌, ◌<◌, ◌+◌, ◌-◌, ◌++◌, ◌∷◌, [], ◌⊎◌, true, ℕ, None, Some, List, IfOk, IfSome, OnOk, MatchResult, length, slice_get, vec_len};
 ghost use Rattle.history_keeper.specs.declared.row.Row.{Row};
 ghost use Rattle.update_log.specs.Core.{Stands};
 ghost use Rattle.update_log.specs.Pasts.{past_of};
@@ -8,7 +8,7 @@ ghost use Rattle.std.specs.Ordering.{is_gt};
 ghost use Rattle.version_formats.specs.VersionOrder.{version_cmp};
 ghost use Rattle.fw_facts.specs.Views.{guids_of};
 ghost use Rattle.update_plans.specs.Choosing.{IsHighestFirst, found_cmp, good_step, side_of, tried, version_found};
-ghost use Rattle.update_plans.specs.Plans.{after, chain, device_at, first_bad, next_step, plan, scene};
+ghost use Rattle.update_plans.specs.Plans.{after, chain, device_at, first_bad, installed, is_good, next_step, plan, scene};
 ghost use Rattle.update_plans.specs.Tags.{IsTag};
 
 use crate::plan::{PlanStep, PlanStop, STEPS_MAX};
@@ -26,7 +26,6 @@ use version_formats::{Version, compare};
 
 /// Puts the steps of the plan over the log behind that log: for each device in the order of the walk, as
 /// long as there is one, the highest release that it can reach next.
-#[tactic(none)]
 pub fn plan_all(
     alloc: Global,
     asker: &Asker,
@@ -47,7 +46,6 @@ pub fn plan_all(
 }
 
 /// Whether each step is good after those before it. They are put behind the log.
-#[tactic(none)]
 pub fn check_all(asker: &Asker, state: &mut CoreState, steps: &[PlanStep]) -> Result<(), PlanStop>
     ghost opening: { List Row }
     requires tag { IsTag asker.now.tag.now }
@@ -69,7 +67,6 @@ pub fn check_all(asker: &Asker, state: &mut CoreState, steps: &[PlanStep]) -> Re
 }
 
 // Puts the steps of the device at a place behind the others, and takes them.
-#[tactic(none)]
 fn plan_device(
     alloc: Global,
     asker: &Asker,
@@ -89,18 +86,56 @@ fn plan_device(
     ensures stands { OnOk result (Stands asker.now.facts.now opening state.new) }
     ensures quiet { OnOk result (IsQuiet (scene asker.now.facts.now opening asker.now.client asker.now.tag.now) (past_of state.new.log)) }
 {
-    let mut releases = highest_first(alloc, asker.facts, &state.views()[at])?;
+    let mut releases = highest_first(alloc, asker.facts, device(state, at))?;
     for taken in steps.len()..STEPS_MAX {
         let number = taken as u32 + 1;
-        let Some(step) = next_step(asker, state, number, at, &releases) else {
-            return Ok(());
-        };
-        let side = side_of(state.views()[at].seen);
-        asker.install(state, number, &step)?;
-        steps.push(step)?;
-        releases = on_side(alloc, asker.facts, &state.views()[at], side, releases)?;
+        match next_step(asker, state, number, at, &releases) {
+            Some(step) => {
+                releases = take_step(alloc, asker, state, number, at, step, steps, releases)?;
+            }
+            None => return Ok(()),
+        }
     }
     Ok(())
+}
+
+// Takes a step, which is good, puts it behind the others, and gives the releases for the side that the device shows then.
+fn take_step(
+    alloc: Global,
+    asker: &Asker,
+    state: &mut CoreState,
+    number: u32,
+    at: usize,
+    step: PlanStep,
+    steps: &mut Vec<PlanStep>,
+    releases: Vec<ReleaseRef>,
+) -> Result<Vec<ReleaseRef>, NoMemory>
+    ghost opening: { List Row }
+    requires place { at < length state.old.views }
+    requires tag { IsTag asker.now.tag.now }
+    requires number { number ≤ 8192 }
+    requires stands { Stands asker.now.facts.now opening state.old }
+    requires quiet { IsQuiet (scene asker.now.facts.now opening asker.now.client asker.now.tag.now) (past_of state.old.log) }
+    requires good { is_good (scene asker.now.facts.now opening asker.now.client asker.now.tag.now) number step (past_of state.old.log) ≡ true }
+    requires releases { IfSome (slice_get state.old.views at) (λ view. IsHighestFirst asker.now.facts.now (guids_of view) releases.items) }
+    ensures past { OnOk result (past_of state.new.log ≡ installed (scene asker.now.facts.now opening asker.now.client asker.now.tag.now) number step (past_of state.old.log)) }
+    ensures stands { OnOk result (Stands asker.now.facts.now opening state.new) }
+    ensures steps { OnOk result (steps.new.items ≡ steps.old.items ++ step ∷ []) }
+    ensures releases { IfOk result (λ places. IfSome (slice_get state.new.views at) (λ view. IsHighestFirst asker.now.facts.now (guids_of view) places.items)) }
+{
+    let side = side_of(device(state, at).seen);
+    asker.install(state, number, &step)?;
+    steps.push(step)?;
+    on_side(alloc, asker.facts, device(state, at), side, releases)
+}
+
+// The device at a place.
+#[tactic(auto, using(crate::proofs::Taking::got_at))]
+fn device(state: &CoreState, at: usize) -> &DeviceView
+    requires { at < length state.now.views }
+    ensures { slice_get state.now.views at ≡ Some result.now }
+{
+    &state.views()[at]
 }
 
 // The releases for the side that the device shows, where these are those for another side.
@@ -132,7 +167,6 @@ fn side_of(seen: Seen) -> Option<Mode>
 
 // The releases for the side that the device shows, the highest first, and those of one version in
 // catalogue order.
-#[tactic(none)]
 fn highest_first(
     alloc: Global,
     facts: &Facts,
@@ -157,7 +191,6 @@ fn compare_at(facts: &Facts, left: ReleaseRef, right: ReleaseRef) -> Ordering
 }
 
 // The first step that is good, of releases above the version shown.
-#[tactic(none)]
 fn next_step(
     asker: &Asker,
     state: &CoreState,
@@ -173,13 +206,12 @@ fn next_step(
         → IsQuiet (scene asker.now.facts.now opening asker.now.client asker.now.tag.now) (past_of state.now.log)
         → result ≡ next_step (scene asker.now.facts.now opening asker.now.client asker.now.tag.now) number (device_at state.now.views at) (past_of state.now.log) }
 {
-    let view = &state.views()[at];
+    let view = device(state, at);
     let shown = view.version()?;
     first_good(asker, state, number, view, &shown, releases)
 }
 
 // The same, of releases from the highest down, as long as they are above the version shown.
-#[tactic(none)]
 fn first_good(
     asker: &Asker,
     state: &CoreState,
@@ -199,8 +231,9 @@ fn first_good(
         if !is_above(version, shown) {
             return None;
         }
-        if let Some(step) = good_step(asker, state, number, view, *release, version) {
-            return Some(step);
+        let found = good_step(asker, state, number, view, *release, version);
+        if found.is_some() {
+            return found;
         }
     }
     None

@@ -34,4 +34,4 @@ returns-clause-stands c =
     let empty : c.reserve.new.self.log ≡ [] = ap (λ (k : Core). k.log) c.in_ok-reserve.ensures.same ∙ c.in_ok-state.ensures.empty in
     let stands : Stands c.args.facts.now c.args.rows.now c.reserve.new.self =
     stands-reserved c.args.facts.now c.args.rows.now c.in_ok-state.state c.reserve.new.self c.in_ok-reserve.ensures.same c.in_ok-state.ensures.stands in
-    subst (λ (rows : List Row). Stands c.args.facts.now rows _) (rows_before c.args.facts.now c.args.rows.now c.reserve.new.self empty stands) c.in_ok-boot.ensures.stands
+    subst (λ (rows : List Row). Stands c.args.facts.now rows c.boot.new.state) (rows_before c.args.facts.now c.args.rows.now c.reserve.new.self empty stands) c.in_ok-boot.ensures.stands

@@ -1,4 +1,4 @@
-use Rattle.std.proofs.Common.{◌≡◌, ◌+◌, ◌-◌, ◌++◌, []}
+use Rattle.std.proofs.Common.{◌≡◌, ◌+◌, ◌-◌, ◌++◌}
 use Rattle.std.specs.Prelude.{IfSome, slice_get, vec_len}
 use Rattle.fw_facts.specs.Views.{guids_of}
 use Rattle.update_log.specs.Core.{Stands}
@@ -9,8 +9,8 @@ use Rattle.update_plans.specs.Plans.{Scene, after, chain, device_at, scene}
 use Rattle.update_plans.proofs.Chained.{Goes}
 use Rattle.update_plans.proofs.making.plan_device.Given as goal
 
-abbrev pub ghost-install : goal.ghost-install
-ghost-install g a = record { opening = g.opening; number = a.number; before = past_of a.state.now.log; gone = [] }
+abbrev pub ghost-take_step : goal.ghost-take_step
+ghost-take_step g a = g.opening
 
 abbrev pub invariant-loop-taken : goal.invariant-loop-taken
 invariant-loop-taken g l =
