@@ -1,5 +1,5 @@
 //! The plan of a campaign's first boot.
-ghost use Rattle.std.specs.Prelude.{◌≡◌, ◌≤◌, ◌<◌, List, None, length, map, IfOk};
+ghost use Rattle.std.specs.Prelude.{◌≡◌, ◌≤◌, List, None, length, map, IfOk};
 ghost use Rattle.history_keeper.specs.Histories.{IsHistory};
 ghost use Rattle.history_keeper.specs.declared.row.Row.{Row};
 ghost use Rattle.update_log.specs.Core.{Stands};
@@ -80,7 +80,6 @@ fn first_state(alloc: Global, campaign: &Campaign, rows: &[Row]) -> Result<CoreS
 fn plan_over(alloc: Global, facts: &Facts, state: &CoreState, tag: &Name) -> Result<Plan, NoMemory>
     ghost opening: { List Row }
     requires tag { IsTag tag.now }
-    requires few { length state.now.log < 200000 }
     requires stands { Stands facts.now opening state.now }
     requires can { CanBePlanned facts.now opening tag.now (past_of state.now.log) }
     ensures tag { IfOk result (λ plan. plan.tag ≡ tag.now) }
@@ -101,7 +100,6 @@ fn plan_over(alloc: Global, facts: &Facts, state: &CoreState, tag: &Name) -> Res
 fn check(alloc: Global, facts: &Facts, first: &FirstPlan) -> Result<(), NoMemory>
     ghost opening: { List Row }
     requires tag { IsTag first.now.plan.tag }
-    requires few { length first.now.state.log < 200000 }
     requires few_steps { length first.now.plan.steps ≤ 8192 }
     requires stands { Stands facts.now opening first.now.state }
     requires can { CanBePlanned facts.now opening first.now.plan.tag (past_of first.now.state.log) }

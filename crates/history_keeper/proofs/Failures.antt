@@ -35,7 +35,7 @@ none-past rows entry device h (inr past) (k, x, within, here, f) =
 
 -- Where there is one, it stands at the place of its entry.
 pub none-there : (rows : List Row) (entry : ℕ) (device : List ℕ) (place : ℕ) (row : Row) → IsNumbered rows → place < length rows → entry ≡ place + 1 → row ≡ get_or rows place row → (bytes_eq row.device device && is_failed row.state) ≡ false → Any (IsFailure entry device) rows → ⊥
-none-there rows entry device place row h low next is no (k, x, within, here, f) =
+none-there rows entry device place row h low next is untrue (k, x, within, here, f) =
     let at : x.entry ≡ k + 1 = entry-at rows k x h within here in
     let same_entry : x.entry ≡ entry = f.entry_is in
     let same_place : k ≡ place = omega (arith, at, same_entry, next) in
@@ -46,7 +46,7 @@ none-there rows entry device place row h low next is no (k, x, within, here, f) 
     let one : bytes_eq row.device device ≡ true = (bytes_decides row.device device).1 of_device in
     let two : is_failed row.state ≡ true = ap is_failed has_failed in
     let yes : (bytes_eq row.device device && is_failed row.state) ≡ true = rw (one, two) refl in
-    let bad : true ≡ false = sym yes ∙ no in cc
+    let bad : true ≡ false = sym yes ∙ untrue in cc
 
 pub found : (rows : List Row) (entry : ℕ) (device : List ℕ) (place : ℕ) (row : Row) (b : Bool) → IsNumbered rows → place < length rows → entry ≡ place + 1 → row ≡ get_or rows place row → b ≡ (bytes_eq row.device device && is_failed row.state) → MatchBool b (Any (IsFailure entry device) rows) (Any (IsFailure entry device) rows → ⊥)
 found rows entry device place row true h low next is e =

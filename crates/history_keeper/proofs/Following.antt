@@ -45,11 +45,11 @@ is_tried p r = unwrap_or (option_map p r.retry_of) false
 -- A row that tries an entry again.
 pub has_entry : (p : ℕ → Bool) (rows : List Row) → list_any p (retried_of rows) ≡ list_any (is_tried p) rows
 has_entry p [] = refl
-has_entry p (r ∷ rows) = at r.retry_of refl
+has_entry p (r ∷ rows) = at r.retry_of (has_entry p rows) refl
   where
-    at : (o : Option ℕ) → r.retry_of ≡ o → list_any p (retried_of (r ∷ rows)) ≡ list_any (is_tried p) (r ∷ rows)
-    at None e = rw (e, e) (has_entry p rows)
-    at (Some n) e = rw (e, e) (ap (λ b. p n || b) (has_entry p rows))
+    at : (o : Option ℕ) → list_any p (retried_of rows) ≡ list_any (is_tried p) rows → r.retry_of ≡ o → list_any p (retried_of (r ∷ rows)) ≡ list_any (is_tried p) (r ∷ rows)
+    at None rest e = rw e rest
+    at (Some n) rest e = rw e (ap (λ b. p n || b) rest)
 
 tried-by : (p : ℕ → Bool) (r : Row) (e : ℕ) → r.retry_of ≡ Some e → p e ≡ true → is_tried p r ≡ true
 tried-by p r e is t = rw is t

@@ -140,9 +140,8 @@ pub(crate) fn ring<V: Chronicle>(table: &LockTable<V>, seat: &mut LockSeat<V>, t
 {
     let bell = bell_of(ticket);
     let marked = table.peek(bell);
-    if marked % 2 == MARK
-        && table.compare_exchange::<Ring>(seat, bell, marked, marked.wrapping_add(1)) == marked
-    {
+    let rung = marked.wrapping_add(1);
+    if marked % 2 == MARK && table.compare_exchange::<Ring>(seat, bell, marked, rung) == marked {
         table.wake_all(bell);
     }
 }

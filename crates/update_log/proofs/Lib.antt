@@ -43,4 +43,3 @@ pub mod CoreKept
 pub mod CoreTake
 pub mod FirstSteps
 pub mod Unlimited
-pub mod Copied

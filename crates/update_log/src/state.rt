@@ -21,7 +21,7 @@ use crate::arranging::arrange;
 use crate::asking::{Asking, change_on};
 use crate::changing::{change_if, doubt_at, made_at};
 use crate::clock::Clock;
-use crate::copying::{copied_log, copied_rows};
+use crate::copying::{copied_live, copied_pair, copied_past};
 use crate::decide::{Case, decided, free_blocks};
 use crate::decision::{Decision, Stage};
 use crate::event::{Event, Log};
@@ -112,19 +112,25 @@ impl CoreState {
     pub fn copy(&self, alloc: Global) -> Result<CoreState, NoMemory>
         ensures { IfOk result (λ copy. copy ≡ record self.now { room = copy.room; row_room = copy.row_room }) }
     {
-        let log = copied_log(alloc, &self.log)?;
-        let devices = self.devices.copy(alloc)?;
-        let rows = copied_rows(alloc, &self.rows)?;
+        let (live, traces, holds, open) = copied_live(
+            alloc,
+            &self.live,
+            &self.traces,
+            &self.holds,
+            &self.open,
+        )?;
+        let (finished, boards) = copied_pair(alloc, &self.finished, &self.boards)?;
+        let (log, devices, rows) = copied_past(alloc, &self.log, &self.devices, &self.rows)?;
         Ok(CoreState {
             log,
             clock: self.clock,
-            live: Vec::from_slice(alloc, &self.live)?,
-            traces: Vec::from_slice(alloc, &self.traces)?,
-            holds: Vec::from_slice(alloc, &self.holds)?,
-            open: Vec::from_slice(alloc, &self.open)?,
-            finished: Vec::from_slice(alloc, &self.finished)?,
+            live,
+            traces,
+            holds,
+            open,
+            finished,
             devices,
-            boards: Vec::from_slice(alloc, &self.boards)?,
+            boards,
             rows,
             doubt: self.doubt,
         })

@@ -18,7 +18,7 @@ use Rattle.update_plans.proofs.Planned.{after-append}
 
 -- ---- devices keep their places
 
-get-map : {X Y : Type 0} (f : X → Y) (xs : List X) (at : ℕ) → slice_get (map f xs) at ≡ option_map f (slice_get xs at)
+pub get-map : {X Y : Type 0} (f : X → Y) (xs : List X) (at : ℕ) → slice_get (map f xs) at ≡ option_map f (slice_get xs at)
 get-map f [] at = refl
 get-map f (x ∷ xs) zero = refl
 get-map f (x ∷ xs) (suc at) = get-map f xs at
@@ -80,33 +80,46 @@ pub chain-zero : (s : Scene) (device : List ℕ) (number : ℕ) (past : List Eve
 unfolding chain
 chain-zero s device number past = refl
 
--- one more turn of the loop: the steps so far, with those still to come, are the whole, and so is the log
-pub record Goes (s : Scene) (device : List ℕ) (taken : ℕ) (steps whole : List PlanStep) (past end : List Event) : Type 0 where
-  pub steps_are : steps ++ chain s device (8192 - length steps) (taken + 1) past ≡ whole
-  pub past_is : after s (taken + 1) (chain s device (8192 - length steps) (taken + 1) past) past ≡ end
+-- the steps so far, with those still to come, are the whole, and so is the log
+pub record Goes (s : Scene) (device : List ℕ) (steps whole : List PlanStep) (past end : List Event) : Type 0 where
+  pub steps_are : steps ++ chain s device (8192 - length steps) (length steps + 1) past ≡ whole
+  pub past_is : after s (length steps + 1) (chain s device (8192 - length steps) (length steps + 1) past) past ≡ end
 
-pub goes-turn : (s : Scene) (device : List ℕ) (taken : ℕ) (steps whole : List PlanStep) (past end : List Event) (step : PlanStep) → length steps < 8192 → next_step s (taken + 1) device past ≡ Some step
-    → Goes s device taken steps whole past end → Goes s device (taken + 1) (steps ++ step ∷ []) whole (installed s (taken + 1) step past) end
+pub goes-first : (s : Scene) (device : List ℕ) (steps : List PlanStep) (past : List Event)
+    → Goes s device steps (steps ++ chain s device (8192 - length steps) (length steps + 1) past) past (after s (length steps + 1) (chain s device (8192 - length steps) (length steps + 1) past) past)
+goes-first s device steps past = record { steps_are = refl; past_is = refl }
+
+-- one more turn of the loop
+pub goes-turn : (s : Scene) (device : List ℕ) (steps whole : List PlanStep) (past end : List Event) (step : PlanStep) → length steps < 8192 → next_step s (length steps + 1) device past ≡ Some step
+    → Goes s device steps whole past end → Goes s device (steps ++ step ∷ []) whole (installed s (length steps + 1) step past) end
 unfolding after
-goes-turn s device taken steps whole past end step few e g =
+goes-turn s device steps whole past end step few e g =
     let longer : length (steps ++ step ∷ []) ≡ length steps + 1 = length-append steps (step ∷ []) in
     let left : 8192 - length steps ≡ suc (8192 - length (steps ++ step ∷ [])) = omega (arith, few, longer) in
-    let more : chain s device (8192 - length steps) (taken + 1) past ≡ step ∷ chain s device (8192 - length (steps ++ step ∷ [])) (taken + 1 + 1) (installed s (taken + 1) step past) =
-    ap (λ (n : ℕ). chain s device n (taken + 1) past) left ∙ chain-some s device (8192 - length (steps ++ step ∷ [])) (taken + 1) past step e in
+    let next : length steps + 1 + 1 ≡ length (steps ++ step ∷ []) + 1 = omega (arith, longer) in
+    let rest : List PlanStep = chain s device (8192 - length (steps ++ step ∷ [])) (length steps + 1 + 1) (installed s (length steps + 1) step past) in
+    let same : rest ≡ chain s device (8192 - length (steps ++ step ∷ [])) (length (steps ++ step ∷ []) + 1) (installed s (length steps + 1) step past) =
+    ap (λ (n : ℕ). chain s device (8192 - length (steps ++ step ∷ [])) n (installed s (length steps + 1) step past)) next in
+    let more : chain s device (8192 - length steps) (length steps + 1) past ≡ step ∷ rest =
+    ap (λ (n : ℕ). chain s device n (length steps + 1) past) left ∙ chain-some s device (8192 - length (steps ++ step ∷ [])) (length steps + 1) past step e in
     record {
       steps_are =
-          append_assoc steps (step ∷ []) (chain s device (8192 - length (steps ++ step ∷ [])) (taken + 1 + 1) (installed s (taken + 1) step past))
+          ap (λ (xs : List PlanStep). (steps ++ step ∷ []) ++ xs) (sym same)
+          ∙ append_assoc steps (step ∷ []) rest
           ∙ ap (λ (xs : List PlanStep). steps ++ xs) (sym more) ∙ g.steps_are;
-      past_is = ap (λ (xs : List PlanStep). after s (taken + 1) xs past) (sym more) ∙ g.past_is;
+      past_is =
+          ap (λ (xs : List PlanStep). after s (length (steps ++ step ∷ []) + 1) xs (installed s (length steps + 1) step past)) (sym same)
+          ∙ ap (λ (n : ℕ). after s n rest (installed s (length steps + 1) step past)) (sym next)
+          ∙ ap (λ (xs : List PlanStep). after s (length steps + 1) xs past) (sym more) ∙ g.past_is;
     }
 
 -- the loop ends where there is no next step, or where there are as many as there may be
-pub goes-end : (s : Scene) (device : List ℕ) (taken : ℕ) (steps whole : List PlanStep) (past end : List Event) → Goes s device taken steps whole past end
-    → chain s device (8192 - length steps) (taken + 1) past ≡ [] → (steps ≡ whole) × (past ≡ end)
+pub goes-end : (s : Scene) (device : List ℕ) (steps whole : List PlanStep) (past end : List Event) → Goes s device steps whole past end
+    → chain s device (8192 - length steps) (length steps + 1) past ≡ [] → (steps ≡ whole) × (past ≡ end)
 unfolding after
-goes-end s device taken steps whole past end g none = (
+goes-end s device steps whole past end g none = (
   sym (append-nil steps) ∙ ap (λ (xs : List PlanStep). steps ++ xs) (sym none) ∙ g.steps_are,
-  ap (λ (xs : List PlanStep). after s (taken + 1) xs past) (sym none) ∙ g.past_is,
+  ap (λ (xs : List PlanStep). after s (length steps + 1) xs past) (sym none) ∙ g.past_is,
 )
 
 -- ---- device behind device

@@ -1,5 +1,5 @@
 -- The first good release above the version shown, of releases from the highest down, is the highest that may come next.
-use Rattle.std.proofs.Common.{◌≡◌, ℕ, suc, ◌+◌, ◌<◌, ◌⊎◌, ◌&&◌, ◌||◌, ◌==◌, Bool, true, false, cond, not, nat_lt, List, [], ◌∷◌, ◌++◌, map, inl, inr, append_assoc, refl, sym, ap, ◌∙◌, subst, arith}
+use Rattle.std.proofs.Common.{◌≡◌, ℕ, zero, suc, ◌+◌, ◌<◌, ◌⊎◌, ◌&&◌, ◌||◌, ◌==◌, Bool, true, false, cond, not, nat_lt, List, [], ◌∷◌, ◌++◌, map, inl, inr, append_assoc, refl, sym, ap, ◌∙◌, subst, arith}
 use Rattle.std.specs.Prelude.{All, AllPairs, Option, Some, None, filter, find, is_some, option_map, option_and_then, if◌then◌else◌}
 use Rattle.std.specs.Option.{option_map_or}
 use Rattle.std.specs.List.{AllByRecursion, list_any}
@@ -8,7 +8,7 @@ use Rattle.std.specs.declared.cmp.Ordering.{Ordering}
 use Rattle.std.specs.declared.cmp.Ordering.TheVariants.{Less, Equal, Greater}
 use Rattle.std.proofs.lemmas.Bool.{eqb-true, ltb-true}
 use Rattle.std.proofs.lemmas.List.Folds.{list_any-append}
-use Rattle.std.proofs.lemmas.List.Sorted.{list_any-IsPermutation}
+use Rattle.std.proofs.lemmas.List.Sorted.{All-permutation, list_any-IsPermutation}
 use Rattle.version_formats.specs.VersionOrder.{version_cmp}
 use Rattle.version_formats.proofs.VersionLaws.{version_cmp-back, version_cmp-reflexive, version_cmp-transitive}
 use Rattle.fw_facts.specs.declared.view.DeviceView.{DeviceView}
@@ -22,17 +22,17 @@ use Rattle.update_log.specs.Verdicts.{is_release, verdict}
 use Rattle.update_log.proofs.Devices.{IsIn, each-in}
 use Rattle.std.proofs.lemmas.List.{append-nil}
 use Rattle.update_log.specs.Known.{views}
-use Rattle.update_log.proofs.Lists.{All-append, All-both, All-map, All-push, by_test, eqb-self, find-passes}
+use Rattle.update_log.proofs.Lists.{All-append, All-both, All-filter, All-map, All-push, by_test, eqb-self, find-passes}
 use Rattle.update_log.proofs.Openings.{bytes-same}
 use Rattle.update_log.proofs.RowsKept.{or-false}
 use Rattle.update_log.proofs.StrokeFacts.{and-true}
-use Rattle.update_plans.specs.Choosing.{IsHighestFirst, comes_before, found_cmp, goes_first, good_step, is_higher, version_at, version_found, where_good}
+use Rattle.update_plans.specs.Choosing.{IsHighestFirst, comes_before, found_cmp, goes_first, first_some, good_step, is_higher, tried, tried_at, version_at, version_found, where_good}
 use Rattle.update_plans.specs.Plans.{Scene, accepts, has_id, highest, is_above, is_good, may_come, next_step, release_at, request_of, step_of, view_of, writes}
 use Rattle.update_plans.specs.RawNumbers.{raw_of}
 use Rattle.update_plans.specs.declared.plan.PlanStep.{PlanStep}
 use Rattle.update_plans.proofs.Chained.{good-step}
 use Rattle.update_plans.proofs.Highest.{Ordered, Parted, catalogue-ordered, highest-is, highest-none, parted}
-use Rattle.update_plans.proofs.Targets.{found, release-same}
+use Rattle.update_plans.proofs.Targets.{found, release-same, tests}
 
 some-same : {X : Type 0} {x y : X} → Some x ≡ Some y → x ≡ y
 some-same e = cc
@@ -153,15 +153,22 @@ any-matching guids y (z ∷ all) h = of (provides guids z.component) h (λ k. an
 
 -- ---- the choice
 
-abbrev pub first_some : Option PlanStep → Option PlanStep → Option PlanStep
-first_some None other = other
-first_some (Some step) other = Some step
+of-each : {X : Type 0} (P : X → Type 0) (xs : List X) → AllByRecursion P xs → All P xs
+of-each P [] a k d within = absurd (omega (arith, within))
+of-each P (x ∷ xs) a zero d within = a.0
+of-each P (x ∷ xs) a (suc k) d within = of-each P xs a.1 k d (omega (arith, within))
 
--- What the code tries: place after place, as long as the version is above the one that is shown.
-abbrev pub tried : Scene → ℕ → DeviceView → List ℕ → List Event → List ReleaseRef → Option PlanStep
-tried s number view shown past [] = None
-tried s number view shown past (at ∷ rest) =
-    if is_gt (version_cmp (version_at s.facts at) shown) then first_some (good_step s number view at (version_at s.facts at) past) (tried s number view shown past rest) else None
+each-mapped : {X Y : Type 0} (P : Y → Type 0) (f : X → Y) (xs : List X) → AllByRecursion (λ x. P (f x)) xs → AllByRecursion P (map f xs)
+each-mapped P f [] a = tt
+each-mapped P f (x ∷ xs) a = (a.0, each-mapped P f xs a.1)
+
+-- where a release stands at a place, its version decides
+tried-there : (s : Scene) (number : ℕ) (view : DeviceView) (shown : List ℕ) (past : List Event) (at : ReleaseRef) (more : Option PlanStep) (o : Option Chosen) → is_some o ≡ true
+    → tried_at s number view shown past at more (option_map (λ (chosen : Chosen). chosen.release.version) o)
+    ≡ (if is_gt (version_cmp (option_map_or (λ (chosen : Chosen). chosen.release.version) o []) shown)
+    then first_some (good_step s number view at (option_map_or (λ (chosen : Chosen). chosen.release.version) o []) past) more else None)
+tried-there s number view shown past at more None h = cc
+tried-there s number view shown past at more (Some y) h = refl
 
 module _ (s : Scene) (number : ℕ) (device : List ℕ) (view : DeviceView) (shown : List ℕ) (past : List Event) (places : List ReleaseRef)
     (here : view_of s device past ≡ Some view) (shows : version_of view ≡ Some shown) (sorted : IsHighestFirst s.facts (guids_of view) places) where
@@ -214,9 +221,8 @@ module _ (s : Scene) (number : ℕ) (device : List ℕ) (view : DeviceView) (sho
       let a : Asks y p.step = asks-so y p.step p.step_is in
       let g = good-step s number p.step past p.good in
       let same : g.chosen ≡ y = some-same (sym g.there ∙ ap (release_at s) a.at_is ∙ o.own) in
-      let tests = and-true (writes s p.step g.chosen past) _ g.good in
-      let accepted = and-true (accepts p.step.release (verdict s.facts s.opening past s.client (request_of s number p.step g.chosen) Stage.Ask)) _ tests.1 in
-      let f = found s number p.step g.chosen past g.there accepted.0 in
+      let all_so = tests s number p.step g.chosen past g.good in
+      let f = found s number p.step g.chosen past g.there all_so.asked_so in
       let seen : f.t.view ≡ view = some-same (sym f.view_is ∙ ap (λ (d : List ℕ). view_of s d past) (a.device_is ∙ device-own) ∙ here) in
       let one : f.t.chosen ≡ y = f.chosen_is ∙ same in
       let provided : provides (guids_of view) y.component ≡ true =
@@ -407,7 +413,8 @@ module _ (s : Scene) (number : ℕ) (device : List ℕ) (view : DeviceView) (sho
       → tried s number view shown past rest ≡ next_step s number device past
   tried-on front [] whole fail f there = sym (none-next (subst (AllByRecursion Fails) (sym (append-nil front) ∙ whole) fail))
   tried-on front (at ∷ rest) whole fail f there =
-      of (is_gt (version_cmp (version_at s.facts at) shown)) refl
+      tried-there s number view shown past at (tried s number view shown past rest) (release_at s at) there.0
+      ∙ of (is_gt (version_cmp (version_at s.facts at) shown)) refl
       (λ fails. tried-on (front ++ at ∷ []) rest (append_assoc front (at ∷ []) rest ∙ whole) (All-push Fails front at fail fails) f.1 there.1)
     where
       More : Type 0
@@ -432,6 +439,32 @@ module _ (s : Scene) (number : ℕ) (device : List ℕ) (view : DeviceView) (sho
       of true g more = good (good_step s number view at (version_at s.facts at) past) refl g more
       of false g more = sym (none-next (subst (AllByRecursion Fails) whole (All-append Fails front (at ∷ rest) fail (below-so (release_at s at) refl there.0 g))))
 
+  -- a release stands at each of the places
+  all-there : AllByRecursion (λ at. is_some (release_at s at) ≡ true) places
+  all-there =
+      each-of There places
+      (All-permutation There (matching_places s.facts.catalogue (guids_of view)) places sorted.same
+      (of-each There (matching_places s.facts.catalogue (guids_of view))
+      (each-mapped There (λ (chosen : Chosen). chosen.at) (filter (λ chosen. provides (guids_of view) chosen.component) all)
+      (All-filter One (λ y. There y.at) (λ chosen. provides (guids_of view) chosen.component) all ones (λ y o t. ap (λ (x : Option Chosen). is_some x) o.own)))))
+    where
+      There : ReleaseRef → Type 0
+      There at = is_some (release_at s at) ≡ true
+
   -- So the first good one of the places is the next step.
-  pub tried-next : AllByRecursion (λ at. is_some (release_at s at) ≡ true) places → tried s number view shown past places ≡ next_step s number device past
-  tried-next there = tried-on [] places refl tt (falls s places sorted.falling) there
+  pub tried-next : tried s number view shown past places ≡ next_step s number device past
+  tried-next = tried-on [] places refl tt (falls s places sorted.falling) all-there
+
+-- A device that shows no version has no next step.
+pub none_shown : (s : Scene) (number : ℕ) (device : List ℕ) (view : DeviceView) (past : List Event) → view_of s device past ≡ Some view → version_of view ≡ None → next_step s number device past ≡ None
+unfolding next_step
+none_shown s number device view past here none =
+    ap (option_and_then (λ view. option_and_then (step_of view) (highest (filter (may_come s number view past) (all_releases s.facts.catalogue))))) here
+    ∙ ap (option_and_then (step_of view)) (highest-none (may_come s number view past) (all_releases s.facts.catalogue) (fails (all_releases s.facts.catalogue)))
+  where
+    fails : (xs : List Chosen) → AllByRecursion (λ y. may_come s number view past y ≡ false) xs
+    fails [] = tt
+    fails (x ∷ xs) = (
+      ap (λ (v : Option (List ℕ)). option_map_or (λ shown. is_lt (version_cmp shown x.release.version)) v false && option_map_or (λ step. is_good s number step past) (step_of view x) false) none,
+      fails xs,
+    )

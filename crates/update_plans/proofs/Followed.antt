@@ -50,7 +50,7 @@ use Rattle.update_log.proofs.Rows.{accepted-claim}
 use Rattle.update_log.proofs.RowsKept.{or-false, row_of-past}
 use Rattle.update_log.proofs.StrokeFacts.{and-true}
 use Rattle.update_plans.specs.Following.{IsAcceptedNext, IsFollowed, IsPlayed, IsQuiet, is_mode, is_version, shows_alike}
-use Rattle.update_plans.specs.Plans.{Scene, accepts, after, asked, done, end_of, first_bad, installed, installed_with, is_ended, is_good, is_good_with, release_at, request_of, taken, view_of, writes}
+use Rattle.update_plans.specs.Plans.{Scene, accepts, after, asked, done, end_of, first_bad, installed, installed_with, is_ended, is_good, is_good_with, release_at, request_of, taken, view_of}
 use Rattle.update_plans.specs.declared.plan.PlanStep.{PlanStep}
 use Rattle.update_plans.proofs.Alike.{AllLike, Like, SameTarget, decided-like, target-like}
 use Rattle.update_plans.proofs.Chained.{Good, good-step, quiet-on}
@@ -58,7 +58,7 @@ use Rattle.update_plans.proofs.Coursed.{Keeps, keeps-whole}
 use Rattle.update_plans.proofs.Installed.{board, cleaned, device-is, first as course_first, goes-whole, home-first, kept, view-is}
 use Rattle.update_plans.proofs.Played.{AreSteps, Closes, Made, Steps, closes, each-step, left, made, rows_with, with-steps}
 use Rattle.update_plans.proofs.Shown.{IsOf, view-now}
-use Rattle.update_plans.proofs.Targets.{Found, found}
+use Rattle.update_plans.proofs.Targets.{Found, Tests, found, tests}
 
 some-same : {X : Type 0} {x y : X} → Some x ≡ Some y → x ≡ y
 some-same e = cc
@@ -255,7 +255,7 @@ row-like entry time client request state a t m = ap (λ (sheet : Sheet). told sh
       time_changed = time;
       duration = sheet.duration;
       protocol = sheet.protocol;
-      retry_of = None;
+      retry_of = request.retry_of;
     }
 
 module _ (s : Scene) (first : List Seen) (plans : List BootPlan) (number : ℕ) (step : PlanStep) (chosen : Chosen) (p q : List Event) (same : Same s p q) (quiet : IsQuiet s q) (there : release_at s step.release ≡ Some chosen)
@@ -268,21 +268,11 @@ module _ (s : Scene) (first : List Seen) (plans : List BootPlan) (number : ℕ) 
 
   -- ---- the planned play
 
-  -- the three tests behind the first
-  record Tests : Type 0 where
-    asked_so : accepts step.release (verdict s.facts s.opening q s.client asks Stage.Ask) ≡ true
-    claimed_so : accepts step.release (verdict s.facts s.opening (asked s number step chosen q) s.client asks (Stage.Claim step.release)) ≡ true
-    ended_so : is_ended (end_of s number step chosen q) ≡ true
-
-  tests : Tests
-  tests =
-      let all = and-true (writes s step chosen q) _ good in
-      let accepted = and-true (accepts step.release (verdict s.facts s.opening q s.client asks Stage.Ask)) _ all.1 in
-      let claimed = and-true (accepts step.release (verdict s.facts s.opening (asked s number step chosen q) s.client asks (Stage.Claim step.release))) _ accepted.1 in
-      record { asked_so = accepted.0; claimed_so = claimed.0; ended_so = claimed.1 }
+  tested : Tests s number step chosen q
+  tested = tests s number step chosen q good
 
   f : Found s number step chosen q
-  f = found s number step chosen q there tests.asked_so
+  f = found s number step chosen q there tested.asked_so
 
   abbrev b : Board
   b = (board s number step chosen q quiet f).0
@@ -331,7 +321,7 @@ module _ (s : Scene) (first : List Seen) (plans : List BootPlan) (number : ℕ) 
 
   ends-q : Ends
   ends-q =
-      let g = goes-whole s number step chosen q quiet f tests.claimed_so in
+      let g = goes-whole s number step chosen q quiet f tested.claimed_so in
       let seen-last : seen s.facts s.opening last-q b.number ≡ (cleaned s number step chosen q quiet f).seen =
       ap (λ (past : List Event). seen s.facts s.opening past b.number) (sym whole-q.whole_is) ∙ g.seen_is in
       record {
@@ -378,7 +368,7 @@ module _ (s : Scene) (first : List Seen) (plans : List BootPlan) (number : ℕ) 
   end-q : end_of s number step chosen q ≡ settled (has_flag DeviceFlag.NeedsReboot (flags_of f.t.view)) (ended_well Op.Write closes-q.t_last.steps) (same_version text f.t.chosen.release.version)
   end-q =
       closing-q
-      ∙ closes-settled closes-q.t_last row-q (view_in (live last-q) (known s.facts s.opening last-q) b) text text-q (sym (ap is_ended closing-q) ∙ tests.ended_so)
+      ∙ closes-settled closes-q.t_last row-q (view_in (live last-q) (known s.facts s.opening last-q) b) text text-q (sym (ap is_ended closing-q) ∙ tested.ended_so)
       ∙ ap (λ (flags : List Bool). settled (has_flag DeviceFlag.NeedsReboot flags) (ended_well Op.Write closes-q.t_last.steps) (same_version text f.t.chosen.release.version)) closes-q.flags_are
     where
       closing-q : end_of s number step chosen q ≡ closing_of closes-q.t_last row-q (view_in (live last-q) (known s.facts s.opening last-q) b)
@@ -458,7 +448,7 @@ module _ (s : Scene) (first : List Seen) (plans : List BootPlan) (number : ℕ) 
       -- so it ends in the planned state
       state-same : state ≡ end_of s number step chosen q
       state-same = ended-p ∙ settled-same waits (ended_well Op.Write closes-p.t_last.steps) (ended_well Op.Write closes-q.t_last.steps) (same_version text f.t.chosen.release.version)
-          (sym (ap is_ended ended-p) ∙ ended-well) (sym (ap is_ended end-q) ∙ tests.ended_so) not-yet ∙ sym end-q
+          (sym (ap is_ended ended-p) ∙ ended-well) (sym (ap is_ended end-q) ∙ tested.ended_so) not-yet ∙ sym end-q
         where
           waits : Bool
           waits = has_flag DeviceFlag.NeedsReboot (flags_of f.t.view)
@@ -639,12 +629,11 @@ next_accepted s steps step more past now c chosen facts legal quiet good followe
     let parts = first-good s (1 + length steps) step more (after s 1 steps past) behind.good in
     let g = good-step s (1 + length steps) step (after s 1 steps past) parts.0 in
     let one : g.chosen ≡ chosen = some-same (sym g.there ∙ there) in
-    let all = and-true (writes s step g.chosen (after s 1 steps past)) _ g.good in
-    let asked = and-true (accepts step.release (verdict s.facts s.opening (after s 1 steps past) s.client (request_of s (1 + length steps) step g.chosen) Stage.Ask)) _ all.1 in
+    let all = tests s (1 + length steps) step g.chosen (after s 1 steps past) g.good in
     ap (accepts step.release) (verdict-like s now (after s 1 steps past) behind.same s.client (request_of s (length steps + 1) step chosen) Stage.Ask)
     ∙ ap (λ (n : ℕ). accepts step.release (verdict s.facts s.opening (after s 1 steps past) s.client (request_of s n step chosen) Stage.Ask)) (omega arith)
     ∙ ap (λ (x : Chosen). accepts step.release (verdict s.facts s.opening (after s 1 steps past) s.client (request_of s (1 + length steps) step x) Stage.Ask)) (sym one)
-    ∙ asked.0
+    ∙ all.asked_so
   where
     legal-here : IsLegal (record { facts = s.facts; first = c.first; plans = c.plans }) s.opening now
     legal-here = subst (λ (x : Campaign). IsLegal x s.opening now) (ap (λ (x : Facts). record { facts = x; first = c.first; plans = c.plans }) facts) legal

@@ -13,11 +13,13 @@ use Rattle.fw_facts.specs.declared.view.DeviceView.{DeviceView}
 use Rattle.release_catalogue.specs.Lookup.{Chosen}
 use Rattle.update_log.specs.declared.decision.Stage.{Stage}
 use Rattle.update_log.specs.declared.event.Event.{Event}
+use Rattle.update_log.specs.Core.{Core, Stands}
 use Rattle.update_log.specs.Known.{rows, views}
+use Rattle.update_log.specs.Pasts.{past_of}
 use Rattle.update_log.specs.Verdicts.{verdict}
 use Rattle.update_plans.specs.Courses.{ends_well}
 use Rattle.update_plans.specs.Following.{IsQuiet}
-use Rattle.update_plans.specs.Plans.{Scene, accepts, has_id, is_good, is_good_with, release_at, request_of, view_of, writes}
+use Rattle.update_plans.specs.Plans.{Scene, accepts, asked, end_of, has_id, is_ended, is_good, is_good_with, release_at, request_of, view_of, writes}
 use Rattle.update_plans.specs.declared.plan.PlanStep.{PlanStep}
 use Rattle.update_plans.proofs.Installed.{good-is}
 use Rattle.update_plans.proofs.Released.{chosen_at, found_at}
@@ -47,16 +49,13 @@ good_no_release s number step past c e f =
 -- ---- the device
 
 -- the device of an ID is the one at the place that the selector finds
-pub looked_up : (s : Scene) (device : List ℕ) (past : List Event) → option_and_then (slice_get (views s.facts s.opening past)) (place (Selector.Id device) (views s.facts s.opening past)) ≡ view_of s device past
-looked_up s device past = of (position (names (Selector.Id device)) all) refl
+pub looked_up : (device : List ℕ) (all : List DeviceView) → option_and_then (slice_get all) (place (Selector.Id device) all) ≡ find (has_id device) all
+looked_up device all = of (position (names (Selector.Id device)) all) refl
   where
-    all : List DeviceView
-    all = views s.facts s.opening past
-
-    same : find (names (Selector.Id device)) all ≡ view_of s device past
+    same : find (names (Selector.Id device)) all ≡ find (has_id device) all
     same = find-same (names (Selector.Id device)) (has_id device) all (λ x. bytes_eq-symm device x.sheet.device)
 
-    of : (o : Option ℕ) → position (names (Selector.Id device)) all ≡ o → option_and_then (slice_get all) o ≡ view_of s device past
+    of : (o : Option ℕ) → position (names (Selector.Id device)) all ≡ o → option_and_then (slice_get all) o ≡ find (has_id device) all
     of None e = sym (found-none (names (Selector.Id device)) all e) ∙ same
     of (Some at) e = found-place (names (Selector.Id device)) all at e ∙ same
 
@@ -64,12 +63,15 @@ pub good_no_device : (s : Scene) (number : ℕ) (step : PlanStep) (past : List E
 unfolding is_good
 good_no_device s number step past e = of (release_at s step.release)
   where
-    and-first : (a b : Bool) → a ≡ false → (a && b) ≡ false
-    and-first true b h = cc
-    and-first false b h = refl
+    first-false : (w a c e : Bool) → w ≡ false → (w && a && c && e) ≡ false
+    first-false true a c e h = cc
+    first-false false a c e h = refl
 
     bad : (chosen : Chosen) → is_good_with s number step past chosen ≡ false
-    bad chosen = and-first (writes s step chosen past) _ (ap (λ (o : Option DeviceView). option_map_or (λ view. same_version (render view.sheet.format step.raw) chosen.release.version) o false) e)
+    bad chosen =
+        first-false (writes s step chosen past) (accepts step.release (verdict s.facts s.opening past s.client (request_of s number step chosen) Stage.Ask))
+        (accepts step.release (verdict s.facts s.opening (asked s number step chosen past) s.client (request_of s number step chosen) (Stage.Claim step.release))) (is_ended (end_of s number step chosen past))
+        (ap (λ (o : Option DeviceView). option_map_or (λ view. same_version (render view.sheet.format step.raw) chosen.release.version) o false) e)
 
     of : (o : Option Chosen) → option_map_or (is_good_with s number step past) o false ≡ false
     of None = refl
@@ -89,3 +91,30 @@ good_so s number step past c r v q e f here =
     release-is s step ∙ ap (option_and_then (at_component step)) e ∙ ap (option_map (chosen_at step.release.component step.release.release c)) f in
     ap (λ (o : Option Chosen). option_map_or (is_good_with s number step past) o false) there
     ∙ good-is s number step (chosen_at step.release.component step.release.release c r) past v q there here
+
+-- the same by the devices as the state has them
+pub good_here : (s : Scene) (number : ℕ) (step : PlanStep) (core : Core) (c : Component) (r : Release) (v : DeviceView) → Stands s.facts s.opening core → IsQuiet s (past_of core.log)
+    → slice_get s.facts.catalogue step.release.component ≡ Some c → slice_get c.releases step.release.release ≡ Some r → find (has_id step.device) core.views ≡ Some v
+    → is_good s number step (past_of core.log)
+    ≡ ((same_version (render v.sheet.format step.raw) r.version
+    && (accepts step.release (verdict s.facts s.opening (past_of core.log) s.client (request_of s number step (chosen_at step.release.component step.release.release c r)) Stage.Ask) && nat_lt (length (rows s.facts s.opening (past_of core.log))) 65536))
+    && ends_well v c r.version step.raw)
+good_here s number step core c r v stands q e f here =
+    good_so s number step (past_of core.log) c r v q e f (sym (ap (λ (vs : List DeviceView). find (has_id step.device) vs) stands.views) ∙ here)
+
+pub good_nowhere : (s : Scene) (number : ℕ) (step : PlanStep) (core : Core) → Stands s.facts s.opening core → find (has_id step.device) core.views ≡ None → is_good s number step (past_of core.log) ≡ false
+good_nowhere s number step core stands none =
+    good_no_device s number step (past_of core.log) (sym (ap (λ (vs : List DeviceView). find (has_id step.device) vs) stands.views) ∙ none)
+
+-- what the tests one after the other say
+pub not-written : (w a p e : Bool) → w ≡ false → ((w && (a && p)) && e) ≡ false
+not-written true a p e h = cc
+not-written false a p e h = refl
+
+pub not-accepted : (w a p e : Bool) → (a && p) ≡ false → ((w && (a && p)) && e) ≡ false
+not-accepted true a p e h = ap (λ (b : Bool). b && e) h
+not-accepted false a p e h = refl
+
+pub ends-last : (w a p e : Bool) → w ≡ true → (a && p) ≡ true → ((w && (a && p)) && e) ≡ e
+ends-last true a p e h k = ap (λ (b : Bool). b && e) k
+ends-last false a p e h k = cc

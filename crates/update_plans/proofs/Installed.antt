@@ -31,8 +31,7 @@ use Rattle.update_log.specs.declared.request.Request.{Request}
 use Rattle.update_log.specs.declared.trace.Trace.{Trace}
 use Rattle.update_log.specs.Boards.{Board}
 use Rattle.update_log.specs.Holding.{blocks_of, hold, holds, live, live_entry, open_steps, step_open, without_entry}
-use Rattle.update_log.specs.Known.{Target, known, new_row, row_of, rows, rows_by, seen, target, view_of as view_in, views}
-use Rattle.update_log.specs.Known.Fate as fates
+use Rattle.update_log.specs.Known.{Fate, Target, known, new_row, row_of, rows, rows_by, seen, target, view_of as view_in, views}
 use Rattle.update_log.specs.Legal.{ClaimAnswered, IsLegalUnlimited, UnchangedExactly, is_fetched, next_entry}
 use Rattle.update_log.specs.Pasts.{time_of}
 use Rattle.update_log.specs.Shows.{Campaign}
@@ -43,7 +42,6 @@ use Rattle.update_log.proofs.Lists.{All-find, eqb-self, find-passes}
 use Rattle.update_log.proofs.Openings.{bytes-same, bytes-self}
 use Rattle.update_log.proofs.RowsKept.{row_of-past}
 use Rattle.update_log.proofs.StepsKept.{OpenKept}
-use Rattle.update_log.proofs.StrokeFacts.{and-true}
 use Rattle.update_log.proofs.TakenKept.{find-push_new}
 use Rattle.update_plans.specs.declared.course.Course.{Course}
 use Rattle.update_plans.specs.declared.plan.PlanStep.{PlanStep}
@@ -57,7 +55,7 @@ use Rattle.update_plans.proofs.Claims.{accepted_twice}
 use Rattle.update_plans.proofs.Coursed.{attached, course_is, is-runtime, later-runtime, none_left, reload_ended, returns-detach, returns-first, returns-prepare, returns-write, went-write}
 use Rattle.update_plans.proofs.Installing.{Goes, goes-on}
 use Rattle.update_plans.proofs.Shown.{IsOf, board-of, view-now}
-use Rattle.update_plans.proofs.Targets.{Found, found}
+use Rattle.update_plans.proofs.Targets.{Found, found, tests}
 
 some-same : {X : Type 0} {x y : X} → Some x ≡ Some y → x ≡ y
 some-same e = cc
@@ -74,7 +72,7 @@ none-found p [] a = refl
 none-found p (x ∷ xs) a = ap (λ (b : Bool). cond b (Some x) (find p xs)) a.0 ∙ none-found p xs a.1
 
 module _ (s : Scene) (number : ℕ) (step : PlanStep) (chosen : Chosen) (past : List Event) (q : IsQuiet s past) (f : Found s number step chosen past) where
-  abbrev entry : ℕ
+  abbrev pub entry : ℕ
   entry = next_entry s.facts s.opening past
 
   -- the campaign with the scene's facts
@@ -87,7 +85,7 @@ module _ (s : Scene) (number : ℕ) (step : PlanStep) (chosen : Chosen) (past : 
   pub kept : PastKept s.facts s.opening past
   kept = past-kept-on here s.opening past q.history legal-here
 
-  abbrev asks : Request
+  abbrev pub asks : Request
   asks = request_of s number step chosen
 
   blocks_are : need f.t ≡ blocks_of chosen.release.size
@@ -104,7 +102,7 @@ module _ (s : Scene) (number : ℕ) (step : PlanStep) (chosen : Chosen) (past : 
     record { booted = λ h. q.booted; on = λ h. q.on },
     record {
       free = record { hold = rw q.no_hold refl; live = rw q.none_live refl };
-      pending = tt;
+      pending_is = tt;
       answer_is = rw (f.decided_is, release_is, blocks_are) refl;
     },
   )
@@ -147,15 +145,15 @@ module _ (s : Scene) (number : ℕ) (step : PlanStep) (chosen : Chosen) (past : 
 
   -- ---- what the claim makes of the log
 
-  abbrev begun : List Event
+  abbrev pub begun : List Event
   begun = taken s number step chosen (asked s number step chosen past)
 
-  abbrev row : Row
+  abbrev pub row : Row
   row = new_row entry (time_of past) s.client asks RowState.Begun f.t
 
-  rows-begun : rows s.facts s.opening begun ≡ rows s.facts s.opening past ++ row ∷ []
+  pub rows-begun : rows s.facts s.opening begun ≡ rows s.facts s.opening past ++ row ∷ []
   rows-begun =
-      ap (λ (o : Option Target). rows_by fates.Made (option_map (λ t. Change.Add (new_row entry (time_of past) s.client asks RowState.Begun t)) o) (rows s.facts s.opening past)) f.target_is
+      ap (λ (o : Option Target). rows_by Fate.Made (option_map (λ t. Change.Add (new_row entry (time_of past) s.client asks RowState.Begun t)) o) (rows s.facts s.opening past)) f.target_is
 
   row-begun : row_of (rows s.facts s.opening begun) entry ≡ Some row
   row-begun =
@@ -373,16 +371,14 @@ module _ (s : Scene) (number : ℕ) (step : PlanStep) (chosen : Chosen) (past : 
 pub installed-quiet : (s : Scene) (number : ℕ) (step : PlanStep) (chosen : Chosen) (past : List Event) → IsQuiet s past → release_at s step.release ≡ Some chosen
     → is_good_with s number step past chosen ≡ true → IsQuiet s (installed_with s number step chosen past)
 installed-quiet s number step chosen past q there good =
-    let all = and-true (writes s step chosen past) _ good in
-    let accepted = and-true (accepts step.release (verdict s.facts s.opening past s.client (request_of s number step chosen) Stage.Ask)) _ all.1 in
-    let claimed = and-true (accepts step.release (verdict s.facts s.opening (asked s number step chosen past) s.client (request_of s number step chosen) (Stage.Claim step.release))) _ accepted.1 in
-    let f = found s number step chosen past there accepted.0 in
-    quiet-again s number step chosen past q f (goes-whole s number step chosen past q f claimed.0) claimed.1
+    let all = tests s number step chosen past good in
+    let f = found s number step chosen past there all.asked_so in
+    quiet-again s number step chosen past q f (goes-whole s number step chosen past q f all.claimed_so) all.ended_so
 
 -- ---- whether a step is good, as the code finds it
 
 -- What is tested one after the other, where the third and the fourth are others' tests.
-tests-same : (w a p c e x : Bool) → (a ≡ true → c ≡ p) → (w ≡ true → a ≡ true → c ≡ true → x ≡ e) → (w && (a && (c && x))) ≡ ((w && (a && p)) && e)
+tests-same : (w a p c e x : Bool) → (a ≡ true → c ≡ p) → (w ≡ true → a ≡ true → c ≡ true → x ≡ e) → (w && a && c && x) ≡ (w && (a && p) && e)
 tests-same false a p c e x third fourth = refl
 tests-same true false p c e x third fourth = refl
 tests-same true true p true e x third fourth = rw (sym (third refl)) (fourth refl refl refl)
@@ -394,8 +390,8 @@ pub good-is : (s : Scene) (number : ℕ) (step : PlanStep) (chosen : Chosen) (pa
     ≡ ((same_version (render v.sheet.format step.raw) chosen.release.version
     && (accepts step.release (verdict s.facts s.opening past s.client (request_of s number step chosen) Stage.Ask) && nat_lt (length (rows s.facts s.opening past)) 65536))
     && ends_well v chosen.component chosen.release.version step.raw)
-good-is s number step chosen past v q there here =
-    ap (λ (w : Bool). w && (asks && (claims && is_ended (end_of s number step chosen past)))) written
+good-is s number step chosen past v q there at_home =
+    ap (λ (w : Bool). w && asks && claims && is_ended (end_of s number step chosen past)) written
     ∙ tests-same (same_version (render v.sheet.format step.raw) chosen.release.version) asks (nat_lt (length (rows s.facts s.opening past)) 65536) claims (ends_well v chosen.component chosen.release.version step.raw)
     (is_ended (end_of s number step chosen past)) (λ a. accepted_twice s number step chosen past a) (λ w a c. ends a c)
   where
@@ -406,12 +402,12 @@ good-is s number step chosen past v q there here =
     claims = accepts step.release (verdict s.facts s.opening (asked s number step chosen past) s.client (request_of s number step chosen) (Stage.Claim step.release))
 
     written : writes s step chosen past ≡ same_version (render v.sheet.format step.raw) chosen.release.version
-    written = ap (λ (o : Option DeviceView). option_map_or (λ view. same_version (render view.sheet.format step.raw) chosen.release.version) o false) here
+    written = ap (λ (o : Option DeviceView). option_map_or (λ view. same_version (render view.sheet.format step.raw) chosen.release.version) o false) at_home
 
     ends : asks ≡ true → claims ≡ true → is_ended (end_of s number step chosen past) ≡ ends_well v chosen.component chosen.release.version step.raw
     ends a c =
         let f = found s number step chosen past there a in
-        let same : f.t.view ≡ v = some-same (sym f.view_is ∙ here) in
+        let same : f.t.view ≡ v = some-same (sym f.view_is ∙ at_home) in
         ends-so s number step chosen past q f (goes-whole s number step chosen past q f c)
         ∙ ap (λ (view : DeviceView). ends_well view f.t.chosen.component chosen.release.version step.raw) same
         ∙ ap (λ (c : Chosen). ends_well v c.component chosen.release.version step.raw) f.chosen_is

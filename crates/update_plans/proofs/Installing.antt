@@ -119,7 +119,7 @@ after-home Op.Cleanup waits new raw mode = (raw, Mode.Runtime, refl)
 
 -- ---- the log and the course
 
-module _ (s : Scene) (step : PlanStep) (chosen : Chosen) (first : List Seen) (plans : List BootPlan) (entry : ℕ) (b : Board) (of : IsOf s step.device b) (view : DeviceView) (flags_are : has_flag DeviceFlag.NeedsReboot view.sheet.flags ≡ has_flag DeviceFlag.NeedsReboot b.sheet.flags) where
+module _ (s : Scene) (step : PlanStep) (chosen : Chosen) (first : List Seen) (plans : List BootPlan) (entry : ℕ) (b : Board) (of : IsOf s step.device b) (view : DeviceView) (needs_same : has_flag DeviceFlag.NeedsReboot view.sheet.flags ≡ has_flag DeviceFlag.NeedsReboot b.sheet.flags) where
   abbrev pub c : Campaign
   c = record { facts = s.facts; first = first; plans = plans }
 
@@ -156,7 +156,7 @@ module _ (s : Scene) (step : PlanStep) (chosen : Chosen) (first : List Seen) (pl
   waits-so : (past : List Event) (course : Course) → Goes past course → waits_for_boot s step.device past ≡ has_flag DeviceFlag.NeedsReboot course.trace.flags
   waits-so past course g =
       ap (λ (o : Option DeviceView). option_map_or (λ view. has_flag DeviceFlag.NeedsReboot view.sheet.flags) o false) (view-now s step.device b past of)
-      ∙ sym flags_are ∙ sym (reboots view) ∙ ap (has_flag DeviceFlag.NeedsReboot) (sym g.flags_are)
+      ∙ sym needs_same ∙ sym (reboots view) ∙ ap (has_flag DeviceFlag.NeedsReboot) (sym g.flags_are)
 
   seen-so : (past : List Event) (course : Course) → Goes past course → seen_of s step.device past ≡ course.seen
   seen-so past course g = seen-now s step.device b past of ∙ g.seen_is
@@ -214,7 +214,7 @@ module _ (s : Scene) (step : PlanStep) (chosen : Chosen) (first : List Seen) (pl
             entry,
             chosen.release.digest,
             Contains-append_right (told s.facts s.opening (starts op past) board) (marks op entry chosen.release.digest) (Mark.Ended entry chosen.release.digest)
-                (subst (λ (o : Op). Contains (marks o entry chosen.release.digest) (Mark.Ended entry chosen.release.digest)) (sym write) (1, (omega arith, refl))),
+                (subst (λ (o : Op). Contains (marks o entry chosen.release.digest) (Mark.Ended entry chosen.release.digest)) (sym write) (1, omega arith, refl)),
             g.raw_is ∙ ap (λ (n : ℕ). Some n) same,
           ))
 

@@ -20,7 +20,9 @@ pub mod Alike
 pub mod Played
 pub mod Followed
 pub mod Put
+pub mod Puts
 pub mod Choice
 pub mod Good
 pub mod Within
+pub mod Taking
 pub mod Sorting

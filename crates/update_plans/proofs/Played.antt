@@ -23,8 +23,7 @@ use Rattle.update_log.specs.declared.request.Request.{Request}
 use Rattle.update_log.specs.declared.trace.Trace.{Trace}
 use Rattle.update_log.specs.Boards.{Board}
 use Rattle.update_log.specs.Holding.{blocks_fetched, holds, live, without_entry}
-use Rattle.update_log.specs.Known.{Target, board_of, for_board, known, new_row, reason_of, row_of, rows, rows_by, seen, target, view_of as view_in, views}
-use Rattle.update_log.specs.Known.Fate as fates
+use Rattle.update_log.specs.Known.{Fate, Target, board_of, for_board, known, new_row, reason_of, row_of, rows, rows_by, seen, target, view_of as view_in, views}
 use Rattle.update_log.specs.Legal.{next_entry}
 use Rattle.update_log.specs.Pasts.{off, time_of}
 use Rattle.update_log.specs.Shows.{marks}
@@ -202,7 +201,7 @@ module _ (s : Scene) (number : ℕ) (step : PlanStep) (chosen : Chosen) (past : 
 
   rows-begun : rows s.facts s.opening begun ≡ rows s.facts s.opening past ++ row ∷ []
   rows-begun =
-      ap (λ (o : Option Target). rows_by fates.Made (option_map (λ t. Change.Add (new_row entry (time_of past) s.client asks RowState.Begun t)) o) (rows s.facts s.opening past)) target_is
+      ap (λ (o : Option Target). rows_by Fate.Made (option_map (λ t. Change.Add (new_row entry (time_of past) s.client asks RowState.Begun t)) o) (rows s.facts s.opening past)) target_is
 
   row-begun : row_of (rows s.facts s.opening begun) entry ≡ Some row
   row-begun = ap (λ (all : List Row). row_of all entry) rows-begun ∙ find-push_new (λ r. r.entry == entry) (rows s.facts s.opening past) row fresh (eqb-self entry)

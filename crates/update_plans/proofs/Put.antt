@@ -1,4 +1,4 @@
--- An install is put behind a log event by event: each event may come next, and there is room for all.
+-- An install is put behind a log event by event: each event may come next.
 use Rattle.std.proofs.Common.{◌≡◌, ℕ, ◌+◌, ◌*◌, ◌≤◌, Bool, true, false, List, [], ◌∷◌, ◌++◌, append_assoc, length, refl, sym, ap, ◌∙◌, subst, arith}
 use Rattle.std.specs.Prelude.{◌==◌, Ok, Option, Some, IsSome, is_some, find, option_map, option_and_then, unwrap_or, if◌then◌else◌}
 use Rattle.std.specs.Str.{bytes_eq}
@@ -19,15 +19,15 @@ use Rattle.update_log.specs.Known.{row_of, rows, views}
 use Rattle.update_log.specs.Legal.{IsLegalUnlimited, next_entry}
 use Rattle.update_log.specs.Verdicts.{verdict}
 use Rattle.update_log.proofs.Lists.{eqb-self}
-use Rattle.update_log.proofs.StrokeFacts.{and-true}
 use Rattle.update_log.specs.Shows.{Campaign, marks}
 use Rattle.update_log.specs.Steps.{all_ops, closing_at, closing_of, next_op, trace}
 use Rattle.update_plans.specs.Following.{IsQuiet}
-use Rattle.update_plans.specs.Plans.{Scene, accepts, asked, done, end_by, end_of, installed_with, is_good_with, is_next, release_at, request_of, seen_of, shown_after, taken, view_of, waits_for_boot, with_op, with_some, writes}
+use Rattle.update_plans.specs.Plans.{Scene, accepts, asked, done, end_of, installed_with, is_good_with, is_next, release_at, request_of, seen_of, shown_after, taken, view_of, waits_for_boot, with_op, with_some, writes}
+use Rattle.update_plans.specs.Putting.{end_on}
 use Rattle.update_plans.specs.declared.plan.PlanStep.{PlanStep}
 use Rattle.update_plans.proofs.Installed.{goes-whole, installed-quiet}
 use Rattle.update_plans.proofs.Played.{Steps, left, with-steps}
-use Rattle.update_plans.proofs.Targets.{found}
+use Rattle.update_plans.proofs.Targets.{found, tests}
 
 -- ---- each event may come next
 
@@ -75,13 +75,16 @@ module _ (s : Scene) (number : ℕ) (step : PlanStep) (chosen : Chosen) (past : 
       Event.End s.client (next_entry s.facts s.opening past) op (Ok tt) (marks op (next_entry s.facts s.opening past) chosen.release.digest)
       (shown_after op (waits_for_boot s step.device (with_some s number step chosen gone past)) step.raw (seen_of s step.device (with_some s number step chosen gone past)))
 
+  pub step-with : (gone : List Op) (op : Op) → is_next (next_op s.facts s.opening (with_some s number step chosen gone past) (next_entry s.facts s.opening past)) op ≡ true
+      → with_some s number step chosen (gone ++ op ∷ []) past ≡ end_of_step gone op ∷ Event.Start s.client (next_entry s.facts s.opening past) op ∷ with_some s number step chosen gone past
+  step-with gone op next =
+      one-more gone op
+      ∙ ap (λ (b : Bool). if b then end_of_step gone op ∷ Event.Start s.client (next_entry s.facts s.opening past) op ∷ with_some s number step chosen gone past else with_some s number step chosen gone past) next
+
   pub step-taken : (gone more : List Op) (op : Op) → gone ++ op ∷ more ≡ all_ops → is_next (next_op s.facts s.opening (with_some s number step chosen gone past) (next_entry s.facts s.opening past)) op ≡ true
       → MayBe s (end_of_step gone op ∷ Event.Start s.client (next_entry s.facts s.opening past) op ∷ with_some s number step chosen gone past)
   step-taken gone more op parts next =
-      subst (MayBe s)
-      (one-more gone op
-      ∙ ap (λ (b : Bool). if b then end_of_step gone op ∷ Event.Start s.client (next_entry s.facts s.opening past) op ∷ with_some s number step chosen gone past else with_some s number step chosen gone past) next)
-      (some (gone ++ op ∷ []) more (append_assoc gone (op ∷ []) more ∙ parts))
+      subst (MayBe s) (step-with gone op next) (some (gone ++ op ∷ []) more (append_assoc gone (op ∷ []) more ∙ parts))
 
   pub step-left : (gone : List Op) (op : Op) → is_next (next_op s.facts s.opening (with_some s number step chosen gone past) (next_entry s.facts s.opening past)) op ≡ false
       → with_some s number step chosen (gone ++ op ∷ []) past ≡ with_some s number step chosen gone past
@@ -114,36 +117,12 @@ module _ (s : Scene) (number : ℕ) (step : PlanStep) (chosen : Chosen) (past : 
 
   -- its end, told by its trace, its row and its device
   module _ (there : release_at s step.release ≡ Some chosen) (good : is_good_with s number step past chosen ≡ true) where
-    pub end-said : (t : Trace) → trace s.facts s.opening entry (done s number step chosen past) ≡ Some t → end_by s step.device entry t (done s number step chosen past) ≡ end_of s number step chosen past
+    pub end-said : (t : Trace) → trace s.facts s.opening entry (done s number step chosen past) ≡ Some t → end_on (rows s.facts s.opening (done s number step chosen past)) (views s.facts s.opening (done s number step chosen past)) step.device entry t ≡ end_of s number step chosen past
     end-said t e =
-        let all = and-true (writes s step chosen past) _ good in
-        let accepted = and-true (accepts step.release (verdict s.facts s.opening past s.client (request_of s number step chosen) Stage.Ask)) _ all.1 in
-        let claimed = and-true (accepts step.release (verdict s.facts s.opening (asked s number step chosen past) s.client (request_of s number step chosen) (Stage.Claim step.release))) _ accepted.1 in
-        let g = goes-whole s number step chosen past q (found s number step chosen past there accepted.0) claimed.0 in
+        let all = tests s number step chosen past good in
+        let g = goes-whole s number step chosen past q (found s number step chosen past there all.asked_so) all.claimed_so in
         ap (λ (o : Option Row). unwrap_or (option_and_then (λ row. option_map (closing_of t row) (view_of s step.device (done s number step chosen past))) o) RowState.Begun) g.row_is
         ∙ ap (λ (device : List ℕ). unwrap_or (option_map (closing_of t g.row) (find (λ v. bytes_eq v.sheet.device device) (views s.facts s.opening (done s number step chosen past)))) RowState.Begun) (sym g.device_is)
         ∙ sym
         (ap (λ (o : Option Trace). unwrap_or (option_and_then (λ t. option_and_then (closing_at (views s.facts s.opening (done s number step chosen past)) t) (row_of (rows s.facts s.opening (done s number step chosen past)) entry)) o) RowState.Begun) e
         ∙ ap (λ (o : Option Row). unwrap_or (option_and_then (closing_at (views s.facts s.opening (done s number step chosen past)) t) o) RowState.Begun) g.row_is)
-
--- ---- how many events
-
-step-few : (s : Scene) (step : PlanStep) (chosen : Chosen) (entry : ℕ) (past : List Event) (op : Op) → length (with_op s step chosen entry past op) ≤ length past + 2
-step-few s step chosen entry past op =
-    of (marks op entry chosen.release.digest) (shown_after op (waits_for_boot s step.device past) step.raw (seen_of s step.device past)) (is_next (next_op s.facts s.opening past entry) op)
-  where
-    of : (told : List Mark) (shown : Seen) (taken : Bool) → length (if taken then Event.End s.client entry op (Ok tt) told shown ∷ Event.Start s.client entry op ∷ past else past) ≤ length past + 2
-    of told shown true = omega arith
-    of told shown false = omega arith
-
-steps-few : (s : Scene) (step : PlanStep) (chosen : Chosen) (entry : ℕ) (ops : List Op) (past : List Event) → length (fold (with_op s step chosen entry) past ops) ≤ length past + 2 * length ops
-steps-few s step chosen entry [] past = omega arith
-steps-few s step chosen entry (op ∷ ops) past =
-    let one = step-few s step chosen entry past op in
-    let more = steps-few s step chosen entry ops (with_op s step chosen entry past op) in
-    omega (arith, one, more)
-
-pub installed-few : (s : Scene) (number : ℕ) (step : PlanStep) (chosen : Chosen) (past : List Event) → length (installed_with s number step chosen past) ≤ length past + 15
-installed-few s number step chosen past =
-    let steps = steps-few s step chosen (next_entry s.facts s.opening past) all_ops (taken s number step chosen (asked s number step chosen past)) in
-    omega (arith, steps)

@@ -73,19 +73,28 @@ pub found_at : (components : List Component) (at : ReleaseRef)
     → find (λ chosen. is_release chosen.at at) (all_releases components) ≡ option_and_then (λ c. option_map (chosen_at at.component at.release c) (slice_get c.releases at.release)) (slice_get components at.component)
 found_at components at = from-place 0 at.component at.component at.release components (omega arith)
 
--- So its version is that of the release which stands there.
-pub version_found : (components : List Component) (at : ReleaseRef) (found : Option Release)
+-- So the release which stands there is that one, and its version is.
+pub release_found : (components : List Component) (at : ReleaseRef) (found : Option Release)
     → found ≡ option_and_then (λ (c : Component). slice_get c.releases at.release) (slice_get components at.component)
-    → option_map (λ (r : Release). r.version) found ≡ option_map (λ (chosen : Chosen). chosen.release.version) (find (λ chosen. is_release chosen.at at) (all_releases components))
-version_found components at found e =
-    ap (option_map (λ (r : Release). r.version)) e ∙ of_component (slice_get components at.component) ∙ ap (option_map (λ (chosen : Chosen). chosen.release.version)) (sym (found_at components at))
+    → option_map (λ (chosen : Chosen). chosen.release) (find (λ chosen. is_release chosen.at at) (all_releases components)) ≡ found
+release_found components at found e = ap (option_map (λ (chosen : Chosen). chosen.release)) (found_at components at) ∙ of_component (slice_get components at.component) ∙ sym e
   where
-    of_release : (c : Component) (r : Option Release) → option_map (λ (r : Release). r.version) r ≡ option_map (λ (chosen : Chosen). chosen.release.version) (option_map (chosen_at at.component at.release c) r)
+    of_release : (c : Component) (r : Option Release) → option_map (λ (chosen : Chosen). chosen.release) (option_map (chosen_at at.component at.release c) r) ≡ r
     of_release c None = refl
     of_release c (Some r) = refl
 
     of_component : (o : Option Component)
-        → option_map (λ (r : Release). r.version) (option_and_then (λ (c : Component). slice_get c.releases at.release) o)
-        ≡ option_map (λ (chosen : Chosen). chosen.release.version) (option_and_then (λ c. option_map (chosen_at at.component at.release c) (slice_get c.releases at.release)) o)
+        → option_map (λ (chosen : Chosen). chosen.release) (option_and_then (λ c. option_map (chosen_at at.component at.release c) (slice_get c.releases at.release)) o)
+        ≡ option_and_then (λ (c : Component). slice_get c.releases at.release) o
     of_component None = refl
     of_component (Some c) = of_release c (slice_get c.releases at.release)
+
+pub version_found : (components : List Component) (at : ReleaseRef) (found : Option Release)
+    → found ≡ option_and_then (λ (c : Component). slice_get c.releases at.release) (slice_get components at.component)
+    → option_map (λ (r : Release). r.version) found ≡ option_map (λ (chosen : Chosen). chosen.release.version) (find (λ chosen. is_release chosen.at at) (all_releases components))
+version_found components at found e =
+    ap (option_map (λ (r : Release). r.version)) (sym (release_found components at found e)) ∙ both (find (λ chosen. is_release chosen.at at) (all_releases components))
+  where
+    both : (o : Option Chosen) → option_map (λ (r : Release). r.version) (option_map (λ (chosen : Chosen). chosen.release) o) ≡ option_map (λ (chosen : Chosen). chosen.release.version) o
+    both None = refl
+    both (Some chosen) = refl

@@ -25,7 +25,7 @@ pub found-view : (entries : List LiveEntry) (k : Known) (device : List ℕ) (bs 
     → find (has_id device) (map (view_in entries k) bs) ≡ option_map (view_in entries k) (find (λ b. bytes_eq b.sheet.device device) bs)
 found-view entries k device [] = refl
 found-view entries k device (b ∷ bs) =
-    by_test (bytes_eq b.sheet.device device) _ (λ t. rw (t, t) refl) (λ f. rw (f, f) (found-view entries k device bs))
+    by_test (bytes_eq b.sheet.device device) _ (λ t. rw t refl) (λ f. rw f (found-view entries k device bs))
 
 -- A board is the device of that ID.
 abbrev pub IsOf : Scene → List ℕ → Board → Type 0

@@ -1,5 +1,5 @@
 -- What a request found that was accepted with a release.
-use Rattle.std.proofs.Common.{◌≡◌, ℕ, ◌==◌, Bool, true, false, cond, nat_lt, List, [], ◌∷◌, length, position, refl, sym, ap, ◌∙◌, subst}
+use Rattle.std.proofs.Common.{◌≡◌, ℕ, ◌&&◌, ◌==◌, Bool, true, false, cond, nat_lt, List, [], ◌∷◌, length, position, refl, sym, ap, ◌∙◌, subst}
 use Rattle.std.specs.Prelude.{Option, Some, None, find, slice_get, option_map, option_and_then, if◌then◌else◌}
 use Rattle.std.specs.List.{position_or_len}
 use Rattle.std.proofs.lemmas.Bool.{eqb-true, ltb-false}
@@ -25,7 +25,7 @@ use Rattle.update_log.specs.Verdicts.{Case, case_of, first_refusal, is_release, 
 use Rattle.update_log.proofs.Accepts.{chosen-provides}
 use Rattle.update_log.proofs.Placed.{IsPlaced, chosen-placed}
 use Rattle.update_log.proofs.StrokeFacts.{and-true}
-use Rattle.update_plans.specs.Plans.{Scene, accepts, has_id, release_at, request_of, step_tag, view_of}
+use Rattle.update_plans.specs.Plans.{Scene, accepts, asked, end_of, has_id, is_ended, is_good_with, release_at, request_of, step_tag, view_of, writes}
 use Rattle.update_plans.specs.declared.plan.PlanStep.{PlanStep}
 use Rattle.update_plans.proofs.Released.{chosen_at, found_at, place_at}
 
@@ -196,3 +196,25 @@ module _ (s : Scene) (number : ℕ) (step : PlanStep) (chosen : Chosen) (past : 
 
   pub found : accepts step.release (verdict s.facts s.opening past s.client asks Stage.Ask) ≡ true → Found s number step chosen past
   found h = on-kept (row_with_tag (rows s.facts s.opening past) (step_tag s number)) refl h
+
+-- ---- the tests of a good step
+
+pub record Tests (s : Scene) (number : ℕ) (step : PlanStep) (chosen : Chosen) (past : List Event) : Type 0 where
+  pub written : writes s step chosen past ≡ true
+  pub asked_so : accepts step.release (verdict s.facts s.opening past s.client (request_of s number step chosen) Stage.Ask) ≡ true
+  pub claimed_so : accepts step.release (verdict s.facts s.opening (asked s number step chosen past) s.client (request_of s number step chosen) (Stage.Claim step.release)) ≡ true
+  pub ended_so : is_ended (end_of s number step chosen past) ≡ true
+
+four-true : (w a c e : Bool) → (w && a && c && e) ≡ true → (w ≡ true) × (a ≡ true) × (c ≡ true) × (e ≡ true)
+four-true w a c e h =
+    let three = and-true (w && a && c) e h in
+    let two = and-true (w && a) c three.0 in
+    let one = and-true w a two.0 in
+    (one.0, one.1, two.1, three.1)
+
+pub tests : (s : Scene) (number : ℕ) (step : PlanStep) (chosen : Chosen) (past : List Event) → is_good_with s number step past chosen ≡ true → Tests s number step chosen past
+tests s number step chosen past good =
+    let all =
+    four-true (writes s step chosen past) (accepts step.release (verdict s.facts s.opening past s.client (request_of s number step chosen) Stage.Ask))
+    (accepts step.release (verdict s.facts s.opening (asked s number step chosen past) s.client (request_of s number step chosen) (Stage.Claim step.release))) (is_ended (end_of s number step chosen past)) good in
+    record { written = all.0; asked_so = all.1; claimed_so = all.2; ended_so = all.3 }

@@ -1,10 +1,12 @@
 -- Releases from the highest down.
-use Rattle.std.specs.Prelude.{◌≡◌, ℕ, ◌==◌, ◌&&◌, ◌||◌, nat_lt, Bool, false, not, List, [], AllPairs, Option, Some, None, find, option_map, option_and_then, if◌then◌else◌}
+use Rattle.std.specs.Prelude.{◌≡◌, ℕ, ◌==◌, ◌&&◌, ◌||◌, nat_lt, Bool, false, not, List, [], ◌∷◌, AllPairs, Option, Some, None, find, option_map, option_and_then, if◌then◌else◌}
 use Rattle.std.specs.List.Sorted.{IsPermutation}
 use Rattle.std.specs.Option.{option_map_or}
-use Rattle.std.specs.Ordering.{is_lt}
+use Rattle.std.specs.Ordering.{is_gt, is_lt}
 use Rattle.std.specs.declared.cmp.Ordering.{Ordering}
 use Rattle.std.specs.declared.cmp.Ordering.TheVariants.{Less, Equal, Greater}
+use Rattle.fw_facts.specs.declared.seen.Mode.{Mode}
+use Rattle.fw_facts.specs.declared.seen.Seen.{Seen}
 use Rattle.fw_facts.specs.declared.view.DeviceView.{DeviceView}
 use Rattle.version_formats.specs.VersionOrder.{version_cmp}
 use Rattle.release_catalogue.specs.declared.reference.ReleaseRef.{ReleaseRef}
@@ -57,3 +59,24 @@ where_good s number past step = if is_good s number step past then Some step els
 abbrev pub good_step : Scene → ℕ → DeviceView → ReleaseRef → List ℕ → List Event → Option PlanStep
 good_step s number view at version past =
     option_and_then (λ raw. where_good s number past (record { device = view.sheet.device; release = at; raw = raw })) (raw_of view.sheet.format version)
+
+-- What is tried: place after place, as long as a release stands there whose version is above the one that is shown.
+abbrev pub first_some : Option PlanStep → Option PlanStep → Option PlanStep
+first_some None other = other
+first_some (Some step) other = Some step
+
+abbrev pub tried_at : Scene → ℕ → DeviceView → List ℕ → List Event → ReleaseRef → Option PlanStep → Option (List ℕ) → Option PlanStep
+tried_at s number view shown past at more None = None
+tried_at s number view shown past at more (Some version) =
+    if is_gt (version_cmp version shown) then first_some (good_step s number view at version past) more else None
+
+abbrev pub tried : Scene → ℕ → DeviceView → List ℕ → List Event → List ReleaseRef → Option PlanStep
+tried s number view shown past [] = None
+tried s number view shown past (at ∷ rest) =
+    tried_at s number view shown past at (tried s number view shown past rest) (version_found s.facts at)
+
+-- The side that a port shows, of a board that is there.
+abbrev pub side_of : Seen → Option Mode
+side_of (Seen.Home raw mode) = Some mode
+side_of Seen.Gone = None
+side_of Seen.Stranger = None

@@ -6,6 +6,7 @@ pub mod Plans
 pub mod Courses
 pub mod Following
 pub mod Choosing
+pub mod Putting
 pub use Rattle.fw_base.specs.Names
 pub use Rattle.version_formats.specs.Formats
 pub use Rattle.version_formats.specs.VersionOrder

@@ -29,11 +29,10 @@ use Rattle.update_log.specs.declared.refusal.FetchNote.{FetchNote}
 use Rattle.update_log.specs.declared.request.InstallFlags.{InstallFlags}
 use Rattle.update_log.specs.declared.request.Request.{Request}
 use Rattle.update_log.specs.Holding.{blocks_of}
-use Rattle.update_log.specs.declared.trace.Trace.{Trace}
-use Rattle.update_log.specs.Known.{row_of, rows, views}
+use Rattle.update_log.specs.Known.{rows, views}
 use Rattle.update_log.specs.Legal.{next_entry}
 use Rattle.update_log.specs.Shows.{marks}
-use Rattle.update_log.specs.Steps.{all_ops, closing, closing_of, is_op, next_op}
+use Rattle.update_log.specs.Steps.{all_ops, closing, is_op, next_op}
 use Rattle.update_log.specs.Verdicts.{is_release, verdict}
 use Rattle.update_plans.specs.declared.plan.PlanStep.{PlanStep}
 use Rattle.update_plans.specs.RawNumbers.{raw_of}
@@ -133,32 +132,6 @@ abbrev pub with_some : Scene → ℕ → PlanStep → Chosen → List Op → Lis
 with_some s number step chosen ops past =
     fold (with_op s step chosen (next_entry s.facts s.opening past)) (taken s number step chosen (asked s number step chosen past)) ops
 
--- An install that is being put behind a log, with the rows before the log, and the log before the install. Some of its
--- steps were gone through, and the others come behind.
-pub record Making : Type 0 where
-  pub opening : List Row
-  pub before : List Event
-  pub step : PlanStep
-  pub gone : List Op
-  pub more : List Op
-
--- The steps before a step, and those behind it.
-abbrev pub ops_before : Op → List Op
-ops_before Op.Prepare = []
-ops_before Op.Detach = Op.Prepare ∷ []
-ops_before Op.Write = Op.Prepare ∷ Op.Detach ∷ []
-ops_before Op.Attach = Op.Prepare ∷ Op.Detach ∷ Op.Write ∷ []
-ops_before Op.Reload = Op.Prepare ∷ Op.Detach ∷ Op.Write ∷ Op.Attach ∷ []
-ops_before Op.Cleanup = Op.Prepare ∷ Op.Detach ∷ Op.Write ∷ Op.Attach ∷ Op.Reload ∷ []
-
-abbrev pub ops_behind : Op → List Op
-ops_behind Op.Prepare = Op.Detach ∷ Op.Write ∷ Op.Attach ∷ Op.Reload ∷ Op.Cleanup ∷ []
-ops_behind Op.Detach = Op.Write ∷ Op.Attach ∷ Op.Reload ∷ Op.Cleanup ∷ []
-ops_behind Op.Write = Op.Attach ∷ Op.Reload ∷ Op.Cleanup ∷ []
-ops_behind Op.Attach = Op.Reload ∷ Op.Cleanup ∷ []
-ops_behind Op.Reload = Op.Cleanup ∷ []
-ops_behind Op.Cleanup = []
-
 -- All steps of the entry, in their order.
 abbrev pub with_ops : Scene → PlanStep → Chosen → ℕ → List Event → List Event
 with_ops s step chosen entry past = fold (with_op s step chosen entry) past all_ops
@@ -171,11 +144,6 @@ done s number step chosen past = with_ops s step chosen (next_entry s.facts s.op
 abbrev pub end_of : Scene → ℕ → PlanStep → Chosen → List Event → RowState
 end_of s number step chosen past =
     unwrap_or (closing s.facts s.opening (done s number step chosen past) (next_entry s.facts s.opening past)) RowState.Begun
-
--- The same by the entry's trace, its row and the device.
-abbrev pub end_by : Scene → List ℕ → ℕ → Trace → List Event → RowState
-end_by s device entry t past =
-    unwrap_or (option_and_then (λ row. option_map (closing_of t row) (view_of s device past)) (row_of (rows s.facts s.opening past) entry)) RowState.Begun
 
 -- The whole install.
 abbrev pub installed_with : Scene → ℕ → PlanStep → Chosen → List Event → List Event

@@ -192,8 +192,8 @@ fn first_trace(view: &DeviceView, component: &Component) -> Trace
     }
 }
 
-/// The mode that the port shows.
-pub fn mode_of(seen: Seen) -> Mode
+// The mode that the port shows.
+fn mode_of(seen: Seen) -> Mode
     ensures { result ≡ mode_of seen }
 {
     match seen {

@@ -1,22 +1,21 @@
 //! A log that goes on by the installs of a plan.
-ghost use Rattle.std.specs.Prelude.{◌≡◌, ◌<◌, ◌≤◌, ◌+◌, ◌-◌, ◌*◌, ◌∷◌, ◌++◌, [], ◌&&◌, true, nat_lt, length, List, Some, option_copied, OnOk, IsSome, Ok};
-ghost use Rattle.fw_base.specs.Names.{name_read};
-ghost use Rattle.device_list.specs.Lists.{place};
+ghost use Rattle.std.specs.Prelude.{◌≡◌, ◌<◌, ◌≤◌, ◌+◌, ◌∷◌, ◌++◌, [], ◌&&◌, true, nat_lt, length, List, Some, find, slice_get, option_copied, option_map, OnOk, IsSome, Ok};
 ghost use Rattle.history_keeper.specs.declared.row.Row.{Row};
 ghost use Rattle.release_catalogue.specs.Lookup.{Chosen};
 ghost use Rattle.update_log.specs.Core.{Stands};
-ghost use Rattle.update_log.specs.CoreAfter.{IsNext};
 ghost use Rattle.update_log.specs.Known.{rows};
 ghost use Rattle.update_log.specs.Holding.{blocks_of, live_entry};
 ghost use Rattle.update_log.specs.Pasts.{past_of};
 ghost use Rattle.update_log.specs.Shows.{marks};
-ghost use Rattle.update_plans.specs.Following.{IsQuiet};
 ghost use Rattle.update_log.specs.Legal.{next_entry};
 ghost use Rattle.update_log.specs.Steps.{all_ops, trace};
 ghost use Rattle.update_log.specs.declared.trace.Trace.{Trace};
 ghost use Rattle.update_log.specs.Verdicts.{verdict};
 ghost use Rattle.update_log.specs.declared.decision.Stage.TheVariants.{Ask};
-ghost use Rattle.update_plans.specs.Plans.{Making, accepts, asked, done, end_by, installed, is_good, release_at, request_of, scene, seen_of, shown_after, taken, view_of, waits_for_boot, with_some};
+ghost use Rattle.update_plans.specs.Following.{IsQuiet};
+ghost use Rattle.update_log.specs.declared.facts.Facts.{Facts as TheFacts};
+ghost use Rattle.update_plans.specs.Plans.{accepts, has_id, installed, is_good, release_at, request_of, scene};
+ghost use Rattle.update_plans.specs.Putting.{Begins, IsPutting, Making, end_on, ops_before, shown_on};
 ghost use Rattle.update_plans.specs.Tags.{IsTag};
 
 use crate::course::{ends_well, is_next, shown_after};
@@ -27,13 +26,13 @@ use crate::requests::request_of;
 use device_list::Selector;
 use emulated_boards::Mark;
 use fw_base::{Digest, Name, NoMemory};
-use fw_facts::{DeviceFlag, DeviceView, Release, Seen};
+use fw_facts::{Component, DeviceFlag, DeviceView, Release, Seen};
 use guid_ids::DeviceId;
 use history_keeper::RowState;
 use release_catalogue::ReleaseRef;
 use update_log::{
     AskAnswer, ClaimAnswer, CoreState, Decision, Event, Facts, FetchNote, Op, Request, Stage,
-    Stored, Told, closing, next_op, step, verdict,
+    Stored, Told, closing, next_op, step as append, verdict,
 };
 use version_formats::render;
 
@@ -43,256 +42,332 @@ const EVENTS_MAX: usize = 15;
 /// The most rows of a history.
 const ROWS_MAX: usize = 65_536;
 
-/// A state of its own, over which steps are tried and taken one after the other.
+/// Who asks for steps: over which facts, for which client, and the tag that the requests begin with.
 #[derive(Drop)]
-pub struct Planner<'a> {
+pub struct Asker<'a> {
     pub facts: &'a Facts,
-    pub state: CoreState,
     pub client: u32,
     pub tag: &'a Name,
-    /// How many steps were taken.
-    pub taken: u32,
 }
 
-impl<'a> Planner<'a> {
-    /// Whether the step is good as the next one.
-    #[tactic(auto, using(crate::proofs::Good::good_no_component, crate::proofs::Good::good_no_release, crate::proofs::Good::good_no_device, crate::proofs::Good::good_so))]
-    pub fn is_good(&self, step: &PlanStep) -> bool
+impl<'a> Asker<'a> {
+    /// Whether the step of that number is good as the next one.
+    pub fn is_good(&self, state: &CoreState, number: u32, step: &PlanStep) -> bool
         requires tag { IsTag self.now.tag.now }
-        requires few { self.now.taken < 8192 }
-        ensures { (opening : List Row) → Stands self.now.facts.now opening self.now.state
-            → IsQuiet (scene self.now.facts.now opening self.now.client self.now.tag.now) (past_of self.now.state.log)
-            → result ≡ is_good (scene self.now.facts.now opening self.now.client self.now.tag.now) (self.now.taken + 1) step.now (past_of self.now.state.log) }
+        requires number { number ≤ 8192 }
+        ensures { (opening : List Row) → Stands self.now.facts.now opening state.now
+            → IsQuiet (scene self.now.facts.now opening self.now.client self.now.tag.now) (past_of state.now.log)
+            → result ≡ is_good (scene self.now.facts.now opening self.now.client self.now.tag.now) number step.now (past_of state.now.log) }
     {
-        let Some(component) = component_of(self.facts, step.release) else {
+        match component_of(self.facts, step.release) {
+            Some(component) => self.is_good_of(state, number, step, component),
+            None => false,
+        }
+    }
+
+    fn is_good_of(
+        &self,
+        state: &CoreState,
+        number: u32,
+        step: &PlanStep,
+        component: &Component,
+    ) -> bool
+        requires tag { IsTag self.now.tag.now }
+        requires number { number ≤ 8192 }
+        requires component { slice_get self.now.facts.now.catalogue step.now.release.component ≡ Some component.now }
+        ensures { (opening : List Row) → Stands self.now.facts.now opening state.now
+            → IsQuiet (scene self.now.facts.now opening self.now.client self.now.tag.now) (past_of state.now.log)
+            → result ≡ is_good (scene self.now.facts.now opening self.now.client self.now.tag.now) number step.now (past_of state.now.log) }
+    {
+        match release_of(component, step.release) {
+            Some(release) => self.is_good_with(state, number, step, component, release),
+            None => false,
+        }
+    }
+
+    fn is_good_with(
+        &self,
+        state: &CoreState,
+        number: u32,
+        step: &PlanStep,
+        component: &Component,
+        release: &Release,
+    ) -> bool
+        requires tag { IsTag self.now.tag.now }
+        requires number { number ≤ 8192 }
+        requires component { slice_get self.now.facts.now.catalogue step.now.release.component ≡ Some component.now }
+        requires release { slice_get component.now.releases step.now.release.release ≡ Some release.now }
+        ensures { (opening : List Row) → Stands self.now.facts.now opening state.now
+            → IsQuiet (scene self.now.facts.now opening self.now.client self.now.tag.now) (past_of state.now.log)
+            → result ≡ is_good (scene self.now.facts.now opening self.now.client self.now.tag.now) number step.now (past_of state.now.log) }
+    {
+        match view_of(state, &step.device) {
+            Some(view) => self.goes_well(state, number, step, component, release, view),
+            None => false,
+        }
+    }
+
+    // Its version is written, its request is accepted, and it ends well.
+    fn goes_well(
+        &self,
+        state: &CoreState,
+        number: u32,
+        step: &PlanStep,
+        component: &Component,
+        release: &Release,
+        view: &DeviceView,
+    ) -> bool
+        requires tag { IsTag self.now.tag.now }
+        requires number { number ≤ 8192 }
+        requires component { slice_get self.now.facts.now.catalogue step.now.release.component ≡ Some component.now }
+        requires release { slice_get component.now.releases step.now.release.release ≡ Some release.now }
+        requires view { find (has_id step.now.device) state.now.views ≡ Some view.now }
+        ensures { (opening : List Row) → Stands self.now.facts.now opening state.now
+            → IsQuiet (scene self.now.facts.now opening self.now.client self.now.tag.now) (past_of state.now.log)
+            → result ≡ is_good (scene self.now.facts.now opening self.now.client self.now.tag.now) number step.now (past_of state.now.log) }
+    {
+        if !is_same(&render(view.sheet.format, step.raw), &release.version) {
             return false;
-        };
-        let Some(release) = release_of(component, step.release) else {
+        }
+        if !self.is_accepted(state, number, step, release) {
             return false;
-        };
-        let Some(view) = self.view_of(&step.device) else {
-            return false;
-        };
-        is_same(&render(view.sheet.format, step.raw), &release.version)
-            && self.is_accepted(step, release)
-            && ends_well(view, component, &release.version, step.raw)
+        }
+        ends_well(view, component, &release.version, step.raw)
     }
 
     // Whether its request is accepted, at its ask and at its claim, with its very release. A claim finds
     // what the ask found, and wants place for a row.
-    fn is_accepted(&self, step: &PlanStep, release: &Release) -> bool
+    fn is_accepted(
+        &self,
+        state: &CoreState,
+        number: u32,
+        step: &PlanStep,
+        release: &Release,
+    ) -> bool
         requires tag { IsTag self.now.tag.now }
-        requires few { self.now.taken < 8192 }
-        ensures { (opening : List Row) (chosen : Chosen) → Stands self.now.facts.now opening self.now.state → chosen.release ≡ release.now
-            → result ≡ (accepts step.now.release (verdict self.now.facts.now opening (past_of self.now.state.log) self.now.client (request_of (scene self.now.facts.now opening self.now.client self.now.tag.now) (self.now.taken + 1) step.now chosen) Ask)
-            && nat_lt (length (rows self.now.facts.now opening (past_of self.now.state.log))) 65536) }
+        requires number { number ≤ 8192 }
+        ensures { (opening : List Row) (chosen : Chosen) → Stands self.now.facts.now opening state.now → chosen.release ≡ release.now
+            → result ≡ (accepts step.now.release (verdict self.now.facts.now opening (past_of state.now.log) self.now.client (request_of (scene self.now.facts.now opening self.now.client self.now.tag.now) number step.now chosen) Ask)
+            && nat_lt (length (rows self.now.facts.now opening (past_of state.now.log))) 65536) }
     {
-        let request = self.request(step, release);
-        let decision = verdict(self.facts, &self.state, self.client, &request, Stage::Ask);
-        accepts(decision, step.release) && self.state.rows().len() < ROWS_MAX
+        let request = self.request(number, step, release);
+        let decision = verdict(self.facts, state, self.client, &request, Stage::Ask);
+        accepts(decision, step.release) && state.rows().len() < ROWS_MAX
     }
 
-    fn request(&self, step: &PlanStep, release: &Release) -> Request
+    fn request(&self, number: u32, step: &PlanStep, release: &Release) -> Request
         requires tag { IsTag self.now.tag.now }
-        requires few { self.now.taken < 8192 }
+        requires number { number ≤ 8192 }
         ensures { (opening : List Row) (chosen : Chosen) → chosen.release ≡ release.now
-            → result ≡ request_of (scene self.now.facts.now opening self.now.client self.now.tag.now) (self.now.taken + 1) step.now chosen }
+            → result ≡ request_of (scene self.now.facts.now opening self.now.client self.now.tag.now) number step.now chosen }
     {
-        request_of(self.tag, self.taken + 1, step, release.version)
-    }
-
-    // The device with that ID.
-    #[tactic(auto, using(crate::proofs::Good::looked_up))]
-    fn view_of(&self, device: &DeviceId) -> Option<&DeviceView>
-        ensures { (opening : List Row) → Stands self.now.facts.now opening self.now.state
-            → option_copied result ≡ view_of (scene self.now.facts.now opening self.now.client self.now.tag.now) device.now (past_of self.now.state.log) }
-    {
-        let at = self.state.resolve(&Selector::Id(*device))?;
-        self.state.views().get(at)
+        request_of(self.tag, number, step, release.version)
     }
 
     /// Puts the install of a step, which is good, behind the log.
-    pub fn install(&mut self, step: &PlanStep) -> Result<(), NoMemory>
-        ghost opening: { List Row }
-        requires tag { IsTag self.old.tag.now }
-        requires few { self.old.taken < 8192 }
-        requires stands { Stands self.old.facts.now opening self.old.state }
-        requires quiet { IsQuiet (scene self.old.facts.now opening self.old.client self.old.tag.now) (past_of self.old.state.log) }
-        requires few_events { length self.old.state.log ≤ 200000 + 15 * self.old.taken }
-        requires good { is_good (scene self.old.facts.now opening self.old.client self.old.tag.now) (self.old.taken + 1) step.now (past_of self.old.state.log) ≡ true }
-        ensures past { OnOk result (past_of self.new.state.log ≡ installed (scene self.old.facts.now opening self.old.client self.old.tag.now) (self.old.taken + 1) step.now (past_of self.old.state.log)) }
-        ensures stands { OnOk result (Stands self.old.facts.now opening self.new.state) }
-        ensures quiet { OnOk result (IsQuiet (scene self.old.facts.now opening self.old.client self.old.tag.now) (past_of self.new.state.log)) }
-        ensures taken { OnOk result (self.new.taken ≡ self.old.taken + 1) }
-        ensures few_events { OnOk result (length self.new.state.log ≤ length self.old.state.log + 15) }
-        ensures facts { self.new.facts.now ≡ self.old.facts.now }
-        ensures client { self.new.client ≡ self.old.client }
-        ensures tag { self.new.tag.now ≡ self.old.tag.now }
+    pub fn install(
+        &self,
+        state: &mut CoreState,
+        number: u32,
+        step: &PlanStep,
+    ) -> Result<(), NoMemory>
+        ghost at: { Making }
+        requires tag { IsTag self.now.tag.now }
+        requires number { number ≤ 8192 }
+        requires numbered { number ≡ at.number }
+        requires before { past_of state.old.log ≡ at.before }
+        requires stands { Stands self.now.facts.now at.opening state.old }
+        requires quiet { IsQuiet (scene self.now.facts.now at.opening self.now.client self.now.tag.now) at.before }
+        requires good { is_good (scene self.now.facts.now at.opening self.now.client self.now.tag.now) at.number step.now at.before ≡ true }
+        ensures past { OnOk result (past_of state.new.log ≡ installed (scene self.now.facts.now at.opening self.now.client self.now.tag.now) at.number step.now at.before) }
+        ensures stands { OnOk result (Stands self.now.facts.now at.opening state.new) }
     {
-        let Some(release) = release_at(self.facts, step.release).copied() else {
-            return Ok(());
-        };
-        self.state.reserve(EVENTS_MAX)?;
-        let request = self.request(step, &release);
-        let entry = self.state.rows().len() as u32 + 1;
-        self.take(&request, step, &release, entry);
-        self.make(Op::Prepare, step, entry, release.digest);
-        self.make(Op::Detach, step, entry, release.digest);
-        self.make(Op::Write, step, entry, release.digest);
-        self.make(Op::Attach, step, entry, release.digest);
-        self.make(Op::Reload, step, entry, release.digest);
-        self.make(Op::Cleanup, step, entry, release.digest);
-        self.finish(&step.device, entry);
-        self.taken += 1;
+        match release_at(self.facts, step.release) {
+            Some(release) => self.put(state, number, step, release),
+            None => Ok(()),
+        }
+    }
+
+    // The same, where that is its release.
+    fn put(
+        &self,
+        state: &mut CoreState,
+        number: u32,
+        step: &PlanStep,
+        release: &Release,
+    ) -> Result<(), NoMemory>
+        ghost at: { Making }
+        requires tag { IsTag self.now.tag.now }
+        requires number { number ≤ 8192 }
+        requires numbered { number ≡ at.number }
+        requires before { past_of state.old.log ≡ at.before }
+        requires stands { Stands self.now.facts.now at.opening state.old }
+        requires quiet { IsQuiet (scene self.now.facts.now at.opening self.now.client self.now.tag.now) at.before }
+        requires good { is_good (scene self.now.facts.now at.opening self.now.client self.now.tag.now) at.number step.now at.before ≡ true }
+        requires release { option_map (λ chosen. chosen.release) (release_at (scene self.now.facts.now at.opening self.now.client self.now.tag.now) step.now.release) ≡ Some release.now }
+        ensures past { OnOk result (past_of state.new.log ≡ installed (scene self.now.facts.now at.opening self.now.client self.now.tag.now) at.number step.now at.before) }
+        ensures stands { OnOk result (Stands self.now.facts.now at.opening state.new) }
+    {
+        state.reserve(EVENTS_MAX)?;
+        let entry = state.rows().len() as u32 + 1;
+        let request = self.request(number, step, release);
+        self.take(state, &request, step, release, entry);
+        self.make_all(state, step, entry, release.digest);
+        self.finish(state, step, entry);
         Ok(())
     }
 
-    // The ask and the claim.
-    fn take(&mut self, request: &Request, step: &PlanStep, release: &Release, entry: u32)
-        ghost opening: { List Row }
-        requires stands { Stands self.old.facts.now opening self.old.state }
-        requires quiet { IsQuiet (scene self.old.facts.now opening self.old.client self.old.tag.now) (past_of self.old.state.log) }
-        requires good { is_good (scene self.old.facts.now opening self.old.client self.old.tag.now) (self.old.taken + 1) step.now (past_of self.old.state.log) ≡ true }
-        requires request { (chosen : Chosen) → release_at (scene self.old.facts.now opening self.old.client self.old.tag.now) step.now.release ≡ Some chosen → request.now ≡ request_of (scene self.old.facts.now opening self.old.client self.old.tag.now) (self.old.taken + 1) step.now chosen }
-        requires release { (chosen : Chosen) → release_at (scene self.old.facts.now opening self.old.client self.old.tag.now) step.now.release ≡ Some chosen → release.now ≡ chosen.release }
-        requires entry { entry ≡ next_entry self.old.facts.now opening (past_of self.old.state.log) }
-        requires room { 2 ≤ self.old.state.room }
-        requires row { 1 ≤ self.old.state.row_room }
-        ensures past { (chosen : Chosen) → release_at (scene self.old.facts.now opening self.old.client self.old.tag.now) step.now.release ≡ Some chosen → past_of self.new.state.log ≡ taken (scene self.old.facts.now opening self.old.client self.old.tag.now) (self.old.taken + 1) step.now chosen (asked (scene self.old.facts.now opening self.old.client self.old.tag.now) (self.old.taken + 1) step.now chosen (past_of self.old.state.log)) }
-        ensures stands { Stands self.old.facts.now opening self.new.state }
-        ensures room { self.old.state.room ≤ self.new.state.room + 2 }
-        ensures facts { self.new.facts.now ≡ self.old.facts.now }
-        ensures client { self.new.client ≡ self.old.client }
-        ensures tag { self.new.tag.now ≡ self.old.tag.now }
-        ensures taken { self.new.taken ≡ self.old.taken }
+    // The ask and the claim of a good step, whose release that is.
+    fn take(
+        &self,
+        state: &mut CoreState,
+        request: &Request,
+        step: &PlanStep,
+        release: &Release,
+        entry: u32,
+    )
+        ghost at: { Making }
+        requires request { (chosen : Chosen) → chosen.release ≡ release.now → request.now ≡ request_of (scene self.now.facts.now at.opening self.now.client self.now.tag.now) at.number step.now chosen }
+        requires begins { Begins (scene self.now.facts.now at.opening self.now.client self.now.tag.now) step.now at release.now entry state.old }
+        requires room { 2 ≤ state.old.room }
+        requires row { 1 ≤ state.old.row_room }
+        ensures put { IsPutting (scene self.now.facts.now at.opening self.now.client self.now.tag.now) step.now (record at { gone = [] }) state.new }
+        ensures room { state.old.room ≤ state.new.room + 2 }
     {
-        self.append(Event::Ask {
-            client: self.client,
-            request: *request,
-            pending: None,
-            answer: AskAnswer::Hold {
-                blocks: blocks_of(release.size),
-                release: step.release,
+        append(
+            self.facts,
+            state,
+            Event::Ask {
+                client: self.client,
+                request: *request,
+                pending: None,
+                answer: AskAnswer::Hold {
+                    blocks: blocks_of(release.size),
+                    release: step.release,
+                },
             },
-        });
-        self.append(Event::Claim {
-            client: self.client,
-            request: *request,
-            fetched: FetchNote::Whole {
-                digest: release.digest,
-                len: release.size,
-                raw: step.raw,
+        );
+        append(
+            self.facts,
+            state,
+            Event::Claim {
+                client: self.client,
+                request: *request,
+                fetched: FetchNote::Whole {
+                    digest: release.digest,
+                    len: release.size,
+                    raw: step.raw,
+                },
+                answer: ClaimAnswer::Entry(entry),
             },
-            answer: ClaimAnswer::Entry(entry),
-        });
+        );
     }
 
-    // A step of the entry, where it is the next one: so many of the steps were gone through, and so many come behind.
-    fn make(&mut self, op: Op, step: &PlanStep, entry: u32, digest: Digest)
+    // All steps of the entry.
+    fn make_all(&self, state: &mut CoreState, step: &PlanStep, entry: u32, digest: Digest)
         ghost at: { Making }
-        requires stands { Stands self.old.facts.now at.opening self.old.state }
-        requires quiet { IsQuiet (scene self.old.facts.now at.opening self.old.client self.old.tag.now) at.before }
-        requires good { is_good (scene self.old.facts.now at.opening self.old.client self.old.tag.now) (self.old.taken + 1) step.now at.before ≡ true }
-        requires digest { (chosen : Chosen) → release_at (scene self.old.facts.now at.opening self.old.client self.old.tag.now) step.now.release ≡ Some chosen → digest ≡ chosen.release.digest }
-        requires entry { entry ≡ next_entry self.old.facts.now at.opening at.before }
-        requires ops { at.gone ++ op ∷ at.more ≡ all_ops }
-        requires past { (chosen : Chosen) → release_at (scene self.old.facts.now at.opening self.old.client self.old.tag.now) step.now.release ≡ Some chosen → past_of self.old.state.log ≡ with_some (scene self.old.facts.now at.opening self.old.client self.old.tag.now) (self.old.taken + 1) step.now chosen at.gone at.before }
-        requires room { 2 ≤ self.old.state.room }
-        ensures past { (chosen : Chosen) → release_at (scene self.old.facts.now at.opening self.old.client self.old.tag.now) step.now.release ≡ Some chosen → past_of self.new.state.log ≡ with_some (scene self.old.facts.now at.opening self.old.client self.old.tag.now) (self.old.taken + 1) step.now chosen (at.gone ++ op ∷ []) at.before }
-        ensures stands { Stands self.old.facts.now at.opening self.new.state }
-        ensures room { self.old.state.room ≤ self.new.state.room + 2 }
-        ensures facts { self.new.facts.now ≡ self.old.facts.now }
-        ensures client { self.new.client ≡ self.old.client }
-        ensures tag { self.new.tag.now ≡ self.old.tag.now }
-        ensures taken { self.new.taken ≡ self.old.taken }
+        requires put { IsPutting (scene self.now.facts.now at.opening self.now.client self.now.tag.now) step.now (record at { gone = [] }) state.old }
+        requires digest { option_map (λ chosen. chosen.release.digest) (release_at (scene self.now.facts.now at.opening self.now.client self.now.tag.now) step.now.release) ≡ Some digest }
+        requires entry { entry ≡ next_entry self.now.facts.now at.opening at.before }
+        requires room { 12 ≤ state.old.room }
+        ensures put { IsPutting (scene self.now.facts.now at.opening self.now.client self.now.tag.now) step.now (record at { gone = all_ops }) state.new }
+        ensures room { state.old.room ≤ state.new.room + 12 }
     {
-        if !is_next(next_op(&self.state.trace(entry)), op) {
+        self.make(state, Op::Prepare, step, entry, digest);
+        self.make(state, Op::Detach, step, entry, digest);
+        self.make(state, Op::Write, step, entry, digest);
+        self.make(state, Op::Attach, step, entry, digest);
+        self.make(state, Op::Reload, step, entry, digest);
+        self.make(state, Op::Cleanup, step, entry, digest);
+    }
+
+    // A step of the entry, behind those that come before it, where it is the next one.
+    fn make(&self, state: &mut CoreState, op: Op, step: &PlanStep, entry: u32, digest: Digest)
+        ghost at: { Making }
+        requires put { IsPutting (scene self.now.facts.now at.opening self.now.client self.now.tag.now) step.now at state.old }
+        requires gone { at.gone ≡ ops_before op }
+        requires digest { option_map (λ chosen. chosen.release.digest) (release_at (scene self.now.facts.now at.opening self.now.client self.now.tag.now) step.now.release) ≡ Some digest }
+        requires entry { entry ≡ next_entry self.now.facts.now at.opening at.before }
+        requires room { 2 ≤ state.old.room }
+        ensures put { IsPutting (scene self.now.facts.now at.opening self.now.client self.now.tag.now) step.now (record at { gone = at.gone ++ op ∷ [] }) state.new }
+        ensures room { state.old.room ≤ state.new.room + 2 }
+    {
+        if !is_next(next_op(&state.trace(entry)), op) {
             return;
         }
         let client = self.client;
-        let seen = self.shown(op, step);
-        self.append(Event::Start { client, entry, op });
-        self.append(Event::End {
-            client,
-            entry,
-            op,
-            outcome: Ok(()),
-            told: marks(op, entry, digest),
-            seen,
-        });
-    }
-
-    fn shown(&self, op: Op, step: &PlanStep) -> Seen
-        ensures { (opening : List Row) → Stands self.now.facts.now opening self.now.state
-            → result ≡ shown_after op (waits_for_boot (scene self.now.facts.now opening self.now.client self.now.tag.now) step.now.device (past_of self.now.state.log)) step.now.raw
-            (seen_of (scene self.now.facts.now opening self.now.client self.now.tag.now) step.now.device (past_of self.now.state.log)) }
-    {
-        match self.view_of(&step.device) {
-            Some(view) => shown_after(
-                op,
-                view.sheet.flags.has(DeviceFlag::NeedsReboot),
-                step.raw,
-                view.seen,
-            ),
-            None => Seen::Gone,
-        }
-    }
-
-    fn finish(&mut self, device: &DeviceId, entry: u32)
-        ghost at: { Making }
-        requires stands { Stands self.old.facts.now at.opening self.old.state }
-        requires quiet { IsQuiet (scene self.old.facts.now at.opening self.old.client self.old.tag.now) at.before }
-        requires good { is_good (scene self.old.facts.now at.opening self.old.client self.old.tag.now) (self.old.taken + 1) at.step at.before ≡ true }
-        requires device { device.now ≡ at.step.device }
-        requires entry { entry ≡ next_entry self.old.facts.now at.opening at.before }
-        requires past { (chosen : Chosen) → release_at (scene self.old.facts.now at.opening self.old.client self.old.tag.now) at.step.release ≡ Some chosen → past_of self.old.state.log ≡ done (scene self.old.facts.now at.opening self.old.client self.old.tag.now) (self.old.taken + 1) at.step chosen at.before }
-        requires room { 1 ≤ self.old.state.room }
-        ensures past { past_of self.new.state.log ≡ installed (scene self.old.facts.now at.opening self.old.client self.old.tag.now) (self.old.taken + 1) at.step at.before }
-        ensures stands { Stands self.old.facts.now at.opening self.new.state }
-        ensures facts { self.new.facts.now ≡ self.old.facts.now }
-        ensures client { self.new.client ≡ self.old.client }
-        ensures tag { self.new.tag.now ≡ self.old.tag.now }
-        ensures taken { self.new.taken ≡ self.old.taken }
-    {
-        let state = self.end_of(device, entry);
-        self.append(Event::Finish {
-            client: self.client,
-            entry,
+        let told = marks(op, entry, digest);
+        let seen = shown(state, op, step);
+        append(self.facts, state, Event::Start { client, entry, op });
+        append(
+            self.facts,
             state,
-            stored: Stored::Yes,
-        });
+            Event::End {
+                client,
+                entry,
+                op,
+                outcome: Ok(()),
+                told,
+                seen,
+            },
+        );
     }
 
-    // In which state the entry ends.
-    fn end_of(&self, device: &DeviceId, entry: u32) -> RowState
-        requires { IsSome (live_entry (past_of self.now.state.log) entry) }
-        ensures { (opening : List Row) (t : Trace) → Stands self.now.facts.now opening self.now.state
-            → trace self.now.facts.now opening entry (past_of self.now.state.log) ≡ Some t
-            → result ≡ end_by (scene self.now.facts.now opening self.now.client self.now.tag.now) device.now entry t (past_of self.now.state.log) }
+    fn finish(&self, state: &mut CoreState, step: &PlanStep, entry: u32)
+        ghost at: { Making }
+        requires put { IsPutting (scene self.now.facts.now at.opening self.now.client self.now.tag.now) step.now (record at { gone = all_ops }) state.old }
+        requires entry { entry ≡ next_entry self.now.facts.now at.opening at.before }
+        requires room { 1 ≤ state.old.room }
+        ensures past { past_of state.new.log ≡ installed (scene self.now.facts.now at.opening self.now.client self.now.tag.now) at.number step.now at.before }
+        ensures stands { Stands self.now.facts.now at.opening state.new }
     {
-        match (self.state.row(entry), self.view_of(device)) {
-            (Some(row), Some(view)) => closing(&self.state.trace(entry), row, view),
-            (Some(_), None) | (None, Some(_)) | (None, None) => RowState::Begun,
-        }
+        let ended = end_of(state, &step.device, entry);
+        append(
+            self.facts,
+            state,
+            Event::Finish {
+                client: self.client,
+                entry,
+                state: ended,
+                stored: Stored::Yes,
+            },
+        );
     }
+}
 
-    // Puts an event behind the log.
-    fn append(&mut self, event: Event)
-        ghost opening: { List Row }
-        requires stands { Stands self.old.facts.now opening self.old.state }
-        requires next { IsNext self.old.facts.now opening (past_of self.old.state.log) event }
-        requires room { 0 < self.old.state.room }
-        requires row { length (rows self.old.facts.now opening (event ∷ past_of self.old.state.log)) ≤ length self.old.state.rows + self.old.state.row_room }
-        ensures log { self.new.state.log ≡ self.old.state.log ++ event ∷ [] }
-        ensures stands { Stands self.old.facts.now opening self.new.state }
-        ensures room { self.old.state.room ≤ self.new.state.room + 1 }
-        ensures row_room { self.new.state.row_room + length self.new.state.rows ≡ self.old.state.row_room + length self.old.state.rows }
-        ensures facts { self.new.facts.now ≡ self.old.facts.now }
-        ensures client { self.new.client ≡ self.old.client }
-        ensures tag { self.new.tag.now ≡ self.old.tag.now }
-        ensures taken { self.new.taken ≡ self.old.taken }
-    {
-        step(self.facts, &mut self.state, event);
+// The device with that ID.
+fn view_of<'a>(state: &'a CoreState, device: &DeviceId) -> Option<&'a DeviceView>
+    ensures { option_copied result ≡ find (has_id device.now) state.now.views }
+{
+    let at = state.resolve(&Selector::Id(*device))?;
+    state.views().get(at)
+}
+
+// What the device of a step shows at the end of a step of its entry.
+fn shown(state: &CoreState, op: Op, step: &PlanStep) -> Seen
+    ensures { result ≡ shown_on state.now.views op step.now }
+{
+    match view_of(state, &step.device) {
+        Some(view) => shown_after(
+            op,
+            view.sheet.flags.has(DeviceFlag::NeedsReboot),
+            step.raw,
+            view.seen,
+        ),
+        None => Seen::Gone,
+    }
+}
+
+// In which state the entry ends.
+fn end_of(state: &CoreState, device: &DeviceId, entry: u32) -> RowState
+    requires { IsSome (live_entry (past_of state.now.log) entry) }
+    ensures { (facts : TheFacts) (opening : List Row) (t : Trace) → Stands facts opening state.now
+        → trace facts opening entry (past_of state.now.log) ≡ Some t
+        → result ≡ end_on state.now.rows state.now.views device.now entry t }
+{
+    match (state.row(entry), view_of(state, device)) {
+        (Some(row), Some(view)) => closing(&state.trace(entry), row, view),
+        (Some(_), None) | (None, Some(_)) | (None, None) => RowState::Begun,
     }
 }
 

@@ -9,7 +9,6 @@ use update_log::Facts;
 use version_formats::Version;
 
 /// The version of the release at a place of the catalogue.
-#[tactic(auto, using(crate::proofs::Released::version_found))]
 pub fn version_at(facts: &Facts, at: ReleaseRef) -> Option<&Version>
     ensures { option_copied result ≡ option_map (λ chosen. chosen.release.version) (find (λ chosen. is_release chosen.at at) (all_releases facts.now.catalogue)) }
 {

@@ -1,5 +1,6 @@
 //! What the steps of a plan ask for.
-ghost use Rattle.std.specs.Prelude.{◌≡◌, ◌≤◌, ◌++◌, length, codes, decimal, None};
+ghost use Rattle.std.specs.Prelude.{◌≡◌, ◌≤◌, ◌+◌, ◌++◌, length, codes, decimal, None};
+ghost use Rattle.arrayvec.specs.ArrayVec.{array_vec_len};
 ghost use Rattle.update_plans.specs.Plans.{no_flags};
 ghost use Rattle.update_plans.specs.Tags.{IsTag};
 
@@ -49,9 +50,18 @@ fn tag_text(tag: &Name, number: u32) -> ArrayVec<u8, 64>
     ensures { result.items ≡ tag.now ++ codes "-" ++ decimal number }
 {
     let mut text = ArrayVec::new();
-    let _ = text.try_extend_from_slice(tag.bytes());
+    append(&mut text, tag.bytes());
     text.push(b'-');
     let mut buffer = Buffer::new();
-    let _ = text.try_extend_from_slice(buffer.format(number).as_bytes());
+    append(&mut text, buffer.format(number).as_bytes());
     text
+}
+
+// Appends a part for which there is room.
+fn append(text: &mut ArrayVec<u8, 64>, part: &[u8])
+    requires { array_vec_len text.old + length part.now ≤ 64 }
+    ensures items { text.new.items ≡ text.old.items ++ part.now }
+    ensures len { array_vec_len text.new ≡ array_vec_len text.old + length part.now }
+{
+    let _ = text.try_extend_from_slice(part);
 }

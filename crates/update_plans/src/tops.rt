@@ -1,5 +1,5 @@
 //! Plans, made and checked over a state that stays as it is.
-ghost use Rattle.std.specs.Prelude.{◌≡◌, ◌≤◌, ◌<◌, ◌⊎◌, ℕ, List, None, Some, IfOk, MatchResult, length};
+ghost use Rattle.std.specs.Prelude.{◌≡◌, ◌≤◌, ◌⊎◌, ℕ, List, None, Some, IfOk, MatchResult, length};
 ghost use Rattle.history_keeper.specs.declared.row.Row.{Row};
 ghost use Rattle.update_log.specs.Core.{Stands};
 ghost use Rattle.update_log.specs.Pasts.{past_of};
@@ -9,7 +9,7 @@ ghost use Rattle.update_plans.specs.Tags.{IsTag};
 
 use crate::making::{check_all, plan_all};
 use crate::plan::{Plan, PlanStop};
-use crate::planner::Planner;
+use crate::planner::Asker;
 use fw_base::{Listed, Name, NoMemory};
 use std::alloc::Global;
 use update_log::{CoreState, Facts};
@@ -19,7 +19,7 @@ use update_log::{CoreState, Facts};
 /// it.
 ///
 /// The facts are those that the state was made with. The boot isn't off, nobody has a hold or a live
-/// entry, the client isn't 0, the log has fewer than 200,000 events, and the tag at most 56 bytes.
+/// entry, the client isn't 0, and the tag has at most 56 bytes.
 pub fn make_plan(
     alloc: Global,
     facts: &Facts,
@@ -29,7 +29,6 @@ pub fn make_plan(
 ) -> Result<Plan, NoMemory>
     ghost opening: { List Row }
     requires tag { IsTag tag.now }
-    requires few { length state.now.log < 200000 }
     requires stands { Stands facts.now opening state.now }
     requires quiet { IsQuiet (scene facts.now opening client tag.now) (past_of state.now.log) }
     ensures planned { IfOk result (λ made. made.steps ≡ plan (scene facts.now opening client tag.now) (past_of state.now.log)) }
@@ -37,11 +36,11 @@ pub fn make_plan(
     ensures few { IfOk result (λ made. length made.steps ≤ 8192) }
     ensures good { IfOk result (λ made. first_bad (scene facts.now opening client tag.now) 1 made.steps (past_of state.now.log) ≡ None) }
 {
-    let mut planner = planner_of(alloc, facts, state, client, tag)?;
-    let steps = plan_all(alloc, &mut planner)?;
+    let mut own = state.copy(alloc)?;
+    let asker = Asker { facts, client, tag };
     Ok(Plan {
         tag: *tag,
-        steps: Listed::of(steps),
+        steps: Listed::of(plan_all(alloc, &asker, &mut own)?),
     })
 }
 
@@ -57,36 +56,17 @@ pub fn check_plan(
     ghost opening: { List Row }
     requires tag { IsTag plan.now.tag }
     requires few_steps { length plan.now.steps ≤ 8192 }
-    requires few { length state.now.log < 200000 }
     requires stands { Stands facts.now opening state.now }
     requires quiet { IsQuiet (scene facts.now opening client plan.now.tag) (past_of state.now.log) }
     ensures { MatchResult result
         (λ _. first_bad (scene facts.now opening client plan.now.tag) 1 plan.now.steps (past_of state.now.log) ≡ None)
         (λ stop. (stop ≡ PlanStop.NoMemory) ⊎ ((number : ℕ) × (stop ≡ PlanStop.No number) × (first_bad (scene facts.now opening client plan.now.tag) 1 plan.now.steps (past_of state.now.log) ≡ Some number))) }
 {
-    let mut planner = planner_of(alloc, facts, state, client, &plan.tag)?;
-    check_all(&mut planner, plan.steps.items())
-}
-
-// A planner over a state of its own that stands for the same log.
-fn planner_of<'a>(
-    alloc: Global,
-    facts: &'a Facts,
-    state: &CoreState,
-    client: u32,
-    tag: &'a Name,
-) -> Result<Planner<'a>, NoMemory>
-    ensures facts { IfOk result (λ made. made.facts.now ≡ facts.now) }
-    ensures state { IfOk result (λ made. made.state ≡ record state.now { room = made.state.room; row_room = made.state.row_room }) }
-    ensures client { IfOk result (λ made. made.client ≡ client) }
-    ensures tag { IfOk result (λ made. made.tag.now ≡ tag.now) }
-    ensures none_taken { IfOk result (λ made. made.taken ≡ 0) }
-{
-    Ok(Planner {
+    let mut own = state.copy(alloc)?;
+    let asker = Asker {
         facts,
-        state: state.copy(alloc)?,
         client,
-        tag,
-        taken: 0,
-    })
+        tag: &plan.tag,
+    };
+    check_all(&asker, &mut own, plan.steps.items())
 }

@@ -1,10 +1,7 @@
 use Rattle.std.proofs.Common.{map}
 use Rattle.first_boots.specs.FirstBoot.{shown_by}
-use Rattle.campaign_plans.proofs.FirstPlanned.{as_many, can_be_planned, few_events, is_first_plan, made_fine}
+use Rattle.campaign_plans.proofs.FirstPlanned.{as_many, can_be_planned, is_first_plan, made_fine}
 use Rattle.campaign_plans.proofs.first_plan.plan_first.Goals as goal
-
-pub plan_over-requires-clause-few : goal.plan_over-requires-clause-few
-plan_over-requires-clause-few c = few_events c.args.campaign.now.boots (map shown_by c.args.campaign.now.boards.items) c.in_ok-state.state.log c.in_ok-state.ensures.log
 
 pub plan_over-requires-clause-can : goal.plan_over-requires-clause-can
 plan_over-requires-clause-can c =

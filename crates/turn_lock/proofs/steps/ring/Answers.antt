@@ -1,4 +1,4 @@
-use Rattle.std.proofs.Common.{rules}
+use Rattle.std.proofs.Common.{rules, ◌+◌, ◌%◌, ◌^◌}
 use Rattle.std.specs.Prelude.{ℕ, ◌==◌}
 use mathlib.Core.Option.{none}
 use prog.Atomic.{either}
@@ -8,5 +8,6 @@ use Rattle.turn_lock.proofs.steps.ring.Goals as goal
 
 pub compare_exchange-requires : goal.compare_exchange-requires
 compare_exchange-requires g c =
-    let f : ℕ → ℕ = λ n. either (n == c.peek-marked.result) c.wrapping_add.result n in
-    (search rules, search rules, rings g.V.Chronicle.entries g.V.Chronicle.by _ _ _ _ _ _ f c.bell_of-bell.ensures.0 (step 1 c.bell_of-bell.result c.peek-marked.result c.wrapping_add.result none))
+    let marked = c.peek-marked.result in
+    let rung = (marked + 1) % 2 ^ 64 in
+    (search rules, search rules, rings g.V.Chronicle.entries g.V.Chronicle.by _ _ _ _ _ _ (λ n. either (n == marked) rung n) c.bell_of-bell.ensures.0 (step 1 c.bell_of-bell.result marked rung none))

@@ -1,4 +1,4 @@
-use Rattle.std.proofs.Common.{◌≡◌, ◌+◌, ◌*◌, ◌≤◌, map, take, length}
+use Rattle.std.proofs.Common.{◌≡◌, ◌≤◌, map, take}
 use Rattle.std.specs.Prelude.{vec_len}
 use Rattle.update_log.specs.Core.{Stands}
 use Rattle.update_log.specs.Known.{views}
@@ -12,15 +12,12 @@ ghost-plan_device g a = g.opening
 
 abbrev pub invariant-loop-at : goal.invariant-loop-at
 invariant-loop-at g l =
-    let s : Scene = scene l.fn.planner.facts.now g.opening l.fn.planner.client l.fn.planner.tag.now in
-    let before = past_of l.fn.planner.state.log in
-    (l.steps.items ≡ chains s (map (device_at (views s.facts s.opening before)) (take l.at-index l.places.items)) 8192 1 before)
-    × (past_of l.planner.state.log ≡ after s 1 l.steps.items before)
-    × (l.planner.taken ≡ vec_len l.steps)
-    × (vec_len l.steps ≤ 8192)
-    × (length l.planner.state.log ≤ 200000 + 15 * l.planner.taken)
-    × Stands l.fn.planner.facts.now g.opening l.planner.state
-    × IsQuiet s (past_of l.planner.state.log)
-    × (l.planner.facts.now ≡ l.fn.planner.facts.now)
-    × (l.planner.client ≡ l.fn.planner.client)
-    × (l.planner.tag.now ≡ l.fn.planner.tag.now)
+    let s : Scene = scene l.asker.facts.now g.opening l.asker.client l.asker.tag.now in
+    let before = past_of l.fn.state.log in
+    record {
+      steps_are : l.steps.items ≡ chains s (map (device_at (views s.facts s.opening before)) (take l.at-index l.places.items)) 8192 1 before;
+      past_is : past_of l.state.log ≡ after s 1 l.steps.items before;
+      few : vec_len l.steps ≤ 8192;
+      stands : Stands l.asker.facts.now g.opening l.state;
+      quiet : IsQuiet s (past_of l.state.log);
+    }

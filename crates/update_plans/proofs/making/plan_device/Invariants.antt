@@ -1,4 +1,4 @@
-use Rattle.std.proofs.Common.{◌≡◌, ◌+◌, ◌-◌, ◌*◌, ◌≤◌, ◌++◌, length}
+use Rattle.std.proofs.Common.{◌≡◌, ◌+◌, ◌-◌, ◌++◌}
 use Rattle.std.specs.Prelude.{IfSome, slice_get, vec_len}
 use Rattle.fw_facts.specs.Views.{guids_of}
 use Rattle.update_log.specs.Core.{Stands}
@@ -9,21 +9,18 @@ use Rattle.update_plans.specs.Plans.{Scene, after, chain, device_at, scene}
 use Rattle.update_plans.proofs.Chained.{Goes}
 use Rattle.update_plans.proofs.making.plan_device.Given as goal
 
-abbrev pub ghost-install : goal.ghost-install
-ghost-install g a = g.opening
+abbrev pub ghost-take_step : goal.ghost-take_step
+ghost-take_step g a = g.opening
 
-abbrev pub invariant-loop : goal.invariant-loop
-invariant-loop g l =
-    let s : Scene = scene l.fn.planner.facts.now g.opening l.fn.planner.client l.fn.planner.tag.now in
-    let device = device_at l.fn.planner.state.views l.at in
-    let own = chain s device (8192 - vec_len l.fn.steps) (l.fn.planner.taken + 1) (past_of l.fn.planner.state.log) in
-    Goes s device l.planner.taken l.steps.items (l.fn.steps.items ++ own) (past_of l.planner.state.log) (after s (l.fn.planner.taken + 1) own (past_of l.fn.planner.state.log))
-    × (vec_len l.steps ≡ vec_len l.fn.steps + l.counter)
-    × (l.planner.taken ≡ vec_len l.steps)
-    × (length l.planner.state.log ≤ 200000 + 15 * l.planner.taken)
-    × Stands l.fn.planner.facts.now g.opening l.planner.state
-    × IsQuiet s (past_of l.planner.state.log)
-    × IfSome (slice_get l.planner.state.views l.at) (λ view. IsHighestFirst l.fn.planner.facts.now (guids_of view) l.releases.items)
-    × (l.planner.facts.now ≡ l.fn.planner.facts.now)
-    × (l.planner.client ≡ l.fn.planner.client)
-    × (l.planner.tag.now ≡ l.fn.planner.tag.now)
+abbrev pub invariant-loop-taken : goal.invariant-loop-taken
+invariant-loop-taken g l =
+    let s : Scene = scene l.asker.facts.now g.opening l.asker.client l.asker.tag.now in
+    let device = device_at l.fn.state.views l.at in
+    let own = chain s device (8192 - vec_len l.fn.steps) (vec_len l.fn.steps + 1) (past_of l.fn.state.log) in
+    record {
+      goes : Goes s device l.steps.items (l.fn.steps.items ++ own) (past_of l.state.log) (after s (vec_len l.fn.steps + 1) own (past_of l.fn.state.log));
+      taken : vec_len l.steps ≡ l.taken;
+      stands : Stands l.asker.facts.now g.opening l.state;
+      quiet : IsQuiet s (past_of l.state.log);
+      sorted : IfSome (slice_get l.state.views l.at) (λ view. IsHighestFirst l.asker.facts.now (guids_of view) l.releases.items);
+    }

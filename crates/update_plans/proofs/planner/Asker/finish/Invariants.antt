@@ -1,0 +1,4 @@
+use Rattle.update_plans.proofs.planner.Asker.finish.Given as goal
+
+abbrev pub ghost-step : goal.ghost-step
+ghost-step g a = g.at.opening

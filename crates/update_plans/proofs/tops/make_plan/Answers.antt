@@ -1,0 +1,18 @@
+use Rattle.std.proofs.Common.{◌≡◌, ap, sym, ◌∙◌, subst, refl, length, ◌≤◌, List}
+use Rattle.update_log.specs.Core.{Core}
+use Rattle.update_log.specs.Pasts.{past_of}
+use Rattle.update_plans.specs.Following.{IsQuiet}
+use Rattle.update_plans.specs.Plans.{first_bad, plan, scene}
+use Rattle.update_plans.specs.declared.plan.PlanStep.{PlanStep}
+use Rattle.update_plans.proofs.Planned.{plan-few, plan-good}
+use Rattle.update_plans.proofs.Puts.{stands-same}
+use Rattle.update_plans.proofs.tops.make_plan.Goals as goal
+
+pub plan_all-requires : goal.plan_all-requires
+plan_all-requires g c =
+    let s = scene c.args.facts.now g.opening c.args.client c.args.tag.now in
+    record {
+      tag = c.requires.tag;
+      stands = stands-same s.facts s.opening c.args.state.now c.in_ok-own.own c.in_ok-own.ensures c.requires.stands;
+      quiet = subst (λ (core : Core). IsQuiet s (past_of core.log)) (sym c.in_ok-own.ensures) c.requires.quiet;
+    }
