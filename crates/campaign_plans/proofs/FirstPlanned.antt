@@ -1,6 +1,7 @@
 -- The log of a first boot, and that a plan may be made over it.
-use Rattle.std.proofs.Common.{◌≡◌, ℕ, ◌<◌, ◌≤◌, List, [], ◌∷◌, length, map, inl, inr, refl, ap, sym, ◌∙◌, subst, arith}
-use Rattle.std.specs.Prelude.{All, None}
+use Rattle.std.proofs.Common.{◌≡◌, ℕ, Bool, true, false, ◌<◌, ◌≤◌, List, [], ◌∷◌, length, map, inl, inr, refl, ap, sym, ◌∙◌, subst, arith}
+use Rattle.std.specs.Prelude.{All, ◌==◌, Some, None, slice_get}
+use Rattle.std.proofs.lemmas.Bool.{eq-eqb, eqb-true}
 use Rattle.std.proofs.lemmas.List.{length-map}
 use Rattle.std.proofs.lemmas.List.Elements.{All-weaker}
 use Rattle.emulated_boards.specs.Boards.{BoardState}
@@ -15,8 +16,10 @@ use Rattle.update_log.specs.declared.event.Event.{Event}
 use Rattle.update_log.specs.declared.facts.BootPlan.{BootPlan}
 use Rattle.update_log.specs.declared.facts.Facts.{Facts}
 use Rattle.update_log.specs.Core.{Stands}
-use Rattle.update_log.specs.Pasts.{past_of}
-use Rattle.update_plans.specs.Plans.{first_bad, scene}
+use Rattle.update_log.specs.Pasts.{boots, past_of}
+use Rattle.update_plans.specs.Following.{IsQuiet}
+use Rattle.update_plans.specs.Plans.{Scene, first_bad, plan, scene}
+use Rattle.update_plans.specs.declared.plan.PlanStep.{PlanStep}
 use Rattle.campaign_plans.specs.declared.first_plan.FirstPlan.{FirstPlan}
 use Rattle.campaign_plans.specs.FirstPlans.{CanBePlanned, IsFirstPlan, first_log, first_steps, plan_after}
 
@@ -68,3 +71,32 @@ is_first_plan facts shown boots rows tag first stands log tagged steps few good 
       few = few;
       good = subst (λ (past : List Event). first_bad (scene facts rows 1 tag) 1 first.plan.steps past ≡ None) same good;
     }
+
+-- The log by what stands first among the boots.
+pub log_some : (boots : List BootPlan) (boot : BootPlan) (shown : List Seen) (log : List Event) → slice_get boots 0 ≡ Some boot → log ≡ first_boot boot shown ∷ [] → log ≡ first_log boots shown
+log_some [] boot shown log at is = cc
+log_some (b ∷ boots) boot shown log at is = let same : b ≡ boot = cc in is ∙ ap (λ (x : BootPlan). first_boot x shown ∷ []) (sym same)
+
+pub log_none : (boots : List BootPlan) (shown : List Seen) (log : List Event) → slice_get boots 0 ≡ None → log ≡ [] → log ≡ first_log boots shown
+log_none [] shown log at is = is
+log_none (b ∷ boots) shown log at is = cc
+
+-- Where there was a boot, the past is quiet, and its installs are those of the plan.
+pub quiet_booted : (facts : Facts) (rows : List Row) (tag : List ℕ) (past : List Event) (n : ℕ) → n ≡ boots past → (n ≡ 0 → ⊥) → CanBePlanned facts rows tag past → IsQuiet (scene facts rows 1 tag) past
+quiet_booted facts rows tag past n e no (inl z) = absurd (no (e ∙ z))
+quiet_booted facts rows tag past n e no (inr q) = q
+
+pub plan_booted : (facts : Facts) (rows : List Row) (tag : List ℕ) (past : List Event) (steps : List PlanStep) (n : ℕ) → n ≡ boots past → (n ≡ 0 → ⊥) → steps ≡ plan (scene facts rows 1 tag) past → steps ≡ plan_after facts rows tag past
+plan_booted facts rows tag past steps n e no is = at (boots past == 0) refl
+  where
+    at : (b : Bool) → (boots past == 0) ≡ b → steps ≡ plan_after facts rows tag past
+    at true t = absurd (no (e ∙ eqb-true (boots past) 0 t))
+    at false f = rw f is
+
+-- Without a boot there are none, and none of them is bad.
+pub plan_unbooted : (facts : Facts) (rows : List Row) (tag : List ℕ) (past : List Event) (n : ℕ) → n ≡ boots past → n ≡ 0 → [] ≡ plan_after facts rows tag past
+plan_unbooted facts rows tag past n e z = let t : (boots past == 0) ≡ true = eq-eqb (boots past) 0 (sym e ∙ z) in rw t refl
+
+pub none_bad : (s : Scene) (past : List Event) → first_bad s 1 [] past ≡ None
+unfolding first_bad
+none_bad s past = refl

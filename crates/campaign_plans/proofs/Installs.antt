@@ -1,13 +1,17 @@
 -- The installs of a plan, one after the other.
 use Rattle.std.proofs.Common.{◌≡◌, ℕ, zero, suc, ◌+◌, ◌<◌, List, [], ◌∷◌, ◌++◌, length, take, get_or, refl, sym, ap, ◌∙◌, append_assoc, add-one, arith}
-use Rattle.std.specs.Prelude.{Option, Some, None, option_map}
+use Rattle.std.specs.Prelude.{Option, Some, None, codes, find, option_map}
+use Rattle.std.specs.Fmt.{decimal}
 use Rattle.std.specs.Option.{option_map_or}
 use Rattle.std.proofs.Math.Seq.{take-suc}
 use Rattle.std.proofs.lemmas.List.{append-nil}
 use Rattle.client_scripts.specs.declared.item.Item.{Item}
-use Rattle.release_catalogue.specs.Lookup.{Chosen}
+use Rattle.device_list.specs.declared.selector.Selector.{Selector}
+use Rattle.release_catalogue.specs.Lookup.{Chosen, all_releases}
+use Rattle.update_log.specs.Verdicts.{is_release}
+use Rattle.update_log.specs.declared.facts.Facts.{Facts}
 use Rattle.update_log.specs.declared.request.Request.{Request}
-use Rattle.update_plans.specs.Plans.{Scene, request_of}
+use Rattle.update_plans.specs.Plans.{Scene, no_flags, release_at, request_of}
 use Rattle.update_plans.specs.declared.plan.PlanStep.{PlanStep}
 use Rattle.campaign_plans.specs.Updating.{install_of, installs_from}
 
@@ -29,6 +33,34 @@ pub install_none : (s : Scene) (number : ℕ) (step : PlanStep) (found : Option 
     → items ≡ items ++ option_map_or (λ (chosen : Chosen). Item.Install (request_of s number step chosen) ∷ []) found []
 install_none s number step None items e = sym (append-nil items)
 install_none s number step (Some chosen) items e = cc
+
+-- the same, from what the calls say of the facts and the tag
+abbrev pub found_in : Facts → PlanStep → Option (List ℕ)
+found_in facts step =
+    option_map (λ (chosen : Chosen). chosen.release.version) (find (λ (chosen : Chosen). is_release chosen.at step.release) (all_releases facts.catalogue))
+
+abbrev pub asked_for : List ℕ → ℕ → PlanStep → List ℕ → Request
+asked_for tag number step version =
+    record { tag = tag ++ codes "-" ++ decimal number; device = Selector.Id step.device; version = version; flags = no_flags; retry_of = None }
+
+asked_same : (s : Scene) (tag : List ℕ) (number : ℕ) (step : PlanStep) (version : List ℕ) (chosen : Chosen) → s.tag ≡ tag → chosen.release.version ≡ version
+    → asked_for tag number step version ≡ request_of s number step chosen
+asked_same s tag number step version chosen t v =
+    ap (λ (x : List ℕ). asked_for x number step version) (sym t) ∙ ap (asked_for s.tag number step) (sym v)
+
+pub install_put : (s : Scene) (facts : Facts) (tag : List ℕ) (number : ℕ) (step : PlanStep) (version : List ℕ) (items new : List Item) (asked : Request)
+    → s.facts ≡ facts → s.tag ≡ tag → Some version ≡ found_in facts step → asked ≡ asked_for tag number step version
+    → new ≡ items ++ Item.Install asked ∷ [] → new ≡ items ++ install_of s number step
+install_put s facts tag number step version items new asked f t found is put =
+    install_some s number step (release_at s step.release) version items new asked
+    (ap (λ (x : Facts). found_in x step) f ∙ sym found)
+    (λ chosen v. is ∙ asked_same s tag number step version chosen t v)
+    put
+
+pub install_unput : (s : Scene) (facts : Facts) (number : ℕ) (step : PlanStep) (items : List Item)
+    → s.facts ≡ facts → None ≡ found_in facts step → items ≡ items ++ install_of s number step
+install_unput s facts number step items f found =
+    install_none s number step (release_at s step.release) items (ap (λ (x : Facts). found_in x step) f ∙ sym found)
 
 -- steps that are put behind others
 installs-push : (s : Scene) (number : ℕ) (steps : List PlanStep) (step : PlanStep) (n : ℕ) → n ≡ number + length steps

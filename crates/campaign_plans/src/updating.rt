@@ -63,10 +63,10 @@ fn put_install(
     requires few { number ≤ 8192 }
     ensures { (s : Scene) → s.facts ≡ facts.now → s.tag ≡ tag.now → OnOk result (items.new.items ≡ items.old.items ++ install_of s number step.now) }
 {
-    if let Some(version) = version_at(facts, step.release) {
-        items.push(Item::Install(request_of(tag, number, step, *version)))?;
+    match version_at(facts, step.release) {
+        Some(version) => Ok(items.push(Item::Install(request_of(tag, number, step, *version)))?),
+        None => Ok(()),
     }
-    Ok(())
 }
 
 // The campaign with its first boot alone, and one script for it.

@@ -128,7 +128,7 @@ module _ (c : Campaign) (opening : List Row) (past : List Event) (files : Files)
     off_so event e o = ap off (ended event e) ∙ off-behind out.newer (event ∷ met) out.newer_on o
 
     -- It gave that back.
-    pub given-up : (what : Back) → out.event ≡ Event.GiveBack client what → IsGivenUp (off past) wanting client asked later
+    given-up : (what : Back) → out.event ≡ Event.GiveBack client what → IsGivenUp (off past) wanting client asked later
     given-up what e =
         record {
           what = what;
@@ -173,7 +173,7 @@ module _ (c : Campaign) (opening : List Row) (past : List Event) (files : Files)
           installs = λ accept there. installed note answer now fetched last accept there;
         }
 
-    pub client-comes : 0 < client → IsClaimed c.facts opening files (off past) client request release asked later ⊎ IsGivenUp (off past) wanting client asked later
+    client-comes : 0 < client → IsClaimed c.facts opening files (off past) client request release asked later ⊎ IsGivenUp (off past) wanting client asked later
     client-comes above = on out.event refl out.lets
       where
         on : (event : Event) → out.event ≡ event → lets_go client event ≡ true → IsClaimed c.facts opening files (off past) client request release asked later ⊎ IsGivenUp (off past) wanting client asked later
@@ -264,7 +264,7 @@ module _ (c : Campaign) (opening : List Row) (past : List Event) (files : Files)
   resumed-so row (Some note) answer stored e = resumed row note answer stored e
   resumed-so row None answer stored e = not-refused row answer stored _ e
 
-  pub row-comes : IsResumed c.facts opening files (off past) entry request release waited later ⊎ IsGivenUp (off past) wanting 0 waited later
+  row-comes : IsResumed c.facts opening files (off past) entry request release waited later ⊎ IsGivenUp (off past) wanting 0 waited later
   row-comes = on ends.event refl ends.lets
     where
       on : (event : Event) → ends.event ≡ event → lets_go 0 event ≡ true → IsResumed c.facts opening files (off past) entry request release waited later ⊎ IsGivenUp (off past) wanting 0 waited later

@@ -1,8 +1,5 @@
 //! How the play of an item ends.
 ghost use Rattle.std.specs.Prelude.{◌≡◌};
-ghost use Rattle.client_plays.specs.Endings.{played_of};
-
-use daemon_core::Stop;
 
 /// How the play of an item ended.
 #[derive(Clone, Copy, Debug, PartialEq, Eq)]

@@ -168,7 +168,6 @@ impl Annals {
     }
 
     // Puts an event behind the log.
-    #[tactic(auto, using(crate::proofs::NextSo::next_so))]
     fn append(&mut self, client: u32, event: Event)
         ghost before: { List Row }
         requires before { rows_before self.old ≡ before }

@@ -32,7 +32,7 @@ use Rattle.daemon_core.specs.declared.stop.Stop.{Stop}
 use Rattle.daemon_core.specs.Annals.{Appended, IsAnnals, IsLegalSo}
 use Rattle.daemon_core.specs.Fetches.{block_count, whole_note}
 use Rattle.daemon_core.specs.Holds.{back_of}
-use Rattle.daemon_core.specs.Housed.{Annalled, Housed, past, past_in, rows_before}
+use Rattle.daemon_core.specs.Housed.{Annalled, Housed, Place, past, past_in, rows_before}
 use Rattle.daemon_core.specs.Keeping.{keeper_faults}
 use Rattle.daemon_core.specs.Resumes.{ComesIn, IsPutOff, ResumeGave, ResumeTurned, StoppedBy, note_in}
 use Rattle.daemon_core.specs.Returns.{number_of}
@@ -80,13 +80,20 @@ out-halted (Some held) stop old new h o = held-halted 0 held.0 (block_count held
 
 -- ---- the entry that begins
 
+-- How a keeper fared says nothing of the boards.
+fared-from : {K : Type 0} (signs : Signs K) (old new : Housed K) (places : List Place) → KeeperFared signs old new → KeeperFared signs (record old { places = places }) new
+fared-from signs old new places k = record { grows = k.grows; counted = k.counted; quiet = k.quiet; told = k.told }
+
+fared-to : {K : Type 0} (signs : Signs K) (old new : Housed K) (places : List Place) → KeeperFared signs old new → KeeperFared signs old (record new { places = places })
+fared-to signs old new places k = record { grows = k.grows; counted = k.counted; quiet = k.quiet; told = k.told }
+
 -- What its run did, but for the boards.
 played-home : {K : Type 0} (signs : Signs K) (plugins : ℕ → PluginSteps) (played : Played) (client entry : ℕ) (board : BoardState) (old new : Housed K) → TakenPlayed signs plugins played client entry board old new
     → HousePlayed signs played client (UpdatePlays old.annals.facts (rows_before old.annals) plugins client entry (past old)) (record old { places = new.places }) new
 played-home signs plugins played client entry board old new p =
     record {
       ended = p.ended;
-      rest = record { idle = p.idle; same = p.same; counted = p.counted; counts = p.counts; plans = keeps-here new.places };
+      rest = record { idle = p.idle; same = p.same; counted = fared-from signs old new new.places p.counted; counts = p.counts; plans = keeps-here new.places };
     }
 
 module _ {K : Type 0} (entry : ℕ) (held : Option (Ticket × Fetched)) (taken : Taken) (old new : Housed K)
@@ -162,7 +169,7 @@ module _ {K : Type 0} (entry : ℕ) (held : Option (Ticket × Fetched)) (taken :
       let between : Housed K = record new { places = last.places } in
       let update = UpdatePlays old.annals.facts (rows_before old.annals) means.plugins 0 entry (event ∷ past old) in
       played-behind signs played 0 event (ResumePlays old.annals.facts (rows_before old.annals) means entry asked) update old between last (record { no_boot = refl; own = refl }) (λ e. absurd (p.room e))
-      (λ ms u. (note_in held, ResumeAnswer.Begun, Stored.Yes, refl, f, u)) t.1 counted counts (λ plans h. p.home plans (taken-out plans h))
+      (λ ms u. (note_in held, ResumeAnswer.Begun, Stored.Yes, refl, f, u)) t.1 (fared-to signs old new last.places counted) counts (λ plans h. p.home plans (taken-out plans h))
       (update-so signs means.plugins played between last (played-home signs means.plugins played 0 taken.entry taken.board new last p))
 
   pub resume-others : (last : Housed K) → OthersStay taken.entry new.annals last.annals → OthersStay entry old.annals last.annals

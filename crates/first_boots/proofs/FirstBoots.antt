@@ -8,6 +8,7 @@ use Rattle.std.proofs.lemmas.Option.{get_or_from_slice_get, slice_get_within}
 use Rattle.fw_facts.specs.declared.seen.Mode.{Mode}
 use Rattle.fw_facts.specs.declared.seen.Seen.{Seen}
 use Rattle.fw_facts.specs.Views.{is_home}
+use Rattle.history_keeper.specs.declared.row.Row.{Row}
 use Rattle.emulated_boards.specs.declared.image.Image.{Image}
 use Rattle.emulated_boards.specs.declared.mark.Mark.{Mark}
 use Rattle.emulated_boards.specs.Boards.{BoardState}
@@ -160,3 +161,7 @@ pub boot_rows : (facts : Facts) (opening : List Row) (plan : BootPlan) (log : Li
 boot_rows facts opening plan log listed core l same s =
     let kept : core.rows ≡ opening = s.rows ∙ ap (λ (xs : List Event). rows facts opening (past_of xs)) (same ∙ l) in
     rw (l, kept) (omega arith)
+
+-- A state that stands for no event has the rows before it.
+pub rows_before : (facts : Facts) (opening : List Row) (core : Core) → core.log ≡ [] → Stands facts opening core → core.rows ≡ opening
+rows_before facts opening core none stands = stands.rows ∙ ap (λ log. rows facts opening (past_of log)) none

@@ -1,7 +1,6 @@
 //! The state after a first boot.
-ghost use Rattle.std.specs.Prelude.{◌≡◌, ◌≤◌, [], ◌∷◌, List, length, map, All, IfOk, OnOk};
+ghost use Rattle.std.specs.Prelude.{◌≡◌, ◌≤◌, [], ◌∷◌, length, map, All, IfOk, OnOk};
 ghost use Rattle.history_keeper.specs.Histories.{IsHistory};
-ghost use Rattle.history_keeper.specs.declared.row.Row.{Row};
 ghost use Rattle.update_log.specs.Core.{Stands};
 ghost use Rattle.update_log.specs.Legal.{is_absent};
 ghost use Rattle.first_boots.specs.FirstBoot.{IsAsMade, IsFirstShown, first_boot, listed_from, seen_at, shown_by};
@@ -96,15 +95,14 @@ fn boot(
     plan: &BootPlan,
     shown: &[Seen],
 ) -> Result<(), NoMemory>
-    ghost opening: { List Row }
-    requires stands { Stands facts.now opening state.old }
+    requires stands { Stands facts.now state.old.rows state.old }
     requires empty { state.old.log ≡ [] }
     requires room { 1 ≤ state.old.room }
     requires few { length shown.now ≤ 256 }
     requires count { length shown.now ≡ length facts.now.sheets }
     requires made { All IsFirstShown shown.now }
     ensures log { OnOk result (state.new.log ≡ first_boot plan.now shown.now ∷ []) }
-    ensures stands { OnOk result (Stands facts.now opening state.new) }
+    ensures stands { OnOk result (Stands facts.now state.old.rows state.new) }
 {
     let listed = listed(alloc, plan, shown)?;
     step(

@@ -94,7 +94,7 @@ arranged-well sheets faults.NoMemory can h = absurd h
 pub valid-opening : (came now : List Row → Type 0) (opening : List Row) (log : List Event) → IsHistory opening ⊎ (((all : List Row) → came all → IsHistory all) × ((all : List Row) × now all)) → IsOpening came now opening log → IsHistory opening
 valid-opening came now opening log (inl v) o = v
 valid-opening came now opening log (inr (v, some)) (inl told) = v opening (told some.0 some.1)
-valid-opening came now opening log (inr (v, some)) (inr (e, none)) = subst IsHistory (sym e) history_none
+valid-opening came now opening log (inr (v, some)) (inr (e, still, none)) = subst IsHistory (sym e) history_none
 
 too-many : (asked asked' most shelves : ℕ) → asked ≡ asked' → asked' ≤ most → (shelves ≡ most) × (most < asked) → ⊥
 too-many asked asked' most shelves e w h = let m : most < asked = h.1 in omega (arith, e, w, m)

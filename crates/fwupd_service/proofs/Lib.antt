@@ -11,3 +11,5 @@ pub mod Completing
 pub mod PlannedBoards
 pub mod PlanCompleting
 pub mod LoadLaws
+pub mod PlanAccepting
+pub mod ReportLaws

@@ -1,14 +1,19 @@
 -- What `plan` and `update` come to, once the history was loaded.
-use Rattle.std.proofs.Common.{◌≡◌, ℕ, ◌+◌, ◌<◌, ◌≤◌, List, [], ◌∷◌, ◌++◌, length, Option, Some, None, refl, sym, ap, ◌∙◌, subst, arith}
-use Rattle.std.specs.Prelude.{◌-◌, ◌^◌, All}
+use Rattle.std.proofs.Common.{◌≡◌, ◌⊎◌, ℕ, ◌+◌, ◌<◌, ◌≤◌, List, [], ◌∷◌, ◌++◌, length, map, Option, Some, None, refl, sym, ap, ◌∙◌, subst, inl, inr, arith}
+use Rattle.std.specs.Prelude.{◌-◌, ◌^◌, All, Result, Ok, Err}
 use Rattle.std.specs.Option.{option_map_or}
 use Rattle.std.proofs.lemmas.List.Elements.{All-cons, All-head, All-nil}
 use Rattle.emulated_boards.specs.Boards.{BoardState}
+use Rattle.fw_facts.specs.declared.view.DeviceView.{DeviceView}
 use Rattle.history_keeper.specs.declared.change.Change.{Change}
+use Rattle.history_keeper.specs.declared.refusal.KeeperRefusal.{KeeperRefusal}
 use Rattle.history_keeper.specs.declared.row.Row.{Row}
 use Rattle.history_keeper.specs.Keepers.{StillTold}
 use Rattle.update_log.specs.declared.event.Event.{Event}
 use Rattle.update_log.specs.declared.facts.BootPlan.{BootPlan}
+use Rattle.update_log.specs.Known.{views}
+use Rattle.update_log.specs.Pasts.{past_of}
+use Rattle.daemon_core.specs.House.{shown_by}
 use Rattle.daemon_core.specs.Reading.{AreTold}
 use Rattle.client_plays.specs.Endings.{IsScriptItem}
 use Rattle.client_scripts.specs.declared.item.Item.{Item}
@@ -16,22 +21,58 @@ use Rattle.site_types.specs.declared.campaign.Campaign.{Campaign}
 use Rattle.release_catalogue.specs.Lookup.{Chosen}
 use Rattle.update_plans.specs.Plans.{Scene, release_at, request_of}
 use Rattle.update_plans.specs.declared.plan.PlanStep.{PlanStep}
+use Rattle.campaign_plans.specs.declared.first_plan.FirstPlan.{FirstPlan}
+use Rattle.campaign_plans.specs.FirstPlans.{IsFirstPlan, first_log}
+use Rattle.campaign_plans.specs.Printed.{plan_text}
+use Rattle.campaign_plans.proofs.FirstPlanned.{past_of_first}
 use Rattle.campaign_plans.specs.Updating.{Plays, first_alone, install_of, installs_from, one_script}
 use Rattle.fwupd_service.specs.declared.loading.LoadStop.{LoadStop}
+use Rattle.fwupd_service.specs.declared.loading.LoadStop.TheVariants as loads
 use Rattle.fwupd_service.specs.Begins.{CanBePlayed, IsReadyFor}
-use Rattle.fwupd_service.specs.Loads.{WasLoaded}
+use Rattle.fwupd_service.specs.Loads.{IsJudged, LoadSays, WasLoaded}
 use Rattle.fwupd_service.specs.Tops.{Left}
-use Rattle.fwupd_service.specs.Updates.{OnlyLoaded}
+use Rattle.fwupd_service.specs.Updates.{OnlyLoaded, printed_plan}
 
 -- Rows that were loaded are those that the keeper told before, if it tells any still.
 pub rows_told : (before after : List Row → Type 0) (loaded : List Row) → StillTold before after → ((all : List Row) → after all → loaded ≡ all) → AreTold before after loaded
 rows_told before after loaded still answer = λ all t. subst before (sym (answer all t)) (still all t)
+
+-- What was found of such rows is what the load says of them.
+pub judged_says : (stop : Option LoadStop) (came now : List Row → Type 0) (rows : List Row) (before after : ℕ) → IsJudged stop rows → AreTold came now rows → LoadSays stop came now rows before after
+judged_says None came now rows before after judged told = (told, judged)
+judged_says (Some loads.KeeperFault) came now rows before after judged told = absurd judged
+judged_says (Some (loads.BadHistory entry)) came now rows before after judged told = (told, judged)
+judged_says (Some loads.NoMemory) came now rows before after judged told = inr told
+
+-- A load that tells no fault counted none.
+pub quiet-ok : {A E : Type 0} (x : A) (fault : E) (P Q : Type 0) → (Ok x ≡ Err fault) ⊎ Q → P ⊎ Q
+quiet-ok x fault P Q (inl e) = cc
+quiet-ok x fault P Q (inr q) = inr q
+
+pub quiet-other : {A : Type 0} (r : Result A KeeperRefusal) (P Q : Type 0) → r ≡ Err KeeperRefusal.NoMemory → (r ≡ Err KeeperRefusal.Fault) ⊎ Q → P ⊎ Q
+quiet-other r P Q n (inl e) = let bad = sym n ∙ e in cc
+quiet-other r P Q n (inr q) = inr q
+
+-- What is known of a load that stopped nothing.
+pub loaded-only : {K : Type 0} (told : K → List Row → Type 0) (doubted : K → Option Change) (faults : K → ℕ) (stop : Option LoadStop) (rows : List Row) (keeper middle : K)
+    → WasLoaded told doubted faults stop rows keeper middle → stop ≡ None → WasLoaded told doubted faults None rows keeper middle
+loaded-only told doubted faults stop rows keeper middle w e = subst (λ (s : Option LoadStop). WasLoaded told doubted faults s rows keeper middle) e w
 
 -- Nothing but the load happened.
 pub only-loaded : {K : Type 0} (told : K → List Row → Type 0) (doubted : K → Option Change) (faults : K → ℕ) (stop : Option LoadStop) (rows : List Row) (keeper middle : K) (left : Left K)
     → WasLoaded told doubted faults stop rows keeper middle → left.log ≡ [] → left.opening ≡ rows → left.boards ≡ None → left.keeper ≡ middle
     → OnlyLoaded told doubted faults stop keeper left
 only-loaded told doubted faults stop rows keeper middle left w log opening boards kept = record { log = log; boards = boards; loaded = rw (opening, kept) w }
+
+-- The text of the plan that was made is what `plan` prints.
+pub plan-text : (campaign : Campaign) (rows : List Row) (tag : List ℕ) (first : FirstPlan) (seen : List DeviceView) (steps : List PlanStep) → IsFirstPlan campaign.facts (map shown_by campaign.boards.items) campaign.boots rows tag first
+    → seen ≡ first.state.views → steps ≡ first.plan.steps → plan_text campaign.facts seen steps ≡ printed_plan campaign rows tag
+plan-text campaign rows tag first seen steps p v s =
+    let shown = map shown_by campaign.boards.items in
+    let shows : seen ≡ views campaign.facts rows (first_log campaign.boots shown) =
+    v ∙ p.stands.views ∙ ap (λ (log : List Event). views campaign.facts rows (past_of log)) p.log ∙ ap (λ (past : List Event). views campaign.facts rows past) (past_of_first campaign.boots shown) in
+    ap (λ (x : List DeviceView). plan_text campaign.facts x steps) shows
+    ∙ ap (λ (x : List PlanStep). plan_text campaign.facts (views campaign.facts rows (first_log campaign.boots shown)) x) (s ∙ p.steps_are)
 
 -- Installs may stand in a script.
 installs-may : (s : Scene) (number : ℕ) (steps : List PlanStep) → All IsScriptItem (installs_from s number steps)

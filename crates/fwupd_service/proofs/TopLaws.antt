@@ -1,5 +1,5 @@
 -- What a run comes to.
-use Rattle.std.proofs.Common.{◌≡◌, ℕ, List, [], ◌∷◌, map, Option, Some, None, refl, subst, arith}
+use Rattle.std.proofs.Common.{◌≡◌, ℕ, List, [], ◌∷◌, map, Option, Some, None, refl, subst, inr, arith}
 use Rattle.std.specs.Prelude.{Result, Ok, Err, IfOk, IfErr}
 use Rattle.emulated_boards.specs.Boards.{BoardState}
 use Rattle.history_keeper.specs.declared.change.Change.{Change}
@@ -15,11 +15,13 @@ use Rattle.site_types.specs.declared.campaign.Campaign.{Campaign}
 use Rattle.command_words.specs.declared.command.Command.{Command}
 use Rattle.command_words.specs.declared.command.Command.TheVariants as commands
 use Rattle.run_status.specs.declared.status.Status.{Status}
+use Rattle.run_status.specs.declared.status.Status.TheVariants as statuses
+use Rattle.report_queue.specs.Stops.{Told}
 use Rattle.fwupd_service.specs.Campaigns.{ShelvesStand, WasPlayed}
 use Rattle.fwupd_service.specs.Commands.{KeepsShelves}
 use Rattle.fwupd_service.specs.Ends.{IsReported}
-use Rattle.fwupd_service.specs.Reported.{KeepsMarks}
-use Rattle.fwupd_service.specs.Tops.{CampaignTold}
+use Rattle.fwupd_service.specs.Reported.{FaultTold, KeepsMarks, MarksTold}
+use Rattle.fwupd_service.specs.Tops.{CampaignTold, Left}
 use Rattle.fwupd_service.proofs.EndLaws.{campaign-ends}
 
 -- What holds of a result that is `Ok`, or `Err`.
@@ -54,6 +56,24 @@ marks-same (Some (commands.Explain port version)) old new e = e
 marks-same (Some (commands.Ids texts)) old new e = e
 marks-same (Some (commands.Make boards clients)) old new e = e
 marks-same (Some (commands.Report max)) old new e = tt
+
+-- Where there was no memory for the words nothing was marked or written.
+pub marks-untold : {K : Type 0} (told : K → List Row → Type 0) (command : Option Command) (status : Status) (keeper : K) (left : Left K) (before after : Told) → status ≡ statuses.NoMemory → after ≡ before → MarksTold told command status keeper left before after
+marks-untold told None status keeper left before after e same = tt
+marks-untold told (Some commands.Run) status keeper left before after e same = tt
+marks-untold told (Some (commands.Plan tag)) status keeper left before after e same = tt
+marks-untold told (Some (commands.Update tag)) status keeper left before after e same = tt
+marks-untold told (Some commands.Check) status keeper left before after e same = tt
+marks-untold told (Some commands.Remotes) status keeper left before after e same = tt
+marks-untold told (Some (commands.Explain port version)) status keeper left before after e same = tt
+marks-untold told (Some (commands.Ids texts)) status keeper left before after e same = tt
+marks-untold told (Some (commands.Make boards clients)) status keeper left before after e same = tt
+marks-untold told (Some (commands.Report max)) status keeper left before after e same = inr (e, same)
+
+-- A status that tells no fault of a keeper tells none under `report`.
+pub no-fault-told : (command : Option Command) (status : Status) (rows rows' marks marks' : ℕ) → (status ≡ statuses.KeeperFault → ⊥) → FaultTold command status rows rows' marks marks'
+no-fault-told (Some (commands.Report max)) status rows rows' marks marks' none = λ e. absurd (none e)
+no-fault-told _ status rows rows' marks marks' none = tt
 
 -- Shelves that nobody used stay.
 pub stay-same : (shelves : List ShelfTold) → ShelvesStay shelves shelves

@@ -28,7 +28,7 @@ use Rattle.fwupd_service.proofs.FaultsTold.{counted-none, no-fault-told}
 
 none-opened : (own opening : List Row) (log : List Event) → IsOpening (λ all. [] ≡ all) (λ all. own ≡ all) opening log → opening ≡ []
 none-opened own opening log (inl told) = sym (told own refl)
-none-opened own opening log (inr (e, none)) = e
+none-opened own opening log (inr (e, still, none)) = e
 
 -- No row breaks no rule.
 none-breaks : (entry : ℕ) (opening : List Row) → opening ≡ [] → BreaksAt entry opening → ⊥

@@ -13,13 +13,14 @@ use crate::own_keeper::OwnKeeper;
 use crate::playing::{Played, play};
 use crate::ran::RunLeft;
 use crate::reporting::{status_of, write_summed};
-use campaign_inputs::{Ready, make_campaign};
+use campaign_inputs::make_campaign;
 use fw_base::NoMemory;
 use outer_traits::{Gate, MemoryShelf, Sink};
 use plugin_order::OrderFault;
 use plugin_trait::Plugin;
 use run_status::Status;
 use sha2::{Digest as _, Sha256};
+use site_types::Campaign;
 use std::alloc::Global;
 use std::sync::Wait;
 use std::thread::Threads;
@@ -57,7 +58,16 @@ pub(crate) fn make<R: Threads + Wait + Sync, P, K, T: Sink, G: Gate + Sync>(
 {
     match make_campaign(alloc, boards, clients, plugins) {
         Ok(ready) => make_ready(
-            rt, alloc, boards, clients, ready, shelves, keeper, gate, out,
+            rt,
+            alloc,
+            boards,
+            clients,
+            ready.campaign,
+            ready.plugins,
+            shelves,
+            keeper,
+            gate,
+            out,
         ),
         Err(fault) => RunLeft::nothing(alloc, order_status(fault), shelves, keeper),
     }
@@ -99,15 +109,16 @@ fn make_ready<R: Threads + Wait + Sync, P, K, T: Sink, G: Gate + Sync>(
     alloc: Global,
     boards: u32,
     clients: u32,
-    ready: Ready,
+    campaign: Campaign,
+    plugins: Vec<Box<dyn Plugin>>,
     shelves: Vec<P>,
     keeper: K,
     gate: &G,
     out: &mut T,
 ) -> RunLeft<P, K>
-    requires ready { CanBePlayed ready.campaign }
-    requires shelves { IsReadyFor clients (length ready.plugins.items) ready.campaign }
-    ensures went { MadeOrNothing boards clients (steps_at (λ p. steps p) ready.plugins.items) result.status ready.campaign keeper
+    requires ready { CanBePlayed campaign }
+    requires shelves { IsReadyFor clients (length plugins.items) campaign }
+    ensures went { MadeOrNothing boards clients (steps_at (λ p. steps p) plugins.items) result.status campaign keeper
         (record { log = result.log; opening = result.opening; boards = result.boards; keeper = result.keeper })
         (T.taken out.old) (T.taken out.new) }
     ensures sink_fault { result.status ≡ Status.SinkFault → Rose (T.faults out.old) (T.faults out.new) }
@@ -120,7 +131,7 @@ fn make_ready<R: Threads + Wait + Sync, P, K, T: Sink, G: Gate + Sync>(
         Err(NoMemory) => return RunLeft::nothing(alloc, Status::NoMemory, shelves, keeper),
     };
     let own_keeper = OwnKeeper::new(alloc);
-    let (outcome, _own) = play(rt, alloc, ready, own, own_keeper, gate);
+    let (outcome, _own) = play(rt, alloc, campaign, plugins, own, own_keeper, gate);
     match outcome {
         Ok(played) => summed(alloc, boards, clients, played, shelves, keeper, out),
         Err(_own_keeper) => RunLeft::nothing(alloc, Status::NoMemory, shelves, keeper),

@@ -13,7 +13,6 @@ ghost use Rattle.fwupd_service.specs.Begins.{CanBePlayed, IsBegun, IsReadyFor};
 ghost use Rattle.fwupd_service.specs.Campaigns.{ShelvesStand, WasPlayed};
 
 use block_pool::Pool;
-use campaign_inputs::Ready;
 use campaign_runs::Ran;
 use client_scripts::Item;
 use client_threads::run_on_threads;
@@ -123,25 +122,25 @@ fn new_house<K: Keeper>(
 pub(crate) fn play<R: Threads + Wait + Sync, P: Shelf + Send, K: Keeper + Send, G: Gate + Sync>(
     rt: &R,
     alloc: Global,
-    ready: Ready,
+    campaign: Campaign,
+    plugins: Vec<Box<dyn Plugin>>,
     shelves: Vec<P>,
     keeper: K,
     gate: &G,
 ) -> (Result<Played<K>, K>, Vec<P>)
-    requires ready { CanBePlayed ready.campaign }
-    requires shelves { IsReadyFor (length shelves.items) (length ready.plugins.items) ready.campaign }
+    requires ready { CanBePlayed campaign }
+    requires shelves { IsReadyFor (length shelves.items) (length plugins.items) campaign }
     requires no_doubt { K.doubt keeper ≡ None }
-    ensures played { IfOk result.0 (λ played. WasPlayed K.tells K.doubt K.faults (means_for (steps_at (λ p. steps p) ready.plugins.items) (shelves_told P.files P.faults shelves.items)) played.ran
-        (with_plans ready.campaign.facts (map shown_by ready.campaign.boards.items) ready.campaign.boots)
-        ready.campaign.scripts played.opening played.log played.boards keeper played.keeper) }
-    ensures plans { IfOk result.0 (λ played. map (λ b. b.plan) played.boards ≡ map (λ b. b.plan) ready.campaign.boards.items) }
-    ensures facts { IfOk result.0 (λ played. played.facts ≡ ready.campaign.facts) }
+    ensures played { IfOk result.0 (λ played. WasPlayed K.tells K.doubt K.faults (means_for (steps_at (λ p. steps p) plugins.items) (shelves_told P.files P.faults shelves.items)) played.ran
+        (with_plans campaign.facts (map shown_by campaign.boards.items) campaign.boots)
+        campaign.scripts played.opening played.log played.boards keeper played.keeper) }
+    ensures plans { IfOk result.0 (λ played. map (λ b. b.plan) played.boards ≡ map (λ b. b.plan) campaign.boards.items) }
+    ensures facts { IfOk result.0 (λ played. played.facts ≡ campaign.facts) }
     ensures few { IfOk result.0 (λ played. length played.facts.sheets ≤ 256) }
     ensures refused { IfErr result.0 (λ refused. refused ≡ keeper) }
     ensures unused { IfErr result.0 (λ refused. result.1.items ≡ shelves.items) }
     ensures stand { IfOk result.0 (λ played. ShelvesStand played.log (shelves_told P.files P.faults shelves.items) (shelves_told P.files P.faults result.1.items)) }
 {
-    let Ready { campaign, plugins } = ready;
     let Campaign {
         facts,
         boards,

@@ -13,11 +13,12 @@ ghost use Rattle.plugin_trait.specs.Steps.{steps_at};
 use crate::playing::play;
 use crate::ran::RunLeft;
 use crate::reporting::reported;
-use campaign_inputs::{ClientLimit, OpenStop, Ready, open_campaign};
+use campaign_inputs::{ClientLimit, OpenStop, open_campaign};
 use history_keeper::Keeper;
 use outer_traits::{Gate, Shelf, Sink, Source};
 use plugin_trait::Plugin;
 use run_status::Status;
+use site_types::Campaign;
 use std::alloc::Global;
 use std::sync::Wait;
 use std::thread::Threads;
@@ -57,7 +58,16 @@ pub(crate) fn run<
 {
     let limit = ClientLimit::Shelves(shelves.len());
     match open_campaign(alloc, source, limit, plugins) {
-        Ok(ready) => run_ready(rt, alloc, ready, shelves, keeper, gate, out),
+        Ok(ready) => run_ready(
+            rt,
+            alloc,
+            ready.campaign,
+            ready.plugins,
+            shelves,
+            keeper,
+            gate,
+            out,
+        ),
         Err(stop) => RunLeft::nothing(alloc, stop_status(stop), shelves, keeper),
     }
 }
@@ -86,24 +96,25 @@ pub(crate) fn run_ready<
 >(
     rt: &R,
     alloc: Global,
-    ready: Ready,
+    campaign: Campaign,
+    plugins: Vec<Box<dyn Plugin>>,
     shelves: Vec<P>,
     keeper: K,
     gate: &G,
     out: &mut T,
 ) -> RunLeft<P, K>
-    requires ready { CanBePlayed ready.campaign }
-    requires shelves { IsReadyFor (length shelves.items) (length ready.plugins.items) ready.campaign }
+    requires ready { CanBePlayed campaign }
+    requires shelves { IsReadyFor (length shelves.items) (length plugins.items) campaign }
     requires no_doubt { K.doubt keeper ≡ None }
-    ensures went { Went K.tells K.doubt K.faults (shelves_told P.files P.faults shelves.items) (shelves_told P.files P.faults result.shelves.items) (steps_at (λ p. steps p) ready.plugins.items) result.status ready.campaign keeper
+    ensures went { Went K.tells K.doubt K.faults (shelves_told P.files P.faults shelves.items) (shelves_told P.files P.faults result.shelves.items) (steps_at (λ p. steps p) plugins.items) result.status campaign keeper
         (record { log = result.log; opening = result.opening; boards = result.boards; keeper = result.keeper })
-        (report ready.campaign.facts result.opening result.log) (T.taken out.old) (T.taken out.new) }
+        (report campaign.facts result.opening result.log) (T.taken out.old) (T.taken out.new) }
     ensures sink_fault { result.status ≡ Status.SinkFault → Rose (T.faults out.old) (T.faults out.new) }
     ensures sink_quiet { (result.status ≡ Status.SinkFault) ⊎ (T.faults out.new ≡ T.faults out.old) }
     ensures sink_counts { T.faults out.old ≤ T.faults out.new }
     ensures shelves { ShelvesStay (shelves_told P.files P.faults shelves.items) (shelves_told P.files P.faults result.shelves.items) }
 {
-    let (outcome, shelves) = play(rt, alloc, ready, shelves, keeper, gate);
+    let (outcome, shelves) = play(rt, alloc, campaign, plugins, shelves, keeper, gate);
     match outcome {
         Ok(played) => reported(alloc, played, shelves, out),
         Err(keeper) => RunLeft::nothing(alloc, Status::NoMemory, shelves, keeper),

@@ -14,13 +14,14 @@ ghost use Rattle.plugin_trait.specs.Steps.{steps_at};
 use crate::loading::{Loaded, load, load_status};
 use crate::ran::RunLeft;
 use crate::run::{run_ready, stop_status};
-use campaign_inputs::{ClientLimit, Ready, open_campaign};
+use campaign_inputs::{ClientLimit, open_campaign};
 use campaign_plans::updated;
 use fw_base::{Name, NoMemory};
 use history_keeper::Keeper;
 use outer_traits::{Gate, Shelf, Sink, Source};
 use plugin_trait::Plugin;
 use run_status::Status;
+use site_types::Campaign;
 use std::alloc::Global;
 use std::sync::Wait;
 use std::thread::Threads;
@@ -63,7 +64,17 @@ pub(crate) fn update<
 {
     let limit = ClientLimit::Shelves(shelves.len());
     match open_campaign(alloc, source, limit, plugins) {
-        Ok(ready) => update_campaign(rt, alloc, ready, tag, shelves, keeper, gate, out),
+        Ok(ready) => update_campaign(
+            rt,
+            alloc,
+            ready.campaign,
+            ready.plugins,
+            tag,
+            shelves,
+            keeper,
+            gate,
+            out,
+        ),
         Err(stop) => RunLeft::nothing(alloc, stop_status(stop), shelves, keeper),
     }
 }
@@ -78,19 +89,20 @@ fn update_campaign<
 >(
     rt: &R,
     alloc: Global,
-    ready: Ready,
+    campaign: Campaign,
+    plugins: Vec<Box<dyn Plugin>>,
     tag: Name,
     shelves: Vec<P>,
     keeper: K,
     gate: &G,
     out: &mut T,
 ) -> RunLeft<P, K>
-    requires begins { CanBegin ready.campaign }
-    requires ready { CanBePlayed ready.campaign }
-    requires shelves { IsReadyFor (length shelves.items) (length ready.plugins.items) ready.campaign }
+    requires begins { CanBegin campaign }
+    requires ready { CanBePlayed campaign }
+    requires shelves { IsReadyFor (length shelves.items) (length plugins.items) campaign }
     requires no_doubt { K.doubt keeper ≡ None }
     requires tag { IsTag tag }
-    ensures goes { UpdateGoes K.tells K.doubt K.faults (shelves_told P.files P.faults shelves.items) (shelves_told P.files P.faults result.shelves.items) (steps_at (λ p. steps p) ready.plugins.items) tag ready.campaign result.status keeper
+    ensures goes { UpdateGoes K.tells K.doubt K.faults (shelves_told P.files P.faults shelves.items) (shelves_told P.files P.faults result.shelves.items) (steps_at (λ p. steps p) plugins.items) tag campaign result.status keeper
         (record { log = result.log; opening = result.opening; boards = result.boards; keeper = result.keeper })
         (T.taken out.old) (T.taken out.new) }
     ensures sink_fault { result.status ≡ Status.SinkFault → Rose (T.faults out.old) (T.faults out.new) }
@@ -103,12 +115,8 @@ fn update_campaign<
     if let Some(stop) = stop {
         return RunLeft::loaded(alloc, load_status(stop), rows, shelves, keeper);
     }
-    let Ready { campaign, plugins } = ready;
     match updated(alloc, campaign, &rows, &tag) {
-        Ok(campaign) => {
-            let ready = Ready { campaign, plugins };
-            run_ready(rt, alloc, ready, shelves, keeper, gate, out)
-        }
+        Ok(made) => run_ready(rt, alloc, made, plugins, shelves, keeper, gate, out),
         Err(NoMemory) => RunLeft::loaded(alloc, Status::NoMemory, rows, shelves, keeper),
     }
 }

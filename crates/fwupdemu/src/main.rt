@@ -2,6 +2,11 @@
 //! plugins and shelves, and ends with its status.
 #![tactic(auto)]
 
+ghost use Rattle.std.specs.Prelude.{map};
+ghost use Rattle.site_making.specs.Settled.{vetoes_of};
+ghost use Rattle.host_service.specs.Brought.{AreProgram};
+
+use board_plugins::{Capsule, Flash, Loader, Power};
 use fw_base::NoMemory;
 use fwupd_service::{Kept, Ran, Status, kept_by};
 use history_keeper::{KeeperRefusal, MemoryKeeper};
@@ -9,6 +14,7 @@ use history_sqlite::FileKeeper;
 use host_service::{run_over_file, run_over_folder};
 use marks_sqlite::FileMarks;
 use outer_traits::{FolderShelf, ReadSource, WriteSink};
+use plugin_trait::Plugin;
 use report_queue::MemoryMarks;
 use sqlite::Unknown;
 use std::io::{BufWriter, IsTerminal, Write};
@@ -31,8 +37,8 @@ const MARKS: &str = "reports.db";
 /// How many bytes of the output are gathered before they are handed on.
 const GATHERED: usize = 65_536;
 
-/// Runs the command of the command line, over the keepers that it is about. `host` is the same
-/// runtime, of which the history's file and the shelves are made. `NoMemory` comes only where the words, the
+/// Runs the command of the command line with the program's four plugins, over the keepers that it is about. `host` is
+/// the same runtime, of which the history's file and the shelves are made. `NoMemory` comes only where the words, the
 /// shelves or the plugins couldn't be made.
 fn run<R: Runtime + AllocGlobal + Threads + Wait + Sync>(
     rt: &R,
@@ -52,10 +58,15 @@ fn run<R: Runtime + AllocGlobal + Threads + Wait + Sync>(
     for word in &words {
         texts.push(word.as_bytes())?;
     }
+    let mut plugins: Vec<Box<dyn Plugin>> = Vec::new(alloc);
+    plugins.push(Box::new(alloc, Flash::new(alloc)?)?)?;
+    plugins.push(Box::new(alloc, Loader::new(alloc)?)?)?;
+    plugins.push(Box::new(alloc, Capsule::new(alloc)?)?)?;
+    plugins.push(Box::new(alloc, Power::new(alloc)?)?)?;
     match kept_by(alloc, &texts)? {
-        Kept::Nothing => run_over_nothing(rt, host, &texts),
-        Kept::History => run_over_history(rt, host, &texts),
-        Kept::HistoryAndMarks => report_over_files(rt, host, &texts),
+        Kept::Nothing => run_over_nothing(rt, host, &texts, plugins),
+        Kept::History => run_over_history(rt, host, &texts, plugins),
+        Kept::HistoryAndMarks => report_over_files(rt, host, &texts, plugins),
     }
 }
 
@@ -66,7 +77,10 @@ fn run_over_history<R: Runtime + AllocGlobal + Threads + Wait + Sync>(
     rt: &R,
     host: &HostRuntime,
     words: &[&[u8]],
-) -> Result<Status, NoMemory> {
+    plugins: Vec<Box<dyn Plugin>>,
+) -> Result<Status, NoMemory>
+    requires { AreProgram (map (λ p. own_sheet p) plugins.items) (λ machine. map (λ p. vetoes_of (own_sheet p) (vetoes_on p machine)) plugins.items) }
+{
     let mut source = ReadSource::new(rt.reader());
     let Ok(mut gathered) = BufWriter::with_capacity(rt.alloc(), GATHERED, io::writer(rt)) else {
         return Err(NoMemory);
@@ -79,6 +93,7 @@ fn run_over_history<R: Runtime + AllocGlobal + Threads + Wait + Sync>(
         words,
         &mut source,
         SHELF,
+        plugins,
         HISTORY,
         Unknown,
         unused,
@@ -101,7 +116,10 @@ fn report_over_files<R: Runtime + AllocGlobal + Threads + Wait + Sync>(
     rt: &R,
     host: &HostRuntime,
     words: &[&[u8]],
-) -> Result<Status, NoMemory> {
+    plugins: Vec<Box<dyn Plugin>>,
+) -> Result<Status, NoMemory>
+    requires { AreProgram (map (λ p. own_sheet p) plugins.items) (λ machine. map (λ p. vetoes_of (own_sheet p) (vetoes_on p machine)) plugins.items) }
+{
     let history = match FileKeeper::open(host, HISTORY, Unknown) {
         Ok(history) => history,
         Err(KeeperRefusal::Fault) => return Ok(Status::KeeperFault),
@@ -122,7 +140,7 @@ fn report_over_files<R: Runtime + AllocGlobal + Threads + Wait + Sync>(
         words,
         &mut source,
         SHELF,
-        Vec::new(rt.alloc()),
+        plugins,
         history,
         marks,
         &mut sink,
@@ -150,7 +168,10 @@ fn run_over_nothing<R: Runtime + AllocGlobal + Threads + Wait + Sync>(
     rt: &R,
     host: &HostRuntime,
     words: &[&[u8]],
-) -> Result<Status, NoMemory> {
+    plugins: Vec<Box<dyn Plugin>>,
+) -> Result<Status, NoMemory>
+    requires { AreProgram (map (λ p. own_sheet p) plugins.items) (λ machine. map (λ p. vetoes_of (own_sheet p) (vetoes_on p machine)) plugins.items) }
+{
     let alloc = rt.alloc();
     let unused = MemoryKeeper::new(Vec::new(alloc), Vec::new(alloc));
     let unused_marks = MemoryMarks::new(Vec::new(alloc), Vec::new(alloc));
@@ -165,7 +186,7 @@ fn run_over_nothing<R: Runtime + AllocGlobal + Threads + Wait + Sync>(
         words,
         &mut source,
         SHELF,
-        Vec::new(alloc),
+        plugins,
         unused,
         unused_marks,
         &mut sink,

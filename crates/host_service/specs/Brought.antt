@@ -1,5 +1,5 @@
 -- What the program brings to the top call.
-use Rattle.std.specs.Prelude.{ℕ, List, [], ◌∷◌, None, replicate}
+use Rattle.std.specs.Prelude.{◌≡◌, ℕ, List, [], ◌∷◌, None, replicate}
 use Rattle.fw_facts.specs.declared.machine.MachineFacts.{MachineFacts}
 use Rattle.plugin_order.specs.declared.sheet.PluginSheet.{PluginSheet}
 use Rattle.update_log.specs.declared.facts.PluginVetoes.{PluginVetoes}
@@ -15,6 +15,11 @@ program_sheets = flash_sheet ∷ loader_sheet ∷ capsule_sheet ∷ power_sheet 
 abbrev pub program_vetoes : MachineFacts → List PluginVetoes
 program_vetoes machine =
     vetoes_of flash_sheet [] ∷ vetoes_of loader_sheet [] ∷ vetoes_of capsule_sheet [] ∷ vetoes_of power_sheet (power_vetoes machine) ∷ []
+
+-- Plugins with these sheets, which tell these vetoes of a machine, are the program's.
+pub record AreProgram (sheets : List PluginSheet) (vetoes : MachineFacts → List PluginVetoes) : Type 0 where
+  pub sheets_are : sheets ≡ program_sheets
+  pub vetoes_are : (machine : MachineFacts) → vetoes machine ≡ program_vetoes machine
 
 -- A shelf over a folder tells nothing of its files, and has met no fault at first.
 abbrev pub folder_shelf : ShelfTold

@@ -1,8 +1,8 @@
 //! The top call with what the program brings to it: its four plugins, and a shelf over one folder for each client.
 //!
-//! `run_over_folder` makes them and calls `run_campaign`; its contract is that of the top call, of these four sheets and
-//! of sixteen shelves (`specs/Brought.antt`). `run_over_file` opens the history's file before; its contract says what
-//! that file has at the end (`specs/Over.antt`). The program's `main` hands in its streams and its words.
+//! `run_over_folder` makes the shelves and calls `run_campaign`; its contract is that of the top call, of the four sheets
+//! and of sixteen shelves (`specs/Brought.antt`). `run_over_file` opens the history's file before; its contract says what
+//! that file has at the end (`specs/Over.antt`). The program's `main` hands in its streams, its words and the plugins.
 #![tactic(auto)]
 
 mod brought;

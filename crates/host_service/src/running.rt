@@ -1,15 +1,15 @@
 //! The top call over what the program brings.
-ghost use Rattle.std.specs.Prelude.{◌≡◌, ◌⊎◌, ◌≤◌, [], None, IfOk, map};
+ghost use Rattle.std.specs.Prelude.{◌≡◌, ◌⊎◌, ◌≤◌, None, IfOk, map};
 ghost use Rattle.outer_traits.specs.Faults.{Rose};
 ghost use Rattle.client_plays.specs.Has.{shelves_told};
 ghost use Rattle.command_words.specs.Commands.{command_of};
 ghost use Rattle.fwupd_service.specs.Commands.{WordsEnd};
 ghost use Rattle.fwupd_service.specs.Plugged.{plugin_words};
 ghost use Rattle.fwupd_service.specs.Reported.{FaultTold, KeepsMarks, MarksTold};
-ghost use Rattle.host_service.specs.Brought.{folder_shelves, program_sheets, program_vetoes};
+ghost use Rattle.site_making.specs.Settled.{vetoes_of};
+ghost use Rattle.host_service.specs.Brought.{AreProgram, folder_shelves, program_sheets, program_vetoes};
 
 use crate::brought::shelves_over;
-use board_plugins::{Capsule, Flash, Loader, Power};
 use fw_base::NoMemory;
 use fwupd_service::{Ran, run_campaign};
 use history_keeper::Keeper;
@@ -21,9 +21,9 @@ use std::rt::{HostRuntime, Runtime};
 use std::sync::Wait;
 use std::thread::Threads;
 
-/// Makes the four plugins, and sixteen shelves over the folder, and does all that the words say, as `run_campaign`
-/// does over them. The keeper is in no doubt. `plugins` is the empty list that the four are put into. `NoMemory`
-/// comes where there was none for the plugins or the shelves, before anything was read or written.
+/// Makes sixteen shelves over the folder, and does all that the words say, as `run_campaign` does over them and the
+/// program's four plugins, which are handed in. The keeper is in no doubt. `NoMemory` comes where there was none for
+/// the shelves, before anything was read or written.
 pub fn run_over_folder<
     R: Runtime + AllocGlobal + Threads + Wait + Sync,
     S: Source,
@@ -36,12 +36,12 @@ pub fn run_over_folder<
     words: &[&[u8]],
     source: &mut S,
     folder: &str,
-    mut plugins: Vec<Box<dyn Plugin>>,
+    plugins: Vec<Box<dyn Plugin>>,
     keeper: K,
     marks: M,
     out: &mut T,
 ) -> Result<Ran<FolderShelf<HostRuntime>, K, M>, NoMemory>
-    requires no_plugins { plugins.items ≡ [] }
+    requires four { AreProgram (map (λ p. own_sheet p) plugins.items) (λ machine. map (λ p. vetoes_of (own_sheet p) (vetoes_on p machine)) plugins.items) }
     requires no_doubt { K.doubt keeper ≡ None }
     ensures ends { IfOk result (λ ran. WordsEnd K.tells K.doubt K.faults folder_shelves
         (shelves_told (⟦<FolderShelf<HostRuntime> as Shelf>⟧).files (⟦<FolderShelf<HostRuntime> as Shelf>⟧).faults ran.shelves.items)
@@ -61,13 +61,17 @@ pub fn run_over_folder<
     ensures fault_told { IfOk result (λ ran. FaultTold (command_of (map (λ word. word.now) words.now)) ran.status (K.faults keeper) (K.faults ran.keeper) (M.faults marks) (M.faults ran.marks)) }
     ensures marks_counts { IfOk result (λ ran. M.faults marks ≤ M.faults ran.marks) }
 {
-    let alloc = rt.alloc();
-    plugins.push(Box::new(alloc, Flash::new(alloc)?)?)?;
-    plugins.push(Box::new(alloc, Loader::new(alloc)?)?)?;
-    plugins.push(Box::new(alloc, Capsule::new(alloc)?)?)?;
-    plugins.push(Box::new(alloc, Power::new(alloc)?)?)?;
     let shelves = shelves_over(host, folder)?;
     Ok(run_campaign(
-        rt, alloc, words, source, shelves, keeper, marks, plugins, &NoGate, out,
+        rt,
+        rt.alloc(),
+        words,
+        source,
+        shelves,
+        keeper,
+        marks,
+        plugins,
+        &NoGate,
+        out,
     ))
 }

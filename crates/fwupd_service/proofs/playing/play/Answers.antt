@@ -14,4 +14,4 @@ returns-clause-stand g c = c.play_house-played.ensures.stand
 pub returns-clause-plans : goal.returns-clause-plans
 returns-clause-plans g c =
     let begun = if-ok _ _ _ c.new_house.ensures.begun c.in-Ok.is in
-    c.play_house-played.ensures.plans ∙ ap plans_in begun.places_are ∙ plans-new c.args.ready.campaign.boards.items
+    c.play_house-played.ensures.plans ∙ ap plans_in begun.places_are ∙ plans-new c.args.campaign.boards.items

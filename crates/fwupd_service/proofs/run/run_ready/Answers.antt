@@ -5,14 +5,14 @@ use Rattle.fwupd_service.proofs.run.run_ready.Goals as goal
 
 pub reported-requires-clause-legal : goal.reported-requires-clause-legal
 reported-requires-clause-legal g c =
-    let campaign = c.args.ready.campaign in
+    let campaign = c.args.campaign in
     let played = if-ok _ _ _ c.play-outcome.ensures.played c.in-Ok.is in
     let facts : c.in-Ok.played.facts ≡ campaign.facts = if-ok _ _ _ c.play-outcome.ensures.facts c.in-Ok.is in
     (with_plans campaign.facts _ campaign.boots, sym facts, played.true_log.legal)
 
 pub returns-in-Ok-clause-went : goal.returns-in-Ok-clause-went
 returns-in-Ok-clause-went g c =
-    let campaign = c.args.ready.campaign in
+    let campaign = c.args.campaign in
     let played = if-ok _ _ _ c.play-outcome.ensures.played c.in-Ok.is in
     let facts : c.in-Ok.played.facts ≡ campaign.facts = if-ok _ _ _ c.play-outcome.ensures.facts c.in-Ok.is in
     let left = c.reported.ensures.left in

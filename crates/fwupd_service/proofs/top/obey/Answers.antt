@@ -144,6 +144,35 @@ returns-in-Report-clause-own_marks g c = rw c.in-Report.is tt
 pub returns-in-Report-clause-marks_told : goal.returns-in-Report-clause-marks_told
 returns-in-Report-clause-marks_told g c = rw c.in-Report.is (inl c.report.ensures.told)
 
+-- ---- faults of the keepers under `report`
+
+pub returns-in-Run-clause-fault_told : goal.returns-in-Run-clause-fault_told
+returns-in-Run-clause-fault_told g c = rw c.in-Run.is tt
+
+pub returns-in-Make-clause-fault_told : goal.returns-in-Make-clause-fault_told
+returns-in-Make-clause-fault_told g c = rw c.in-Make.is tt
+
+pub returns-in-Plan-clause-fault_told : goal.returns-in-Plan-clause-fault_told
+returns-in-Plan-clause-fault_told g c = rw c.in-Plan.is tt
+
+pub returns-in-Update-clause-fault_told : goal.returns-in-Update-clause-fault_told
+returns-in-Update-clause-fault_told g c = rw c.in-Update.is tt
+
+pub returns-in-Check-clause-fault_told : goal.returns-in-Check-clause-fault_told
+returns-in-Check-clause-fault_told g c = rw c.in-Check.is tt
+
+pub returns-in-Remotes-clause-fault_told : goal.returns-in-Remotes-clause-fault_told
+returns-in-Remotes-clause-fault_told g c = rw c.in-Remotes.is tt
+
+pub returns-in-Explain-clause-fault_told : goal.returns-in-Explain-clause-fault_told
+returns-in-Explain-clause-fault_told g c = rw c.in-Explain.is tt
+
+pub returns-in-Ids-clause-fault_told : goal.returns-in-Ids-clause-fault_told
+returns-in-Ids-clause-fault_told g c = rw c.in-Ids.is tt
+
+pub returns-in-Report-clause-fault_told : goal.returns-in-Report-clause-fault_told
+returns-in-Report-clause-fault_told g c = rw c.in-Report.is c.report.ensures.fault_told
+
 -- ---- what the calls want
 
 pub plan-requires-clause-tag : goal.plan-requires-clause-tag

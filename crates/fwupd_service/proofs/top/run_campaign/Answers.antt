@@ -1,6 +1,7 @@
-use Rattle.std.proofs.Common.{ℕ, List, map, Bor, refl}
+use Rattle.std.proofs.Common.{◌≡◌, ℕ, List, map, Bor, refl, sym, ◌∙◌}
+use Rattle.run_status.specs.declared.status.Status.{Status}
 use Rattle.fwupd_service.proofs.MakeWords.{words-fit}
-use Rattle.fwupd_service.proofs.TopLaws.{keeps-same, marks-same, stay-same}
+use Rattle.fwupd_service.proofs.TopLaws.{keeps-same, marks-same, marks-untold, no-fault-told, stay-same}
 use Rattle.fwupd_service.proofs.top.run_campaign.Goals as goal
 
 pub obey-requires-clause-fits : goal.obey-requires-clause-fits
@@ -23,3 +24,12 @@ returns-in-Err-Usage-clause-own_marks g c = rw c.with_marks.ensures (marks-same 
 
 pub returns-clause-own_marks : goal.returns-clause-own_marks
 returns-clause-own_marks g c = rw c.with_marks-in-Err-NoMemory.ensures (marks-same _ _ _ refl)
+
+pub returns-clause-marks_told : goal.returns-clause-marks_told
+returns-clause-marks_told g c = rw c.with_marks-in-Err-NoMemory.ensures (marks-untold _ _ _ _ _ _ _ c.nothing-in-Err-NoMemory.ensures.status refl)
+
+pub returns-in-Err-Usage-clause-fault_told : goal.returns-in-Err-Usage-clause-fault_told
+returns-in-Err-Usage-clause-fault_told g c = rw c.with_marks.ensures (no-fault-told _ _ _ _ _ _ (λ e. let bad : Status.Usage ≡ Status.KeeperFault = sym c.nothing.ensures.status ∙ e in cc))
+
+pub returns-clause-fault_told : goal.returns-clause-fault_told
+returns-clause-fault_told g c = rw c.with_marks-in-Err-NoMemory.ensures (no-fault-told _ _ _ _ _ _ (λ e. let bad : Status.NoMemory ≡ Status.KeeperFault = sym c.nothing-in-Err-NoMemory.ensures.status ∙ e in cc))

@@ -1,11 +1,14 @@
-use Rattle.std.proofs.Common.{◌≤◌, ◌+◌, ◌-◌, ◌∷◌, [], ◌++◌, List, ap, sym, ◌∙◌, subst, arith, min}
+use Rattle.std.proofs.Common.{◌≤◌, ◌<◌, ◌+◌, ◌-◌, ◌∷◌, [], ◌++◌, List, length, ap, sym, ◌∙◌, subst, arith, min}
 use Rattle.std.specs.Prelude.{vec_len, vec_capacity}
 use Rattle.history_keeper.specs.declared.row.Row.{Row}
 use Rattle.update_log.specs.Core.{Stands}
+use Rattle.update_log.specs.CoreAfter.{IsNext}
+use Rattle.update_log.specs.Known.{rows}
 use Rattle.update_log.specs.declared.facts.Facts.{Facts}
 use Rattle.daemon_core.specs.Annals.{Appended, IsAnnals, IsLegalSo}
 use Rattle.daemon_core.specs.Housed.{Annalled, past_in, rows_before}
 use Rattle.daemon_core.proofs.AnnalsKept.{annals-after}
+use Rattle.daemon_core.proofs.NextSo.{next_so}
 use Rattle.daemon_core.proofs.annals.Annals.append.Goals as goal
 use Rattle.daemon_core.proofs.annals.Annals.append.Given.{Over}
 
@@ -62,6 +65,20 @@ kept g c =
       few_boots = c.requires.1.1.1.1.1.1.0;
       timely = c.requires.1.1.1.1.1.1.1;
     })
+
+pub step-requires : goal.step-requires
+step-requires g c =
+    let v = ap (λ (a : Annalled). a.room) c.self.view_is in
+    let r = c.requires.1.1.1.0 in (
+      subst (λ (o : List Row). Stands c.self.inside.facts o c.self.inside.core) (ap (λ (a : Annalled). rows_before a) c.self.view_is ∙ c.requires.0) c.self.invariant.stands,
+      (
+        subst (λ (a : Annalled). IsNext a.facts g.before (past_in a) c.args.event) (sym c.self.view_is) (next_so c.args.self.now.facts c.args.self.now.first g.before (past_in c.args.self.now) c.args.event c.requires.1.0),
+        (
+          omega (arith, v, r),
+          subst (λ (a : Annalled). length (rows a.facts g.before (c.args.event ∷ past_in a)) ≤ length a.core.rows + a.core.row_room) (sym c.self.view_is) c.requires.1.1.1.1.0,
+        ),
+      ),
+    )
 
 pub invariant_of-self : goal.invariant_of-self
 invariant_of-self g c = kept g c

@@ -81,7 +81,7 @@ returns-in-Ok-clause-fared g c =
     subst (λ (h : Housed g.row.K.Denot). KeeperFared (signs_of g.K.Keeper.tells g.K.Keeper.faults) h (record { annals = c.note.new.self; places = c.self.inside.places.items; pool = c.self.inside.pool; keeper = c.commit.new.self })) c.self.view_is
     (fared-quiet (signs_of g.K.Keeper.tells g.K.Keeper.faults) (record { annals = c.self.inside.annals; places = c.self.inside.places.items; pool = c.self.inside.pool; keeper = c.self.inside.keeper }) (record { annals = c.note.new.self; places = c.self.inside.places.items; pool = c.self.inside.pool; keeper = c.commit.new.self })
     (quiet-faults c.args.client c.put_off.result c.self.inside.annals c.note.new.self c.note.ensures.appended (ap meets_fault c.put_off.ensures))
-    (calm-ok _ _ refl c.in-Ok.ensures.quiet) (told-with g.K.Keeper.tells c.self.inside.keeper c.commit.new.self _ c.in-Ok.ensures.committed.0))
+    (calm-ok _ _ refl c.in-Ok.ensures.quiet) (told-with g.K.Keeper.tells c.self.inside.keeper c.commit.new.self (Change.Add c.row_put_off-row.result) c.in-Ok.ensures.committed.0))
 
 pub returns-in-Err-Fault-clause-fared : goal.returns-in-Err-Fault-clause-fared
 returns-in-Err-Fault-clause-fared g c =
