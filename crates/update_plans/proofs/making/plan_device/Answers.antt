@@ -1,7 +1,8 @@
 use Rattle.std.proofs.Common.{◌≡◌, ◌+◌, ◌-◌, ◌++◌, ℕ, List, [], ◌∷◌, length, refl, sym, ap, ◌∙◌, subst, arith, length-append}
-use Rattle.std.specs.Prelude.{IfSome, Option, None, Some}
+use Rattle.std.specs.Prelude.{slice_get, IfSome, Option, None, Some}
 use Rattle.fw_facts.specs.declared.view.DeviceView.{DeviceView}
 use Rattle.fw_facts.specs.Views.{guids_of}
+use Rattle.release_catalogue.specs.declared.reference.ReleaseRef.{ReleaseRef}
 use Rattle.update_log.specs.declared.event.Event.{Event}
 use Rattle.update_log.specs.Pasts.{past_of}
 use Rattle.update_plans.specs.Choosing.{IsHighestFirst}
@@ -22,7 +23,8 @@ next_step-requires g c =
       place = omega (arith, same, c.requires.0);
       tag = c.requires.1.0;
       number = omega (arith, c.loop-taken-test.true);
-      releases = i.sorted;
+      releases =
+          subst (λ (places : List ReleaseRef). IfSome (slice_get c.loop-taken.state.views c.args.at) (λ view. IsHighestFirst s.facts (guids_of view) places)) (sym c.deref.ensures.value) i.sorted;
     }
 
 pub take_step-requires : goal.take_step-requires
@@ -52,18 +54,18 @@ loop-taken-preserved g c =
     let next : next_step s (c.loop-taken.taken + 1) device (past_of c.loop-taken.state.log) ≡ Some c.in-Some.step =
     ap (λ (d : List ℕ). next_step s (c.loop-taken.taken + 1) d (past_of c.loop-taken.state.log)) (sym (device-kept s c.args.state.now c.loop-taken.state c.args.at c.requires.1.1.1.0 i.stands))
     ∙ sym (c.in-Some.ensures g.opening i.stands i.quiet) in
-    let longer = ap (λ (xs : List PlanStep). length xs) c.in_ok-take_step.ensures.steps ∙ length-append c.loop-taken.steps.items (c.in-Some.step ∷ []) in
+    let longer = ap (λ (xs : List PlanStep). length xs) c.in_ok-releases-in-Some.ensures.steps ∙ length-append c.loop-taken.steps.items (c.in-Some.step ∷ []) in
     record {
       goes =
           turn-goes s device c.loop-taken.steps.items c.take_step.new.steps.items (c.args.steps.now.items ++ own) (past_of c.loop-taken.state.log) (past_of c.take_step.new.state.log)
           (after s (length c.args.steps.now.items + 1) own (past_of c.args.state.now.log)) c.in-Some.step (c.loop-taken.taken + 1) (omega (arith, i.taken, c.loop-taken-test.true)) (omega (arith, i.taken)) next
-          c.in_ok-take_step.ensures.steps c.in_ok-take_step.ensures.past i.goes;
+          c.in_ok-releases-in-Some.ensures.steps c.in_ok-releases-in-Some.ensures.past i.goes;
       taken = omega (arith, longer, i.taken);
-      stands = c.in_ok-take_step.ensures.stands;
+      stands = c.in_ok-releases-in-Some.ensures.stands;
       quiet =
-          subst (IsQuiet s) (sym c.in_ok-take_step.ensures.past)
+          subst (IsQuiet s) (sym c.in_ok-releases-in-Some.ensures.past)
           (quiet-on s (c.loop-taken.taken + 1) c.in-Some.step (past_of c.loop-taken.state.log) i.quiet (next-good s (c.loop-taken.taken + 1) device (past_of c.loop-taken.state.log) c.in-Some.step next));
-      sorted = c.in_ok-take_step.ensures.releases;
+      sorted = c.in_ok-releases-in-Some.ensures.releases;
     }
 
 pub returns-in-None-clause-steps : goal.returns-in-None-clause-steps

@@ -30,7 +30,7 @@ take-requires g c =
       (
         record {
           before_is = ap (λ (core : Core). past_of core.log) c.in_ok-reserve.ensures.same ∙ c.requires.1.1.1.0;
-          stands = stands-same s.facts s.opening c.args.state.now c.reserve.new.state c.in_ok-reserve.ensures.same c.requires.1.1.1.1.0;
+          stands = stands-same s.facts s.opening c.args.state.now c.reserve.new.self c.in_ok-reserve.ensures.same c.requires.1.1.1.1.0;
           quiet = c.requires.1.1.1.1.1.0;
           good = c.requires.1.1.1.1.1.1.0;
           release_is = c.requires.1.1.1.1.1.1.1;
