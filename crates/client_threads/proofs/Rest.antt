@@ -27,7 +27,7 @@ use Rattle.shared_daemon.specs.Names.{HasNothing, IsLogOf, KeepsName, Name}
 use Rattle.shared_daemon.proofs.Logs.{past-entries}
 use Rattle.shared_daemon.proofs.Seeing.{before-named}
 use Rattle.campaign_runs.specs.Runs.{ReadLast}
-use Rattle.client_threads.specs.Begins.{CanBegin, name_of}
+use Rattle.client_threads.specs.Begins.{CanBegin, IsNameOf, name_of}
 use Rattle.client_threads.specs.Clients.{ClientsPlayed, PlayedBehind}
 use Rattle.client_threads.proofs.Pasts.{log-grew, on-loaded, on-read}
 use Rattle.client_threads.proofs.ShelfFaults.{count-closed}
@@ -43,25 +43,42 @@ module _ {K : Type 0} (signs : Signs K) where
   first-counted h (inl c) = inl (omega arith)
   first-counted h (inr c) = inr c
 
-  -- It has the name that it has as the daemon begins.
-  pub begins-named : (name : Name) (h : Housed K) → name ≡ name_of signs h → CanBegin signs h → KeepsName signs name h
-  begins-named name h e b =
-      subst (λ (n : Name). KeepsName signs n h) (sym e)
-      (record {
+  pub its-name : (h : Housed K) → IsNameOf signs (name_of signs h) h
+  its-name h =
+      record {
         facts_are = refl;
         first_are = refl;
+        plans_are = refl;
         opening_is = refl;
+        boots_are = refl;
+        start_is = refl;
+        start_faults_are = refl;
+        start_told_is = refl;
+        first_faults_are = refl;
+        came_so = λ c. c;
+        told_so = λ all t. (all, t);
+      }
+
+  -- It has the name that it has as the daemon begins.
+  pub begins-named : (name : Name) (h : Housed K) → IsNameOf signs name h → CanBegin signs h → KeepsName signs name h
+  begins-named name h e b =
+      record {
+        facts_are = sym e.facts_are;
+        first_are = sym e.first_are;
+        opening_is = sym e.opening_is;
         loaded = b.loaded;
         reopened = b.reopened;
-        booted = b.booted;
-        boots_are = refl;
-        planned = plans-picked h.places;
-        counted = first-counted h b.counted;
-        counts = omega arith;
-        grows = omega arith;
-        quiet = λ _. refl;
-        told = λ all t. (all, t);
-      })
+        booted = subst (λ (n : ℕ). 0 < n) (sym e.boots_are) b.booted;
+        boots_are = sym e.boots_are;
+        planned = subst (λ (plans : List (List PlannedFault)). HavePlans plans h.places) (sym e.plans_are) (plans-picked h.places);
+        counted =
+            subst (λ (first : ℕ). (keeper_faults (past h) + first ≤ signs.faults h.keeper) ⊎ (2 ^ 64 - 1 ≤ signs.faults h.keeper)) (sym e.first_faults_are)
+            (first-counted h b.counted);
+        counts = (let start = e.start_faults_are in omega (arith, start));
+        grows = (let start = e.start_told_is in omega (arith, start));
+        quiet = λ _. sym e.start_faults_are;
+        told = e.told_so;
+      }
 
   pub nothing-out : (h : Housed K) → IsAnnals h.annals → IsIdle (past h) → HasNothing (chronicle h)
   nothing-out h k i =
@@ -77,26 +94,20 @@ module _ {K : Type 0} (signs : Signs K) where
       }
 
   -- The daemon closed.
-  module _ (name : Name) (old new : Housed K) (e : name ≡ name_of signs old) (b : CanBegin signs old) (k : IsAnnals old.annals) (w : IsAnnals new.annals) (n : KeepsName signs name new) where
+  module _ (name : Name) (old new : Housed K) (e : IsNameOf signs name old) (b : CanBegin signs old) (k : IsAnnals old.annals) (w : IsAnnals new.annals) (n : KeepsName signs name new) where
     -- All boards were at home as it began, so the name has the plans of all.
     plans-so : AllHome old.places → KeepsPlans old.places new.places
-    plans-so home = keeps-picked old.places new.places home (subst (λ (plans : List (List PlannedFault)). HavePlans plans new.places) (ap (λ (x : Name). x.plans) e) n.planned)
+    plans-so home = keeps-picked old.places new.places home (subst (λ (plans : List (List PlannedFault)). HavePlans plans new.places) e.plans_are n.planned)
 
     same-facts : SameFacts old.annals new.annals
     same-facts =
         record {
-          facts = n.facts_are ∙ ap (λ (x : Name). x.facts) e;
-          first = n.first_are ∙ ap (λ (x : Name). x.first) e;
-          opening = n.opening_is ∙ ap (λ (x : Name). x.opening) e;
+          facts = n.facts_are ∙ e.facts_are;
+          first = n.first_are ∙ e.first_are;
+          opening = n.opening_is ∙ e.opening_is;
           loaded = n.loaded ∙ sym b.loaded;
           reopened = n.reopened ∙ sym b.reopened;
         }
-
-    start-told : name.start_told ≡ keeper_faults (past old)
-    start-told = ap (λ (x : Name). x.start_told) e
-
-    start-faults : name.start_faults ≡ signs.faults old.keeper
-    start-faults = ap (λ (x : Name). x.start_faults) e
 
     counted-so : (first : ℕ) → first ≡ signs.faults old.keeper - keeper_faults (past old) → (keeper_faults (past new) + first ≤ signs.faults new.keeper) ⊎ (2 ^ 64 - 1 ≤ signs.faults new.keeper) → (keeper_faults (past new) + signs.faults old.keeper ≤ keeper_faults (past old) + signs.faults new.keeper) ⊎ (2 ^ 64 - 1 ≤ signs.faults new.keeper)
     counted-so first f (inl c) = inl (omega arith)
@@ -105,10 +116,10 @@ module _ {K : Type 0} (signs : Signs K) where
     fared-so : KeeperFared signs old new
     fared-so =
         record {
-          grows = (let start = start-told in let g = n.grows in omega (arith, start, g));
-          counted = counted-so name.first_faults (ap (λ (x : Name). x.first_faults) e) n.counted;
-          quiet = λ q. n.quiet (q ∙ sym start-told) ∙ start-faults;
-          told = λ all t. subst (λ (T : Type 0). T) (ap (λ (x : Name). x.came) e) (n.told all t);
+          grows = (let start = e.start_told_is in let g = n.grows in omega (arith, start, g));
+          counted = counted-so name.first_faults e.first_faults_are n.counted;
+          quiet = λ q. n.quiet (q ∙ sym e.start_told_is) ∙ e.start_faults_are;
+          told = λ all t. e.came_so (n.told all t);
         }
 
     rest-so : AllHome old.places → HasNothing (chronicle new) → AtRest signs old new
@@ -117,7 +128,7 @@ module _ {K : Type 0} (signs : Signs K) where
           idle = idle-left new w nothing;
           same = same-facts;
           counted = fared-so;
-          counts = (let start = start-faults in let c = n.counts in omega (arith, start, c));
+          counts = (let start = e.start_faults_are in let c = n.counts in omega (arith, start, c));
           plans = plans-so home;
         }
 
@@ -126,7 +137,7 @@ module _ {K : Type 0} (signs : Signs K) where
 
     -- What a log of the name says, of the house.
     old-past : past_seen name.start ≡ past old
-    old-past = ap (λ (x : Name). past_seen x.start) e ∙ past-entries old.annals k
+    old-past = ap past_seen e.start_is ∙ past-entries old.annals k
 
     new-past : past_seen (chronicle new) ≡ past new
     new-past = past-entries new.annals w
@@ -140,7 +151,7 @@ module _ {K : Type 0} (signs : Signs K) where
           daemon = ap (mine 0) (sym new-past) ∙ p.daemon ∙ ap (mine 0) old-past;
           clients = λ client c.
               let P : Facts → List Row → List Event → Type 0 = λ f o es. PlayedSo (off es) wanting client (Plays f o (means client) client) (items_of of_boot client) (mine client es) in
-              subst (λ (f : Facts). P f (rows_before old.annals) (past new)) (ap (λ (x : Name). x.facts) e)
+              subst (λ (f : Facts). P f (rows_before old.annals) (past new)) e.facts_are
               (subst (λ (o : List Row). P name.facts o (past new)) rows-so
               (subst (λ (es : List Event). P name.facts name.opening es) new-past
               (p.clients client c (ap (mine client) old-past ∙ none client c))));

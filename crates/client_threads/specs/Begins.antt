@@ -35,3 +35,17 @@ name_of signs h =
       first_faults = signs.faults h.keeper - keeper_faults (past h);
       came = (all : List Row) × signs.tells h.keeper all;
     }
+
+-- The name of a house as it is now. It says that something is so of the keeper exactly where the keeper tells rows.
+pub record IsNameOf {K : Type 0} (signs : Signs K) (name : Name) (h : Housed K) : Type 0 where
+  pub facts_are : name.facts ≡ h.annals.facts
+  pub first_are : name.first ≡ h.annals.first
+  pub plans_are : name.plans ≡ plans_in h.places
+  pub opening_is : name.opening ≡ h.annals.opening
+  pub boots_are : name.boots ≡ boots (past h)
+  pub start_is : name.start ≡ chronicle h
+  pub start_faults_are : name.start_faults ≡ signs.faults h.keeper
+  pub start_told_is : name.start_told ≡ keeper_faults (past h)
+  pub first_faults_are : name.first_faults ≡ signs.faults h.keeper - keeper_faults (past h)
+  pub came_so : name.came → (all : List Row) × signs.tells h.keeper all
+  pub told_so : (all : List Row) → signs.tells h.keeper all → name.came

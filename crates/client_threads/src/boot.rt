@@ -16,7 +16,7 @@ ghost use Rattle.client_plays.specs.Moments.{NoClients};
 ghost use Rattle.client_plays.specs.Shelves.{means_for};
 ghost use Rattle.client_plays.specs.Tools.{Serves, ShelvesStay};
 ghost use Rattle.campaign_runs.specs.Runs.{ReadLast};
-ghost use Rattle.client_threads.specs.Begins.{CanBegin, name_of};
+ghost use Rattle.client_threads.specs.Begins.{CanBegin, IsNameOf};
 ghost use Rattle.client_threads.specs.Clients.{ClientsPlayed, PlayedBehind};
 
 use crate::clients::{Client, play_all};
@@ -109,7 +109,7 @@ fn play_named<
     plugins: &[Box<dyn Plugin>],
     gate: &G,
 ) -> (House<K>, bool)
-    requires name { N.name ≡ name_of (signs_of K.tells K.faults) house }
+    requires name { IsNameOf (signs_of K.tells K.faults) N.name house }
     requires begins { CanBegin (signs_of K.tells K.faults) house }
     requires none { NoClients (past house) }
     requires some { 0 < length of_boot.now }

@@ -71,35 +71,43 @@ fn view(alloc: Global, number: usize, seen: Seen) -> Result<DeviceView, Fail> {
     })
 }
 
-#[test]
-fn the_first_present_device_is_found(rt: HostRuntime) -> Result<(), Fail> {
-    let alloc = rt.alloc();
+/// Five devices in one port, of which the last two are in runtime mode.
+fn five_devices(alloc: Global) -> Result<Devices, Fail> {
     let mut devices = Devices::new(alloc);
-    assert_eq!(rt; devices.by_guid(&guid_of(b"firmware")), None);
     for (number, seen) in [Seen::Gone, Seen::Stranger, BOOTLOADER, RUNTIME, RUNTIME]
         .into_iter()
         .enumerate()
     {
         devices.add(view(alloc, number, seen)?)?;
     }
-    assert_eq!(rt; devices.by_guid(&guid_of(b"firmware")), Some(3));
-    assert_eq!(rt; devices.by_guid(&guid_of(b"loader")), Some(2));
-    assert_eq!(rt; devices.by_guid(&guid_of(b"other")), None);
-    assert_eq!(rt; devices.by_id(&id(4)), Some(4));
-    assert_eq!(rt; devices.by_id(&id(5)), None);
-    assert_eq!(rt; devices.resolve(&Selector::Id(id(0))), Some(0));
-    assert_eq!(rt;
+    Ok(devices)
+}
+
+#[test]
+fn the_first_present_device_is_found(rt: HostRuntime) -> Result<(), Fail> {
+    let devices = five_devices(rt.alloc())?;
+    let found = [
+        devices.by_guid(&guid_of(b"firmware")),
+        devices.by_guid(&guid_of(b"loader")),
+        devices.by_guid(&guid_of(b"other")),
+        devices.by_id(&id(4)),
+        devices.by_id(&id(5)),
+    ];
+    assert_eq!(rt; found, [Some(3), Some(2), None, Some(4), None]);
+    Ok(())
+}
+
+#[test]
+fn a_selector_names_the_first_device(rt: HostRuntime) -> Result<(), Fail> {
+    let devices = five_devices(rt.alloc())?;
+    let ports = [Name::read(b"usb1")?, Name::read(b"usb2")?];
+    let named = [
+        devices.resolve(&Selector::Id(id(0))),
         devices.resolve(&Selector::Guid(guid_of(b"firmware"))),
-        Some(3)
-    );
-    assert_eq!(rt;
-        devices.resolve(&Selector::Port(Name::read(b"usb1")?)),
-        Some(0)
-    );
-    assert_eq!(rt;
-        devices.resolve(&Selector::Port(Name::read(b"usb2")?)),
-        None
-    );
+        devices.resolve(&Selector::Port(ports[0])),
+        devices.resolve(&Selector::Port(ports[1])),
+    ];
+    assert_eq!(rt; named, [Some(0), Some(3), Some(0), None]);
     Ok(())
 }
 

@@ -5,6 +5,7 @@ use Rattle.sqlite.specs.declared.types.Value.TheVariants.{Int, Text}
 use Rattle.sqlite.specs.Order.{column}
 use Rattle.sqlite.specs.Schema.{Schema}
 use Rattle.sqlite.specs.Store.{Ghosts}
+use Rattle.sqlite.specs.Held.{state}
 use Rattle.sqlite.specs.Values.{or_null}
 use Rattle.sqlite.specs.State.{State, HasCleanDisk}
 use Rattle.sqlite_schema.specs.Names.{same_name}
@@ -16,13 +17,13 @@ use Rattle.history_keeper.specs.declared.change.Change.{Change}
 use Rattle.history_keeper.specs.declared.plan.Doubt.{Doubt}
 use Rattle.history_keeper.specs.Changes.{Suits, changed}
 use Rattle.history_keeper.specs.declared.refusal.KeeperRefusal.{KeeperRefusal}
-use Rattle.history_keeper.specs.Keepers.{Reopened, StillTold, ToldWith, with_doubt}
+use Rattle.history_keeper.specs.Keepers.{Reopened, StillSettled, StillTold, ToldWith, with_doubt}
 use Rattle.history_keeper.specs.Memories.{kept}
 use Rattle.history_sqlite.specs.Columns.{state_in, state_number, taken_over, text_in, integer_in}
 use Rattle.history_sqlite.specs.Finding.{table_with}
 use Rattle.history_sqlite.specs.Keeping.{Keeping, doubtful}
 use Rattle.history_sqlite.specs.Tables.{Layout, HasAny, HoldsRows, Keeps, Loads, Makes, Opens, history_schema, rows_tree, stored}
-use Rattle.history_sqlite.specs.Telling.{Knows, SettledSo, Settles, SuitsDoubt, TellsRows, database}
+use Rattle.history_sqlite.specs.Telling.{IsSettled, Knows, SettledSo, Settles, SuitsDoubt, TellsRows, database}
 
 -- ---- a table holds one list of rows: each is read back from what is stored
 
@@ -124,6 +125,32 @@ module _ {D : Type 0} (store : Ghosts D) (supposed : Type 0) (old new : Keeping 
       let r = rows_before all t in
       let made = makes t.clean r.0 r.1.holds (suits r.0 r.1) in
       (r.0, r.1, same_rows (database store new) all (changed change r.0) t.holds made)
+
+-- the doubtful change suits the rows that are told
+pub suits_told : {D : Type 0} (store : Ghosts D) (supposed : Type 0) (k : Keeping D) → Knows k.tells supposed (database store k) k.doubt → (it : Doubt) → k.doubt ≡ Some it → (all : List Row) → TellsRows store supposed k all → Suits it.change all
+suits_told store supposed k knows it is all t =
+    let known = subst (λ (b : Bool). Knows b supposed (database store k) k.doubt) t.may knows in
+    let r = known t.store_is t.clean t.holds.is_open in
+    subst (λ d. SuitsDoubt d all) is (subst (SuitsDoubt k.doubt) (same_rows (database store k) r.0 all r.1 t.holds) r.2)
+
+-- ---- a keeper over the same database
+
+module _ {D : Type 0} (store : Ghosts D) (old new : Keeping D) (same : new.connection ≡ old.connection) where
+  -- it tells the same, if it may
+  pub told_alike : (supposed : Type 0) → new.tells ≡ old.tells → StillTold (TellsRows store supposed old) (TellsRows store supposed new)
+  told_alike supposed may all t = record {
+    may = sym may ∙ t.may;
+    store_is = t.store_is;
+    clean = subst (λ h. HasCleanDisk (state store h)) same t.clean;
+    holds = subst (λ h. HoldsRows (state store h) all) same t.holds;
+  }
+
+  -- and is what a reopening made, if its doubt is the same
+  pub settled_alike : new.doubt ≡ old.doubt → StillSettled (IsSettled store) old new
+  settled_alike doubt first s = record {
+    no_doubt = doubt ∙ s.no_doubt;
+    settles = subst (λ h. HasCleanDisk (state store h) → IsTrue (state store h).is_open → Settles (database store first) (state store h) first.doubt) (sym same) s.settles;
+  }
 
 -- ---- what a keeper knows, over a call of its connection
 

@@ -32,8 +32,8 @@ use Rattle.sqlite.specs.State.{State, mode_of, text_of, CommitsBy, Executes, Exe
 use Rattle.sqlite.specs.Clock.{timed}
 use Rattle.sqlite_value.specs.Keys.{ascending}
 use Rattle.sqlite_schema.specs.declared.schema.Keys.{Keys}
-use Rattle.sqlite_rules.specs.Action.{works}
-use Rattle.sqlite_rules.specs.Edit.{id_in, taken_by}
+use Rattle.sqlite_rules.specs.Action.{works, Writes}
+use Rattle.sqlite_rules.specs.Edit.{id_in, taken_by, Applies, Edit}
 use Rattle.sqlite_sql.proofs.QueryLemmas.{key_cmp_total}
 use Rattle.sqlite_keyed.proofs.SortLemmas.{sorted_unique}
 use Rattle.sqlite_tied.specs.Compute.{everything}
@@ -162,6 +162,10 @@ insert_plain = (refl, refl)
 none_acts : (keys : Keys) (depth tree : ℕ) (olds news : List Values) → works marks_schema keys depth tree olds news ≡ []
 none_acts keys depth tree olds news = refl
 
+-- a write to the table is its one step
+one_step_of : (keys : Keys) (db next : Trees) (edit : Edit) → Writes marks_schema keys db edit (Ok next) → Applies marks_schema keys db edit next
+one_step_of keys db next edit h = one_step marks_schema keys db next edit (none_acts keys 0 edit.table.tree (taken_by db edit) edit.news) h
+
 -- what the insert is given of an entry, before the place is chosen
 abbrev unplaced : ℕ → Values
 unplaced entry = Null ∷ Null ∷ Int (pos entry) ∷ []
@@ -196,7 +200,7 @@ adds old new marks entry count h limit ran =
     let counted = went written.2 in
     let trees : done.0.trees ≡ written.0 = ap (λ (it : Written). it.trees) (same_value counted.2) ∙ same_value counted.1 in
     let edit = edit_of db reported_table [] Chosen 0 source.0 in
-    let step = one_step marks_schema _ db written.0 edit (none_acts _ 0 reported_table.tree (taken_by db edit) edit.news) written.1 in
+    let step = one_step_of _ db written.0 edit written.1 in
     let place : next_rowid (db 0) ≡ pos (1 + length marks) = ap next_rowid h.table ∙ next_place marks in
     let one : edited db edit ≡ put_row (stored (1 + length marks) entry) (db 0) =
     ap (λ all. edited db (edit_of db reported_table [] Chosen 0 all)) source.1.1

@@ -53,7 +53,7 @@ FailsToSettle {D} store old new doubt =
 -- Why an opening is a fault: a transaction is open, the table is another one, or it could not be made.
 abbrev pub FailsToOpen : {D : Type 0} → Ghosts D → Held D → Held D → Type 0
 FailsToOpen {D} store old new =
-    IsTrue old.in_transaction ⊎ ((HasNone old.schema → ⊥) × (HasTable old.schema → ⊥)) ⊎ IsRefused create_text [] (state store old) (state store new)
+    IsTrue old.in_transaction ⊎ (((HasNone old.schema → ⊥) × (HasTable old.schema → ⊥)) ⊎ IsRefused create_text [] (state store old) (state store new))
 
 -- Why the adopting of a connection is a fault: its table could not be opened, or its marks could not be read.
 abbrev pub FailsToAdopt : {D : Type 0} → Ghosts D → Held D → Held D → Type 0

@@ -9,6 +9,7 @@ ghost use Rattle.outer_traits.specs.Faults.{Rose};
 ghost use Rattle.outer_traits.specs.Plans.{one_more};
 ghost use Rattle.report_queue.specs.Marking.{with_entry, Marked, Reopened};
 ghost use Rattle.marks_sqlite.specs.Causes.{FailsToLoad, FailsToMark, FailsToSettle, IsUnadopted};
+ghost use Rattle.marks_sqlite.specs.Finding.{HasNone, HasTable};
 ghost use Rattle.marks_sqlite.specs.Keeping.{planned, doubtful, after_fault};
 ghost use Rattle.marks_sqlite.specs.Tables.{Adds, Keeps, Loads, Opens};
 ghost use Rattle.marks_sqlite.specs.Telling.{database, told_by, Settles, IsUnused};
@@ -106,6 +107,7 @@ impl<D: Lasting + Drop> SqlMarks<D> {
     pub fn adopt(alloc: Global, connection: Connection<D>) -> Result<SqlMarks<D>, KeeperRefusal>
         ensures unused { IfOk result (λ keeper. IsUnused D.Store None [] keeper) }
         ensures opens { IfOk result (λ keeper. HasCleanDisk (database D.Store keeper) → Opens (state D.Store connection) (database D.Store keeper)) }
+        ensures adopted { OnOk result (HasNone connection.schema ⊎ HasTable connection.schema) }
         ensures cause { result ≡ Err KeeperRefusal.Fault → IsUnadopted D.Store (record connection { step_limit = None }) }
     {
         SqlMarks::adopt_planned(alloc, connection, Vec::new(alloc))
@@ -119,6 +121,7 @@ impl<D: Lasting + Drop> SqlMarks<D> {
     ) -> Result<SqlMarks<D>, KeeperRefusal>
         ensures unused { IfOk result (λ keeper. IsUnused D.Store None plan.items keeper) }
         ensures opens { IfOk result (λ keeper. HasCleanDisk (database D.Store keeper) → Opens (state D.Store connection) (database D.Store keeper)) }
+        ensures adopted { OnOk result (HasNone connection.schema ⊎ HasTable connection.schema) }
         ensures cause { result ≡ Err KeeperRefusal.Fault → IsUnadopted D.Store (record connection { step_limit = None }) }
     {
         let mut connection = connection;

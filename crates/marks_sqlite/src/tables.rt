@@ -3,6 +3,7 @@ ghost use Rattle.std.specs.Prelude.{◌≡◌, ◌⊎◌, IsTrue, OnOk, OnErr, I
 ghost use Rattle.sqlite.specs.Held.{state};
 ghost use Rattle.sqlite.specs.State.{HasCleanDisk, Survives, Executes};
 ghost use Rattle.marks_sqlite.specs.Causes.{FailsToOpen};
+ghost use Rattle.marks_sqlite.specs.Finding.{HasNone, HasTable};
 ghost use Rattle.marks_sqlite.specs.Tables.{create_text, LeavesTable, MakesTable, Opens};
 
 use crate::finding::{Found, find_table};
@@ -16,6 +17,7 @@ use sqlite::{Alter, Connection, Error, ErrorCode};
 /// was written.
 pub fn open_table<D: Alter>(connection: &mut Connection<D>) -> Result<(), KeeperRefusal>
     ensures opens { HasCleanDisk (state D.Store connection.new) → OnOk result (Opens (state D.Store connection.old) (state D.Store connection.new)) }
+    ensures adopted { OnOk result (HasNone connection.old.schema ⊎ HasTable connection.old.schema) }
     ensures refused { HasCleanDisk (state D.Store connection.new) → IsTrue (state D.Store connection.new).is_open → OnErr result (LeavesTable (state D.Store connection.old) (state D.Store connection.new)) }
     ensures cause { HasCleanDisk (state D.Store connection.new) → result ≡ Err KeeperRefusal.Fault → FailsToOpen D.Store connection.old connection.new }
     ensures clean { HasCleanDisk (state D.Store connection.new) → HasCleanDisk (state D.Store connection.old) }

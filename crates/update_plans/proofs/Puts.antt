@@ -35,9 +35,10 @@ use Rattle.history_keeper.specs.Changes.{with_state}
 use Rattle.update_log.proofs.Pasts.{past-push}
 use Rattle.update_log.proofs.Rows.{length-map}
 use Rattle.update_plans.specs.Following.{IsQuiet}
-use Rattle.update_plans.specs.Plans.{Scene, accepts, asked, done, end_of, has_id, installed, installed_with, is_good_with, is_next, release_at, request_of, seen_of, shown_after, taken, view_of, waits_for_boot, with_some}
-use Rattle.update_plans.specs.Putting.{IsPutting, Making, end_on, ops_before, shown_on}
+use Rattle.update_plans.specs.Plans.{Scene, accepts, asked, done, end_of, has_id, installed, installed_with, is_good, is_good_with, is_next, release_at, request_of, seen_of, shown_after, taken, view_of, waits_for_boot, with_some}
+use Rattle.update_plans.specs.Putting.{Begins, IsPutting, Making, end_on, ops_before, shown_on}
 use Rattle.update_plans.specs.declared.plan.PlanStep.{PlanStep}
+use Rattle.update_plans.proofs.Chained.{Good, good-step}
 use Rattle.update_plans.proofs.Claims.{accepted_twice}
 use Rattle.update_plans.proofs.Installed.{cleaned, goes-whole, row, rows-begun}
 use Rattle.update_plans.proofs.Put.{MayBe, before-event, end-said, end_of_step, next-of, some, some-live, step-left, step-taken, step-with, whole}
@@ -72,6 +73,16 @@ pub few-rows : (s : Scene) (number : ℕ) (step : PlanStep) (chosen : Chosen) (p
 few-rows s number step chosen past good =
     let all = tests s number step chosen past good in
     ltb-true (length (rows s.facts s.opening past)) 65536 (sym (accepted_twice s number step chosen past all.asked_so) ∙ all.claimed_so)
+
+pub few-good : (s : Scene) (number : ℕ) (step : PlanStep) (past : List Event) → is_good s number step past ≡ true → length (rows s.facts s.opening past) < 65536
+few-good s number step past h = let g = good-step s number step past h in few-rows s number step g.chosen past g.good
+
+-- and its release is there
+pub good-there : (s : Scene) (number : ℕ) (step : PlanStep) (past : List Event) → is_good s number step past ≡ true → option_map (λ (c : Chosen). c.release) (release_at s step.release) ≡ None → ⊥
+good-there s number step past h none =
+    let g = good-step s number step past h in
+    let bad : Some g.chosen.release ≡ None = sym (ap (option_map (λ (c : Chosen). c.release)) g.there) ∙ none in
+    cc
 
 -- ---- the ask and the claim
 
@@ -135,6 +146,51 @@ module _ (s : Scene) (number : ℕ) (step : PlanStep) (chosen : Chosen) (past : 
       ∙ ap (λ (ps : List Event). claim_made s step request release entry ∷ ps)
       (ap past_of e ∙ past-push log (ask_made s step request blocks) ∙ ap (λ (ps : List Event). ask_made s step request blocks ∷ ps) p ∙ asked-is)
       ∙ taken-is
+
+-- the same, told of the state
+module _ (s : Scene) (step : PlanStep) (at : Making) (release : Release) (entry : ℕ) (core : Core) (b : Begins s step at release entry core) (request : Request) (blocks : ℕ)
+    (request_is : (chosen : Chosen) → chosen.release ≡ release → request ≡ request_of s at.number step chosen) (blocks_are : blocks ≡ blocks_of release.size) where
+  good-one : Good s at.number step at.before
+  good-one = good-step s at.number step at.before b.good
+
+  released : good-one.chosen.release ≡ release
+  released = release-of (release_at s step.release) good-one.chosen release good-one.there b.release_is
+
+  made_of : Means s at.number step good-one.chosen at.before request release blocks entry
+  made_of = record { request_is = request_is good-one.chosen released; release_is = sym released; blocks_are = blocks_are; entry_is = b.entry_is }
+
+  pub begins-ask : IsNext s.facts s.opening (past_of core.log) (ask_made s step request blocks)
+  begins-ask =
+      subst (λ (past : List Event). IsNext s.facts s.opening past (ask_made s step request blocks)) (sym b.before_is)
+      (ask-next s at.number step good-one.chosen at.before b.quiet good-one.there good-one.good request release blocks entry made_of)
+
+  pub begins-ask-rows : length (rows s.facts s.opening (ask_made s step request blocks ∷ past_of core.log)) ≤ length core.rows + core.row_room
+  begins-ask-rows = rows-fit s.facts s.opening core b.stands
+
+  asked-past : (now : List Event) → now ≡ core.log ++ ask_made s step request blocks ∷ [] → past_of now ≡ ask_made s step request blocks ∷ at.before
+  asked-past now e = ap past_of e ∙ past-push core.log (ask_made s step request blocks) ∙ ap (λ (past : List Event). ask_made s step request blocks ∷ past) b.before_is
+
+  pub begins-claim : (now : List Event) → now ≡ core.log ++ ask_made s step request blocks ∷ [] → IsNext s.facts s.opening (past_of now) (claim_made s step request release entry)
+  begins-claim now e =
+      claim-next s at.number step good-one.chosen at.before b.quiet good-one.there good-one.good request release blocks entry made_of (past_of now) (asked-past now e)
+
+  pub begins-claim-rows : (now : Core) → now.log ≡ core.log ++ ask_made s step request blocks ∷ [] → now.row_room + length now.rows ≡ core.row_room + length core.rows → 1 ≤ core.row_room
+      → length (rows s.facts s.opening (claim_made s step request release entry ∷ past_of now.log)) ≤ length now.rows + now.row_room
+  begins-claim-rows now e room one =
+      let more = rows-claimed s at.number step good-one.chosen at.before b.quiet good-one.there good-one.good request release blocks entry made_of (past_of now.log) (asked-past now.log e) in
+      let have : length core.rows ≡ length (rows s.facts s.opening at.before) = ap (λ (rs : List Row). length rs) (b.stands.rows ∙ ap (rows s.facts s.opening) b.before_is) in
+      omega (arith, more, have, room, one)
+
+  pub begins-put : (now : List Event) (new : Core) → now ≡ core.log ++ ask_made s step request blocks ∷ [] → new.log ≡ now ++ claim_made s step request release entry ∷ [] → Stands s.facts s.opening new
+      → IsPutting s step (record at { gone = [] }) new
+  begins-put now new e f stands = record {
+    chosen = good-one.chosen;
+    there = good-one.there;
+    good = good-one.good;
+    quiet = b.quiet;
+    stands = stands;
+    past_is = put-taken s at.number step good-one.chosen at.before b.quiet good-one.there good-one.good request release blocks entry made_of core.log now new.log b.before_is e f;
+  }
 
 -- ---- the steps
 
@@ -253,14 +309,14 @@ module _ (s : Scene) (step : PlanStep) (at : Making) (core : Core) (p : IsPuttin
     pub traced : trace s.facts s.opening entry (past_of core.log) ≡ Some t
     pub ends : end_on core.rows core.views step.device entry t ≡ end_of s at.number step p.chosen at.before
 
-  f : Found s at.number step p.chosen at.before
-  f = let all = tests s at.number step p.chosen at.before p.good in found s at.number step p.chosen at.before p.there all.asked_so
+  found_so : Found s at.number step p.chosen at.before
+  found_so = let all = tests s at.number step p.chosen at.before p.good in found s at.number step p.chosen at.before p.there all.asked_so
 
   pub ends-so : Ends
   ends-so =
       let all = tests s at.number step p.chosen at.before p.good in
-      let g = goes-whole s at.number step p.chosen at.before p.quiet f all.claimed_so in
-      let t : Trace = (cleaned s at.number step p.chosen at.before p.quiet f).trace in
+      let g = goes-whole s at.number step p.chosen at.before p.quiet found_so all.claimed_so in
+      let t : Trace = (cleaned s at.number step p.chosen at.before p.quiet found_so).trace in
       record {
         t = t;
         traced =

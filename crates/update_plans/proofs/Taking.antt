@@ -1,6 +1,7 @@
 -- What the loops find and leave that make plans and check them.
-use Rattle.std.proofs.Common.{◌≡◌, ◌≢◌, ℕ, zero, suc, ◌+◌, ◌<◌, ◌≤◌, Bool, true, false, List, [], ◌∷◌, ◌++◌, length, map, drop, take, get_or, refl, sym, ap, ◌∙◌, subst, arith, add-one, drop-cons}
-use Rattle.std.specs.Prelude.{AllPairs, IfSome, Option, Some, None, find, slice_get, option_map, if◌then◌else◌}
+use Rattle.std.proofs.Common.{◌≡◌, ◌≢◌, ℕ, zero, suc, ◌+◌, ◌-◌, ◌<◌, ◌≤◌, Bool, true, false, List, [], ◌∷◌, ◌++◌, length, map, drop, take, get_or, refl, sym, ap, ◌∙◌, subst, arith, add-one, drop-cons}
+use Rattle.std.proofs.Math.Seq.{take-suc}
+use Rattle.std.specs.Prelude.{AllPairs, IfSome, Option, Some, None, find, is_some, slice_get, option_map, if◌then◌else◌}
 use Rattle.std.specs.Option.{option_map_or}
 use Rattle.std.specs.Ordering.{is_gt}
 use Rattle.std.specs.Str.{bytes_eq}
@@ -24,21 +25,23 @@ use Rattle.update_log.proofs.Devices.{devices-differ}
 use Rattle.update_log.proofs.Lists.{by_test}
 use Rattle.update_log.proofs.Openings.{bytes-same, bytes-self}
 use Rattle.update_plans.specs.Choosing.{IsHighestFirst, first_some, good_step, side_of, tried, tried_at, version_found}
-use Rattle.update_plans.specs.Plans.{Scene, device_at, view_of}
+use Rattle.update_plans.specs.Plans.{Scene, after, chain, chains, device_at, first_bad, installed, is_good, next_step, plan, view_of}
+use Rattle.update_plans.specs.Walks.{walk}
 use Rattle.update_plans.specs.declared.plan.PlanStep.{PlanStep}
-use Rattle.update_plans.proofs.Chained.{device-stays, get-map}
+use Rattle.update_plans.proofs.Chained.{Goes, chain-none, chain-zero, chains-push, device-stays, first_bad-bad, first_bad-good, get-map, goes-end, goes-turn}
+use Rattle.update_plans.proofs.Planned.{after-append}
 use Rattle.update_plans.proofs.Shown.{view-now}
-use Rattle.update_plans.proofs.Within.{as-many}
+use Rattle.update_plans.proofs.Within.{AllBelow, as-many}
 
 some-same : {X : Type 0} {x y : X} → Some x ≡ Some y → x ≡ y
 some-same e = cc
 
 -- ---- places
 
-pub got-at : {X : Type 0} (xs : List X) (at : ℕ) (x : X) → at < length xs → x ≡ get_or xs at x → slice_get xs at ≡ Some x
-got-at [] at x within e = absurd (omega (arith, within))
-got-at {X} (y ∷ xs) zero x within e = ap (λ (z : X). Some z) (sym e)
-got-at (y ∷ xs) (suc at) x within e = got-at xs at x (omega (arith, within)) e
+pub got_at : {X : Type 0} (xs : List X) (at : ℕ) (x : X) → at < length xs → x ≡ get_or xs at x → slice_get xs at ≡ Some x
+got_at [] at x within e = absurd (omega (arith, within))
+got_at {X} (y ∷ xs) zero x within e = ap (λ (z : X). Some z) (sym e)
+got_at (y ∷ xs) (suc at) x within e = got_at xs at x (omega (arith, within)) e
 
 record IsAt {X : Type 0} (xs : List X) (at : ℕ) (x d : X) : Type 0 where
   within : at < length xs
@@ -132,14 +135,6 @@ module _ (s : Scene) (old new : Core) (at : ℕ) (before : Stands s.facts s.open
 -- ---- the tries
 
 module _ (s : Scene) (number : ℕ) (view : DeviceView) (shown : List ℕ) (past : List Event) where
-  -- the one at the loop's place comes first
-  pub tried-turn : (places : List ReleaseRef) (i : ℕ) (at : ReleaseRef) → i < length places → at ≡ get_or places i at
-      → tried s number view shown past (drop i places) ≡ tried_at s number view shown past at (tried s number view shown past (drop (i + 1) places)) (version_found s.facts at)
-  tried-turn places i at within e =
-      ap (tried s number view shown past) (drop-cons places i at within)
-      ∙ ap (λ (x : ReleaseRef). tried_at s number view shown past x (tried s number view shown past (drop (suc i) places)) (version_found s.facts x)) (sym e)
-      ∙ ap (λ (n : ℕ). tried_at s number view shown past at (tried s number view shown past (drop n places)) (version_found s.facts at)) (sym (add-one i))
-
   -- it isn't there, or isn't above, or is good, or isn't
   pub none-there : (at : ReleaseRef) (more : Option PlanStep) → version_found s.facts at ≡ None → tried_at s number view shown past at more (version_found s.facts at) ≡ None
   none-there at more e = ap (tried_at s number view shown past at more) e
@@ -154,3 +149,116 @@ module _ (s : Scene) (number : ℕ) (view : DeviceView) (shown : List ℕ) (past
   first-tried at more version found e f g =
       ap (tried_at s number view shown past at more) e ∙ ap (λ (b : Bool). if b then first_some (good_step s number view at version past) more else None) f
       ∙ ap (λ (o : Option PlanStep). first_some o more) (sym g)
+
+pub first-is : (o more : Option PlanStep) → is_some o ≡ true → first_some o more ≡ o
+first-is None more h = cc
+first-is (Some step) more h = refl
+
+pub first-none : (o more : Option PlanStep) → is_some o ≡ false → first_some o more ≡ more
+first-none None more h = refl
+first-none (Some step) more h = cc
+
+-- ---- the steps of a device
+
+pub turn-goes : (s : Scene) (device : List ℕ) (steps new whole : List PlanStep) (past now end : List Event) (step : PlanStep) (number : ℕ) → length steps < 8192 → number ≡ length steps + 1
+    → next_step s number device past ≡ Some step → new ≡ steps ++ step ∷ [] → now ≡ installed s number step past → Goes s device steps whole past end → Goes s device new whole now end
+turn-goes s device steps new whole past now end step number few same next put went g =
+    subst (λ (xs : List PlanStep). Goes s device xs whole now end) (sym put)
+    (subst (λ (p : List Event). Goes s device (steps ++ step ∷ []) whole p end) (sym (went ∙ ap (λ (n : ℕ). installed s n step past) same))
+    (goes-turn s device steps whole past end step few (subst (λ (n : ℕ). next_step s n device past ≡ Some step) same next) g))
+
+pub ends-none : (s : Scene) (device : List ℕ) (steps whole : List PlanStep) (past end : List Event) (number : ℕ) → number ≡ length steps + 1 → next_step s number device past ≡ None → Goes s device steps whole past end
+    → (steps ≡ whole) × (past ≡ end)
+ends-none s device steps whole past end number same none g =
+    goes-end s device steps whole past end g
+    (chain-none s device (8192 - length steps) (length steps + 1) past (subst (λ (n : ℕ). next_step s n device past ≡ None) same none))
+
+pub ends-full : (s : Scene) (device : List ℕ) (steps whole : List PlanStep) (past end : List Event) → 8192 ≤ length steps → Goes s device steps whole past end → (steps ≡ whole) × (past ≡ end)
+ends-full s device steps whole past end full g =
+    let none : 8192 - length steps ≡ 0 = omega (arith, full) in
+    goes-end s device steps whole past end g (ap (λ (n : ℕ). chain s device n (length steps + 1) past) none ∙ chain-zero s device (length steps + 1) past)
+
+-- ---- device behind device
+
+pub turn-chains : (s : Scene) (before now : List Event) (xs : List (List ℕ)) (device : List ℕ) (steps new : List PlanStep) → steps ≡ chains s xs 8192 1 before → now ≡ after s 1 steps before
+    → new ≡ steps ++ chain s device (8192 - length steps) (length steps + 1) now → new ≡ chains s (xs ++ device ∷ []) 8192 1 before
+turn-chains s before now xs device steps new so_far past put =
+    let count : length steps + 1 ≡ 1 + length steps = omega arith in
+    put ∙ ap (λ (p : List Event). steps ++ chain s device (8192 - length steps) (length steps + 1) p) past
+    ∙ ap (λ (n : ℕ). steps ++ chain s device (8192 - length steps) n (after s 1 steps before)) count
+    ∙ ap (λ (zs : List PlanStep). zs ++ chain s device (8192 - length zs) (1 + length zs) (after s 1 zs before)) so_far
+    ∙ sym (chains-push s xs device 8192 1 before)
+
+pub turn-after : (s : Scene) (before now next : List Event) (steps own new : List PlanStep) → now ≡ after s 1 steps before → next ≡ after s (length steps + 1) own now → new ≡ steps ++ own
+    → next ≡ after s 1 new before
+turn-after s before now next steps own new past went put =
+    let count : length steps + 1 ≡ 1 + length steps = omega arith in
+    went ∙ ap (after s (length steps + 1) own) past ∙ ap (λ (n : ℕ). after s n own (after s 1 steps before)) count
+    ∙ sym (after-append s 1 steps own before) ∙ ap (λ (zs : List PlanStep). after s 1 zs before) (sym put)
+
+map-both : {X Y : Type 0} (f : X → Y) (xs ys : List X) → map f (xs ++ ys) ≡ map f xs ++ map f ys
+map-both f [] ys = refl
+map-both {X} {Y} f (x ∷ xs) ys = ap (λ (zs : List Y). f x ∷ zs) (map-both f xs ys)
+
+pub mapped-more : {X Y : Type 0} (f : X → Y) (xs : List X) (i : ℕ) (d : X) → i < length xs → map f (take (i + 1) xs) ≡ map f (take i xs) ++ f (get_or xs i d) ∷ []
+mapped-more {X} {Y} f xs i d within =
+    ap (λ (n : ℕ). map f (take n xs)) (add-one i) ∙ ap (map f) (take-suc xs i d within) ∙ map-both f (take i xs) (get_or xs i d ∷ [])
+
+-- a place of the walk is a device's
+pub below-at : (n : ℕ) (places : List ℕ) (i : ℕ) → AllBelow n places → i < length places → get_or places i 0 < n
+below-at n [] i a within = absurd (omega (arith, within))
+below-at n (p ∷ places) zero a within = a.0
+below-at n (p ∷ places) (suc i) a within = below-at n places i a.1 (omega (arith, within))
+
+-- ---- the whole plan
+
+pub take-whole : {X : Type 0} (n : ℕ) (xs : List X) → length xs ≤ n → take n xs ≡ xs
+take-whole zero [] h = refl
+take-whole zero (x ∷ xs) h = absurd (omega (arith, h))
+take-whole (suc n) [] h = refl
+take-whole {X} (suc n) (x ∷ xs) h = ap (λ (ys : List X). x ∷ ys) (take-whole n xs (omega (arith, h)))
+
+pub chains-nil : (s : Scene) (before : List Event) → [] ≡ chains s [] 8192 1 before
+unfolding chains
+chains-nil s before = refl
+
+pub after-nil : (s : Scene) (before : List Event) → before ≡ after s 1 [] before
+unfolding after
+after-nil s before = refl
+
+pub plan-is : (s : Scene) (before : List Event) → plan s before ≡ chains s (map (device_at (views s.facts s.opening before)) (walk (views s.facts s.opening before))) 8192 1 before
+unfolding plan
+plan-is s before = refl
+
+pub drop-whole : {X : Type 0} (n : ℕ) (xs : List X) → length xs ≤ n → drop n xs ≡ []
+drop-whole zero [] h = refl
+drop-whole zero (x ∷ xs) h = absurd (omega (arith, h))
+drop-whole (suc n) [] h = refl
+drop-whole (suc n) (x ∷ xs) h = drop-whole n xs (omega (arith, h))
+
+-- ---- what stands at a place
+
+pub got_or : {X : Type 0} (xs : List X) (at : ℕ) (d : X) → at < length xs → slice_get xs at ≡ Some (get_or xs at d)
+got_or [] at d within = absurd (omega (arith, within))
+got_or (x ∷ xs) zero d within = refl
+got_or (x ∷ xs) (suc at) d within = got_or xs at d (omega (arith, within))
+
+drop-got : {X : Type 0} (xs : List X) (i : ℕ) (x : X) → slice_get xs i ≡ Some x → drop i xs ≡ x ∷ drop (i + 1) xs
+drop-got {X} xs i x e =
+    let there = at-got xs i x x e in
+    drop-cons xs i x there.within ∙ ap (λ (y : X). y ∷ drop (suc i) xs) there.is ∙ ap (λ (n : ℕ). x ∷ drop n xs) (sym (add-one i))
+
+pub tried-got : (s : Scene) (number : ℕ) (view : DeviceView) (shown : List ℕ) (past : List Event) (places : List ReleaseRef) (i : ℕ) (at : ReleaseRef) → slice_get places i ≡ Some at
+    → tried s number view shown past (drop i places) ≡ tried_at s number view shown past at (tried s number view shown past (drop (i + 1) places)) (version_found s.facts at)
+tried-got s number view shown past places i at e = ap (tried s number view shown past) (drop-got places i at e)
+
+pub good-got : (s : Scene) (steps : List PlanStep) (i : ℕ) (step : PlanStep) (past now : List Event) → slice_get steps i ≡ Some step → is_good s (i + 1) step past ≡ true
+    → now ≡ installed s (i + 1) step past → first_bad s (i + 1) (drop i steps) past ≡ first_bad s (i + 1 + 1) (drop (i + 1) steps) now
+good-got s steps i step past now e good went =
+    ap (λ (xs : List PlanStep). first_bad s (i + 1) xs past) (drop-got steps i step e)
+    ∙ first_bad-good s (i + 1) step (drop (i + 1) steps) past good
+    ∙ ap (first_bad s (i + 1 + 1) (drop (i + 1) steps)) (sym went)
+
+pub bad-got : (s : Scene) (steps : List PlanStep) (i : ℕ) (step : PlanStep) (past : List Event) → slice_get steps i ≡ Some step → is_good s (i + 1) step past ≡ false → first_bad s (i + 1) (drop i steps) past ≡ Some (i + 1)
+bad-got s steps i step past e bad =
+    ap (λ (xs : List PlanStep). first_bad s (i + 1) xs past) (drop-got steps i step e) ∙ first_bad-bad s (i + 1) step (drop (i + 1) steps) past bad

@@ -1,5 +1,5 @@
 //! A log that goes on by the installs of a plan.
-ghost use Rattle.std.specs.Prelude.{◌≡◌, ◌<◌, ◌≤◌, ◌+◌, ◌∷◌, ◌++◌, [], ◌&&◌, true, nat_lt, length, List, Some, find, option_copied, option_map, OnOk, IsSome, Ok};
+ghost use Rattle.std.specs.Prelude.{◌≡◌, ◌<◌, ◌≤◌, ◌+◌, ◌∷◌, ◌++◌, [], ◌&&◌, true, nat_lt, length, List, Some, find, slice_get, option_copied, option_map, OnOk, IsSome, Ok};
 ghost use Rattle.history_keeper.specs.declared.row.Row.{Row};
 ghost use Rattle.release_catalogue.specs.Lookup.{Chosen};
 ghost use Rattle.update_log.specs.Core.{Stands};
@@ -26,7 +26,7 @@ use crate::requests::request_of;
 use device_list::Selector;
 use emulated_boards::Mark;
 use fw_base::{Digest, Name, NoMemory};
-use fw_facts::{DeviceFlag, DeviceView, Release, Seen};
+use fw_facts::{Component, DeviceFlag, DeviceView, Release, Seen};
 use guid_ids::DeviceId;
 use history_keeper::RowState;
 use release_catalogue::ReleaseRef;
@@ -59,18 +59,80 @@ impl<'a> Asker<'a> {
             → IsQuiet (scene self.now.facts.now opening self.now.client self.now.tag.now) (past_of state.now.log)
             → result ≡ is_good (scene self.now.facts.now opening self.now.client self.now.tag.now) number step.now (past_of state.now.log) }
     {
-        let Some(component) = component_of(self.facts, step.release) else {
+        match component_of(self.facts, step.release) {
+            Some(component) => self.is_good_of(state, number, step, component),
+            None => false,
+        }
+    }
+
+    fn is_good_of(
+        &self,
+        state: &CoreState,
+        number: u32,
+        step: &PlanStep,
+        component: &Component,
+    ) -> bool
+        requires tag { IsTag self.now.tag.now }
+        requires number { number ≤ 8192 }
+        requires component { slice_get self.now.facts.now.catalogue step.now.release.component ≡ Some component.now }
+        ensures { (opening : List Row) → Stands self.now.facts.now opening state.now
+            → IsQuiet (scene self.now.facts.now opening self.now.client self.now.tag.now) (past_of state.now.log)
+            → result ≡ is_good (scene self.now.facts.now opening self.now.client self.now.tag.now) number step.now (past_of state.now.log) }
+    {
+        match release_of(component, step.release) {
+            Some(release) => self.is_good_with(state, number, step, component, release),
+            None => false,
+        }
+    }
+
+    fn is_good_with(
+        &self,
+        state: &CoreState,
+        number: u32,
+        step: &PlanStep,
+        component: &Component,
+        release: &Release,
+    ) -> bool
+        requires tag { IsTag self.now.tag.now }
+        requires number { number ≤ 8192 }
+        requires component { slice_get self.now.facts.now.catalogue step.now.release.component ≡ Some component.now }
+        requires release { slice_get component.now.releases step.now.release.release ≡ Some release.now }
+        ensures { (opening : List Row) → Stands self.now.facts.now opening state.now
+            → IsQuiet (scene self.now.facts.now opening self.now.client self.now.tag.now) (past_of state.now.log)
+            → result ≡ is_good (scene self.now.facts.now opening self.now.client self.now.tag.now) number step.now (past_of state.now.log) }
+    {
+        match view_of(state, &step.device) {
+            Some(view) => self.goes_well(state, number, step, component, release, view),
+            None => false,
+        }
+    }
+
+    // Its version is written, its request is accepted, and it ends well.
+    fn goes_well(
+        &self,
+        state: &CoreState,
+        number: u32,
+        step: &PlanStep,
+        component: &Component,
+        release: &Release,
+        view: &DeviceView,
+    ) -> bool
+        requires tag { IsTag self.now.tag.now }
+        requires number { number ≤ 8192 }
+        requires component { slice_get self.now.facts.now.catalogue step.now.release.component ≡ Some component.now }
+        requires release { slice_get component.now.releases step.now.release.release ≡ Some release.now }
+        requires view { find (has_id step.now.device) state.now.views ≡ Some view.now }
+        ensures { (opening : List Row) → Stands self.now.facts.now opening state.now
+            → IsQuiet (scene self.now.facts.now opening self.now.client self.now.tag.now) (past_of state.now.log)
+            → result ≡ is_good (scene self.now.facts.now opening self.now.client self.now.tag.now) number step.now (past_of state.now.log) }
+    {
+        if !is_same(&render(view.sheet.format, step.raw), &release.version) {
             return false;
-        };
-        let Some(release) = release_of(component, step.release) else {
+        }
+        if !self.is_accepted(state, number, step, release) {
             return false;
-        };
-        let Some(view) = view_of(state, &step.device) else {
-            return false;
-        };
-        is_same(&render(view.sheet.format, step.raw), &release.version)
-            && self.is_accepted(state, number, step, release)
-            && ends_well(view, component, &release.version, step.raw)
+        }
+        ends_well(view, component, &release.version, step.raw)
     }
 
     // Whether its request is accepted, at its ask and at its claim, with its very release. A claim finds
@@ -103,7 +165,6 @@ impl<'a> Asker<'a> {
     }
 
     /// Puts the install of a step, which is good, behind the log.
-    #[tactic(none)]
     pub fn install(
         &self,
         state: &mut CoreState,
@@ -121,44 +182,64 @@ impl<'a> Asker<'a> {
         ensures past { OnOk result (past_of state.new.log ≡ installed (scene self.now.facts.now at.opening self.now.client self.now.tag.now) at.number step.now at.before) }
         ensures stands { OnOk result (Stands self.now.facts.now at.opening state.new) }
     {
-        let Some(release) = release_at(self.facts, step.release) else {
-            return Ok(());
-        };
+        match release_at(self.facts, step.release) {
+            Some(release) => self.put(state, number, step, release),
+            None => Ok(()),
+        }
+    }
+
+    // The same, where that is its release.
+    fn put(
+        &self,
+        state: &mut CoreState,
+        number: u32,
+        step: &PlanStep,
+        release: &Release,
+    ) -> Result<(), NoMemory>
+        ghost at: { Making }
+        requires tag { IsTag self.now.tag.now }
+        requires number { number ≤ 8192 }
+        requires numbered { number ≡ at.number }
+        requires before { past_of state.old.log ≡ at.before }
+        requires stands { Stands self.now.facts.now at.opening state.old }
+        requires quiet { IsQuiet (scene self.now.facts.now at.opening self.now.client self.now.tag.now) at.before }
+        requires good { is_good (scene self.now.facts.now at.opening self.now.client self.now.tag.now) at.number step.now at.before ≡ true }
+        requires release { option_map (λ chosen. chosen.release) (release_at (scene self.now.facts.now at.opening self.now.client self.now.tag.now) step.now.release) ≡ Some release.now }
+        ensures past { OnOk result (past_of state.new.log ≡ installed (scene self.now.facts.now at.opening self.now.client self.now.tag.now) at.number step.now at.before) }
+        ensures stands { OnOk result (Stands self.now.facts.now at.opening state.new) }
+    {
         state.reserve(EVENTS_MAX)?;
         let entry = state.rows().len() as u32 + 1;
-        self.take(state, number, step, release, entry);
+        let request = self.request(number, step, release);
+        self.take(state, &request, step, release, entry);
         self.make_all(state, step, entry, release.digest);
         self.finish(state, step, entry);
         Ok(())
     }
 
     // The ask and the claim of a good step, whose release that is.
-    #[tactic(none)]
     fn take(
         &self,
         state: &mut CoreState,
-        number: u32,
+        request: &Request,
         step: &PlanStep,
         release: &Release,
         entry: u32,
     )
         ghost at: { Making }
-        requires tag { IsTag self.now.tag.now }
-        requires number { number ≤ 8192 }
-        requires numbered { number ≡ at.number }
+        requires request { (chosen : Chosen) → chosen.release ≡ release.now → request.now ≡ request_of (scene self.now.facts.now at.opening self.now.client self.now.tag.now) at.number step.now chosen }
         requires begins { Begins (scene self.now.facts.now at.opening self.now.client self.now.tag.now) step.now at release.now entry state.old }
         requires room { 2 ≤ state.old.room }
         requires row { 1 ≤ state.old.row_room }
         ensures put { IsPutting (scene self.now.facts.now at.opening self.now.client self.now.tag.now) step.now (record at { gone = [] }) state.new }
         ensures room { state.old.room ≤ state.new.room + 2 }
     {
-        let request = self.request(number, step, release);
         append(
             self.facts,
             state,
             Event::Ask {
                 client: self.client,
-                request,
+                request: *request,
                 pending: None,
                 answer: AskAnswer::Hold {
                     blocks: blocks_of(release.size),
@@ -171,7 +252,7 @@ impl<'a> Asker<'a> {
             state,
             Event::Claim {
                 client: self.client,
-                request,
+                request: *request,
                 fetched: FetchNote::Whole {
                     digest: release.digest,
                     len: release.size,
@@ -183,7 +264,6 @@ impl<'a> Asker<'a> {
     }
 
     // All steps of the entry.
-    #[tactic(none)]
     fn make_all(&self, state: &mut CoreState, step: &PlanStep, entry: u32, digest: Digest)
         ghost at: { Making }
         requires put { IsPutting (scene self.now.facts.now at.opening self.now.client self.now.tag.now) step.now (record at { gone = [] }) state.old }
@@ -202,7 +282,6 @@ impl<'a> Asker<'a> {
     }
 
     // A step of the entry, behind those that come before it, where it is the next one.
-    #[tactic(none)]
     fn make(&self, state: &mut CoreState, op: Op, step: &PlanStep, entry: u32, digest: Digest)
         ghost at: { Making }
         requires put { IsPutting (scene self.now.facts.now at.opening self.now.client self.now.tag.now) step.now at state.old }
@@ -234,7 +313,6 @@ impl<'a> Asker<'a> {
         );
     }
 
-    #[tactic(none)]
     fn finish(&self, state: &mut CoreState, step: &PlanStep, entry: u32)
         ghost at: { Making }
         requires put { IsPutting (scene self.now.facts.now at.opening self.now.client self.now.tag.now) step.now (record at { gone = all_ops }) state.old }
@@ -262,7 +340,13 @@ fn view_of<'a>(state: &'a CoreState, device: &DeviceId) -> Option<&'a DeviceView
     ensures { option_copied result ≡ find (has_id device.now) state.now.views }
 {
     let at = state.resolve(&Selector::Id(*device))?;
-    state.views().get(at)
+    view_at(state.views(), at)
+}
+
+fn view_at(views: &[DeviceView], at: usize) -> Option<&DeviceView>
+    ensures { option_copied result ≡ slice_get views.now at }
+{
+    views.get(at)
 }
 
 // What the device of a step shows at the end of a step of its entry.

@@ -20,7 +20,6 @@ use update_log::{CoreState, Facts};
 ///
 /// The facts are those that the state was made with. The boot isn't off, nobody has a hold or a live
 /// entry, the client isn't 0, and the tag has at most 56 bytes.
-#[tactic(none)]
 pub fn make_plan(
     alloc: Global,
     facts: &Facts,
@@ -47,7 +46,6 @@ pub fn make_plan(
 
 /// Whether each step of the plan, which has at most 8,192, is good after those before it. The conditions
 /// are those of `make_plan`.
-#[tactic(none)]
 pub fn check_plan(
     alloc: Global,
     facts: &Facts,

@@ -4,7 +4,7 @@ use Rattle.client_plays.specs.Shelves.{means_for}
 use Rattle.plugin_trait.specs.Steps.{steps_at}
 use Rattle.client_plays.proofs.ToolLaws.{shelves-here}
 use Rattle.client_threads.proofs.Plays.{empty-list}
-use Rattle.client_threads.proofs.Rest.{can-begin, clients-off, no-clients}
+use Rattle.client_threads.proofs.Rest.{can-begin, clients-off, its-name, no-clients}
 use Rattle.daemon_core.specs.Housed.{past}
 use Rattle.daemon_core.specs.Turns.{signs_of}
 use Rattle.client_plays.proofs.ShelfCounts.{shelves-count_here}
@@ -24,6 +24,9 @@ returns-then-is_off-clause-played g c =
 
 pub returns-then-is_off-clause-kept : goal.returns-then-is_off-clause-kept
 returns-then-is_off-clause-kept g c = shelves-here (shelves_told g.P.Shelf.files g.P.Shelf.faults c.args.shelves.now.items)
+
+pub play_named-requires-clause-name : goal.play_named-requires-clause-name
+play_named-requires-clause-name g c κs within = its-name (signs_of g.K.Keeper.tells g.K.Keeper.faults) c.args.house
 
 pub play_named-requires-clause-begins : goal.play_named-requires-clause-begins
 play_named-requires-clause-begins g c κs within =

@@ -1,4 +1,5 @@
-use Rattle.std.proofs.Common.{true, subst, sym}
+use Rattle.std.proofs.Common.{true, length, ◌≤◌, subst, sym}
+use Rattle.update_log.specs.declared.facts.Facts.{Facts}
 use Rattle.daemon_core.specs.Housed.{Housed, past}
 use Rattle.daemon_core.specs.Turns.{signs_of}
 use Rattle.daemon_core.proofs.PartsKept.{house-home}
@@ -22,8 +23,14 @@ returns-in_default-clause-kept g c = shelves-here (shelves_told g.P.Shelf.files 
 pub begin-requires-clause-name : goal.begin-requires-clause-name
 begin-requires-clause-name g c = begins-named (signs_of g.K.Keeper.tells g.K.Keeper.faults) g.N.Naming.name c.args.house c.requires.name c.requires.begins
 
+pub begin-requires-clause-start : goal.begin-requires-clause-start
+begin-requires-clause-start g c = sym c.requires.name.start_is
+
 pub begin-requires-clause-nothing : goal.begin-requires-clause-nothing
 begin-requires-clause-nothing g c = nothing-out (signs_of g.K.Keeper.tells g.K.Keeper.faults) c.args.house c.known.ensures.annals c.requires.begins.idle
+
+pub play_behind-requires-clause-served : goal.play_behind-requires-clause-served
+play_behind-requires-clause-served g c κs within = subst (λ (f : Facts). length f.vetoes ≤ length c.args.plugins.now) (sym c.requires.name.facts_are) c.requires.served
 
 pub returns-in-Ok-begin-clause-played : goal.returns-in-Ok-begin-clause-played
 returns-in-Ok-begin-clause-played g c =

@@ -3,6 +3,7 @@ use Rattle.std.specs.Prelude.{IfOk}
 use Rattle.sqlite.specs.Held.{state}
 use Rattle.history_keeper.specs.declared.row.Row.{Row}
 use Rattle.history_keeper.specs.Keepers.{StillSettled, StillTold}
+use Rattle.history_sqlite.specs.Keeping.{Keeping}
 use Rattle.history_sqlite.specs.Telling.{IsSettled, TellsRows, database}
 use Rattle.history_sqlite.proofs.Opening.{if_ok, kept_read}
 use Rattle.history_sqlite.proofs.TellingLemmas.{given, knows_left, still_settled, still_told}
@@ -19,20 +20,20 @@ invariant_of-self g c =
 
 pub returns-clause-unchanged : goal.returns-clause-unchanged
 returns-clause-unchanged g c =
-    let new = (record { connection = c.load_rows.new.connection; doubt = c.self.inside.doubt; plan = c.self.inside.plan.items; calls = c.self.inside.calls; faults = c.self.inside.faults; tells = c.self.inside.tells }) in
+    let new : Keeping g.row.D.Denot = record { connection = c.load_rows.new.connection; doubt = c.self.inside.doubt; plan = c.self.inside.plan.items; calls = c.self.inside.calls; faults = c.self.inside.faults; tells = c.self.inside.tells } in
     subst (λ k. StillTold (TellsRows g.D.Store g.D.Lasting.supposed k) (TellsRows g.D.Store g.D.Lasting.supposed new)) c.self.view_is
     (still_told g.D.Store g.D.Lasting.supposed (record { connection = c.self.inside.connection; doubt = c.self.inside.doubt; plan = c.self.inside.plan.items; calls = c.self.inside.calls; faults = c.self.inside.faults; tells = c.self.inside.tells }) new refl c.self.invariant.1 c.load_rows.ensures.clean c.load_rows.ensures.was_open
     (λ clean is_open. kept_read (state g.D.Store c.self.inside.connection) (state g.D.Store c.load_rows.new.connection) c.load_rows.result (λ loaded. loaded.items) (c.load_rows.ensures.loads clean) (c.load_rows.ensures.refused clean is_open)))
 
 pub returns-clause-answer : goal.returns-clause-answer
 returns-clause-answer g c =
-    let new = (record { connection = c.load_rows.new.connection; doubt = c.self.inside.doubt; plan = c.self.inside.plan.items; calls = c.self.inside.calls; faults = c.self.inside.faults; tells = c.self.inside.tells }) in
+    let new : Keeping g.row.D.Denot = record { connection = c.load_rows.new.connection; doubt = c.self.inside.doubt; plan = c.self.inside.plan.items; calls = c.self.inside.calls; faults = c.self.inside.faults; tells = c.self.inside.tells } in
     if_ok c.load_rows.result _ (λ loaded is. given g.D.Store g.D.Lasting.supposed (record { connection = c.self.inside.connection; doubt = c.self.inside.doubt; plan = c.self.inside.plan.items; calls = c.self.inside.calls; faults = c.self.inside.faults; tells = c.self.inside.tells }) new refl c.self.invariant.1 c.load_rows.ensures.clean c.load_rows.ensures.was_open loaded.items
     (λ clean. rw is at (c.load_rows.ensures.loads clean)))
 
 pub returns-clause-settled : goal.returns-clause-settled
 returns-clause-settled g c =
-    let new = (record { connection = c.load_rows.new.connection; doubt = c.self.inside.doubt; plan = c.self.inside.plan.items; calls = c.self.inside.calls; faults = c.self.inside.faults; tells = c.self.inside.tells }) in
+    let new : Keeping g.row.D.Denot = record { connection = c.load_rows.new.connection; doubt = c.self.inside.doubt; plan = c.self.inside.plan.items; calls = c.self.inside.calls; faults = c.self.inside.faults; tells = c.self.inside.tells } in
     subst (λ k. StillSettled (IsSettled g.D.Store) k new) c.self.view_is
     (λ first s. still_settled (database g.D.Store first) (state g.D.Store c.self.inside.connection) (state g.D.Store c.load_rows.new.connection) first.doubt c.self.inside.doubt c.load_rows.ensures.clean c.load_rows.ensures.was_open
     (λ clean is_open. kept_read (state g.D.Store c.self.inside.connection) (state g.D.Store c.load_rows.new.connection) c.load_rows.result (λ loaded. loaded.items) (c.load_rows.ensures.loads clean) (c.load_rows.ensures.refused clean is_open)) s)

@@ -1,10 +1,13 @@
-use Rattle.std.proofs.Common.{◌≡◌, ◌∙◌, Some, inr, sym, ap, subst}
-use Rattle.std.proofs.lemmas.Result.{IfErr-weaker, on_ok_weaker, on_err_weaker}
+use Rattle.std.proofs.Common.{◌≡◌, ◌∙◌, List, None, Some, inl, inr, refl, sym, ap, subst}
+use Rattle.std.proofs.lemmas.Result.{IfErr-weaker, err_from_is_err_and, on_ok_weaker, on_err_weaker}
+use Rattle.sqlite.specs.Held.{state}
 use Rattle.sqlite.specs.State.{HasCleanDisk}
-use Rattle.history_sqlite.specs.Keeping.{Keeping}
+use Rattle.history_keeper.specs.declared.row.Row.{Row}
+use Rattle.history_keeper.specs.Changes.{Suits}
+use Rattle.history_sqlite.specs.Keeping.{Keeping, doubtful}
 use Rattle.history_sqlite.specs.Telling.{SettledSo, TellsRows, database}
 use Rattle.history_sqlite.proofs.Opening.{on_err, where_ok}
-use Rattle.history_sqlite.proofs.TellingLemmas.{reopened_written, settled, still_settled}
+use Rattle.history_sqlite.proofs.TellingLemmas.{knows_clear, reopened_written, settled, still_settled, suits_told, told_alike}
 use Rattle.history_sqlite.proofs.sql_keeper.SqlKeeper.settle.Goals as goal
 
 pub returns-in-Some-clause-settles : goal.returns-in-Some-clause-settles
@@ -51,3 +54,34 @@ returns-in-Some-clause-still g c =
     subst (λ left. SettledSo (database g.D.Store first) (database g.D.Store new) first.doubt left) (sym (ap (λ (k : Keeping g.row.D.Denot). k.doubt) same))
     (still_settled (database g.D.Store first) (database g.D.Store mid) (database g.D.Store new) first.doubt mid.doubt c.write.ensures.clean c.write.ensures.was_open
     (λ clean is_open. rw is at (c.write.ensures.refused clean is_open)) (c.read.ensures.settled first s)))
+
+pub returns-clause-reopened : goal.returns-clause-reopened
+returns-clause-reopened g c =
+    let s = c.self-in_default.inside in
+    let e = c.self-in_default.view_is in
+    let new : Keeping g.row.D.Denot = record { connection = s.connection; doubt = None; plan = s.plan.items; calls = s.calls; faults = s.faults; tells = s.tells } in (
+      λ all t.
+          let before = told_alike g.D.Store c.read.new.self new (ap (λ (k : Keeping g.row.D.Denot). k.connection) e) g.D.Lasting.supposed (ap (λ (k : Keeping g.row.D.Denot). k.tells) e) all t in
+          (all, c.read.ensures.unchanged all before, inl refl),
+      refl,
+    )
+
+pub invariant_of-self : goal.invariant_of-self
+invariant_of-self g c =
+    let s = c.self-in_default.inside in (tt, knows_clear g.D.Lasting.supposed (state g.D.Store s.connection) s.tells s.doubt c.self-in_default.invariant.1)
+
+pub returns-in_err-_rows-clause-reopened : goal.returns-in_err-_rows-clause-reopened
+returns-in_err-_rows-clause-reopened g c =
+    let p = err_from_is_err_and c.from_residual.result c.from_residual.ensures.1 in rw p.1 (c.read.ensures.unchanged, ap (λ (k : Keeping g.row.D.Denot). doubtful k) c.read.ensures.same)
+
+pub returns-in_err-_rows-clause-still : goal.returns-in_err-_rows-clause-still
+returns-in_err-_rows-clause-still g c =
+    let p = err_from_is_err_and c.from_residual.result c.from_residual.ensures.1 in rw p.1 c.read.ensures.settled
+
+-- the change that is still in doubt suits the rows
+pub write-requires-clause-suits : goal.write-requires-clause-suits
+write-requires-clause-suits g c =
+    let s = c.self-2.inside in
+    let here : Keeping g.row.D.Denot = record { connection = s.connection; doubt = s.doubt; plan = s.plan.items; calls = s.calls; faults = s.faults; tells = s.tells } in
+    subst (λ k. (all : List Row) → TellsRows g.D.Store g.D.Lasting.supposed k all → Suits c.in-Some.doubt.change all) c.self-2.view_is
+    (suits_told g.D.Store g.D.Lasting.supposed here c.self-2.invariant.1 c.in-Some.doubt c.in-Some.is)

@@ -4,6 +4,7 @@ use Rattle.sqlite.specs.State.{HasCleanDisk}
 use Rattle.history_keeper.specs.declared.row.Row.{Row}
 use Rattle.history_keeper.specs.Changes.{Suits}
 use Rattle.history_keeper.specs.Keepers.{StillTold, ToldWith}
+use Rattle.history_sqlite.specs.Keeping.{Keeping}
 use Rattle.history_sqlite.specs.Tables.{HoldsRows}
 use Rattle.history_sqlite.specs.Telling.{TellsRows}
 use Rattle.history_sqlite.proofs.TellingLemmas.{knows_left, knows_made, still_told, told_made}
@@ -28,12 +29,12 @@ invariant_of-self-in-Err g c =
 pub returns-in-Ok-clause-made : goal.returns-in-Ok-clause-made
 returns-in-Ok-clause-made g c =
     let suits = subst (λ k. (all : List Row) → TellsRows g.D.Store g.D.Lasting.supposed k all → Suits c.args.change.now all) (sym c.self.view_is) c.requires.suits in
-    let new = (record { connection = c.make.new.connection; doubt = None; plan = c.self.inside.plan.items; calls = c.self.inside.calls; faults = c.self.inside.faults; tells = c.self.inside.tells }) in
+    let new : Keeping g.row.D.Denot = record { connection = c.make.new.connection; doubt = None; plan = c.self.inside.plan.items; calls = c.self.inside.calls; faults = c.self.inside.faults; tells = c.self.inside.tells } in
     subst (λ k. ToldWith c.args.change.now (TellsRows g.D.Store g.D.Lasting.supposed k) (TellsRows g.D.Store g.D.Lasting.supposed new)) c.self.view_is
     (told_made g.D.Store g.D.Lasting.supposed (record { connection = c.self.inside.connection; doubt = c.self.inside.doubt; plan = c.self.inside.plan.items; calls = c.self.inside.calls; faults = c.self.inside.faults; tells = c.self.inside.tells }) new refl c.self.invariant.1 c.make.ensures.clean c.make.ensures.was_open c.args.change.now suits c.in-Ok.ensures.makes)
 
 pub returns-in-Err-clause-unchanged : goal.returns-in-Err-clause-unchanged
 returns-in-Err-clause-unchanged g c =
-    let new = (record { connection = c.make.new.connection; doubt = c.self.inside.doubt; plan = c.self.inside.plan.items; calls = c.self.inside.calls; faults = c.self.inside.faults; tells = c.self.inside.tells }) in
+    let new : Keeping g.row.D.Denot = record { connection = c.make.new.connection; doubt = c.self.inside.doubt; plan = c.self.inside.plan.items; calls = c.self.inside.calls; faults = c.self.inside.faults; tells = c.self.inside.tells } in
     subst (λ k. StillTold (TellsRows g.D.Store g.D.Lasting.supposed k) (TellsRows g.D.Store g.D.Lasting.supposed new)) c.self.view_is
     (still_told g.D.Store g.D.Lasting.supposed (record { connection = c.self.inside.connection; doubt = c.self.inside.doubt; plan = c.self.inside.plan.items; calls = c.self.inside.calls; faults = c.self.inside.faults; tells = c.self.inside.tells }) new refl c.self.invariant.1 c.make.ensures.clean c.make.ensures.was_open c.in-Err.ensures.refused)

@@ -23,3 +23,7 @@ returns-clause-pass g c =
     (begins-trans log c.args.turn.seen g.N.Naming.name.start (added-begins c.args.turn.number c.args.turn.seen log adds) begins.meets.log.begins))
     adds (c.leave.ensures.ready.0 ∙ ap (λ (l : LockView Entry). l.id) c.self.view_is, c.leave.ensures.ready.1)
     (c.leave.ensures.same.0 ∙ sym c.requires.turn.1) c.leave.ensures.same.1 c.leave.ensures.seen c.leave.ensures.mine
+
+pub leave-requires-clause-adds : goal.leave-requires-clause-adds
+leave-requires-clause-adds g c =
+    subst (λ (h : Housed g.row.K.Denot). AddsAtMostOne maker_of c.args.turn.number c.args.turn.seen (chronicle h)) (sym c.state.ensures.value) c.requires.adds

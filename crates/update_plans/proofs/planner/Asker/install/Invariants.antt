@@ -1,10 +1,4 @@
 use Rattle.update_plans.proofs.planner.Asker.install.Given as goal
 
-abbrev pub ghost-take : goal.ghost-take
-ghost-take g a = g.at
-
-abbrev pub ghost-make_all : goal.ghost-make_all
-ghost-make_all g a = g.at
-
-abbrev pub ghost-finish : goal.ghost-finish
-ghost-finish g a = g.at
+abbrev pub ghost-put : goal.ghost-put
+ghost-put g a = g.at
