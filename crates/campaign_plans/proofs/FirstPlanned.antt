@@ -1,7 +1,6 @@
 -- The log of a first boot, and that a plan may be made over it.
-use Rattle.std.proofs.Common.{◌≡◌, ℕ, Bool, true, false, ◌<◌, ◌≤◌, List, [], ◌∷◌, length, map, inl, inr, refl, ap, sym, ◌∙◌, subst, arith}
-use Rattle.std.specs.Prelude.{All, ◌==◌, Some, None, slice_get}
-use Rattle.std.proofs.lemmas.Bool.{eq-eqb, eqb-true}
+use Rattle.std.proofs.Common.{◌≡◌, ℕ, ◌<◌, ◌≤◌, List, [], ◌∷◌, length, map, inl, inr, refl, ap, sym, ◌∙◌, subst, arith}
+use Rattle.std.specs.Prelude.{All, None}
 use Rattle.std.proofs.lemmas.List.{length-map}
 use Rattle.std.proofs.lemmas.List.Elements.{All-weaker}
 use Rattle.emulated_boards.specs.Boards.{BoardState}
@@ -15,11 +14,10 @@ use Rattle.history_keeper.specs.Histories.{IsHistory}
 use Rattle.update_log.specs.declared.event.Event.{Event}
 use Rattle.update_log.specs.declared.facts.BootPlan.{BootPlan}
 use Rattle.update_log.specs.declared.facts.Facts.{Facts}
-use Rattle.update_log.specs.Core.{Stands}
-use Rattle.update_log.specs.Pasts.{boots, past_of}
-use Rattle.update_plans.specs.Following.{IsQuiet}
-use Rattle.update_plans.specs.Plans.{Scene, first_bad, plan, scene}
-use Rattle.update_plans.specs.declared.plan.PlanStep.{PlanStep}
+use Rattle.update_log.specs.Core.{Core, Stands}
+use Rattle.update_log.specs.Known.{rows as known_rows}
+use Rattle.update_log.specs.Pasts.{past_of}
+use Rattle.update_plans.specs.Plans.{Scene, first_bad, scene}
 use Rattle.campaign_plans.specs.declared.first_plan.FirstPlan.{FirstPlan}
 use Rattle.campaign_plans.specs.FirstPlans.{CanBePlanned, IsFirstPlan, first_log, first_steps, plan_after}
 
@@ -72,31 +70,49 @@ is_first_plan facts shown boots rows tag first stands log tagged steps few good 
       good = subst (λ (past : List Event). first_bad (scene facts rows 1 tag) 1 first.plan.steps past ≡ None) same good;
     }
 
--- The log by what stands first among the boots.
-pub log_some : (boots : List BootPlan) (boot : BootPlan) (shown : List Seen) (log : List Event) → slice_get boots 0 ≡ Some boot → log ≡ first_boot boot shown ∷ [] → log ≡ first_log boots shown
-log_some [] boot shown log at is = cc
-log_some (b ∷ boots) boot shown log at is = let same : b ≡ boot = cc in is ∙ ap (λ (x : BootPlan). first_boot x shown ∷ []) (sym same)
+-- Boards that are as made are so for the first boot.
+pub as_fresh : (boards : List BoardState) → All IsAsMade boards → All IsFresh boards
+as_fresh boards made = All-weaker IsAsMade IsFresh (λ b h. (h.image, h.condition)) boards made
 
-pub log_none : (boots : List BootPlan) (shown : List Seen) (log : List Event) → slice_get boots 0 ≡ None → log ≡ [] → log ≡ first_log boots shown
-log_none [] shown log at is = is
-log_none (b ∷ boots) shown log at is = cc
-
--- Where there was a boot, the past is quiet, and its installs are those of the plan.
-pub quiet_booted : (facts : Facts) (rows : List Row) (tag : List ℕ) (past : List Event) (n : ℕ) → n ≡ boots past → (n ≡ 0 → ⊥) → CanBePlanned facts rows tag past → IsQuiet (scene facts rows 1 tag) past
-quiet_booted facts rows tag past n e no (inl z) = absurd (no (e ∙ z))
-quiet_booted facts rows tag past n e no (inr q) = q
-
-pub plan_booted : (facts : Facts) (rows : List Row) (tag : List ℕ) (past : List Event) (steps : List PlanStep) (n : ℕ) → n ≡ boots past → (n ≡ 0 → ⊥) → steps ≡ plan (scene facts rows 1 tag) past → steps ≡ plan_after facts rows tag past
-plan_booted facts rows tag past steps n e no is = at (boots past == 0) refl
-  where
-    at : (b : Bool) → (boots past == 0) ≡ b → steps ≡ plan_after facts rows tag past
-    at true t = absurd (no (e ∙ eqb-true (boots past) 0 t))
-    at false f = rw f is
-
--- Without a boot there are none, and none of them is bad.
-pub plan_unbooted : (facts : Facts) (rows : List Row) (tag : List ℕ) (past : List Event) (n : ℕ) → n ≡ boots past → n ≡ 0 → [] ≡ plan_after facts rows tag past
-plan_unbooted facts rows tag past n e z = let t : (boots past == 0) ≡ true = eq-eqb (boots past) 0 (sym e ∙ z) in rw t refl
-
+-- Of no steps none is bad.
 pub none_bad : (s : Scene) (past : List Event) → first_bad s 1 [] past ≡ None
 unfolding first_bad
 none_bad s past = refl
+
+-- A state that stands for that log has the rows before it.
+pub rows_first : (facts : Facts) (rows : List Row) (boots : List BootPlan) (shown : List Seen) (core : Core) → Stands facts rows core → core.log ≡ first_log boots shown → core.rows ≡ rows
+rows_first facts rows boots shown core stands log =
+    stands.rows ∙ ap (λ (past : List Event). known_rows facts rows past) (ap past_of log ∙ past_of_first boots shown) ∙ at boots
+  where
+    at : (bs : List BootPlan) → known_rows facts rows (first_log bs shown) ≡ rows
+    at [] = refl
+    at (boot ∷ bs) = refl
+
+-- So a plan may be made over it as the state tells it, and what is said of the plan is said of the rows before.
+pub can_be_planned_over : (facts : Facts) (rows own : List Row) (tag own_tag : List ℕ) (boots : List BootPlan) (boards : List BoardState) (log : List Event)
+    → own ≡ rows → own_tag ≡ tag → log ≡ first_log boots (map shown_by boards) → IsHistory rows → length boards ≡ length facts.sheets → All IsAsMade boards
+    → CanBePlanned facts own own_tag (past_of log)
+can_be_planned_over facts rows own tag own_tag boots boards log same tagged is h count made =
+    subst (λ (rs : List Row). CanBePlanned facts rs own_tag (past_of log)) (sym same)
+    (can_be_planned facts rows own_tag boots (map shown_by boards) log is h (as_many boards (length facts.sheets) count) (made_fine boards made))
+
+pub stands_over : (facts : Facts) (rows : List Row) (core : Core) → core.rows ≡ rows → Stands facts rows core → Stands facts core.rows core
+stands_over facts rows core same stands = subst (λ (rs : List Row). Stands facts rs core) (sym same) stands
+
+pub is_first_plan_over : (facts : Facts) (shown : List Seen) (boots : List BootPlan) (rows : List Row) (tag : List ℕ) (first : FirstPlan)
+    → first.state.rows ≡ rows → Stands facts rows first.state → first.state.log ≡ first_log boots shown → first.plan.tag ≡ tag
+    → first.plan.steps ≡ plan_after facts first.state.rows tag (past_of first.state.log) → length first.plan.steps ≤ 8192
+    → first_bad (scene facts first.state.rows 1 tag) 1 first.plan.steps (past_of first.state.log) ≡ None → IsFirstPlan facts shown boots rows tag first
+is_first_plan_over facts shown boots rows tag first same stands log tagged steps few good =
+    is_first_plan facts shown boots rows tag first stands log tagged
+    (steps ∙ ap (λ (rs : List Row). plan_after facts rs tag (past_of first.state.log)) same)
+    few
+    (subst (λ (rs : List Row). first_bad (scene facts rs 1 tag) 1 first.plan.steps (past_of first.state.log) ≡ None) same good)
+
+pub good_over : (facts : Facts) (shown : List Seen) (boots : List BootPlan) (rows : List Row) (tag : List ℕ) (first : FirstPlan) → first.state.rows ≡ rows → IsFirstPlan facts shown boots rows tag first
+    → first_bad (scene facts first.state.rows 1 first.plan.tag) 1 first.plan.steps (past_of first.state.log) ≡ None
+good_over facts shown boots rows tag first same is =
+    ap (λ (rs : List Row). first_bad (scene facts rs 1 first.plan.tag) 1 first.plan.steps (past_of first.state.log)) same
+    ∙ ap (λ (t : List ℕ). first_bad (scene facts rows 1 t) 1 first.plan.steps (past_of first.state.log)) is.tag_is
+    ∙ ap (λ (past : List Event). first_bad (scene facts rows 1 tag) 1 first.plan.steps past) (ap past_of is.log ∙ past_of_first boots shown)
+    ∙ is.good

@@ -4,14 +4,15 @@ use Rattle.std.specs.Prelude.{Option, Some, None, codes, find, option_map}
 use Rattle.std.specs.Fmt.{decimal}
 use Rattle.std.specs.Option.{option_map_or}
 use Rattle.std.proofs.Math.Seq.{take-suc}
-use Rattle.std.proofs.lemmas.List.{append-nil}
+use Rattle.std.proofs.lemmas.List.{append-nil, length-take-le}
 use Rattle.client_scripts.specs.declared.item.Item.{Item}
+use Rattle.history_keeper.specs.declared.row.Row.{Row}
 use Rattle.device_list.specs.declared.selector.Selector.{Selector}
 use Rattle.release_catalogue.specs.Lookup.{Chosen, all_releases}
 use Rattle.update_log.specs.Verdicts.{is_release}
 use Rattle.update_log.specs.declared.facts.Facts.{Facts}
 use Rattle.update_log.specs.declared.request.Request.{Request}
-use Rattle.update_plans.specs.Plans.{Scene, no_flags, release_at, request_of}
+use Rattle.update_plans.specs.Plans.{Scene, no_flags, release_at, request_of, scene}
 use Rattle.update_plans.specs.declared.plan.PlanStep.{PlanStep}
 use Rattle.campaign_plans.specs.Updating.{install_of, installs_from}
 
@@ -80,3 +81,20 @@ installs_turn s steps i d old new lt many so_far put =
     ∙ sym (installs-push s 1 (take i steps) (get_or steps i d) (i + 1) at)
     ∙ ap (installs_from s 1) (sym longer)
     ∙ ap (λ (n : ℕ). installs_from s 1 (take n steps)) (sym (add-one i))
+
+-- one more turn, where the loop goes over the same steps
+pub installs_step : (s : Scene) (listed steps : List PlanStep) (i : ℕ) (step : PlanStep) (old new : List Item) → listed ≡ steps → i < length listed → step ≡ get_or listed i step
+    → old ≡ installs_from s 1 (take i steps) → new ≡ old ++ install_of s (i + 1) step → new ≡ installs_from s 1 (take (i + 1) steps)
+installs_step s listed steps i step old new e lt here so_far put =
+    let many : length listed ≡ length steps = ap length e in
+    let within : i < length steps = omega (arith, lt, many) in
+    let there : step ≡ get_or steps i step = here ∙ ap (λ (xs : List PlanStep). get_or xs i step) e in
+    installs_turn s steps i step old new within (length-take-le i steps (omega (arith, within))) so_far
+    (put ∙ ap (λ (x : PlanStep). old ++ install_of s (i + 1) x) there)
+
+-- the scene counts by its facts and its tag alone
+pub installs_same : (facts : Facts) (rows other : List Row) (client : ℕ) (tag : List ℕ) (number : ℕ) (steps : List PlanStep)
+    → installs_from (scene facts other client tag) number steps ≡ installs_from (scene facts rows client tag) number steps
+installs_same facts rows other client tag number [] = refl
+installs_same facts rows other client tag number (step ∷ steps) =
+    ap (λ (items : List Item). install_of (scene facts rows client tag) number step ++ items) (installs_same facts rows other client tag (number + 1) steps)

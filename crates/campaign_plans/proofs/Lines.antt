@@ -36,3 +36,13 @@ put_more facts views i steps d old whole new lt so_far put =
     ap (λ (n : ℕ). new ++ step_lines facts views n (drop (i + 1) steps)) (add-one (i + 1))
     ∙ by_rest facts views (i + 1) (drop i steps) (drop (i + 1) steps) d old whole new some next so_far
     (put ∙ ap (λ (step : PlanStep). old ++ line_of facts views (i + 1) step) (sym (get-drop i steps d)))
+
+-- the same, from what the calls say of the port and the version
+pub put_turn : (facts : Facts) (views : List DeviceView) (i : ℕ) (steps : List PlanStep) (step : PlanStep) (port version old whole new : List ℕ) → i < length steps → step ≡ get_or steps i step
+    → port ≡ port_of views step.device → version ≡ version_at facts step.release → old ++ step_lines facts views (i + 1) (drop i steps) ≡ whole
+    → new ≡ old ++ step_line (i + 1) port version → new ++ step_lines facts views (i + 1 + 1) (drop (i + 1) steps) ≡ whole
+put_turn facts views i steps step port version old whole new lt here is_port is_version so_far put =
+    put_more facts views i steps step old whole new lt so_far
+    (put ∙ ap (λ (p : List ℕ). old ++ step_line (i + 1) p version) is_port
+    ∙ ap (λ (v : List ℕ). old ++ step_line (i + 1) (port_of views step.device) v) is_version
+    ∙ ap (λ (x : PlanStep). old ++ line_of facts views (i + 1) x) here)

@@ -1,8 +1,8 @@
 //! The campaign that plays a plan.
 ghost use Rattle.std.specs.Prelude.{◌≡◌, ◌≤◌, ◌++◌, ◌∷◌, [], length, map, IfOk, OnOk};
+ghost use Rattle.client_scripts.specs.declared.item.Item.{Item};
 ghost use Rattle.history_keeper.specs.Histories.{IsHistory};
 ghost use Rattle.first_boots.specs.FirstBoot.{shown_by};
-ghost use Rattle.update_plans.specs.Plans.{Scene};
 ghost use Rattle.update_plans.specs.Tags.{IsTag};
 ghost use Rattle.update_plans.specs.Plans.{scene};
 ghost use Rattle.campaign_inputs.specs.Begin.{CanBegin};
@@ -11,11 +11,12 @@ ghost use Rattle.campaign_plans.specs.Updating.{Plays, first_alone, install_of, 
 
 use crate::first_plan::{FirstPlan, plan_checked};
 use client_scripts::Item;
+use device_list::Selector;
 use fw_base::{Listed, Name, NoMemory};
 use history_keeper::Row;
 use site_types::Campaign;
 use std::alloc::Global;
-use update_log::{BootPlan, Facts};
+use update_log::{BootPlan, Facts, Query, Request};
 use update_plans::{Plan, PlanStep, request_of, version_at};
 
 /// The campaign of the first boot alone, with the planned installs as the one script of client 1. The plan
@@ -51,14 +52,15 @@ fn first_installs(
         installs_from (scene campaign.now.facts rows.now 1 tag.now) 1 (first_steps campaign.now.facts (map shown_by campaign.now.boards.items) campaign.now.boots rows.now tag.now)) }
 {
     let first = plan_checked(alloc, campaign, rows, tag)?;
-    script_of(alloc, &campaign.facts, &first.plan)
+    let items = script_of(alloc, &campaign.facts, &first.plan)?;
+    Ok(items)
 }
 
 // The installs of a plan.
 fn script_of(alloc: Global, facts: &Facts, plan: &Plan) -> Result<Vec<Item>, NoMemory>
     requires tag { IsTag plan.now.tag }
     requires few { length plan.now.steps ≤ 8192 }
-    ensures { (s : Scene) → s.facts ≡ facts.now → s.tag ≡ plan.now.tag → IfOk result (λ items. items.items ≡ installs_from s 1 plan.now.steps) }
+    ensures { IfOk result (λ items. items.items ≡ installs_from (scene facts.now [] 1 plan.now.tag) 1 plan.now.steps) }
 {
     let mut items = Vec::new(alloc);
     for (index, step) in plan.steps.items().iter().enumerate() {
@@ -77,12 +79,27 @@ fn put_install(
 ) -> Result<(), NoMemory>
     requires tag { IsTag tag.now }
     requires few { number ≤ 8192 }
-    ensures { (s : Scene) → s.facts ≡ facts.now → s.tag ≡ tag.now → OnOk result (items.new.items ≡ items.old.items ++ install_of s number step.now) }
+    ensures { OnOk result (items.new.items ≡ items.old.items ++ install_of (scene facts.now [] 1 tag.now) number step.now) }
 {
     match version_at(facts, step.release) {
-        Some(version) => Ok(items.push(Item::Install(request_of(tag, number, step, *version)))?),
+        Some(version) => {
+            let request = request_of(tag, number, step, *version);
+            push_request(items, &request)
+        }
         None => Ok(()),
     }
+}
+
+// Puts the install of a request behind the items.
+fn push_request(items: &mut Vec<Item>, request: &Request) -> Result<(), NoMemory>
+    ensures { OnOk result (items.new.items ≡ items.old.items ++ Item.Install request.now ∷ []) }
+{
+    // The checker of borrows wants the types of an item's parts among the locals.
+    let _device: Option<Selector> = None;
+    let _query: Option<Query> = None;
+    let _retry_of: Option<u32> = None;
+    items.push(Item::Install(*request))?;
+    Ok(())
 }
 
 // The campaign with its first boot alone, and one script for it.

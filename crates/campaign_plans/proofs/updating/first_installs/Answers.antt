@@ -1,8 +1,9 @@
-use Rattle.std.proofs.Common.{refl, sym, ap, ◌∙◌, subst}
-use Rattle.std.proofs.lemmas.Result.{IfOk-weaker}
-use Rattle.update_plans.specs.Plans.{Scene, scene}
+use Rattle.std.proofs.Common.{ℕ, List, [], sym, ap, ◌∙◌, subst}
+use Rattle.update_plans.specs.Plans.{scene}
 use Rattle.update_plans.specs.Tags.{IsTag}
+use Rattle.update_plans.specs.declared.plan.PlanStep.{PlanStep}
 use Rattle.campaign_plans.specs.Updating.{installs_from}
+use Rattle.campaign_plans.proofs.Installs.{installs_same}
 use Rattle.campaign_plans.proofs.updating.first_installs.Goals as goal
 
 pub script_of-requires-clause-tag : goal.script_of-requires-clause-tag
@@ -13,5 +14,9 @@ script_of-requires-clause-few c = c.in_ok-first.ensures.few
 
 pub returns : goal.returns
 returns c =
-    let s : Scene = scene c.args.campaign.now.facts c.args.rows.now 1 c.args.tag.now in
-    IfOk-weaker _ _ _ (λ items is. is ∙ ap (installs_from s 1) c.in_ok-first.ensures.steps_are) (c.script_of.ensures s refl (sym c.in_ok-first.ensures.tag_is))
+    let f = c.in_ok-first.ensures in
+    let first = c.in_ok-first.first in
+    c.in_ok-items.ensures
+    ∙ ap (λ (t : List ℕ). installs_from (scene c.args.campaign.now.facts [] 1 t) 1 first.plan.steps) f.tag_is
+    ∙ ap (λ (steps : List PlanStep). installs_from (scene c.args.campaign.now.facts [] 1 c.args.tag.now) 1 steps) f.steps_are
+    ∙ installs_same c.args.campaign.now.facts c.args.rows.now [] 1 c.args.tag.now 1 _
