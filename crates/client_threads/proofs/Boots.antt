@@ -66,9 +66,11 @@ module _ {K : Type 0} (signs : Signs K) (now : Bool) (means : Means) (old mid : 
   no-clients_yet f client c = h.went.did.others client (not-first client c) ∙ fresh-mine (past old) client f
 
   pub still-counted : IsCounted signs old → IsCounted signs mid
-  still-counted c = both c h.rest.counted h.rest.counts
+  still-counted c = both c h.rest.counted.counted h.rest.counts
     where
-      both : IsCounted signs old → KeeperFared signs old mid → signs.faults old.keeper ≤ signs.faults mid.keeper → IsCounted signs mid
+      both : IsCounted signs old
+          → (keeper_faults (past mid) + signs.faults old.keeper ≤ keeper_faults (past old) + signs.faults mid.keeper) ⊎ (2 ^ 64 - 1 ≤ signs.faults mid.keeper)
+          → signs.faults old.keeper ≤ signs.faults mid.keeper → IsCounted signs mid
       both (inl x) (inl y) z = inl (omega arith)
       both (inr x) (inl y) z = inr (omega arith)
       both x (inr y) z = inr y
