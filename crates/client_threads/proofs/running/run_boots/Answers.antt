@@ -17,13 +17,6 @@ use Rattle.client_plays.proofs.ShelfCounts.{shelves-count_here}
 use Rattle.client_threads.proofs.ShelfFaults.{boot-counted, stop-counted}
 use Rattle.client_threads.proofs.running.run_boots.Goals as goal
 
-pub returns-clause-ran : goal.returns-clause-ran
-returns-clause-ran g c = record {
-  count = c.loop-number.number;
-  ran = c.loop-number.invariant.ran;
-  ended = (omega (arith, c.loop-number-test.false, c.loop-number.auto.number-end), c.loop-number.invariant.read);
-}
-
 pub returns-in-Some-clause-ran : goal.returns-in-Some-clause-ran
 returns-in-Some-clause-ran g c =
     ran-stopped (signs_of g.K.Keeper.tells g.K.Keeper.faults) c.in-Some.ending c.loop-number.wanting (means_for (steps_at (λ b. (goal.Plugin-dyn g (b.vtable, b.value)).steps b.value) c.args.plugins.now) (shelves_told g.P.Shelf.files g.P.Shelf.faults c.args.shelves.now.items)) c.args.plans.now c.args.scripts.now c.loop-number.number
@@ -86,3 +79,10 @@ returns-in-Some-clause-told g c =
     stop-counted (signs_of g.K.Keeper.tells g.K.Keeper.faults) c.args.house c.loop-number.house c.start_boot.new.house
     (shelves_told g.P.Shelf.files g.P.Shelf.faults c.args.shelves.now.items) (shelves_told g.P.Shelf.files g.P.Shelf.faults c.loop-number.shelves.items)
     c.loop-number.invariant.kept c.in-Some.ensures.0 c.loop-number.invariant.told
+
+pub returns-clause-ran : goal.returns-clause-ran
+returns-clause-ran g c = record {
+  count = c.loop-number.number;
+  ran = c.loop-number.invariant.ran;
+  ended = (let e = c.loop-number.auto.number-end in let t = c.loop-number-test.false in omega (arith, e, t), c.loop-number.invariant.read);
+}
