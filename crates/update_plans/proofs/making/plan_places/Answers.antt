@@ -1,7 +1,8 @@
-use Rattle.std.proofs.Common.{◌≡◌, ◌<◌, ◌+◌, ◌-◌, ◌++◌, ℕ, List, length, map, get_or, sym, ap, ◌∙◌, arith, take}
+use Rattle.std.proofs.Common.{◌≡◌, ◌<◌, ◌+◌, ◌-◌, ◌++◌, ℕ, List, [], length, map, get_or, sym, ap, ◌∙◌, arith, take}
 use Rattle.update_log.specs.declared.event.Event.{Event}
 use Rattle.update_log.specs.Pasts.{past_of}
-use Rattle.update_plans.specs.Plans.{chain, chains, device_at, scene}
+use Rattle.update_plans.specs.Plans.{after, chain, chains, device_at, scene}
+use Rattle.update_plans.specs.declared.plan.PlanStep.{PlanStep}
 use Rattle.update_plans.proofs.Taking.{after-nil, below-at, chains-nil, device-kept, mapped-more, places-kept, take-whole, turn-after, turn-chains}
 use Rattle.update_plans.proofs.making.plan_places.Goals as goal
 
@@ -16,10 +17,12 @@ plan_device-requires g c =
 pub loop-at-init : goal.loop-at-init
 loop-at-init g c =
     let s = scene c.args.asker.now.facts.now g.opening c.args.asker.now.client c.args.asker.now.tag.now in
+    let none : c.new-steps.result.items ≡ [] = c.new-steps.ensures.items in
+    let few : length c.new-steps.result.items ≡ 0 = ap (λ (xs : List PlanStep). length xs) none in
     record {
-      steps_are = chains-nil s (past_of c.args.state.now.log);
-      past_is = after-nil s (past_of c.args.state.now.log);
-      few = omega arith;
+      steps_are = none ∙ chains-nil s (past_of c.args.state.now.log);
+      past_is = after-nil s (past_of c.args.state.now.log) ∙ ap (λ (xs : List PlanStep). after s 1 xs (past_of c.args.state.now.log)) (sym none);
+      few = omega (arith, few);
       stands = c.requires.1.1.0;
       quiet = c.requires.1.1.1;
     }
