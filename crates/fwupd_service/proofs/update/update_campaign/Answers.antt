@@ -11,3 +11,19 @@ returns-in-Some-clause-goes g c =
       only = only-loaded _ _ _ _ _ _ _ _ (rw c.in-Some.is at c.load-rows.ensures) e.log e.opening e.boards e.keeper;
       nothing = refl;
     })
+
+pub run_ready-requires-clause-ready : goal.run_ready-requires-clause-ready
+run_ready-requires-clause-ready g c = λ κs lives. plan-can-be-played _ _ _ _ _ c.in-Ok.ensures c.requires.ready
+
+pub run_ready-requires-clause-shelves : goal.run_ready-requires-clause-shelves
+run_ready-requires-clause-shelves g c = λ κs lives. plan-is-ready _ _ _ _ _ c.in-Ok.ensures c.requires.shelves
+
+pub returns-in-Ok-clause-goes : goal.returns-in-Ok-clause-goes
+returns-in-Ok-clause-goes g c = inr (inr (record {
+  rows = c.load-rows.result.rows.items;
+  middle = c.load-rows.new.keeper;
+  loaded = loaded-only _ _ _ _ _ _ _ c.load-rows.ensures c.in-None.is;
+  made = c.in-Ok.made;
+  plays = rw c.deref.ensures.value at c.in-Ok.ensures;
+  went = c.run_ready.ensures.went;
+}))
