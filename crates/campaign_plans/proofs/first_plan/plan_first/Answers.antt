@@ -6,13 +6,14 @@ use Rattle.campaign_plans.proofs.first_plan.plan_first.Goals as goal
 pub plan_over-requires : goal.plan_over-requires
 plan_over-requires c =
     let same : c.in_ok-state.state.rows ≡ c.args.rows.now =
-    rows_first c.args.campaign.now.facts c.args.rows.now c.args.campaign.now.boots (map shown_by c.args.campaign.now.boards.items) c.in_ok-state.state c.in_ok-state.ensures.stands c.in_ok-state.ensures.log in
-    record {
-      tag = c.requires.tag;
-      stands = stands_over c.args.campaign.now.facts c.args.rows.now c.in_ok-state.state same c.in_ok-state.ensures.stands;
-      can = can_be_planned_over c.args.campaign.now.facts c.args.rows.now c.in_ok-state.state.rows c.args.tag.now c.args.tag.now c.args.campaign.now.boots c.args.campaign.now.boards.items c.in_ok-state.state.log
-          same refl c.in_ok-state.ensures.log c.requires.history c.requires.begins.count c.requires.begins.made;
-    }
+    rows_first c.args.campaign.now.facts c.args.rows.now c.args.campaign.now.boots (map shown_by c.args.campaign.now.boards.items) c.in_ok-state.state c.in_ok-state.ensures.stands c.in_ok-state.ensures.log in (
+      c.requires.tag,
+      (
+        stands_over c.args.campaign.now.facts c.args.rows.now c.in_ok-state.state same c.in_ok-state.ensures.stands,
+        can_be_planned_over c.args.campaign.now.facts c.args.rows.now c.in_ok-state.state.rows c.args.tag.now c.args.tag.now c.args.campaign.now.boots c.args.campaign.now.boards.items c.in_ok-state.state.log
+            same refl c.in_ok-state.ensures.log c.requires.history c.requires.begins.count c.requires.begins.made,
+      ),
+    )
 
 pub returns : goal.returns
 returns c =
