@@ -68,7 +68,7 @@ earlier-begun signs wanting means plan scripts count mid begun b n p e =
 
 -- One boot more was started and played.
 pub run-more : {K : Type 0} (signs : Signs K) (before now : Bool) (means : ℕ → Means) (plans : List BootPlan) (scripts : List (List (List Item))) (count : ℕ) (plan : BootPlan) (old mid begun new : Housed K) → slice_get plans count ≡ Some plan → RanSoFar signs before means plans scripts count old mid → HasBegun signs plan mid begun → BootMore signs now before means (scripts_in scripts (count + 1)) begun new → (begun.annals.loaded ≡ false → new ≡ begun) → RanSoFar signs now means plans scripts (count + 1) old new
-run-more signs before now means plans scripts count plan old mid begun new at r b m unread =
+run-more {K = K} signs before now means plans scripts count plan old mid begun new at r b m unread =
     let g = m.played.grew in
     let facts : new.annals.facts ≡ mid.annals.facts = m.played.rest.same.facts ∙ b.facts in
     let rows : rows_before new.annals ≡ rows_before begun.annals = before-same begun.annals new.annals m.played.rest.same in

@@ -1,7 +1,11 @@
 -- Releases that were sorted by their versions stand from the highest down, and those of one version in catalogue order.
 use Rattle.std.proofs.Common.{◌≡◌, ℕ, zero, suc, ◌+◌, ◌<◌, ◌≤◌, ◌⊎◌, ◌&&◌, ◌||◌, ◌==◌, Bool, true, false, not, nat_lt, List, [], ◌∷◌, map, inl, inr, refl, sym, ap, ◌∙◌, subst, arith}
 use Rattle.std.specs.Prelude.{AllPairs, Option, Some, None, filter, slice_index_or}
-use Rattle.std.specs.List.Sorted.{IsSortedBy, IsStableBy}
+use Rattle.std.specs.Fn.{Called, ComparesAs}
+use Rattle.std.specs.List.Sorted.{IsPermutation, IsSortedBy, IsStableBy}
+use denote.Param.Members.{Mut}
+use denote.Ref.{Bor}
+use Rattle.std.proofs.lemmas.Fn.{always_returns_same}
 use Rattle.std.specs.Cmp.{IsStrictWeakOrder}
 use Rattle.std.specs.Ordering.{is_le, is_lt, ordering_reverse}
 use Rattle.std.specs.declared.cmp.Ordering.{Ordering}
@@ -15,7 +19,7 @@ use Rattle.release_catalogue.specs.Places.{matching_places}
 use Rattle.update_log.specs.declared.facts.Facts.{Facts}
 use Rattle.update_log.proofs.Lists.{All-filter, by_test, eqb-self}
 use Rattle.update_log.proofs.StrokeFacts.{and-true}
-use Rattle.update_plans.specs.Choosing.{comes_before, found_cmp, goes_first, is_higher, version_found}
+use Rattle.update_plans.specs.Choosing.{IsHighestFirst, comes_before, found_cmp, goes_first, is_higher, version_found}
 use Rattle.update_plans.proofs.Choice.{before-once}
 use Rattle.update_plans.proofs.Highest.{Ordered, catalogue-ordered}
 
@@ -191,3 +195,21 @@ sorted-falls facts guids places up stable = λ i j d l m. sorted_far (goes_first
 
     sorted : IsSortedBy (goes_first facts) places
     sorted = both-sorted (is_higher facts) comes_before (higher-order facts) before-order (matching_places facts.catalogue guids) places up old stable
+
+-- The same of what a sort by a closure says that compares them so.
+pub sorted-highest : (facts : Facts) (guids : List (List ℕ)) {F : Type 0} {g : Mut F (Bor ReleaseRef × (Bor ReleaseRef × Unit {0})) Ordering} {f : F} (old new : List ReleaseRef)
+    → old ≡ matching_places facts.catalogue guids → IsPermutation old new
+    → ((lt : ReleaseRef → ReleaseRef → Bool) → IsStrictWeakOrder lt → ComparesAs g lt f → IsSortedBy lt new)
+    → ((lt : ReleaseRef → ReleaseRef → Bool) → IsStrictWeakOrder lt → ComparesAs g lt f → IsStableBy lt old new)
+    → ((a : Bor ReleaseRef × (Bor ReleaseRef × Unit {0})) (r : Ordering) (f' : F) → Called g f a r f' → (r ≡ found_cmp (version_found facts a.1.0.now) (version_found facts a.0.now)) × (f' ≡ f))
+    → IsHighestFirst facts guids new
+sorted-highest facts guids {g = g} {f = f} old new e same up stable h =
+    record {
+      same = subst (λ (xs : List ReleaseRef). IsPermutation xs new) e same;
+      falling =
+          sorted-falls facts guids new (up (is_higher facts) (higher-order facts) compares)
+          (subst (λ (xs : List ReleaseRef). IsStableBy (is_higher facts) xs new) e (stable (is_higher facts) (higher-order facts) compares));
+    }
+  where
+    compares : ComparesAs g (is_higher facts) f
+    compares = always_returns_same g (λ a r. is_lt r ≡ is_higher facts a.0.now a.1.0.now) f (λ a r f' k. (ap is_lt (h a r f' k).0, (h a r f' k).1))
