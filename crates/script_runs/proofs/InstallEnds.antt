@@ -132,7 +132,7 @@ module _ {did : List Entry → List Entry → Type 0} (name : Name) (lock : Lock
         let answer : AskAnswer = AskAnswer.Hold given.blocks.count release in
         let event : Event = Event.Ask old.number request None answer in
         ended-behind played (Plays name.facts opening means old.number (Item.Install request)) (ClaimPlays name.facts opening means old.number request release) (at (past_seen t.met) event) old mid new
-        (own-event {did = did} name lock old mid p same t event refl refl a.1) same
+        (own-event {did = did} name lock old mid p same t event refl refl a.1) same (λ w. refl)
         (λ ms u. online-plays name.facts opening means old.number request request.flags.offline (at (past_seen t.met) event ∷ ms) online (answer, refl, u))
         (subst (λ (n : ℕ). Ended played (ClaimPlays name.facts opening means n request release) mid new) same
         (subst (λ (x : Request). Ended played (ClaimPlays name.facts opening means mid.number x release) mid new) r e))

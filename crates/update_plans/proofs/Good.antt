@@ -107,14 +107,33 @@ good_nowhere s number step core stands none =
     good_no_device s number step (past_of core.log) (sym (ap (λ (vs : List DeviceView). find (has_id step.device) vs) stands.views) ∙ none)
 
 -- what the tests one after the other say
-pub not-written : (w a p e : Bool) → w ≡ false → ((w && (a && p)) && e) ≡ false
+not-written : (w a p e : Bool) → w ≡ false → ((w && (a && p)) && e) ≡ false
 not-written true a p e h = cc
 not-written false a p e h = refl
 
-pub not-accepted : (w a p e : Bool) → (a && p) ≡ false → ((w && (a && p)) && e) ≡ false
+not-accepted : (w a p e : Bool) → (a && p) ≡ false → ((w && (a && p)) && e) ≡ false
 not-accepted true a p e h = ap (λ (b : Bool). b && e) h
 not-accepted false a p e h = refl
 
-pub ends-last : (w a p e : Bool) → w ≡ true → (a && p) ≡ true → ((w && (a && p)) && e) ≡ e
+ends-last : (w a p e : Bool) → w ≡ true → (a && p) ≡ true → ((w && (a && p)) && e) ≡ e
 ends-last true a p e h k = ap (λ (b : Bool). b && e) k
 ends-last false a p e h k = cc
+
+pub bad_written : (s : Scene) (number : ℕ) (step : PlanStep) (core : Core) (c : Component) (r : Release) (v : DeviceView) → Stands s.facts s.opening core → IsQuiet s (past_of core.log)
+    → slice_get s.facts.catalogue step.release.component ≡ Some c → slice_get c.releases step.release.release ≡ Some r → find (has_id step.device) core.views ≡ Some v
+    → same_version (render v.sheet.format step.raw) r.version ≡ false → is_good s number step (past_of core.log) ≡ false
+bad_written s number step core c r v stands q e f here w =
+    good_here s number step core c r v stands q e f here ∙ not-written (same_version (render v.sheet.format step.raw) r.version) (accepts step.release (verdict s.facts s.opening (past_of core.log) s.client (request_of s number step (chosen_at step.release.component step.release.release c r)) Stage.Ask)) (nat_lt (length (rows s.facts s.opening (past_of core.log))) 65536) (ends_well v c r.version step.raw) w
+
+pub bad_accepted : (s : Scene) (number : ℕ) (step : PlanStep) (core : Core) (c : Component) (r : Release) (v : DeviceView) → Stands s.facts s.opening core → IsQuiet s (past_of core.log)
+    → slice_get s.facts.catalogue step.release.component ≡ Some c → slice_get c.releases step.release.release ≡ Some r → find (has_id step.device) core.views ≡ Some v
+    → (accepts step.release (verdict s.facts s.opening (past_of core.log) s.client (request_of s number step (chosen_at step.release.component step.release.release c r)) Stage.Ask) && nat_lt (length (rows s.facts s.opening (past_of core.log))) 65536) ≡ false → is_good s number step (past_of core.log) ≡ false
+bad_accepted s number step core c r v stands q e f here a =
+    good_here s number step core c r v stands q e f here ∙ not-accepted (same_version (render v.sheet.format step.raw) r.version) (accepts step.release (verdict s.facts s.opening (past_of core.log) s.client (request_of s number step (chosen_at step.release.component step.release.release c r)) Stage.Ask)) (nat_lt (length (rows s.facts s.opening (past_of core.log))) 65536) (ends_well v c r.version step.raw) a
+
+pub good_ends : (s : Scene) (number : ℕ) (step : PlanStep) (core : Core) (c : Component) (r : Release) (v : DeviceView) → Stands s.facts s.opening core → IsQuiet s (past_of core.log)
+    → slice_get s.facts.catalogue step.release.component ≡ Some c → slice_get c.releases step.release.release ≡ Some r → find (has_id step.device) core.views ≡ Some v
+    → same_version (render v.sheet.format step.raw) r.version ≡ true → (accepts step.release (verdict s.facts s.opening (past_of core.log) s.client (request_of s number step (chosen_at step.release.component step.release.release c r)) Stage.Ask) && nat_lt (length (rows s.facts s.opening (past_of core.log))) 65536) ≡ true
+    → is_good s number step (past_of core.log) ≡ ends_well v c r.version step.raw
+good_ends s number step core c r v stands q e f here w a =
+    good_here s number step core c r v stands q e f here ∙ ends-last (same_version (render v.sheet.format step.raw) r.version) (accepts step.release (verdict s.facts s.opening (past_of core.log) s.client (request_of s number step (chosen_at step.release.component step.release.release c r)) Stage.Ask)) (nat_lt (length (rows s.facts s.opening (past_of core.log))) 65536) (ends_well v c r.version step.raw) w a

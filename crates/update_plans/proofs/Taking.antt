@@ -25,7 +25,8 @@ use Rattle.update_log.proofs.Devices.{devices-differ}
 use Rattle.update_log.proofs.Lists.{by_test}
 use Rattle.update_log.proofs.Openings.{bytes-same, bytes-self}
 use Rattle.update_plans.specs.Choosing.{IsHighestFirst, first_some, good_step, side_of, tried, tried_at, version_found}
-use Rattle.update_plans.specs.Plans.{Scene, after, chain, chains, device_at, first_bad, installed, is_good, next_step, view_of}
+use Rattle.update_plans.specs.Plans.{Scene, after, chain, chains, device_at, first_bad, installed, is_good, next_step, plan, view_of}
+use Rattle.update_plans.specs.Walks.{walk}
 use Rattle.update_plans.specs.declared.plan.PlanStep.{PlanStep}
 use Rattle.update_plans.proofs.Chained.{Goes, chain-none, chain-zero, chains-push, device-stays, first_bad-bad, first_bad-good, get-map, goes-end, goes-turn}
 use Rattle.update_plans.proofs.Planned.{after-append}
@@ -234,3 +235,30 @@ bad-turn s steps i step past within same bad =
     ap (λ (xs : List PlanStep). first_bad s (i + 1) xs past) (drop-cons steps i step within)
     ∙ ap (λ (x : PlanStep). first_bad s (i + 1) (x ∷ drop (suc i) steps) past) (sym same)
     ∙ first_bad-bad s (i + 1) step (drop (suc i) steps) past bad
+
+-- ---- the whole plan
+
+pub take-whole : {X : Type 0} (n : ℕ) (xs : List X) → length xs ≤ n → take n xs ≡ xs
+take-whole zero [] h = refl
+take-whole zero (x ∷ xs) h = absurd (omega (arith, h))
+take-whole (suc n) [] h = refl
+take-whole {X} (suc n) (x ∷ xs) h = ap (λ (ys : List X). x ∷ ys) (take-whole n xs (omega (arith, h)))
+
+pub chains-nil : (s : Scene) (before : List Event) → [] ≡ chains s [] 8192 1 before
+unfolding chains
+chains-nil s before = refl
+
+pub after-nil : (s : Scene) (before : List Event) → before ≡ after s 1 [] before
+unfolding after
+after-nil s before = refl
+
+pub plan-done : (s : Scene) (before : List Event) (places : List ℕ) (steps : List PlanStep) → places ≡ walk (views s.facts s.opening before) → steps ≡ chains s (map (device_at (views s.facts s.opening before)) places) 8192 1 before
+    → steps ≡ plan s before
+unfolding plan
+plan-done s before places steps walked e = e ∙ ap (λ (xs : List ℕ). chains s (map (device_at (views s.facts s.opening before)) xs) 8192 1 before) walked
+
+pub drop-whole : {X : Type 0} (n : ℕ) (xs : List X) → length xs ≤ n → drop n xs ≡ []
+drop-whole zero [] h = refl
+drop-whole zero (x ∷ xs) h = absurd (omega (arith, h))
+drop-whole (suc n) [] h = refl
+drop-whole (suc n) (x ∷ xs) h = drop-whole n xs (omega (arith, h))

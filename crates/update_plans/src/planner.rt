@@ -340,7 +340,13 @@ fn view_of<'a>(state: &'a CoreState, device: &DeviceId) -> Option<&'a DeviceView
     ensures { option_copied result ≡ find (has_id device.now) state.now.views }
 {
     let at = state.resolve(&Selector::Id(*device))?;
-    state.views().get(at)
+    view_at(state.views(), at)
+}
+
+fn view_at(views: &[DeviceView], at: usize) -> Option<&DeviceView>
+    ensures { option_copied result ≡ slice_get views.now at }
+{
+    views.get(at)
 }
 
 // What the device of a step shows at the end of a step of its entry.

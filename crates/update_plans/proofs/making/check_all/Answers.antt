@@ -5,22 +5,14 @@ use Rattle.update_log.specs.Pasts.{past_of}
 use Rattle.update_plans.specs.Following.{IsQuiet}
 use Rattle.update_plans.specs.Plans.{first_bad, scene}
 use Rattle.update_plans.specs.declared.plan.PlanStep.{PlanStep}
-use Rattle.update_plans.proofs.Chained.{quiet-on}
-use Rattle.update_plans.proofs.Taking.{bad-turn, good-turn}
+use Rattle.update_plans.proofs.Chained.{first_bad-nil, quiet-on}
+use Rattle.update_plans.proofs.Taking.{bad-turn, drop-whole, good-turn}
 use Rattle.update_plans.proofs.making.check_all.Goals as goal
 
 pub install-requires : goal.install-requires
 install-requires g c =
     let i = c.loop-index.invariant in
-    record {
-      tag = c.requires.tag;
-      number = omega (arith, c.loop-index-test.true, c.requires.few_steps);
-      numbered = refl;
-      before = refl;
-      stands = i.stands;
-      quiet = i.quiet;
-      good = sym (c.is_good.ensures g.opening i.stands i.quiet) ∙ c.if-not-is_good.false;
-    }
+    (c.requires.0, (omega (arith, c.loop-index-test.true, c.requires.1.0), (refl, (refl, (i.stands, (i.quiet, (sym (c.is_good.ensures g.opening i.stands i.quiet) ∙ c.if-not-is_good.false, tt)))))))
 
 pub loop-index-preserved : goal.loop-index-preserved
 loop-index-preserved g c =
@@ -41,3 +33,10 @@ returns-then-not-is_good g c =
     let i = c.loop-index.invariant in
     let bad = sym (c.is_good.ensures g.opening i.stands i.quiet) ∙ c.if-not-is_good.true in
     inr (c.loop-index.index + 1, refl, sym i.so_far ∙ bad-turn s c.args.steps.now c.loop-index.index c.step-item.result (past_of c.loop-index.state.log) c.loop-index-test.true c.step-item.is bad)
+
+pub returns : goal.returns
+returns g c =
+    let s = scene c.args.asker.now.facts.now g.opening c.args.asker.now.client c.args.asker.now.tag.now in
+    sym c.loop-index.invariant.so_far
+    ∙ ap (λ (steps : List PlanStep). first_bad s (c.loop-index.index + 1) steps (past_of c.loop-index.state.log)) (drop-whole c.loop-index.index c.args.steps.now (omega (arith, c.loop-index-test.false)))
+    ∙ first_bad-nil s (c.loop-index.index + 1) (past_of c.loop-index.state.log)

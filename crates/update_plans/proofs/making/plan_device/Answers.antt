@@ -17,10 +17,10 @@ pub next_step-requires : goal.next_step-requires
 next_step-requires g c =
     let s = scene c.args.asker.now.facts.now g.opening c.args.asker.now.client c.args.asker.now.tag.now in
     let i = c.loop-taken.invariant in
-    let same = places-kept s c.args.state.now c.loop-taken.state c.args.at c.requires.stands i.stands in
+    let same = places-kept s c.args.state.now c.loop-taken.state c.args.at c.requires.1.1.1.0 i.stands in
     record {
-      place = omega (arith, same, c.requires.place);
-      tag = c.requires.tag;
+      place = omega (arith, same, c.requires.0);
+      tag = c.requires.1.0;
       number = omega (arith, c.loop-taken-test.true);
       releases = i.sorted;
     }
@@ -29,17 +29,8 @@ pub take_step-requires : goal.take_step-requires
 take_step-requires g c =
     let s = scene c.args.asker.now.facts.now g.opening c.args.asker.now.client c.args.asker.now.tag.now in
     let i = c.loop-taken.invariant in
-    let same = places-kept s c.args.state.now c.loop-taken.state c.args.at c.requires.stands i.stands in
-    record {
-      place = omega (arith, same, c.requires.place);
-      tag = c.requires.tag;
-      number = omega (arith, c.loop-taken-test.true);
-      stands = i.stands;
-      quiet = i.quiet;
-      good =
-          next-good s (c.loop-taken.taken + 1) (device_at c.loop-taken.state.views c.args.at) (past_of c.loop-taken.state.log) c.in-Some.step (sym (c.in-Some.ensures g.opening i.stands i.quiet));
-      releases = i.sorted;
-    }
+    let same = places-kept s c.args.state.now c.loop-taken.state c.args.at c.requires.1.1.1.0 i.stands in
+    (omega (arith, same, c.requires.0), (c.requires.1.0, (omega (arith, c.loop-taken-test.true), (i.stands, (i.quiet, (next-good s (c.loop-taken.taken + 1) (device_at c.loop-taken.state.views c.args.at) (past_of c.loop-taken.state.log) c.in-Some.step (sym (c.in-Some.ensures g.opening i.stands i.quiet)), (i.sorted, tt)))))))
 
 pub loop-taken-init : goal.loop-taken-init
 loop-taken-init g c =
@@ -47,8 +38,8 @@ loop-taken-init g c =
     record {
       goes = goes-first s (device_at c.args.state.now.views c.args.at) c.args.steps.now.items (past_of c.args.state.now.log);
       taken = refl;
-      stands = c.requires.stands;
-      quiet = c.requires.quiet;
+      stands = c.requires.1.1.1.0;
+      quiet = c.requires.1.1.1.1.0;
       sorted = subst (λ (o : Option DeviceView). IfSome o (λ view. IsHighestFirst s.facts (guids_of view) c.in_ok-releases.releases.items)) (sym c.device.ensures) c.in_ok-releases.ensures;
     }
 
@@ -59,7 +50,7 @@ loop-taken-preserved g c =
     let device = device_at c.args.state.now.views c.args.at in
     let own = chain s device (8192 - vec_len c.args.steps.now) (vec_len c.args.steps.now + 1) (past_of c.args.state.now.log) in
     let next : next_step s (c.loop-taken.taken + 1) device (past_of c.loop-taken.state.log) ≡ Some c.in-Some.step =
-    ap (λ (d : List ℕ). next_step s (c.loop-taken.taken + 1) d (past_of c.loop-taken.state.log)) (sym (device-kept s c.args.state.now c.loop-taken.state c.args.at c.requires.stands i.stands))
+    ap (λ (d : List ℕ). next_step s (c.loop-taken.taken + 1) d (past_of c.loop-taken.state.log)) (sym (device-kept s c.args.state.now c.loop-taken.state c.args.at c.requires.1.1.1.0 i.stands))
     ∙ sym (c.in-Some.ensures g.opening i.stands i.quiet) in
     let longer = ap (λ (xs : List PlanStep). length xs) c.in_ok-take_step.ensures.steps ∙ length-append c.loop-taken.steps.items (c.in-Some.step ∷ []) in
     record {
@@ -82,7 +73,7 @@ returns-in-None-clause-steps g c =
     let device = device_at c.args.state.now.views c.args.at in
     let own = chain s device (8192 - vec_len c.args.steps.now) (vec_len c.args.steps.now + 1) (past_of c.args.state.now.log) in
     let none : next_step s (c.loop-taken.taken + 1) device (past_of c.loop-taken.state.log) ≡ None =
-    ap (λ (d : List ℕ). next_step s (c.loop-taken.taken + 1) d (past_of c.loop-taken.state.log)) (sym (device-kept s c.args.state.now c.loop-taken.state c.args.at c.requires.stands i.stands))
+    ap (λ (d : List ℕ). next_step s (c.loop-taken.taken + 1) d (past_of c.loop-taken.state.log)) (sym (device-kept s c.args.state.now c.loop-taken.state c.args.at c.requires.1.1.1.0 i.stands))
     ∙ sym (c.in-None.ensures g.opening i.stands i.quiet) in
     let ends =
     ends-none s device c.loop-taken.steps.items (c.args.steps.now.items ++ own) (past_of c.loop-taken.state.log) (after s (vec_len c.args.steps.now + 1) own (past_of c.args.state.now.log)) (c.loop-taken.taken + 1)
@@ -96,7 +87,7 @@ returns-in-None-clause-past g c =
     let device = device_at c.args.state.now.views c.args.at in
     let own = chain s device (8192 - vec_len c.args.steps.now) (vec_len c.args.steps.now + 1) (past_of c.args.state.now.log) in
     let none : next_step s (c.loop-taken.taken + 1) device (past_of c.loop-taken.state.log) ≡ None =
-    ap (λ (d : List ℕ). next_step s (c.loop-taken.taken + 1) d (past_of c.loop-taken.state.log)) (sym (device-kept s c.args.state.now c.loop-taken.state c.args.at c.requires.stands i.stands))
+    ap (λ (d : List ℕ). next_step s (c.loop-taken.taken + 1) d (past_of c.loop-taken.state.log)) (sym (device-kept s c.args.state.now c.loop-taken.state c.args.at c.requires.1.1.1.0 i.stands))
     ∙ sym (c.in-None.ensures g.opening i.stands i.quiet) in
     let ends =
     ends-none s device c.loop-taken.steps.items (c.args.steps.now.items ++ own) (past_of c.loop-taken.state.log) (after s (vec_len c.args.steps.now + 1) own (past_of c.args.state.now.log)) (c.loop-taken.taken + 1)

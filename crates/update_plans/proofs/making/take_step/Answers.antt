@@ -1,5 +1,5 @@
 use Rattle.std.proofs.Common.{◌≡◌, ◌<◌, refl, sym, ap, ◌∙◌, subst, arith}
-use Rattle.std.specs.Prelude.{IfSome, Some, Option, slice_get}
+use Rattle.std.specs.Prelude.{IfOk, IfSome, Some, Option, slice_get}
 use Rattle.fw_facts.specs.declared.view.DeviceView.{DeviceView}
 use Rattle.fw_facts.specs.Views.{guids_of}
 use Rattle.release_catalogue.specs.declared.reference.ReleaseRef.{ReleaseRef}
@@ -11,18 +11,24 @@ use Rattle.update_plans.proofs.Taking.{guids-kept, places-kept}
 use Rattle.update_plans.proofs.making.take_step.Goals as goal
 
 pub install-requires : goal.install-requires
-install-requires g c = record {
-  tag = c.requires.tag;
-  number = c.requires.number;
-  numbered = refl;
-  before = refl;
-  stands = c.requires.stands;
-  quiet = c.requires.quiet;
-  good = c.requires.good;
-}
+install-requires g c = (c.requires.1.0, (c.requires.1.1.0, (refl, (refl, (c.requires.1.1.1.0, (c.requires.1.1.1.1.0, (c.requires.1.1.1.1.1.0, tt)))))))
 
 pub device-requires-2 : goal.device-requires-2
 device-requires-2 g c =
     let s = scene c.args.asker.now.facts.now g.opening c.args.asker.now.client c.args.asker.now.tag.now in
-    let same = places-kept s c.args.state.now c.install.new.state c.args.at c.requires.stands c.in_ok-install.ensures.stands in
-    omega (arith, same, c.requires.place)
+    let same = places-kept s c.args.state.now c.install.new.state c.args.at c.requires.1.1.1.0 c.in_ok-install.ensures.stands in
+    omega (arith, same, c.requires.0)
+
+pub on_side-requires : goal.on_side-requires
+on_side-requires g c = λ same.
+    let s = scene c.args.asker.now.facts.now g.opening c.args.asker.now.client c.args.asker.now.tag.now in
+    let sorted =
+    subst (λ (o : Option DeviceView). IfSome o (λ view. IsHighestFirst s.facts (guids_of view) c.args.releases.items)) c.device.ensures c.requires.1.1.1.1.1.1.0 in
+    let guids =
+    guids-kept s c.args.state.now c.install.new.state c.args.at c.requires.1.1.1.0 c.in_ok-install.ensures.stands c.device.result.now c.device-2.result.now c.device.ensures c.device-2.ensures
+    (same ∙ c.side_of-side.ensures) in
+    subst (λ (gs : List (List ℕ)). IsHighestFirst s.facts gs c.args.releases.items) (sym guids) sorted
+
+pub returns-clause-releases : goal.returns-clause-releases
+returns-clause-releases g c =
+    subst (λ (o : Option DeviceView). IfOk c.on_side.result (λ places. IfSome o (λ view. IsHighestFirst c.args.asker.now.facts.now (guids_of view) places.items))) (sym c.device-2.ensures) c.on_side.ensures

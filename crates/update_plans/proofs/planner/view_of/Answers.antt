@@ -15,5 +15,5 @@ returns-in_err-at c =
 
 pub returns : goal.returns
 returns c =
-    c.get.ensures.lookup ∙ ap (λ (views : List DeviceView). slice_get views c.in_ok-at.at) c.views.ensures
+    c.view_at.ensures ∙ ap (λ (views : List DeviceView). slice_get views c.in_ok-at.at) c.views.ensures
     ∙ ap (option_and_then (slice_get c.args.state.now.views)) c.in_ok-at.ensures ∙ looked_up c.args.device.now c.args.state.now.views

@@ -1,17 +1,24 @@
-use Rattle.std.proofs.Common.{sym, subst}
+use Rattle.std.proofs.Common.{◌≡◌, ◌⊎◌, ℕ, List, MatchResult, None, Some, sym, subst}
 use Rattle.update_log.specs.Core.{Core}
 use Rattle.update_log.specs.Pasts.{past_of}
 use Rattle.update_plans.specs.Following.{IsQuiet}
-use Rattle.update_plans.specs.Plans.{scene}
+use Rattle.update_plans.specs.Plans.{first_bad, scene}
+use Rattle.update_plans.specs.declared.plan.PlanStep.{PlanStep}
+use Rattle.update_plans.specs.declared.plan.PlanStop.TheVariants as stops
 use Rattle.update_plans.proofs.Puts.{stands-same}
 use Rattle.update_plans.proofs.tops.check_plan.Goals as goal
 
 pub check_all-requires : goal.check_all-requires
 check_all-requires g c =
     let s = scene c.args.facts.now g.opening c.args.client c.args.plan.now.tag in
-    record {
-      tag = c.requires.tag;
-      few_steps = c.requires.few_steps;
-      stands = stands-same s.facts s.opening c.args.state.now c.in_ok-own.own c.in_ok-own.ensures c.requires.stands;
-      quiet = subst (λ (core : Core). IsQuiet s (past_of core.log)) (sym c.in_ok-own.ensures) c.requires.quiet;
-    }
+    (c.requires.0, (c.requires.1.0, (stands-same s.facts s.opening c.args.state.now c.in_ok-own.own c.in_ok-own.ensures c.requires.1.1.0, (subst (λ (core : Core). IsQuiet s (past_of core.log)) (sym c.in_ok-own.ensures) c.requires.1.1.1.0, tt))))
+
+pub returns : goal.returns
+returns g c =
+    let s = scene c.args.facts.now g.opening c.args.client c.args.plan.now.tag in
+    subst
+    (λ (core : Core). MatchResult c.check_all.result (λ _. first_bad s 1 c.args.plan.now.steps (past_of core.log) ≡ None)
+    (λ stop. (stop ≡ stops.NoMemory) ⊎ ((number : ℕ) × (stop ≡ stops.No number) × (first_bad s 1 c.args.plan.now.steps (past_of core.log) ≡ Some number)))) c.in_ok-own.ensures
+    (subst
+    (λ (steps : List PlanStep). MatchResult c.check_all.result (λ _. first_bad s 1 steps (past_of c.in_ok-own.own.log) ≡ None)
+    (λ stop. (stop ≡ stops.NoMemory) ⊎ ((number : ℕ) × (stop ≡ stops.No number) × (first_bad s 1 steps (past_of c.in_ok-own.own.log) ≡ Some number)))) c.items.ensures c.check_all.ensures)

@@ -7,26 +7,21 @@ use Rattle.update_plans.proofs.planner.Asker.finish.Goals as goal
 
 pub end_of-ended-requires : goal.end_of-ended-requires
 end_of-ended-requires g c =
-    putting-live (scene c.args.self.now.facts.now g.at.opening c.args.self.now.client c.args.self.now.tag.now) c.args.step.now (record g.at { gone = all_ops }) c.args.state.now c.requires.put c.args.entry c.requires.entry
+    putting-live (scene c.args.self.now.facts.now g.at.opening c.args.self.now.client c.args.self.now.tag.now) c.args.step.now (record g.at { gone = all_ops }) c.args.state.now c.requires.0 c.args.entry c.requires.1.0
 
 pub step-requires : goal.step-requires
 step-requires g c =
     let s = scene c.args.self.now.facts.now g.at.opening c.args.self.now.client c.args.self.now.tag.now in
-    let e = ends-so s c.args.step.now g.at c.args.state.now c.requires.put c.args.entry c.requires.entry in
+    let e = ends-so s c.args.step.now g.at c.args.state.now c.requires.0 c.args.entry c.requires.1.0 in
     let none = rows-finished s.facts s.opening (past_of c.args.state.now.log) c.args.self.now.client c.args.entry c.end_of-ended.result in
-    let fit = rows-fit s.facts s.opening c.args.state.now c.requires.put.stands in
-    record {
-      stands = c.requires.put.stands;
-      legal = finish-next s c.args.step.now g.at c.args.state.now c.requires.put c.args.entry c.requires.entry c.end_of-ended.result (c.end_of-ended.ensures s.facts s.opening e.t c.requires.put.stands e.traced ∙ e.ends);
-      room = omega (arith, c.requires.room);
-      row = omega (arith, none, fit);
-    }
+    let fit = rows-fit s.facts s.opening c.args.state.now c.requires.0.stands in
+    (c.requires.0.stands, (finish-next s c.args.step.now g.at c.args.state.now c.requires.0 c.args.entry c.requires.1.0 c.end_of-ended.result (c.end_of-ended.ensures s.facts s.opening e.t c.requires.0.stands e.traced ∙ e.ends), (omega (arith, c.requires.1.1.0), (omega (arith, none, fit), tt))))
 
 pub returns-clause-past : goal.returns-clause-past
 returns-clause-past g c =
     let s = scene c.args.self.now.facts.now g.at.opening c.args.self.now.client c.args.self.now.tag.now in
-    let e = ends-so s c.args.step.now g.at c.args.state.now c.requires.put c.args.entry c.requires.entry in
-    finished s c.args.step.now g.at c.args.state.now c.requires.put c.args.entry c.requires.entry c.end_of-ended.result (c.end_of-ended.ensures s.facts s.opening e.t c.requires.put.stands e.traced ∙ e.ends)
+    let e = ends-so s c.args.step.now g.at c.args.state.now c.requires.0 c.args.entry c.requires.1.0 in
+    finished s c.args.step.now g.at c.args.state.now c.requires.0 c.args.entry c.requires.1.0 c.end_of-ended.result (c.end_of-ended.ensures s.facts s.opening e.t c.requires.0.stands e.traced ∙ e.ends)
     c.step.new.state.log c.step.ensures.log
 
 pub returns-clause-stands : goal.returns-clause-stands

@@ -25,4 +25,4 @@ returns-else-accepts c = λ opening chosen stands same.
     let so =
     ap (λ (r : Request). accepts c.args.step.now.release (verdict facts opening past c.args.self.now.client r Stage.Ask)) (sym (c.request-request.ensures opening chosen same))
     ∙ ap (accepts c.args.step.now.release) (sym (c.verdict-decision.ensures opening stands)) ∙ sym c.accepts.ensures ∙ c.if-accepts.false in
-    sym (ap (λ (b : Bool). b && nat_lt (length (rows facts opening past)) 65536) so)
+    c.if-accepts.false ∙ sym (ap (λ (b : Bool). b && nat_lt (length (rows facts opening past)) 65536) so)
