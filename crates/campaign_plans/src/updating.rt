@@ -33,9 +33,25 @@ pub fn updated(
         (installs_from (scene campaign.facts rows.now 1 tag.now) 1 (first_steps campaign.facts (map shown_by campaign.boards.items) campaign.boots rows.now tag.now))
         campaign made) }
 {
-    let first = plan_checked(alloc, &campaign, rows, tag)?;
-    let items = script_of(alloc, &campaign.facts, &first.plan)?;
+    let items = first_installs(alloc, &campaign, rows, tag)?;
     with_script(alloc, campaign, items)
+}
+
+// The installs of the plan over the first boot, once each was found to be good.
+fn first_installs(
+    alloc: Global,
+    campaign: &Campaign,
+    rows: &[Row],
+    tag: &Name,
+) -> Result<Vec<Item>, NoMemory>
+    requires begins { CanBegin campaign.now }
+    requires history { IsHistory rows.now }
+    requires tag { IsTag tag.now }
+    ensures { IfOk result (λ items. items.items ≡
+        installs_from (scene campaign.now.facts rows.now 1 tag.now) 1 (first_steps campaign.now.facts (map shown_by campaign.now.boards.items) campaign.now.boots rows.now tag.now)) }
+{
+    let first = plan_checked(alloc, campaign, rows, tag)?;
+    script_of(alloc, &campaign.facts, &first.plan)
 }
 
 // The installs of a plan.

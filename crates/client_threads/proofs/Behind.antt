@@ -39,6 +39,12 @@ pub to-mapped : {A B : Type 0} (Q : B → Type 0) (f : A → B) (xs : List A) �
 to-mapped Q f [] each = All-nil Q
 to-mapped Q f (x ∷ xs) each = All-cons Q (f x) (map f xs) (each x 0 (omega arith)) (to-mapped Q f xs (λ y i low. each y (suc i) (omega arith)))
 
+-- What holds of each place of a slice holds of each of the list that was lent.
+pub each-lent : {A : Type 0} (Q : A → A → Type 0) (old lent given new : List A) → lent ≡ old → new ≡ given → ((i : ℕ) (d : A) → i < length lent → Q (get_or lent i d) (get_or given i d)) → (i : ℕ) (d : A) → i < length old → Q (get_or old i d) (get_or new i d)
+each-lent {A = A} Q old lent given new e n each i d low =
+    subst (λ (l : List A). Q (get_or l i d) (get_or new i d)) e
+    (subst (λ (l : List A). Q (get_or lent i d) (get_or l i d)) (sym n) (each i d (subst (λ (l : List A). i < length l) (sym e) low)))
+
 -- Whether one of all is told.
 told-one : {A : Type 0} (p : A → Bool) (xs : List A) (i : ℕ) (d : A) → i < length xs → p (get_or xs i d) ≡ true → list_any p xs ≡ true
 told-one p [] i d low e = absurd (omega arith)

@@ -1,5 +1,5 @@
 -- A boot: the daemon's tasks, and then the clients.
-use Rattle.std.proofs.Common.{◌≡◌, ◌≢◌, ℕ, ◌<◌, ◌≤◌, Bool, true, false, ◌||◌, List, [], ◌++◌, refl, ap, sym, ◌∙◌, subst, inl, inr, arith}
+use Rattle.std.proofs.Common.{◌≡◌, ◌≢◌, ◌⊎◌, ℕ, ◌<◌, ◌≤◌, ◌+◌, ◌-◌, ◌^◌, Bool, true, false, ◌||◌, List, [], ◌++◌, refl, ap, sym, ◌∙◌, subst, inl, inr, arith}
 use Rattle.history_keeper.specs.declared.row.Row.{Row}
 use Rattle.update_log.specs.declared.event.Event.{Event}
 use Rattle.update_log.specs.declared.facts.Facts.{Facts}
@@ -8,7 +8,8 @@ use Rattle.update_log.specs.Pasts.{boots, off}
 use Rattle.update_log.specs.Shows.{Campaign}
 use Rattle.daemon_core.specs.Annals.{SameFacts}
 use Rattle.daemon_core.specs.Housed.{Housed, past, rows_before}
-use Rattle.daemon_core.specs.Turns.{KeeperFared, Signs}
+use Rattle.daemon_core.specs.Keeping.{keeper_faults}
+use Rattle.daemon_core.specs.Turns.{Signs}
 use Rattle.client_scripts.specs.declared.item.Item.{Item}
 use Rattle.client_plays.specs.Endings.{HouseBootPlayed, HouseWent, IsCounted, IsFresh, IsIdle}
 use Rattle.client_plays.specs.Moments.{Moment, NoClients, began, mine}
@@ -66,9 +67,9 @@ module _ {K : Type 0} (signs : Signs K) (now : Bool) (means : Means) (old mid : 
   no-clients_yet f client c = h.went.did.others client (not-first client c) ∙ fresh-mine (past old) client f
 
   pub still-counted : IsCounted signs old → IsCounted signs mid
-  still-counted c = both c h.rest.counted h.rest.counts
+  still-counted c = both c h.rest.counted.counted h.rest.counts
     where
-      both : IsCounted signs old → KeeperFared signs old mid → signs.faults old.keeper ≤ signs.faults mid.keeper → IsCounted signs mid
+      both : IsCounted signs old → (keeper_faults (past mid) + signs.faults old.keeper ≤ keeper_faults (past old) + signs.faults mid.keeper) ⊎ (2 ^ 64 - 1 ≤ signs.faults mid.keeper) → signs.faults old.keeper ≤ signs.faults mid.keeper → IsCounted signs mid
       both (inl x) (inl y) z = inl (omega arith)
       both (inr x) (inl y) z = inr (omega arith)
       both x (inr y) z = inr y

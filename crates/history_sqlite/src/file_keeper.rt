@@ -97,7 +97,7 @@ impl<D: Lasting> Keeper for StoredKeeper<D> {
         ensures answer { IfOk result (λ loaded. (all : List Row) → TellsRows D.Store D.Lasting.supposed self.new.keeper all → loaded.items ≡ all) }
         ensures unchanged { StillTold (TellsRows D.Store D.Lasting.supposed self.old.keeper) (TellsRows D.Store D.Lasting.supposed self.new.keeper) }
         ensures no_doubt { doubtful self.new.keeper ≡ None }
-        ensures settled { StillSettled (IsSettled D.Store) self.old.keeper self.new.keeper }
+        ensures settled { StillSettled (λ first s. IsSettled D.Store first.keeper s.keeper) self.old self.new }
         ensures cause { result ≡ Err KeeperRefusal.Fault → Rose self.old.keeper.faults self.new.keeper.faults }
         ensures quiet { (result ≡ Err KeeperRefusal.Fault) ⊎ (self.new.keeper.faults ≡ self.old.keeper.faults) }
         ensures counts { self.old.keeper.faults ≤ self.new.keeper.faults }
@@ -140,7 +140,7 @@ impl<D: Lasting> Keeper for StoredKeeper<D> {
         ensures clean { HasCleanDisk (database D.Store self.new.keeper) → HasCleanDisk (database D.Store self.old.keeper) }
         ensures reopened { Reopened result (TellsRows D.Store D.Lasting.supposed self.old.keeper) (doubtful self.old.keeper) (TellsRows D.Store D.Lasting.supposed self.new.keeper) (doubtful self.new.keeper) }
         ensures settled { OnOk result (IsSettled D.Store self.old.keeper self.new.keeper) }
-        ensures still { OnErr result (StillSettled (IsSettled D.Store) self.old.keeper self.new.keeper) }
+        ensures still { OnErr result (StillSettled (λ first s. IsSettled D.Store first.keeper s.keeper) self.old self.new) }
         ensures cause { result ≡ Err KeeperRefusal.Fault → Rose self.old.keeper.faults self.new.keeper.faults }
         ensures quiet { (result ≡ Err KeeperRefusal.Fault) ⊎ (self.new.keeper.faults ≡ self.old.keeper.faults) }
         ensures counts { self.old.keeper.faults ≤ self.new.keeper.faults }

@@ -1,2 +1,2 @@
-pub mod Over
-pub mod Brought
+pub mod FileLaws
+pub mod BringingLaws

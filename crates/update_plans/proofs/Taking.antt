@@ -135,14 +135,6 @@ module _ (s : Scene) (old new : Core) (at : ℕ) (before : Stands s.facts s.open
 -- ---- the tries
 
 module _ (s : Scene) (number : ℕ) (view : DeviceView) (shown : List ℕ) (past : List Event) where
-  -- the one at the loop's place comes first
-  pub tried-turn : (places : List ReleaseRef) (i : ℕ) (at : ReleaseRef) → i < length places → at ≡ get_or places i at
-      → tried s number view shown past (drop i places) ≡ tried_at s number view shown past at (tried s number view shown past (drop (i + 1) places)) (version_found s.facts at)
-  tried-turn places i at within e =
-      ap (tried s number view shown past) (drop-cons places i at within)
-      ∙ ap (λ (x : ReleaseRef). tried_at s number view shown past x (tried s number view shown past (drop (suc i) places)) (version_found s.facts x)) (sym e)
-      ∙ ap (λ (n : ℕ). tried_at s number view shown past at (tried s number view shown past (drop n places)) (version_found s.facts at)) (sym (add-one i))
-
   -- it isn't there, or isn't above, or is good, or isn't
   pub none-there : (at : ReleaseRef) (more : Option PlanStep) → version_found s.facts at ≡ None → tried_at s number view shown past at more (version_found s.facts at) ≡ None
   none-there at more e = ap (tried_at s number view shown past at more) e
@@ -218,24 +210,6 @@ below-at n [] i a within = absurd (omega (arith, within))
 below-at n (p ∷ places) zero a within = a.0
 below-at n (p ∷ places) (suc i) a within = below-at n places i a.1 (omega (arith, within))
 
--- ---- checking
-
-pub good-turn : (s : Scene) (steps : List PlanStep) (i : ℕ) (step : PlanStep) (past now : List Event) → i < length steps → step ≡ get_or steps i step → is_good s (i + 1) step past ≡ true
-    → now ≡ installed s (i + 1) step past → first_bad s (i + 1) (drop i steps) past ≡ first_bad s (i + 1 + 1) (drop (i + 1) steps) now
-good-turn s steps i step past now within same good went =
-    ap (λ (xs : List PlanStep). first_bad s (i + 1) xs past) (drop-cons steps i step within)
-    ∙ ap (λ (x : PlanStep). first_bad s (i + 1) (x ∷ drop (suc i) steps) past) (sym same)
-    ∙ first_bad-good s (i + 1) step (drop (suc i) steps) past good
-    ∙ ap (λ (n : ℕ). first_bad s (i + 1 + 1) (drop n steps) (installed s (i + 1) step past)) (sym (add-one i))
-    ∙ ap (first_bad s (i + 1 + 1) (drop (i + 1) steps)) (sym went)
-
-pub bad-turn : (s : Scene) (steps : List PlanStep) (i : ℕ) (step : PlanStep) (past : List Event) → i < length steps → step ≡ get_or steps i step → is_good s (i + 1) step past ≡ false
-    → first_bad s (i + 1) (drop i steps) past ≡ Some (i + 1)
-bad-turn s steps i step past within same bad =
-    ap (λ (xs : List PlanStep). first_bad s (i + 1) xs past) (drop-cons steps i step within)
-    ∙ ap (λ (x : PlanStep). first_bad s (i + 1) (x ∷ drop (suc i) steps) past) (sym same)
-    ∙ first_bad-bad s (i + 1) step (drop (suc i) steps) past bad
-
 -- ---- the whole plan
 
 pub take-whole : {X : Type 0} (n : ℕ) (xs : List X) → length xs ≤ n → take n xs ≡ xs
@@ -252,13 +226,39 @@ pub after-nil : (s : Scene) (before : List Event) → before ≡ after s 1 [] be
 unfolding after
 after-nil s before = refl
 
-pub plan-done : (s : Scene) (before : List Event) (places : List ℕ) (steps : List PlanStep) → places ≡ walk (views s.facts s.opening before) → steps ≡ chains s (map (device_at (views s.facts s.opening before)) places) 8192 1 before
-    → steps ≡ plan s before
+pub plan-is : (s : Scene) (before : List Event) → plan s before ≡ chains s (map (device_at (views s.facts s.opening before)) (walk (views s.facts s.opening before))) 8192 1 before
 unfolding plan
-plan-done s before places steps walked e = e ∙ ap (λ (xs : List ℕ). chains s (map (device_at (views s.facts s.opening before)) xs) 8192 1 before) walked
+plan-is s before = refl
 
 pub drop-whole : {X : Type 0} (n : ℕ) (xs : List X) → length xs ≤ n → drop n xs ≡ []
 drop-whole zero [] h = refl
 drop-whole zero (x ∷ xs) h = absurd (omega (arith, h))
 drop-whole (suc n) [] h = refl
 drop-whole (suc n) (x ∷ xs) h = drop-whole n xs (omega (arith, h))
+
+-- ---- what stands at a place
+
+pub got_or : {X : Type 0} (xs : List X) (at : ℕ) (d : X) → at < length xs → slice_get xs at ≡ Some (get_or xs at d)
+got_or [] at d within = absurd (omega (arith, within))
+got_or (x ∷ xs) zero d within = refl
+got_or (x ∷ xs) (suc at) d within = got_or xs at d (omega (arith, within))
+
+drop-got : {X : Type 0} (xs : List X) (i : ℕ) (x : X) → slice_get xs i ≡ Some x → drop i xs ≡ x ∷ drop (i + 1) xs
+drop-got {X} xs i x e =
+    let there = at-got xs i x x e in
+    drop-cons xs i x there.within ∙ ap (λ (y : X). y ∷ drop (suc i) xs) there.is ∙ ap (λ (n : ℕ). x ∷ drop n xs) (sym (add-one i))
+
+pub tried-got : (s : Scene) (number : ℕ) (view : DeviceView) (shown : List ℕ) (past : List Event) (places : List ReleaseRef) (i : ℕ) (at : ReleaseRef) → slice_get places i ≡ Some at
+    → tried s number view shown past (drop i places) ≡ tried_at s number view shown past at (tried s number view shown past (drop (i + 1) places)) (version_found s.facts at)
+tried-got s number view shown past places i at e = ap (tried s number view shown past) (drop-got places i at e)
+
+pub good-got : (s : Scene) (steps : List PlanStep) (i : ℕ) (step : PlanStep) (past now : List Event) → slice_get steps i ≡ Some step → is_good s (i + 1) step past ≡ true
+    → now ≡ installed s (i + 1) step past → first_bad s (i + 1) (drop i steps) past ≡ first_bad s (i + 1 + 1) (drop (i + 1) steps) now
+good-got s steps i step past now e good went =
+    ap (λ (xs : List PlanStep). first_bad s (i + 1) xs past) (drop-got steps i step e)
+    ∙ first_bad-good s (i + 1) step (drop (i + 1) steps) past good
+    ∙ ap (first_bad s (i + 1 + 1) (drop (i + 1) steps)) (sym went)
+
+pub bad-got : (s : Scene) (steps : List PlanStep) (i : ℕ) (step : PlanStep) (past : List Event) → slice_get steps i ≡ Some step → is_good s (i + 1) step past ≡ false → first_bad s (i + 1) (drop i steps) past ≡ Some (i + 1)
+bad-got s steps i step past e bad =
+    ap (λ (xs : List PlanStep). first_bad s (i + 1) xs past) (drop-got steps i step e) ∙ first_bad-bad s (i + 1) step (drop (i + 1) steps) past bad

@@ -1,5 +1,6 @@
 //! The steps of plans, made and checked over a log that goes on by them.
-ghost use Rattle.std.specs.Prelude.{◌≡◌, ◌≤◌, ◌<◌, ◌+◌, ◌-◌, ◌++◌, ◌∷◌, [], ◌⊎◌, true, ℕ, None, Some, List, IfOk, IfSome, OnOk, MatchResult, length, slice_get, vec_len};
+ghost use Rattle.std.specs.Prelude.{◌≡◌, ◌≤◌, ◌<◌, ◌+◌, ◌-◌, ◌++◌, ◌∷◌, [], ◌⊎◌, true, ℕ, None, Some, List, IfOk, IfSome, OnOk, MatchResult, length, map, slice_get};
+ghost use Rattle.std.specs.List.{AllByRecursion};
 ghost use Rattle.history_keeper.specs.declared.row.Row.{Row};
 ghost use Rattle.update_log.specs.Core.{Stands};
 ghost use Rattle.update_log.specs.Pasts.{past_of};
@@ -8,7 +9,7 @@ ghost use Rattle.std.specs.Ordering.{is_gt};
 ghost use Rattle.version_formats.specs.VersionOrder.{version_cmp};
 ghost use Rattle.fw_facts.specs.Views.{guids_of};
 ghost use Rattle.update_plans.specs.Choosing.{IsHighestFirst, found_cmp, good_step, side_of, tried, version_found};
-ghost use Rattle.update_plans.specs.Plans.{after, chain, device_at, first_bad, installed, is_good, next_step, plan, scene};
+ghost use Rattle.update_plans.specs.Plans.{after, chain, chains, device_at, first_bad, installed, is_good, next_step, plan, scene};
 ghost use Rattle.update_plans.specs.Tags.{IsTag};
 
 use crate::plan::{PlanStep, PlanStop, STEPS_MAX};
@@ -38,8 +39,25 @@ pub fn plan_all(
     ensures { IfOk result (λ steps. steps.items ≡ plan (scene asker.now.facts.now opening asker.now.client asker.now.tag.now) (past_of state.old.log)) }
 {
     let places = order(alloc, state.views())?;
+    plan_places(alloc, asker, state, &places)
+}
+
+// Puts the steps of the devices at these places behind the log.
+fn plan_places(
+    alloc: Global,
+    asker: &Asker,
+    state: &mut CoreState,
+    places: &[usize],
+) -> Result<Vec<PlanStep>, NoMemory>
+    ghost opening: { List Row }
+    requires tag { IsTag asker.now.tag.now }
+    requires places { AllByRecursion (λ at. at < length state.old.views) places.now }
+    requires stands { Stands asker.now.facts.now opening state.old }
+    requires quiet { IsQuiet (scene asker.now.facts.now opening asker.now.client asker.now.tag.now) (past_of state.old.log) }
+    ensures { IfOk result (λ steps. steps.items ≡ chains (scene asker.now.facts.now opening asker.now.client asker.now.tag.now) (map (device_at state.old.views) places.now) 8192 1 (past_of state.old.log)) }
+{
     let mut steps = Vec::new(alloc);
-    for at in &places {
+    for at in places {
         plan_device(alloc, asker, state, *at, &mut steps)?;
     }
     Ok(steps)
@@ -56,14 +74,22 @@ pub fn check_all(asker: &Asker, state: &mut CoreState, steps: &[PlanStep]) -> Re
         (λ _. first_bad (scene asker.now.facts.now opening asker.now.client asker.now.tag.now) 1 steps.now (past_of state.old.log) ≡ None)
         (λ stop. (stop ≡ PlanStop.NoMemory) ⊎ ((number : ℕ) × (stop ≡ PlanStop.No number) × (first_bad (scene asker.now.facts.now opening asker.now.client asker.now.tag.now) 1 steps.now (past_of state.old.log) ≡ Some number))) }
 {
-    for (index, step) in steps.iter().enumerate() {
+    for index in 0..steps.len() {
+        let step = step_at(steps, index);
         let number = index as u32 + 1;
-        if !asker.is_good(state, number, step) {
+        if !asker.is_good(state, number, &step) {
             return Err(PlanStop::No { step: number });
         }
-        asker.install(state, number, step)?;
+        asker.install(state, number, &step)?;
     }
     Ok(())
+}
+
+fn step_at(steps: &[PlanStep], at: usize) -> PlanStep
+    requires { at < length steps.now }
+    ensures { slice_get steps.now at ≡ Some result }
+{
+    steps[at]
 }
 
 // Puts the steps of the device at a place behind the others, and takes them.
@@ -77,12 +103,12 @@ fn plan_device(
     ghost opening: { List Row }
     requires place { at < length state.old.views }
     requires tag { IsTag asker.now.tag.now }
-    requires few_steps { vec_len steps.old ≤ 8192 }
+    requires few_steps { length steps.old.items ≤ 8192 }
     requires stands { Stands asker.now.facts.now opening state.old }
     requires quiet { IsQuiet (scene asker.now.facts.now opening asker.now.client asker.now.tag.now) (past_of state.old.log) }
-    ensures steps { OnOk result (steps.new.items ≡ steps.old.items ++ chain (scene asker.now.facts.now opening asker.now.client asker.now.tag.now) (device_at state.old.views at) (8192 - vec_len steps.old) (vec_len steps.old + 1) (past_of state.old.log)) }
-    ensures past { OnOk result (past_of state.new.log ≡ after (scene asker.now.facts.now opening asker.now.client asker.now.tag.now) (vec_len steps.old + 1) (chain (scene asker.now.facts.now opening asker.now.client asker.now.tag.now) (device_at state.old.views at) (8192 - vec_len steps.old) (vec_len steps.old + 1) (past_of state.old.log)) (past_of state.old.log)) }
-    ensures few_steps { OnOk result (vec_len steps.new ≤ 8192) }
+    ensures steps { OnOk result (steps.new.items ≡ steps.old.items ++ chain (scene asker.now.facts.now opening asker.now.client asker.now.tag.now) (device_at state.old.views at) (8192 - length steps.old.items) (length steps.old.items + 1) (past_of state.old.log)) }
+    ensures past { OnOk result (past_of state.new.log ≡ after (scene asker.now.facts.now opening asker.now.client asker.now.tag.now) (length steps.old.items + 1) (chain (scene asker.now.facts.now opening asker.now.client asker.now.tag.now) (device_at state.old.views at) (8192 - length steps.old.items) (length steps.old.items + 1) (past_of state.old.log)) (past_of state.old.log)) }
+    ensures few_steps { OnOk result (length steps.new.items ≤ 8192) }
     ensures stands { OnOk result (Stands asker.now.facts.now opening state.new) }
     ensures quiet { OnOk result (IsQuiet (scene asker.now.facts.now opening asker.now.client asker.now.tag.now) (past_of state.new.log)) }
 {
@@ -226,17 +252,25 @@ fn first_good(
         → IsQuiet (scene asker.now.facts.now opening asker.now.client asker.now.tag.now) (past_of state.now.log)
         → result ≡ tried (scene asker.now.facts.now opening asker.now.client asker.now.tag.now) number view.now shown.now (past_of state.now.log) releases.now }
 {
-    for release in releases {
-        let version = version_at(asker.facts, *release)?;
+    for index in 0..releases.len() {
+        let release = release_at(releases, index);
+        let version = version_at(asker.facts, release)?;
         if !is_above(version, shown) {
             return None;
         }
-        let found = good_step(asker, state, number, view, *release, version);
+        let found = good_step(asker, state, number, view, release, version);
         if found.is_some() {
             return found;
         }
     }
     None
+}
+
+fn release_at(releases: &[ReleaseRef], at: usize) -> ReleaseRef
+    requires { at < length releases.now }
+    ensures { slice_get releases.now at ≡ Some result }
+{
+    releases[at]
 }
 
 fn good_step(

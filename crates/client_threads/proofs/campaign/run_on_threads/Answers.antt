@@ -1,4 +1,10 @@
+use Rattle.std.proofs.Common.{subst}
 use Rattle.daemon_core.specs.Housed.{past, rows_before}
+use Rattle.daemon_core.specs.Turns.{signs_of}
+use Rattle.client_plays.specs.Has.{shelves_told}
+use Rattle.client_plays.specs.Shelves.{means_for}
+use Rattle.plugin_trait.specs.Steps.{steps_at}
+use Rattle.campaign_runs.specs.Runs.{CampaignRan}
 use Rattle.campaign_runs.proofs.LegalLaws.{legal-in}
 use Rattle.client_threads.proofs.campaign.run_on_threads.Goals as goal
 
@@ -7,3 +13,10 @@ returns-clause-legal g c =
     let house = c.run_boots-house.result.0 in
     legal-in house.annals.facts house.annals.first c.args.plans.now (rows_before house.annals) (past house)
     c.run_boots-house.ensures.ran.ran.planned c.known.ensures.annals.legal
+
+pub returns-clause-ran : goal.returns-clause-ran
+returns-clause-ran g c =
+    subst
+    (λ boxes. CampaignRan (signs_of g.K.Keeper.tells g.K.Keeper.faults) c.run_boots-house.result.1.ending c.run_boots-house.result.1.wanting
+    (means_for (steps_at (λ b. (goal.Plugin-dyn g (b.vtable, b.value)).steps b.value) boxes) (shelves_told g.P.Shelf.files g.P.Shelf.faults c.args.shelves.items)) c.args.plans.now c.args.scripts.now c.args.house c.run_boots-house.result.0)
+    c.deref.ensures.value c.run_boots-house.ensures.ran

@@ -79,3 +79,10 @@ returns-in-Some-clause-told g c =
     stop-counted (signs_of g.K.Keeper.tells g.K.Keeper.faults) c.args.house c.loop-number.house c.start_boot.new.house
     (shelves_told g.P.Shelf.files g.P.Shelf.faults c.args.shelves.now.items) (shelves_told g.P.Shelf.files g.P.Shelf.faults c.loop-number.shelves.items)
     c.loop-number.invariant.kept c.in-Some.ensures.0 c.loop-number.invariant.told
+
+pub returns-clause-ran : goal.returns-clause-ran
+returns-clause-ran g c = record {
+  count = c.loop-number.number;
+  ran = c.loop-number.invariant.ran;
+  ended = (let e = c.loop-number.auto.number-end in let t = c.loop-number-test.false in omega (arith, e, t), c.loop-number.invariant.read);
+}

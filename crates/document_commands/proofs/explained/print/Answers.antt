@@ -15,11 +15,11 @@ state_at_first_boot-requires-clause-history g c = no-history
 pub returns-in-Ok-write_explain-clause-printed : goal.returns-in-Ok-write_explain-clause-printed
 returns-in-Ok-write_explain-clause-printed g c =
     subst (λ (text : List ℕ). Took text (g.T.Sink.taken c.args.out.now) (g.T.Sink.taken c.write_explain.new.out))
-    (printed_text c.args.campaign.now.facts c.undisturbed.result c.in-Ok.state.log c.args.campaign.now.boards.items c.deref.result.now c.args.port c.args.version c.undisturbed.ensures c.in-Ok.ensures.log c.deref.ensures.value)
+    (printed_text c.args.campaign.now.facts c.undisturbed-boot.result c.in-Ok.state.log c.args.campaign.now.boards.items c.deref.result.now c.args.port c.args.version c.undisturbed-boot.ensures c.in-Ok.ensures.log c.deref.ensures.value)
     c.in-Ok-write_explain.ensures.whole
 
 pub returns-in-Err-SinkFault-clause-printed : goal.returns-in-Err-SinkFault-clause-printed
 returns-in-Err-SinkFault-clause-printed g c =
     subst (λ (text : List ℕ). TookFront text (g.T.Sink.taken c.args.out.now) (g.T.Sink.taken c.write_explain.new.out))
-    (printed_text c.args.campaign.now.facts c.undisturbed.result c.in-Ok.state.log c.args.campaign.now.boards.items c.deref.result.now c.args.port c.args.version c.undisturbed.ensures c.in-Ok.ensures.log c.deref.ensures.value)
+    (printed_text c.args.campaign.now.facts c.undisturbed-boot.result c.in-Ok.state.log c.args.campaign.now.boards.items c.deref.result.now c.args.port c.args.version c.undisturbed-boot.ensures c.in-Ok.ensures.log c.deref.ensures.value)
     c.in-Err-SinkFault.ensures.front

@@ -4,7 +4,7 @@ use Rattle.history_keeper.specs.declared.row.Row.{Row}
 use Rattle.history_sqlite.specs.Telling.{TellsHeld, database}
 use Rattle.history_sqlite.proofs.Opening.{if_ok}
 use Rattle.history_sqlite.proofs.TellingLemmas.{same_rows}
-use Rattle.host_service.proofs.Over.{words-so}
+use Rattle.host_service.proofs.FileLaws.{words-so}
 use Rattle.host_service.proofs.over.run_over_file.Goals as goal
 
 -- the keeper that was opened tells no other rows than the file held

@@ -1,4 +1,4 @@
-use Rattle.host_service.proofs.Brought.{few-plugins, words-brought}
+use Rattle.host_service.proofs.BringingLaws.{few-plugins, words-brought}
 use Rattle.host_service.proofs.running.run_over_folder.Goals as goal
 
 pub run_campaign-requires-clause-few_plugins : goal.run_campaign-requires-clause-few_plugins

@@ -6,13 +6,13 @@ use Rattle.update_plans.specs.Following.{IsQuiet}
 use Rattle.update_plans.specs.Plans.{first_bad, scene}
 use Rattle.update_plans.specs.declared.plan.PlanStep.{PlanStep}
 use Rattle.update_plans.proofs.Chained.{first_bad-nil, quiet-on}
-use Rattle.update_plans.proofs.Taking.{bad-turn, drop-whole, good-turn}
+use Rattle.update_plans.proofs.Taking.{bad-got, drop-whole, good-got}
 use Rattle.update_plans.proofs.making.check_all.Goals as goal
 
 pub install-requires : goal.install-requires
 install-requires g c =
     let i = c.loop-index.invariant in
-    (c.requires.0, (omega (arith, c.loop-index-test.true, c.requires.1.0), (refl, (refl, (i.stands, (i.quiet, (sym (c.is_good.ensures g.opening i.stands i.quiet) ∙ c.if-not-is_good.false, tt)))))))
+    (c.requires.0, (omega (arith, c.loop-index-test.true, c.requires.1.0), (refl, (refl, (i.stands, (i.quiet, (sym (c.is_good.ensures g.opening i.stands i.quiet) ∙ c.if-not-is_good.false)))))))
 
 pub loop-index-preserved : goal.loop-index-preserved
 loop-index-preserved g c =
@@ -21,10 +21,10 @@ loop-index-preserved g c =
     let good = sym (c.is_good.ensures g.opening i.stands i.quiet) ∙ c.if-not-is_good.false in
     record {
       so_far =
-          sym (good-turn s c.args.steps.now c.loop-index.index c.step-item.result (past_of c.loop-index.state.log) (past_of c.install.new.state.log) c.loop-index-test.true c.step-item.is good c.in_ok-install.ensures.past)
+          sym (good-got s c.args.steps.now c.loop-index.index c.step_at-step.result (past_of c.loop-index.state.log) (past_of c.install.new.state.log) c.step_at-step.ensures good c.in_ok-install.ensures.past)
           ∙ i.so_far;
       stands = c.in_ok-install.ensures.stands;
-      quiet = subst (IsQuiet s) (sym c.in_ok-install.ensures.past) (quiet-on s (c.loop-index.index + 1) c.step-item.result (past_of c.loop-index.state.log) i.quiet good);
+      quiet = subst (IsQuiet s) (sym c.in_ok-install.ensures.past) (quiet-on s (c.loop-index.index + 1) c.step_at-step.result (past_of c.loop-index.state.log) i.quiet good);
     }
 
 pub returns-then-not-is_good : goal.returns-then-not-is_good
@@ -32,7 +32,7 @@ returns-then-not-is_good g c =
     let s = scene c.args.asker.now.facts.now g.opening c.args.asker.now.client c.args.asker.now.tag.now in
     let i = c.loop-index.invariant in
     let bad = sym (c.is_good.ensures g.opening i.stands i.quiet) ∙ c.if-not-is_good.true in
-    inr (c.loop-index.index + 1, refl, sym i.so_far ∙ bad-turn s c.args.steps.now c.loop-index.index c.step-item.result (past_of c.loop-index.state.log) c.loop-index-test.true c.step-item.is bad)
+    inr (c.loop-index.index + 1, refl, sym i.so_far ∙ bad-got s c.args.steps.now c.loop-index.index c.step_at-step.result (past_of c.loop-index.state.log) c.step_at-step.ensures bad)
 
 pub returns : goal.returns
 returns g c =

@@ -7,8 +7,8 @@ use Rattle.update_plans.specs.Following.{IsQuiet}
 use Rattle.update_plans.specs.Plans.{scene}
 use Rattle.update_plans.proofs.making.first_good.Given as goal
 
-abbrev pub invariant-loop-release : goal.invariant-loop-release
-invariant-loop-release l =
+abbrev pub invariant-loop-index : goal.invariant-loop-index
+invariant-loop-index l =
     (opening : List Row) → Stands l.asker.facts.now opening l.state → IsQuiet (scene l.asker.facts.now opening l.asker.client l.asker.tag.now) (past_of l.state.log)
-    → tried (scene l.asker.facts.now opening l.asker.client l.asker.tag.now) l.number l.view l.shown (past_of l.state.log) (drop l.release-index l.releases)
+    → tried (scene l.asker.facts.now opening l.asker.client l.asker.tag.now) l.number l.view l.shown (past_of l.state.log) (drop l.index l.releases)
     ≡ tried (scene l.asker.facts.now opening l.asker.client l.asker.tag.now) l.number l.view l.shown (past_of l.state.log) l.releases

@@ -1,65 +1,25 @@
-use Rattle.std.proofs.Common.{◌≡◌, ◌<◌, ◌+◌, ◌-◌, ◌++◌, ℕ, List, length, map, get_or, refl, sym, ap, ◌∙◌, subst, arith, take}
+use Rattle.std.proofs.Common.{◌≡◌, ◌<◌, ℕ, List, length, map, sym, ap, ◌∙◌, subst}
 use Rattle.fw_facts.specs.declared.view.DeviceView.{DeviceView}
-use Rattle.update_log.specs.Known.{views}
 use Rattle.update_log.specs.Pasts.{past_of}
-use Rattle.update_plans.specs.Plans.{chain, chains, device_at, scene}
+use Rattle.update_plans.specs.Plans.{chains, device_at, scene}
+use Rattle.update_plans.specs.declared.plan.PlanStep.{PlanStep}
 use Rattle.update_plans.specs.Walks.{walk}
-use Rattle.update_plans.proofs.Taking.{after-nil, below-at, chains-nil, device-kept, mapped-more, places-kept, plan-done, take-whole, turn-after, turn-chains}
+use Rattle.std.specs.Prelude.{IfOk}
+use Rattle.update_plans.proofs.Taking.{plan-is}
 use Rattle.update_plans.proofs.Within.{AllBelow, walk-within}
 use Rattle.update_plans.proofs.making.plan_all.Goals as goal
 
-pub plan_device-requires : goal.plan_device-requires
-plan_device-requires g c =
-    let s = scene c.args.asker.now.facts.now g.opening c.args.asker.now.client c.args.asker.now.tag.now in
-    let i = c.loop-at.invariant in
-    let all : AllBelow (length c.args.state.now.views) c.in_ok-places.places.items =
-    subst (AllBelow (length c.args.state.now.views)) (sym (c.in_ok-places.ensures ∙ ap walk c.views.ensures)) (walk-within c.args.state.now.views) in
-    let below = below-at (length c.args.state.now.views) c.in_ok-places.places.items c.loop-at.at-index all c.loop-at-test.true in
-    let same = places-kept s c.args.state.now c.loop-at.state 0 c.requires.1.0 i.stands in
-    (omega (arith, below, same), (c.requires.0, (i.few, (i.stands, (i.quiet, tt)))))
-
-pub loop-at-preserved : goal.loop-at-preserved
-loop-at-preserved g c =
-    let s = scene c.args.asker.now.facts.now g.opening c.args.asker.now.client c.args.asker.now.tag.now in
-    let i = c.loop-at.invariant in
-    let before = past_of c.args.state.now.log in
-    let at = get_or c.in_ok-places.places.items c.loop-at.at-index 0 in
-    let here = views s.facts s.opening before in
-    let xs = map (device_at here) (take c.loop-at.at-index c.in_ok-places.places.items) in
-    let same : device_at c.loop-at.state.views at ≡ device_at here at =
-    device-kept s c.args.state.now c.loop-at.state at c.requires.1.0 i.stands ∙ ap (λ (vs : List DeviceView). device_at vs at) c.requires.1.0.views in
-    let own = chain s (device_at c.loop-at.state.views at) (8192 - length c.loop-at.steps.items) (length c.loop-at.steps.items + 1) (past_of c.loop-at.state.log) in
-    let put =
-    c.in_ok-plan_device.ensures.steps
-    ∙ ap (λ (d : List ℕ). c.loop-at.steps.items ++ chain s d (8192 - length c.loop-at.steps.items) (length c.loop-at.steps.items + 1) (past_of c.loop-at.state.log)) same in
-    record {
-      steps_are =
-          turn-chains s before (past_of c.loop-at.state.log) xs (device_at here at) c.loop-at.steps.items c.plan_device.new.steps.items i.steps_are i.past_is put
-          ∙ ap (λ (ds : List (List ℕ)). chains s ds 8192 1 before) (sym (mapped-more (device_at here) c.in_ok-places.places.items c.loop-at.at-index 0 c.loop-at-test.true));
-      past_is =
-          turn-after s before (past_of c.loop-at.state.log) (past_of c.plan_device.new.state.log) c.loop-at.steps.items own c.plan_device.new.steps.items i.past_is c.in_ok-plan_device.ensures.past
-          c.in_ok-plan_device.ensures.steps;
-      few = c.in_ok-plan_device.ensures.few_steps;
-      stands = c.in_ok-plan_device.ensures.stands;
-      quiet = c.in_ok-plan_device.ensures.quiet;
-    }
+pub plan_places-requires : goal.plan_places-requires
+plan_places-requires g c =
+    let walked = c.deref.ensures.value ∙ c.in_ok-places.ensures ∙ ap walk c.views.ensures in
+    (c.requires.0, (subst (AllBelow (length c.args.state.now.views)) (sym walked) (walk-within c.args.state.now.views), (c.requires.1.0, c.requires.1.1)))
 
 pub returns : goal.returns
 returns g c =
     let s = scene c.args.asker.now.facts.now g.opening c.args.asker.now.client c.args.asker.now.tag.now in
     let before = past_of c.args.state.now.log in
-    let here = views s.facts s.opening before in
-    plan-done s before c.in_ok-places.places.items c.loop-at.steps.items (c.in_ok-places.ensures ∙ ap walk (c.views.ensures ∙ c.requires.1.0.views))
-    (c.loop-at.invariant.steps_are
-    ∙ ap (λ (places : List ℕ). chains s (map (device_at here) places) 8192 1 before) (take-whole c.loop-at.at-index c.in_ok-places.places.items (omega (arith, c.loop-at-test.false))))
-
-pub loop-at-init : goal.loop-at-init
-loop-at-init g c =
-    let s = scene c.args.asker.now.facts.now g.opening c.args.asker.now.client c.args.asker.now.tag.now in
-    record {
-      steps_are = chains-nil s (past_of c.args.state.now.log);
-      past_is = after-nil s (past_of c.args.state.now.log);
-      few = omega arith;
-      stands = c.requires.1.0;
-      quiet = c.requires.1.1.0;
-    }
+    let walked = c.deref.ensures.value ∙ c.in_ok-places.ensures ∙ ap walk c.views.ensures in
+    subst (λ (planned : List PlanStep). IfOk c.plan_places.result (λ steps. steps.items ≡ planned))
+    (ap (λ (places : List ℕ). chains s (map (device_at c.args.state.now.views) places) 8192 1 before) walked
+    ∙ ap (λ (vs : List DeviceView). chains s (map (device_at vs) (walk vs)) 8192 1 before) c.requires.1.0.views ∙ sym (plan-is s before))
+    c.plan_places.ensures

@@ -11,7 +11,7 @@ use Rattle.update_plans.proofs.tops.make_plan.Goals as goal
 pub plan_all-requires : goal.plan_all-requires
 plan_all-requires g c =
     let s = scene c.args.facts.now g.opening c.args.client c.args.tag.now in
-    (c.requires.0, (stands-same s.facts s.opening c.args.state.now c.in_ok-own.own c.in_ok-own.ensures c.requires.1.0, (subst (λ (core : Core). IsQuiet s (past_of core.log)) (sym c.in_ok-own.ensures) c.requires.1.1.0, tt)))
+    (c.requires.0, (stands-same s.facts s.opening c.args.state.now c.in_ok-own.own c.in_ok-own.ensures c.requires.1.0, (subst (λ (core : Core). IsQuiet s (past_of core.log)) (sym c.in_ok-own.ensures) c.requires.1.1)))
 
 pub returns-clause-planned : goal.returns-clause-planned
 returns-clause-planned g c =

@@ -15,7 +15,7 @@ step-requires g c =
     let e = ends-so s c.args.step.now g.at c.args.state.now c.requires.0 c.args.entry c.requires.1.0 in
     let none = rows-finished s.facts s.opening (past_of c.args.state.now.log) c.args.self.now.client c.args.entry c.end_of-ended.result in
     let fit = rows-fit s.facts s.opening c.args.state.now c.requires.0.stands in
-    (c.requires.0.stands, (finish-next s c.args.step.now g.at c.args.state.now c.requires.0 c.args.entry c.requires.1.0 c.end_of-ended.result (c.end_of-ended.ensures s.facts s.opening e.t c.requires.0.stands e.traced ∙ e.ends), (omega (arith, c.requires.1.1.0), (omega (arith, none, fit), tt))))
+    (c.requires.0.stands, (finish-next s c.args.step.now g.at c.args.state.now c.requires.0 c.args.entry c.requires.1.0 c.end_of-ended.result (c.end_of-ended.ensures s.facts s.opening e.t c.requires.0.stands e.traced ∙ e.ends), (omega (arith, c.requires.1.1), (omega (arith, none, fit)))))
 
 pub returns-clause-past : goal.returns-clause-past
 returns-clause-past g c =

@@ -21,7 +21,7 @@ pub step-requires : goal.step-requires
 step-requires g c =
     let s = scene c.args.self.now.facts.now g.at.opening c.args.self.now.client c.args.self.now.tag.now in
     let next = sym (c.is_next.ensures ∙ ap (λ (o : Option Op). is_next o c.args.op) c.next_op.ensures) ∙ c.if-not-is_next.false in
-    (c.requires.0.stands, (start-next s c.args.step.now g.at c.args.state.now c.requires.0 c.args.entry c.requires.1.1.1.0 c.trace.result (c.trace.ensures s.facts s.opening c.requires.0.stands) c.args.op next c.requires.1.0, (omega (arith, c.requires.1.1.1.1.0), (rows-fit s.facts s.opening c.args.state.now c.requires.0.stands, tt))))
+    (c.requires.0.stands, (start-next s c.args.step.now g.at c.args.state.now c.requires.0 c.args.entry c.requires.1.1.1.0 c.trace.result (c.trace.ensures s.facts s.opening c.requires.0.stands) c.args.op next c.requires.1.0, (omega (arith, c.requires.1.1.1.1), (rows-fit s.facts s.opening c.args.state.now c.requires.0.stands))))
 
 pub step-requires-2 : goal.step-requires-2
 step-requires-2 g c =
@@ -32,7 +32,7 @@ step-requires-2 g c =
         end-next s c.args.step.now g.at c.args.state.now c.requires.0 c.args.entry c.requires.1.1.1.0 c.trace.result (c.trace.ensures s.facts s.opening c.requires.0.stands) c.args.op next c.requires.1.0
             c.marks-told.result c.shown-seen.result c.args.digest c.marks-told.ensures c.shown-seen.ensures c.requires.1.1.0 (past_of c.step.new.state.log)
             (ap past_of c.step.ensures.log ∙ past-push c.args.state.now.log (Event.Start s.client c.args.entry c.args.op)),
-        (omega (arith, c.requires.1.1.1.1.0, c.step.ensures.room), (rows-fit s.facts s.opening c.step.new.state c.step.ensures.stands, tt)),
+        (omega (arith, c.requires.1.1.1.1, c.step.ensures.room), (rows-fit s.facts s.opening c.step.new.state c.step.ensures.stands)),
       ),
     )
 

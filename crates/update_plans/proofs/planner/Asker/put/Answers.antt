@@ -30,13 +30,13 @@ take-requires g c =
       (
         record {
           before_is = ap (λ (core : Core). past_of core.log) c.in_ok-reserve.ensures.same ∙ c.requires.1.1.1.0;
-          stands = stands-same s.facts s.opening c.args.state.now c.reserve.new.state c.in_ok-reserve.ensures.same c.requires.1.1.1.1.0;
+          stands = stands-same s.facts s.opening c.args.state.now c.reserve.new.self c.in_ok-reserve.ensures.same c.requires.1.1.1.1.0;
           quiet = c.requires.1.1.1.1.1.0;
           good = c.requires.1.1.1.1.1.1.0;
-          release_is = c.requires.1.1.1.1.1.1.1.0;
+          release_is = c.requires.1.1.1.1.1.1.1;
           entry_is = ap (λ (n : ℕ). n + 1) many;
         },
-        (omega (arith, c.in_ok-reserve.ensures.room), (c.in_ok-reserve.ensures.row, tt)),
+        (omega (arith, c.in_ok-reserve.ensures.room), (c.in_ok-reserve.ensures.row)),
       ),
     )
 
@@ -45,14 +45,14 @@ make_all-requires g c =
     let s = scene c.args.self.now.facts.now g.at.opening c.args.self.now.client c.args.self.now.tag.now in
     let many : length c.rows.result.now ≡ length (rows s.facts s.opening g.at.before) =
     ap (λ (rs : List Row). length rs) (c.rows.ensures ∙ ap (λ (core : Core). core.rows) c.in_ok-reserve.ensures.same ∙ c.requires.1.1.1.1.0.rows ∙ ap (rows s.facts s.opening) c.requires.1.1.1.0) in
-    (c.take.ensures.put, (digest-of (release_at s c.args.step.now.release) c.args.release.now c.requires.1.1.1.1.1.1.1.0, (ap (λ (n : ℕ). n + 1) many, (omega (arith, c.in_ok-reserve.ensures.room, c.take.ensures.room), tt))))
+    (c.take.ensures.put, (digest-of (release_at s c.args.step.now.release) c.args.release.now c.requires.1.1.1.1.1.1.1, (ap (λ (n : ℕ). n + 1) many, (omega (arith, c.in_ok-reserve.ensures.room, c.take.ensures.room)))))
 
 pub finish-requires : goal.finish-requires
 finish-requires g c =
     let s = scene c.args.self.now.facts.now g.at.opening c.args.self.now.client c.args.self.now.tag.now in
     let many : length c.rows.result.now ≡ length (rows s.facts s.opening g.at.before) =
     ap (λ (rs : List Row). length rs) (c.rows.ensures ∙ ap (λ (core : Core). core.rows) c.in_ok-reserve.ensures.same ∙ c.requires.1.1.1.1.0.rows ∙ ap (rows s.facts s.opening) c.requires.1.1.1.0) in
-    (c.make_all.ensures.put, (ap (λ (n : ℕ). n + 1) many, (omega (arith, c.in_ok-reserve.ensures.room, c.take.ensures.room, c.make_all.ensures.room), tt)))
+    (c.make_all.ensures.put, (ap (λ (n : ℕ). n + 1) many, (omega (arith, c.in_ok-reserve.ensures.room, c.take.ensures.room, c.make_all.ensures.room))))
 
 pub returns-clause-past : goal.returns-clause-past
 returns-clause-past g c = c.finish.ensures.past

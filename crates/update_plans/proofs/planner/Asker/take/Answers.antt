@@ -7,7 +7,7 @@ pub step-requires : goal.step-requires
 step-requires g c =
     let s = scene c.args.self.now.facts.now g.at.opening c.args.self.now.client c.args.self.now.tag.now in
     let b = c.requires.1.0 in
-    (b.stands, (begins-ask s c.args.step.now g.at c.args.release.now c.args.entry c.args.state.now b c.args.request.now c.blocks_of.result c.requires.0 c.blocks_of.ensures, (omega (arith, c.requires.1.1.0), (begins-ask-rows s c.args.step.now g.at c.args.release.now c.args.entry c.args.state.now b c.args.request.now c.blocks_of.result c.requires.0 c.blocks_of.ensures, tt))))
+    (b.stands, (begins-ask s c.args.step.now g.at c.args.release.now c.args.entry c.args.state.now b c.args.request.now c.blocks_of.result c.requires.0 c.blocks_of.ensures, (omega (arith, c.requires.1.1.0), (begins-ask-rows s c.args.step.now g.at c.args.release.now c.args.entry c.args.state.now b c.args.request.now c.blocks_of.result c.requires.0 c.blocks_of.ensures))))
 
 pub step-requires-2 : goal.step-requires-2
 step-requires-2 g c =
@@ -19,10 +19,8 @@ step-requires-2 g c =
         (
           omega (arith, c.requires.1.1.0, c.step.ensures.room),
           (
-            begins-claim-rows s c.args.step.now g.at c.args.release.now c.args.entry c.args.state.now b c.args.request.now c.blocks_of.result c.requires.0 c.blocks_of.ensures c.step.new.state c.step.ensures.log
-                c.step.ensures.row_room c.requires.1.1.1.0,
-            tt,
-          ),
+              begins-claim-rows s c.args.step.now g.at c.args.release.now c.args.entry c.args.state.now b c.args.request.now c.blocks_of.result c.requires.0 c.blocks_of.ensures c.step.new.state c.step.ensures.log
+              c.step.ensures.row_room c.requires.1.1.1),
         ),
       ),
     )
