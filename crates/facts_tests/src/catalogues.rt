@@ -49,56 +49,41 @@ fn guid_named(text: &[u8]) -> Result<Guid, Fail> {
     }
 }
 
-/// A release of the base document: its GUIDs, its version, and where it is.
-#[derive(Clone, Copy)]
-struct Sought {
-    guids: [Guid; 2],
-    version: &'static str,
-    found: Option<u32>,
-}
+/// The GUIDs and the version that are looked for, and the release of the base document that is found.
+const SOUGHT: [([&[u8]; 2], &str, Option<u32>); 5] = [
+    ([HUB, HUB], "1.1.0", Some(0)),
+    ([OTHER, HUB], "1.0.0", Some(1)),
+    ([OTHER, HUB], "01.0.0", Some(1)),
+    ([HUB, OTHER], "1.0", None),
+    ([OTHER, OTHER], "1.1.0", None),
+];
 
-fn is_found(catalogue: &Catalogue, sought: &Sought) -> Result<bool, Fail> {
-    let version = Version::read(sought.version.as_bytes())?;
-    let found = catalogue
-        .find(&sought.guids, &version)
-        .map(|found| found.release);
-    Ok(found == sought.found)
-}
-
-fn versions(hub: Guid, other: Guid) -> [Sought; 5] {
-    let seek = |guids, version, found| Sought {
-        guids,
-        version,
-        found,
-    };
-    [
-        seek([hub, hub], "1.1.0", Some(0)),
-        seek([other, hub], "1.0.0", Some(1)),
-        seek([other, hub], "01.0.0", Some(1)),
-        seek([hub, other], "1.0", None),
-        seek([other, other], "1.1.0", None),
-    ]
+fn found(catalogue: &Catalogue, texts: &[&[u8]; 2], version: &str) -> Result<Option<u32>, Fail> {
+    let guids = [guid_named(texts[0])?, guid_named(texts[1])?];
+    let version = Version::read(version.as_bytes())?;
+    Ok(catalogue.find(&guids, &version).map(|found| found.release))
 }
 
 #[test]
 fn releases_are_found_by_version(rt: HostRuntime) -> Result<(), Fail> {
     let catalogue = catalogue(rt.alloc(), BASE)?;
     assert_eq!(rt; catalogue.components().len(), 1);
-    let all = versions(guid_named(HUB)?, guid_named(OTHER)?);
-    for at in 0..5usize {
-        assert!(rt; is_found(&catalogue, &all[at])?);
+    for (texts, version, want) in &SOUGHT {
+        assert_eq!(rt; found(&catalogue, texts, version)?, *want);
     }
     Ok(())
 }
 
+fn count(alloc: Global, catalogue: &Catalogue, guids: &[Guid]) -> Result<usize, Fail> {
+    Ok(catalogue.releases_for(alloc, guids)?.len())
+}
+
 #[test]
 fn releases_are_listed(rt: HostRuntime) -> Result<(), Fail> {
-    let alloc = rt.alloc();
-    let catalogue = catalogue(alloc, BASE)?;
-    let hub = guid_named(HUB)?;
-    let other = guid_named(OTHER)?;
-    assert_eq!(rt; catalogue.releases_for(alloc, &[other, hub])?.len(), 2);
-    assert_eq!(rt; catalogue.releases_for(alloc, &[other])?.len(), 0);
+    let guids = [guid_named(OTHER)?, guid_named(HUB)?];
+    let catalogue = catalogue(rt.alloc(), BASE)?;
+    assert_eq!(rt; count(rt.alloc(), &catalogue, &guids)?, 2);
+    assert_eq!(rt; count(rt.alloc(), &catalogue, &guids[..1])?, 0);
     Ok(())
 }
 

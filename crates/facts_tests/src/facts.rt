@@ -6,7 +6,8 @@ use fw_facts::{
     VetoRule,
 };
 use guid_ids::{DeviceId, Guid, guid_of};
-use std::alloc::Global;
+use std::alloc::{AllocGlobal, Global};
+use std::process::Abort;
 use std::test::Fail;
 use version_formats::{Format, Version};
 
@@ -26,28 +27,55 @@ fn one_guid(alloc: Global, text: &[u8]) -> Result<Listed<Guid>, Fail> {
     Ok(Listed::of(guids))
 }
 
-fn sheet(alloc: Global, flags: DeviceFlags) -> Result<Sheet, Fail> {
-    let mut vendor_ids = Vec::new(alloc);
-    vendor_ids.push(Name::read(b"USB:0x0A5C")?)?;
-    Ok(Sheet {
+/// The words of the board's sheet.
+#[derive(Clone, Copy)]
+struct Words {
+    port: Name,
+    parent: Name,
+    plugin: Name,
+    name: Line,
+    vendor: Line,
+    bootloader: Version,
+}
+
+fn read_words() -> Result<Words, Fail> {
+    Ok(Words {
         port: Name::read(b"usb1")?,
-        device: DeviceId::from_bytes([7; 20]),
-        priority: 1,
+        parent: Name::read(b"usb0")?,
         plugin: Name::read(b"flash")?,
         name: Line::read(b"Hub")?,
         vendor: Line::read(b"Example")?,
-        vendor_ids: Listed::of(vendor_ids),
+        bootloader: Version::read(b"2.0")?,
+    })
+}
+
+fn vendor_ids(alloc: Global) -> Result<Listed<Name>, Fail> {
+    let mut ids = Vec::new(alloc);
+    ids.push(Name::read(b"USB:0x0A5C")?)?;
+    Ok(Listed::of(ids))
+}
+
+fn sheet(alloc: Global, flags: DeviceFlags) -> Result<Sheet, Fail> {
+    let words = read_words()?;
+    Ok(Sheet {
+        port: words.port,
+        device: DeviceId::from_bytes([7; 20]),
+        priority: 1,
+        plugin: words.plugin,
+        name: words.name,
+        vendor: words.vendor,
+        vendor_ids: vendor_ids(alloc)?,
         runtime_guids: one_guid(alloc, b"firmware")?,
         loader_guids: one_guid(alloc, b"loader")?,
         counterparts: one_guid(alloc, b"counterpart")?,
         flags,
         format: Format::Triplet,
         protocol: None,
-        bootloader: Some(Version::read(b"2.0")?),
+        bootloader: Some(words.bootloader),
         size_min: 2,
         size_max: 4_194_304,
         duration: 3,
-        parent: Some(Name::read(b"usb0")?),
+        parent: Some(words.parent),
         unreachable: false,
         power_low: false,
         lid: false,
@@ -76,57 +104,69 @@ fn machine(alloc: Global) -> MachineFacts {
 #[test]
 fn a_set_has_the_flags_that_were_put_in(rt: HostRuntime) -> Result<(), Fail> {
     let empty = DeviceFlags::empty();
-    let mut all = empty;
-    for flag in DeviceFlag::ALL {
-        all = all.with(flag);
-    }
     for flag in DeviceFlag::ALL {
         let one = empty.with(flag);
-        let others = all.without(flag);
-        assert!(rt; !empty.has(flag) && all.has(flag), "{flag:?}");
-        assert!(rt;
-            one.has_all(empty) && one.has_all(one) && all.has_all(one),
-            "{flag:?}"
-        );
-        assert!(rt; !empty.has_all(one) && !others.has_all(one), "{flag:?}");
+        assert!(rt; !empty.has(flag) && !empty.has_all(one), "{flag:?}");
+        assert!(rt; one.has_all(empty) && one.has_all(one), "{flag:?}");
         for other in DeviceFlag::ALL {
             assert_eq!(rt; one.has(other), other == flag, "{flag:?} {other:?}");
-            assert_eq!(rt; others.has(other), other != flag, "{flag:?} {other:?}");
         }
         assert_eq!(rt; one.without(flag), empty, "{flag:?}");
-        assert_eq!(rt; others.with(flag), all, "{flag:?}");
     }
     Ok(())
 }
 
 #[test]
-fn a_view_shows_its_side(rt: HostRuntime) -> Result<(), Fail> {
-    let alloc = rt.alloc();
-    let stated = DeviceFlags::empty().with(DeviceFlag::Updatable);
-    let in_loader = stated.with(DeviceFlag::IsBootloader);
-    let first = guid_of(b"firmware");
-    let second = guid_of(b"loader");
-    for (seen, version, guid, flags) in [
-        (RUNTIME, Some(Version::read(b"1.2.3")?), Some(first), stated),
-        (
-            BOOTLOADER,
-            Some(Version::read(b"1.2.4")?),
-            Some(second),
-            in_loader,
-        ),
-        (Seen::Gone, None, None, stated),
-        (Seen::Stranger, None, None, stated),
-    ] {
-        // The mode alone tells whether a device is in bootloader mode.
-        for own in [stated, in_loader] {
-            let view = view(alloc, own, seen)?;
-            assert_eq!(rt; view.version(), version, "{seen:?}");
-            assert_eq!(rt; view.guids().first().copied(), guid, "{seen:?}");
-            assert_eq!(rt; view.guids().len() <= 1, true, "{seen:?}");
-            assert_eq!(rt; view.flags(), flags, "{seen:?}");
+fn a_set_lacks_the_flags_that_were_taken_out(rt: HostRuntime) -> Result<(), Fail> {
+    let mut all = DeviceFlags::empty();
+    for flag in DeviceFlag::ALL {
+        all = all.with(flag);
+    }
+    for flag in DeviceFlag::ALL {
+        let others = all.without(flag);
+        assert!(rt; all.has(flag) && !others.has(flag), "{flag:?}");
+        for other in DeviceFlag::ALL {
+            assert_eq!(rt; others.has(other), other != flag, "{flag:?} {other:?}");
         }
+        assert_eq!(rt; others.with(flag), all, "{flag:?}");
     }
     Ok(())
+}
+
+/// What a view shows, whatever its flags say of its mode: the mode alone tells whether a device is in bootloader mode.
+fn shows(
+    rt: &(impl Abort + AllocGlobal),
+    seen: Seen,
+    version: Option<Version>,
+    guid: Option<Guid>,
+    flags: DeviceFlags,
+) -> Result<(), Fail> {
+    for own in [stated(), in_loader()] {
+        let view = view(rt.alloc(), own, seen)?;
+        assert_eq!(rt; view.version(), version, "{seen:?}");
+        assert_eq!(rt; view.guids().first().copied(), guid, "{seen:?}");
+        assert!(rt; view.guids().len() <= 1, "{seen:?}");
+        assert_eq!(rt; view.flags(), flags, "{seen:?}");
+    }
+    Ok(())
+}
+
+fn stated() -> DeviceFlags {
+    DeviceFlags::empty().with(DeviceFlag::Updatable)
+}
+
+fn in_loader() -> DeviceFlags {
+    stated().with(DeviceFlag::IsBootloader)
+}
+
+#[test]
+fn a_view_shows_its_side(rt: HostRuntime) -> Result<(), Fail> {
+    let old = Some(Version::read(b"1.2.3")?);
+    let new = Some(Version::read(b"1.2.4")?);
+    shows(&rt, RUNTIME, old, Some(guid_of(b"firmware")), stated())?;
+    shows(&rt, BOOTLOADER, new, Some(guid_of(b"loader")), in_loader())?;
+    shows(&rt, Seen::Gone, None, None, stated())?;
+    shows(&rt, Seen::Stranger, None, None, stated())
 }
 
 fn give_problem(problem: Problem, machine: &mut MachineFacts, view: &mut DeviceView) {
@@ -217,33 +257,51 @@ fn machine_with(alloc: Global, test: MachineTest) -> MachineFacts {
     machine
 }
 
+const TESTS: [MachineTest; 4] = [
+    MachineTest::Always,
+    MachineTest::OnBattery,
+    MachineTest::PowerLow,
+    MachineTest::LidClosed,
+];
+
 #[test]
-fn a_rule_wants_its_test_and_all_of_its_flags(rt: HostRuntime) -> Result<(), Fail> {
+fn a_rule_wants_its_test(rt: HostRuntime) -> Result<(), Fail> {
+    for state in TESTS {
+        let machine = machine_with(rt.alloc(), state);
+        for when in TESTS {
+            let passes = when == MachineTest::Always || when == state;
+            assert_eq!(rt; when.holds(&machine), passes, "{state:?} {when:?}");
+        }
+    }
+    Ok(())
+}
+
+// Whether the rule holds for a board with one flag of its own.
+fn rule_holds(
+    alloc: Global,
+    when: MachineTest,
+    flags: DeviceFlags,
+    seen: Seen,
+    state: MachineTest,
+) -> Result<bool, Fail> {
+    let own = DeviceFlags::empty().with(DeviceFlag::Internal);
+    let view = view(alloc, own, seen)?;
+    let rule = VetoRule { when, flags };
+    Ok(rule.holds(&machine_with(alloc, state), &view))
+}
+
+#[test]
+fn a_rule_wants_all_of_its_flags(rt: HostRuntime) -> Result<(), Fail> {
     let alloc = rt.alloc();
     let one = DeviceFlags::empty().with(DeviceFlag::Internal);
     let both = one.with(DeviceFlag::IsBootloader);
-    let tests = [
-        MachineTest::Always,
-        MachineTest::OnBattery,
-        MachineTest::PowerLow,
-        MachineTest::LidClosed,
-    ];
-    for state in tests {
-        let machine = machine_with(alloc, state);
-        for when in tests {
-            let passes = when == MachineTest::Always || when == state;
-            assert_eq!(rt; when.holds(&machine), passes, "{state:?} {when:?}");
-            for (flags, seen, has) in [
-                (DeviceFlags::empty(), RUNTIME, true),
-                (one, RUNTIME, true),
-                (both, RUNTIME, false),
-                (both, BOOTLOADER, true),
-            ] {
-                let rule = VetoRule { when, flags };
-                let holds = rule.holds(&machine, &view(alloc, one, seen)?);
-                assert_eq!(rt; holds, passes && has, "{state:?} {when:?} {flags:?}");
-            }
-        }
+    for when in TESTS {
+        assert!(rt; rule_holds(alloc, when, DeviceFlags::empty(), RUNTIME, when)?);
+        assert!(rt; rule_holds(alloc, when, one, RUNTIME, when)?);
+        assert!(rt; !rule_holds(alloc, when, both, RUNTIME, when)?);
+        assert!(rt; rule_holds(alloc, when, both, BOOTLOADER, when)?);
+        let other = rule_holds(alloc, when, one, RUNTIME, MachineTest::Always)?;
+        assert_eq!(rt; other, when == MachineTest::Always);
     }
     Ok(())
 }

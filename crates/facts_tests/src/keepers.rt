@@ -120,22 +120,31 @@ const LINKS: [(u32, &[u8], u32, &[u8], Option<usize>); 8] = [
     (1, b"x", 3, b"x", Some(2)),
 ];
 
-/// A row may try an earlier failed one of its device again, and no two the same one. Where 9 stands there is no third row.
+/// The rows of one line of `LINKS`. Where 9 stands there is no third row.
+fn linked(alloc: Global, second: (u32, &[u8]), third: (u32, &[u8])) -> Result<Vec<Row>, Fail> {
+    let mut rows = Vec::new(alloc);
+    put(&mut rows, &row(1, b"a", b"x", RowState::Failed)?)?;
+    let again = retry(2, b"b", second.1, RowState::Success, second.0)?;
+    put(&mut rows, &again)?;
+    if third.0 != 9 {
+        let last = retry(3, b"c", third.1, RowState::Begun, third.0)?;
+        put(&mut rows, &last)?;
+    }
+    Ok(rows)
+}
+
+/// A row may try an earlier failed one of its device again, and no two the same one.
 #[test]
 fn rows_that_try_others_again(rt: HostRuntime) -> Result<(), Fail> {
     for (second, its, third, other, want) in LINKS {
-        let mut rows = Vec::from_slice(
-            rt.alloc(),
-            &[
-                row(1, b"a", b"x", RowState::Failed)?,
-                retry(2, b"b", its, RowState::Success, second)?,
-            ],
-        )?;
-        if third != 9 {
-            rows.extend_from_slice(&[retry(3, b"c", other, RowState::Begun, third)?])?;
-        }
+        let rows = linked(rt.alloc(), (second, its), (third, other))?;
         assert_eq!(rt; first_faulty(rt.alloc(), &rows)?, want);
     }
+    Ok(())
+}
+
+#[test]
+fn each_row_tries_the_one_before_again(rt: HostRuntime) -> Result<(), Fail> {
     let chain = [
         row(1, b"a", b"x", RowState::Failed)?,
         retry(2, b"b", b"x", RowState::Failed, 1)?,

@@ -12,41 +12,57 @@ fn list(alloc: Global, texts: &[&[u8]]) -> Result<Listed<Name>, Fail> {
     Ok(Listed::of(names))
 }
 
-fn plain(alloc: Global, name: &[u8]) -> Result<PluginSheet, Fail> {
+type Texts = &'static [&'static [u8]];
+
+/// A plugin's name, and those that it has a conflict with, that it comes after and before, and that it
+/// is better than.
+type Row = (&'static [u8], Texts, Texts, Texts, Texts);
+
+fn stated(alloc: Global, row: &Row) -> Result<PluginSheet, Fail> {
+    let (name, conflicts, after, before, better_than) = *row;
     Ok(PluginSheet {
         name: Name::read(name)?,
-        conflicts: list(alloc, &[])?,
-        after: list(alloc, &[])?,
-        before: list(alloc, &[])?,
-        better_than: list(alloc, &[])?,
+        conflicts: list(alloc, conflicts)?,
+        after: list(alloc, after)?,
+        before: list(alloc, before)?,
+        better_than: list(alloc, better_than)?,
     })
 }
 
+fn stated_all(alloc: Global, rows: &[Row]) -> Result<Vec<PluginSheet>, Fail> {
+    let mut sheets = Vec::new(alloc);
+    for row in rows {
+        sheets.push(stated(alloc, row)?)?;
+    }
+    Ok(sheets)
+}
+
+const THREE: [Row; 3] = [
+    (b"a", &[], &[], &[], &[]),
+    (b"b", &[], &[], &[b"a", b"nobody"], &[]),
+    (b"c", &[], &[b"a"], &[], &[b"b"]),
+];
+
 #[test]
 fn three_plugins(rt: HostRuntime) -> Result<(), Fail> {
-    let alloc = rt.alloc();
-    let a = plain(alloc, b"a")?;
-    let mut b = plain(alloc, b"b")?;
-    b.before = list(alloc, &[b"a", b"nobody"])?;
-    let mut c = plain(alloc, b"c")?;
-    c.after = list(alloc, &[b"a"])?;
-    c.better_than = list(alloc, &[b"b"])?;
-    let plan = arrange(alloc, &[a, b, c])?;
+    let sheets = stated_all(rt.alloc(), &THREE)?;
+    let plan = arrange(rt.alloc(), sheets.as_slice())?;
     assert_eq!(rt; plan.order.items(), [1, 0, 2].as_slice());
     assert_eq!(rt; plan.enabled.items(), [true, true, true].as_slice());
     assert_eq!(rt; plan.priority.items(), [0, 0, 1].as_slice());
     Ok(())
 }
 
+const REPEATED: [Row; 3] = [
+    (b"a", &[], &[], &[], &[]),
+    (b"b", &[], &[], &[], &[]),
+    (b"a", &[], &[], &[], &[]),
+];
+
 #[test]
 fn a_repeated_name(rt: HostRuntime) -> Result<(), Fail> {
-    let alloc = rt.alloc();
-    let sheets = [
-        plain(alloc, b"a")?,
-        plain(alloc, b"b")?,
-        plain(alloc, b"a")?,
-    ];
-    match arrange(alloc, &sheets) {
+    let sheets = stated_all(rt.alloc(), &REPEATED)?;
+    match arrange(rt.alloc(), sheets.as_slice()) {
         Err(fault) => assert!(rt; is_repeat(&fault, b"a")),
         Ok(_) => panic!(rt; "two plugins have one name"),
     }
@@ -60,80 +76,99 @@ fn is_repeat(fault: &OrderFault, wanted: &[u8]) -> bool {
     }
 }
 
+/// Whether the plugins are refused for the cycle of these names.
+fn is_cycle(alloc: Global, rows: &[Row], wanted: &[&[u8]]) -> Result<bool, Fail> {
+    let sheets = stated_all(alloc, rows)?;
+    let wanted = list(alloc, wanted)?;
+    match arrange(alloc, sheets.as_slice()) {
+        Err(OrderFault::Cycle { names }) => Ok(names.items() == wanted.items()),
+        _ => Ok(false),
+    }
+}
+
+const CYCLE: [Row; 3] = [
+    (b"d", &[], &[], &[b"b"], &[]),
+    (b"b", &[], &[], &[b"c"], &[]),
+    (b"c", &[], &[], &[b"d"], &[]),
+];
+
+const ALONE: [Row; 1] = [(b"a", &[], &[], &[], &[b"a"])];
+
 #[test]
 fn cycles_from_their_least_name(rt: HostRuntime) -> Result<(), Fail> {
-    let alloc = rt.alloc();
-    let mut d = plain(alloc, b"d")?;
-    d.before = list(alloc, &[b"b"])?;
-    let mut b = plain(alloc, b"b")?;
-    b.before = list(alloc, &[b"c"])?;
-    let mut c = plain(alloc, b"c")?;
-    c.before = list(alloc, &[b"d"])?;
-    let mut a = plain(alloc, b"a")?;
-    a.better_than = list(alloc, &[b"a"])?;
-    match arrange(alloc, &[d, b, c]) {
-        Err(OrderFault::Cycle { names }) => {
-            let bcd = list(alloc, &[b"b", b"c", b"d"])?;
-            assert!(rt; names.items() == bcd.items());
-        }
-        _ => panic!(rt; "b, c and d form a cycle"),
-    }
-    match arrange(alloc, &[a]) {
-        Err(OrderFault::Cycle { names }) => {
-            let alone = list(alloc, &[b"a"])?;
-            assert!(rt; names.items() == alone.items());
-        }
-        _ => panic!(rt; "a is better than itself"),
-    }
+    assert!(rt; is_cycle(rt.alloc(), &CYCLE, &[b"b", b"c", b"d"])?);
+    assert!(rt; is_cycle(rt.alloc(), &ALONE, &[b"a"])?);
     Ok(())
 }
 
+// The second is disabled before its turn, so the third stays. The last has a conflict with an earlier
+// plugin, and with itself.
+const CONFLICTS: [Row; 4] = [
+    (b"a", &[b"b"], &[], &[], &[]),
+    (b"b", &[b"c"], &[], &[], &[]),
+    (b"c", &[], &[], &[], &[]),
+    (b"d", &[b"a", b"d"], &[], &[], &[]),
+];
+
 #[test]
 fn conflicts_in_turn(rt: HostRuntime) -> Result<(), Fail> {
-    let alloc = rt.alloc();
-    let mut a = plain(alloc, b"a")?;
-    a.conflicts = list(alloc, &[b"b"])?;
-    // Disabled before its turn, so c stays.
-    let mut b = plain(alloc, b"b")?;
-    b.conflicts = list(alloc, &[b"c"])?;
-    let c = plain(alloc, b"c")?;
-    // An earlier plugin, and itself.
-    let mut d = plain(alloc, b"d")?;
-    d.conflicts = list(alloc, &[b"a", b"d"])?;
-    let sheets = [a, b, c, d];
-    let plan = arrange(alloc, &sheets)?;
+    let sheets = stated_all(rt.alloc(), &CONFLICTS)?;
+    let plan = arrange(rt.alloc(), sheets.as_slice())?;
     assert_eq!(rt;
         plan.enabled.items(),
         [false, false, true, false].as_slice()
     );
-    assert!(rt; sheets[3].copy(alloc)?.conflicts.items() == sheets[3].conflicts.items());
     Ok(())
 }
 
 #[test]
-fn sixty_four_with_all_rules(rt: HostRuntime) -> Result<(), Fail> {
-    let alloc = rt.alloc();
-    let mut sheets = Vec::new(alloc);
-    for i in 0..64u8 {
-        let mut later = Vec::new(alloc);
-        let mut earlier = Vec::new(alloc);
-        for j in 0..64u8 {
-            let name = Name::read(&[b'p', b'0' + j / 8, b'0' + j % 8])?;
-            if i < j {
-                later.push(name)?;
-            } else if j < i {
-                earlier.push(name)?;
-            }
+fn a_copy_has_the_conflicts(rt: HostRuntime) -> Result<(), Fail> {
+    let sheet = stated(rt.alloc(), &CONFLICTS[3])?;
+    let copy = sheet.copy(rt.alloc())?;
+    assert!(rt; copy.conflicts.items() == sheet.conflicts.items());
+    Ok(())
+}
+
+fn octal(i: u8) -> Result<Name, Fail> {
+    Ok(Name::read(&[b'p', b'0' + i / 8 % 8, b'0' + i % 8])?)
+}
+
+// The names before and behind the plugin of that number.
+fn around(alloc: Global, number: u8) -> Result<(Vec<Name>, Vec<Name>), Fail> {
+    let mut later = Vec::new(alloc);
+    let mut earlier = Vec::new(alloc);
+    for other in 0..64u8 {
+        let name = octal(other)?;
+        if number < other {
+            later.push(name)?;
+        } else if other < number {
+            earlier.push(name)?;
         }
-        let mut sheet = plain(alloc, &[b'p', b'0' + i / 8, b'0' + i % 8])?;
-        sheet.after = Listed::of(later.clone()?);
-        sheet.before = Listed::of(earlier);
-        sheet.better_than = Listed::of(later);
-        sheets.push(sheet)?;
+    }
+    Ok((earlier, later))
+}
+
+fn sheet_with_all_rules(alloc: Global, number: u8) -> Result<PluginSheet, Fail> {
+    let (earlier, later) = around(alloc, number)?;
+    let again = later.clone()?;
+    Ok(PluginSheet {
+        name: octal(number)?,
+        conflicts: Listed::of(Vec::new(alloc)),
+        after: Listed::of(again),
+        before: Listed::of(earlier),
+        better_than: Listed::of(later),
+    })
+}
+
+#[test]
+fn sixty_four_with_all_rules(rt: HostRuntime) -> Result<(), Fail> {
+    let mut sheets = Vec::new(rt.alloc());
+    for number in 0..64u8 {
+        sheets.push(sheet_with_all_rules(rt.alloc(), number)?)?;
     }
     assert_eq!(rt; sheets.len(), 64);
-    let plan = arrange(alloc, &sheets)?;
-    let last_first: Vec<u32> = (0..64).rev().collect(alloc)?;
+    let plan = arrange(rt.alloc(), sheets.as_slice())?;
+    let last_first: Vec<u32> = (0..64).rev().collect(rt.alloc())?;
     assert!(rt; plan.order.items() == last_first.as_slice());
     assert!(rt; plan.priority.items() == last_first.as_slice());
     Ok(())

@@ -109,20 +109,27 @@ const FAULTS: [(&[u8], QuirkFault); 16] = [
     (b"\0", QuirkFault::NotText { line: 1 }),
 ];
 
+fn one_guid(alloc: Global, text: &[u8]) -> Result<Listed<Guid>, Fail> {
+    Ok(Listed::of(Vec::from_slice(alloc, &[guid_of(text)])?))
+}
+
+fn one_name(alloc: Global, text: &[u8]) -> Result<Listed<Name>, Fail> {
+    Ok(Listed::of(Vec::from_slice(alloc, &[Name::read(text)?])?))
+}
+
 fn sheet(alloc: Global) -> Result<Sheet, Fail> {
+    let port = Name::read(b"usb1")?;
+    let plugin = Name::read(b"flash")?;
     Ok(Sheet {
-        port: Name::read(b"usb1")?,
+        port,
         device: DeviceId::from_bytes([0; 20]),
         priority: 0,
-        plugin: Name::read(b"flash")?,
+        plugin,
         name: Line::empty(),
         vendor: Line::empty(),
-        vendor_ids: Listed::of(Vec::from_slice(alloc, &[Name::read(b"USB:0x0A5C")?])?),
-        runtime_guids: Listed::of(Vec::from_slice(
-            alloc,
-            &[guid_of(b"2082b5e0-7a64-478a-b1b2-e3404fab6dad")],
-        )?),
-        loader_guids: Listed::of(Vec::from_slice(alloc, &[guid_of(b"python.org")])?),
+        vendor_ids: one_name(alloc, b"USB:0x0A5C")?,
+        runtime_guids: one_guid(alloc, b"2082b5e0-7a64-478a-b1b2-e3404fab6dad")?,
+        loader_guids: one_guid(alloc, b"python.org")?,
         counterparts: Listed::of(Vec::new(alloc)),
         flags: DeviceFlags::empty().with(DeviceFlag::Updatable),
         format: Format::Triplet,
@@ -165,31 +172,42 @@ fn tell_names(told: &mut String, names: &[Name]) -> Result<(), Fail> {
     Ok(())
 }
 
-/// What quirks can change of a sheet, as one line.
-fn told(alloc: Global, sheet: &Sheet) -> Result<String, Fail> {
-    let protocol = match &sheet.protocol {
-        Some(protocol) => text(protocol.bytes()),
-        None => "-",
-    };
-    let mut told = format!(in alloc;
+fn words_told(alloc: Global, sheet: &Sheet) -> Result<String, Fail> {
+    Ok(format!(in alloc;
         "{}|{}|{}|{}|",
         text(sheet.plugin.bytes()),
         text(sheet.name.bytes()),
         text(sheet.vendor.bytes()),
         text(sheet.format.word())
-    )?;
-    let numbers = format!(in alloc;
+    )?)
+}
+
+fn numbers_told(alloc: Global, sheet: &Sheet) -> Result<String, Fail> {
+    let protocol = match &sheet.protocol {
+        Some(protocol) => text(protocol.bytes()),
+        None => "-",
+    };
+    Ok(format!(in alloc;
         "{protocol}|{}..{}|{}|",
         sheet.size_min, sheet.size_max, sheet.duration
-    )?;
-    told.push_str(&numbers)?;
+    )?)
+}
+
+fn tell_lists(told: &mut String, sheet: &Sheet) -> Result<(), Fail> {
+    tell_names(told, sheet.vendor_ids.items())?;
+    told.push('|')?;
+    tell_guids(told, sheet.runtime_guids.items())?;
+    told.push('|')?;
+    tell_guids(told, sheet.counterparts.items())
+}
+
+/// What quirks can change of a sheet, as one line.
+fn told(alloc: Global, sheet: &Sheet) -> Result<String, Fail> {
+    let mut told = words_told(alloc, sheet)?;
+    told.push_str(&numbers_told(alloc, sheet)?)?;
     tell_flags(&mut told, sheet.flags)?;
     told.push('|')?;
-    tell_names(&mut told, sheet.vendor_ids.items())?;
-    told.push('|')?;
-    tell_guids(&mut told, sheet.runtime_guids.items())?;
-    told.push('|')?;
-    tell_guids(&mut told, sheet.counterparts.items())?;
+    tell_lists(&mut told, sheet)?;
     Ok(told)
 }
 
