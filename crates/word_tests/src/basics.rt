@@ -4,31 +4,61 @@ use fw_base::{
 };
 use std::test::Fail;
 
+/// The last has 64 bytes, as many as a name may have.
+const NAMES: [&[u8]; 3] = [
+    b"usb1",
+    b"!~",
+    b"aaaaaaaaaaaaaaaaaaaaaaaaaaaaaaaaaaaaaaaaaaaaaaaaaaaaaaaaaaaaaaaa",
+];
+
+/// Whether the bytes are read as a name that has them.
+fn is_name(bytes: &[u8]) -> bool {
+    match Name::read(bytes) {
+        Ok(name) => name.bytes() == bytes,
+        Err(_) => false,
+    }
+}
+
 #[test]
-fn names_of_the_bytes_that_they_may_have(rt: HostRuntime) -> Result<(), Fail> {
-    assert_eq!(rt; Name::read(b"usb1")?.bytes(), b"usb1".as_slice());
-    assert_eq!(rt; Name::read(b"!~")?.bytes(), b"!~".as_slice());
-    assert_eq!(rt; Name::read(&[b'a'; 64])?.bytes().len(), 64);
+fn names_have_their_bytes(rt: HostRuntime) {
+    for bytes in &NAMES {
+        assert!(rt; is_name(bytes), "{bytes:?}");
+    }
+}
+
+#[test]
+fn bytes_that_no_name_may_have(rt: HostRuntime) {
     assert!(rt; Name::read(b"") == Err(NameFault::Empty));
     assert!(rt; Name::read(&[b' '; 65]) == Err(NameFault::TooLong { len: 65 }));
     assert!(rt; Name::read(b"ab c\n") == Err(NameFault::BadByte { at: 2 }));
     assert!(rt; Name::read(b"\x7f") == Err(NameFault::BadByte { at: 0 }));
-    Ok(())
+}
+
+/// Whether the bytes are read as a line that has them.
+fn is_line(bytes: &[u8]) -> bool {
+    match Line::read(bytes) {
+        Ok(line) => line.bytes() == bytes,
+        Err(_) => false,
+    }
 }
 
 #[test]
-fn lines_of_the_bytes_that_they_may_have(rt: HostRuntime) -> Result<(), Fail> {
-    assert_eq!(rt; Line::read(b"")?.bytes(), b"".as_slice());
-    assert!(rt; Line::read(b"")? == Line::empty());
-    assert_eq!(rt;
-        Line::read(b"A hub \xc3\xa9")?.bytes(),
-        b"A hub \xc3\xa9".as_slice()
-    );
-    assert_eq!(rt; Line::read(&[b' '; 255])?.bytes().len(), 255);
+fn lines_have_their_bytes(rt: HostRuntime) {
+    assert!(rt; is_line(b""));
+    assert!(rt; is_line(b"A hub \xc3\xa9"));
+    assert!(rt; is_line(&[b' '; 255]));
+}
+
+#[test]
+fn an_empty_line_is_read(rt: HostRuntime) {
+    assert!(rt; Line::read(b"") == Ok(Line::empty()));
+}
+
+#[test]
+fn bytes_that_no_line_may_have(rt: HostRuntime) {
     assert!(rt; Line::read(&[0; 256]) == Err(LineFault::TooLong { len: 256 }));
     assert!(rt; Line::read(b"a\tb") == Err(LineFault::BadByte { at: 1 }));
     assert!(rt; Line::read(b"\x7f") == Err(LineFault::BadByte { at: 0 }));
-    Ok(())
 }
 
 #[test]
@@ -37,26 +67,34 @@ fn numbers_up_to_the_last(rt: HostRuntime) {
     assert!(rt; read_decimal(b"18446744073709551615") == Ok(u64::MAX));
     assert!(rt; read_decimal(b"18446744073709551616") == Err(NumberFault::TooLarge));
     assert!(rt; read_decimal(b"99999999999999999999999") == Err(NumberFault::TooLarge));
+}
+
+#[test]
+fn texts_that_are_no_numbers(rt: HostRuntime) {
     assert!(rt; read_decimal(b"") == Err(NumberFault::Empty));
     assert!(rt; read_decimal(b"00") == Err(NumberFault::BadByte { at: 0 }));
     assert!(rt; read_decimal(b"+1") == Err(NumberFault::BadByte { at: 0 }));
     assert!(rt; read_decimal(b"12 ") == Err(NumberFault::BadByte { at: 2 }));
 }
 
+/// The SHA-256 of no bytes.
+const EMPTY: &[u8; 64] = b"e3b0c44298fc1c149afbf4c8996fb92427ae41e4649b934ca495991b7852b855";
+
+/// The first and the last byte of the digest.
+fn ends(text: &[u8]) -> Option<(u8, u8)> {
+    match read_digest(text) {
+        Some(digest) => Some((digest[0], digest[31])),
+        None => None,
+    }
+}
+
 #[test]
 fn digests_in_lower_case(rt: HostRuntime) {
-    // The SHA-256 of no bytes.
-    let empty = b"e3b0c44298fc1c149afbf4c8996fb92427ae41e4649b934ca495991b7852b855";
-    match read_digest(empty) {
-        Some(digest) => {
-            assert_eq!(rt; digest[0], 0xe3);
-            assert_eq!(rt; digest[31], 0x55);
-        }
-        None => panic!(rt; "not read"),
-    }
-    assert!(rt; read_digest(&empty[1..]).is_none());
-    assert!(rt;
-        read_digest(b"E3B0C44298FC1C149AFBF4C8996FB92427AE41E4649B934CA495991B7852B855").is_none()
+    assert_eq!(rt; ends(EMPTY), Some((0xe3, 0x55)));
+    assert_eq!(rt; ends(&EMPTY[1..]), None);
+    assert_eq!(rt;
+        ends(b"E3B0C44298FC1C149AFBF4C8996FB92427AE41E4649B934CA495991B7852B855"),
+        None
     );
 }
 

@@ -39,8 +39,10 @@ const GUIDS: [&str; 33] = [
     "4f15f6fb-73c3-5528-bb9f-cd456442f2b8 HIDRAW\\VEN_046D&DEV_B35B",
 ];
 
-/// Device IDs: the physical ID, the logical ID, and the text.
-const DEVICES: [(&str, Option<&str>, &str); 7] = [
+/// A device ID: the physical ID, the logical ID, and the text.
+type DeviceRow = (&'static str, Option<&'static str>, &'static str);
+
+const DEVICES: [DeviceRow; 7] = [
     ("usb-1", None, "3a49404014b67758fd430a9d09ba0807820b5c47"),
     (
         "usb-1",
@@ -67,7 +69,9 @@ const DEVICES: [(&str, Option<&str>, &str); 7] = [
 ];
 
 /// Hardware IDs: manufacturer, family, product and stock keeping unit, and the texts of the IDs.
-const MACHINES: [([&str; 4], &[&str]); 8] = [
+type MachineRow = ([&'static str; 4], &'static [&'static str]);
+
+const MACHINES: [MachineRow; 8] = [
     (
         ["ACME", "Fam", "Prod", "Sku1"],
         &[
@@ -134,57 +138,93 @@ const MACHINES: [([&str; 4], &[&str]); 8] = [
     (["", "Fam", "Prod", "Sku1"], &[]),
 ];
 
-#[test]
-fn guids_of_texts(rt: HostRuntime) -> Result<(), Fail> {
-    for row in GUIDS {
-        let (want, text) = row.split_once(' ').ok_or(row)?;
-        assert_eq!(rt;
-            guid_of(text.as_bytes()).text().as_slice(),
-            want.as_bytes(),
-            "{row}"
-        );
+/// Whether the row's text has the row's GUID.
+fn has_its_guid(row: &str) -> bool {
+    match row.split_once(' ') {
+        Some((want, text)) => guid_of(text.as_bytes()).text().as_slice() == want.as_bytes(),
+        None => false,
     }
-    Ok(())
+}
+
+#[test]
+fn guids_of_texts(rt: HostRuntime) {
+    for row in &GUIDS {
+        assert!(rt; has_its_guid(row), "{row}");
+    }
+}
+
+const GUID: &str = "2082b5e0-7a64-478a-b1b2-e3404fab6dad";
+
+/// Whether the GUID has that text and is the text's, and has the bytes that it is made of.
+fn is_its_own(guid: Guid, text: &[u8]) -> bool {
+    guid.text().as_slice() == text
+        && guid_of(text) == guid
+        && Guid::from_bytes(*guid.bytes()) == guid
 }
 
 #[test]
 fn a_guid_is_its_own(rt: HostRuntime) -> Result<(), Fail> {
-    let text = "2082b5e0-7a64-478a-b1b2-e3404fab6dad";
-    let guid = Guid::read(text.as_bytes()).ok_or("no GUID")?;
-    assert_eq!(rt; guid.text().as_slice(), text.as_bytes());
-    assert_eq!(rt; guid_of(text.as_bytes()), guid);
+    let guid = Guid::read(GUID.as_bytes()).ok_or("no GUID")?;
+    assert!(rt; is_its_own(guid, GUID.as_bytes()));
     assert_eq!(rt;
         Guid::read(b"2082B5E0-7a64-478A-B1B2-E3404FAB6DAD"),
         Some(guid)
     );
-    assert_eq!(rt; Guid::from_bytes(*guid.bytes()), guid);
-    let python = b"886313e1-3b8a-5372-9b90-0c9aee199e5d";
-    assert_eq!(rt; Some(guid_of(b"python.org")), Guid::read(python));
-    for other in [
-        "2082b5e07a64478ab1b2e3404fab6dad",
-        "{2082b5e0-7a64-478a-b1b2-e3404fab6dad}",
-        "urn:uuid:2082b5e0-7a64-478a-b1b2-e3404fab6dad",
-        "2082b5e0-7a64-478a-b1b2-e3404fab6da",
-        "2082b5e0-7a64-478a-b1b2_e3404fab6dad",
-        "2082b5e0-7a64-478a-b1b2-e3404fab6dag",
-        "",
-    ] {
-        assert_eq!(rt; Guid::read(other.as_bytes()), None, "{other}");
-    }
     Ok(())
 }
 
 #[test]
-fn device_ids_are_hashes(rt: HostRuntime) {
-    for (physical, logical, want) in DEVICES {
-        let id = match logical {
-            Some(logical) => device_id(physical.as_bytes(), Some(logical.as_bytes())),
-            None => device_id(physical.as_bytes(), None),
-        };
-        assert_eq!(rt; id.text().as_slice(), want.as_bytes(), "{physical}");
-        assert_eq!(rt; DeviceId::read(want.as_bytes()), Some(id), "{want}");
-        assert_eq!(rt; DeviceId::from_bytes(*id.bytes()), id, "{want}");
+fn the_guid_of_a_name_as_python_gives_it(rt: HostRuntime) {
+    let python = b"886313e1-3b8a-5372-9b90-0c9aee199e5d";
+    assert_eq!(rt; Some(guid_of(b"python.org")), Guid::read(python));
+}
+
+const NO_GUIDS: [&str; 7] = [
+    "2082b5e07a64478ab1b2e3404fab6dad",
+    "{2082b5e0-7a64-478a-b1b2-e3404fab6dad}",
+    "urn:uuid:2082b5e0-7a64-478a-b1b2-e3404fab6dad",
+    "2082b5e0-7a64-478a-b1b2-e3404fab6da",
+    "2082b5e0-7a64-478a-b1b2_e3404fab6dad",
+    "2082b5e0-7a64-478a-b1b2-e3404fab6dag",
+    "",
+];
+
+#[test]
+fn texts_that_are_no_guids(rt: HostRuntime) {
+    for text in &NO_GUIDS {
+        assert_eq!(rt; Guid::read(text.as_bytes()), None, "{text}");
     }
+}
+
+/// Whether the device ID has that text and is read from it, and has the bytes that it is made of.
+fn is_read_back(id: DeviceId, text: &[u8]) -> bool {
+    id.text().as_slice() == text
+        && DeviceId::read(text) == Some(id)
+        && DeviceId::from_bytes(*id.bytes()) == id
+}
+
+/// Whether the row's device has the row's ID.
+fn has_its_id(row: &DeviceRow) -> bool {
+    let (physical, logical, want) = *row;
+    match logical {
+        Some(logical) => is_read_back(
+            device_id(physical.as_bytes(), Some(logical.as_bytes())),
+            want.as_bytes(),
+        ),
+        None => is_read_back(device_id(physical.as_bytes(), None), want.as_bytes()),
+    }
+}
+
+#[test]
+fn device_ids_are_hashes(rt: HostRuntime) {
+    for row in &DEVICES {
+        let want = row.2;
+        assert!(rt; has_its_id(row), "{want}");
+    }
+}
+
+#[test]
+fn texts_that_are_no_device_ids(rt: HostRuntime) {
     assert_eq!(rt;
         DeviceId::read(b"3a49404014b67758fd430a9d09ba0807820b5c4"),
         None
@@ -199,33 +239,53 @@ fn smbios(text: &str) -> Result<SmbiosText, &str> {
     SmbiosText::read(text.as_bytes()).ok_or(text)
 }
 
+fn fields_of(texts: &[&'static str; 4]) -> Result<SmbiosFields, Fail> {
+    let manufacturer = smbios(texts[0])?;
+    let family = smbios(texts[1])?;
+    let product = smbios(texts[2])?;
+    let sku = smbios(texts[3])?;
+    Ok(SmbiosFields {
+        manufacturer,
+        family,
+        product,
+        sku,
+    })
+}
+
+fn have_texts(guids: &[Guid], texts: &[&str]) -> bool {
+    guids.len() == texts.len()
+        && guids
+            .iter()
+            .zip(texts)
+            .all(|(guid, text)| guid.text().as_slice() == text.as_bytes())
+}
+
+/// Whether the row's machine has the row's IDs.
+fn has_its_hardware_ids(row: &MachineRow) -> Result<bool, Fail> {
+    let fields = fields_of(&row.0)?;
+    Ok(have_texts(hardware_ids(&fields).guids(), row.1))
+}
+
 #[test]
 fn hardware_ids_of_machines(rt: HostRuntime) -> Result<(), Fail> {
-    for ([manufacturer, family, product, sku], want) in MACHINES {
-        let fields = SmbiosFields {
-            manufacturer: smbios(manufacturer)?,
-            family: smbios(family)?,
-            product: smbios(product)?,
-            sku: smbios(sku)?,
-        };
-        let ids = hardware_ids(&fields);
-        assert_eq!(rt; ids.guids().len(), want.len(), "{manufacturer}");
-        for (id, text) in ids.guids().iter().zip(want) {
-            assert_eq!(rt; id.text().as_slice(), text.as_bytes(), "{manufacturer}");
-        }
+    for (number, row) in MACHINES.iter().enumerate() {
+        assert!(rt; has_its_hardware_ids(row)?, "machine {number}");
     }
     Ok(())
 }
 
 #[test]
-fn smbios_texts_are_printable(rt: HostRuntime) -> Result<(), Fail> {
-    assert_eq!(rt;
-        SmbiosText::read(&[b'~'; 255]).ok_or("long")?.bytes(),
-        [b'~'; 255].as_slice()
-    );
+fn the_longest_text_of_a_machine(rt: HostRuntime) -> Result<(), Fail> {
+    let longest = [b'~'; 255];
+    let text = SmbiosText::read(&longest).ok_or("long")?;
+    assert_eq!(rt; text.bytes(), longest.as_slice());
+    Ok(())
+}
+
+#[test]
+fn texts_that_no_machine_has(rt: HostRuntime) {
     assert_eq!(rt; SmbiosText::read(&[b'~'; 256]), None);
     assert_eq!(rt; SmbiosText::read(b"ACME\x7f"), None);
     assert_eq!(rt; SmbiosText::read("ACM\u{c9}".as_bytes()), None);
     assert_eq!(rt; SmbiosText::read(b"\t"), None);
-    Ok(())
 }

@@ -1,10 +1,16 @@
 //! Globs and regular expressions as they are read and matched, and each settled point.
 use fw_patterns::*;
 use std::alloc::Global;
-use std::test::Fail;
 
-/// Regular expressions: the pattern, texts that it stands for, and texts that it does not stand for.
-const REGEXES: [(&[u8], &[&[u8]], &[&[u8]]); 41] = [
+/// A pattern, texts that it stands for, and texts that it does not stand for.
+type Row = (
+    &'static [u8],
+    &'static [&'static [u8]],
+    &'static [&'static [u8]],
+);
+
+/// Regular expressions.
+const REGEXES: [Row; 41] = [
     (
         b"BOT01.0[0-3]_*",
         &[b"BOT01.02_xx", b"BOT01.00", b"xBOT01x03__"],
@@ -60,8 +66,7 @@ const REGEXES: [(&[u8], &[&[u8]], &[&[u8]]); 41] = [
     (b"^[ -~]*$", &[b"", b" any ~"], &[b"\x1f", b"\x7f"]),
 ];
 
-/// Globs: the pattern, texts that it stands for, and texts that it does not stand for.
-const GLOBS: [(&[u8], &[&[u8]], &[&[u8]]); 10] = [
+const GLOBS: [Row; 10] = [
     (b"1.*", &[b"1.10", b"1."], &[b"11", b"x1.0", b"1"]),
     (b"", &[b""], &[b"x"]),
     (b"*", &[b"", b"x", b"\0\xff\n"], &[]),
@@ -175,79 +180,94 @@ fn glob_stands(alloc: Global, pattern: &[u8], text: &[u8]) -> Result<bool, Patte
     Ok(Pattern::glob(alloc, pattern)?.matches(text))
 }
 
-#[test]
-fn regexes_stand_for_their_texts(rt: HostRuntime) -> Result<(), Fail> {
-    for (text, inside, outside) in REGEXES {
-        let pattern = Pattern::regex(rt.alloc(), text)?;
-        assert!(rt; all(&pattern, inside, true), "{text:?}");
-        assert!(rt; all(&pattern, outside, false), "{text:?}");
-    }
-    Ok(())
+/// Whether it stands for the first texts of the row and for none of the others.
+fn tells_apart(pattern: &Pattern, row: &Row) -> bool {
+    all(pattern, row.1, true) && all(pattern, row.2, false)
+}
+
+fn is_right_regex(alloc: Global, row: &Row) -> Result<bool, PatternFault> {
+    Ok(tells_apart(&Pattern::regex(alloc, row.0)?, row))
+}
+
+fn is_right_glob(alloc: Global, row: &Row) -> Result<bool, PatternFault> {
+    Ok(tells_apart(&Pattern::glob(alloc, row.0)?, row))
 }
 
 #[test]
-fn globs_stand_for_their_texts(rt: HostRuntime) -> Result<(), Fail> {
-    for (text, inside, outside) in GLOBS {
-        let pattern = Pattern::glob(rt.alloc(), text)?;
-        assert!(rt; all(&pattern, inside, true), "{text:?}");
-        assert!(rt; all(&pattern, outside, false), "{text:?}");
-    }
-    Ok(())
-}
-
-#[test]
-fn the_first_fault_is_answered(rt: HostRuntime) {
-    for (text, at) in OUT_OF_PROFILE {
-        assert_eq!(rt;
-            Pattern::regex(rt.alloc(), text).err(),
-            Some(PatternFault::OutOfProfile { at }),
-            "{text:?}"
-        );
-    }
-    for (text, at) in UNCLOSED {
-        assert_eq!(rt;
-            Pattern::regex(rt.alloc(), text).err(),
-            Some(PatternFault::Unclosed { at }),
-            "{text:?}"
-        );
-    }
-    for (text, at) in BAD_RANGE {
-        assert_eq!(rt;
-            Pattern::regex(rt.alloc(), text).err(),
-            Some(PatternFault::BadRange { at }),
-            "{text:?}"
-        );
-    }
-    for (text, at) in NO_GLOBS {
-        assert_eq!(rt;
-            Pattern::glob(rt.alloc(), text).err(),
-            Some(PatternFault::OutOfProfile { at }),
-            "{text:?}"
-        );
+fn regexes_stand_for_their_texts(rt: HostRuntime) {
+    for row in &REGEXES {
+        let text = row.0;
+        assert_eq!(rt; is_right_regex(rt.alloc(), row), Ok(true), "{text:?}");
     }
 }
 
 #[test]
-fn a_pattern_has_255_bytes(rt: HostRuntime) {
+fn globs_stand_for_their_texts(rt: HostRuntime) {
+    for row in &GLOBS {
+        let text = row.0;
+        assert_eq!(rt; is_right_glob(rt.alloc(), row), Ok(true), "{text:?}");
+    }
+}
+
+fn regex_fault(alloc: Global, text: &[u8]) -> Option<PatternFault> {
+    Pattern::regex(alloc, text).err()
+}
+
+fn glob_fault(alloc: Global, text: &[u8]) -> Option<PatternFault> {
+    Pattern::glob(alloc, text).err()
+}
+
+#[test]
+fn the_first_byte_out_of_profile_is_answered(rt: HostRuntime) {
+    for (text, at) in &OUT_OF_PROFILE {
+        let fault = PatternFault::OutOfProfile { at: *at };
+        assert_eq!(rt; regex_fault(rt.alloc(), text), Some(fault), "{text:?}");
+    }
+}
+
+#[test]
+fn what_is_not_closed_is_answered(rt: HostRuntime) {
+    for (text, at) in &UNCLOSED {
+        let fault = PatternFault::Unclosed { at: *at };
+        assert_eq!(rt; regex_fault(rt.alloc(), text), Some(fault), "{text:?}");
+    }
+}
+
+#[test]
+fn the_first_bad_range_is_answered(rt: HostRuntime) {
+    for (text, at) in &BAD_RANGE {
+        let fault = PatternFault::BadRange { at: *at };
+        assert_eq!(rt; regex_fault(rt.alloc(), text), Some(fault), "{text:?}");
+    }
+}
+
+#[test]
+fn the_first_byte_that_no_glob_has_is_answered(rt: HostRuntime) {
+    for (text, at) in &NO_GLOBS {
+        let fault = PatternFault::OutOfProfile { at: *at };
+        assert_eq!(rt; glob_fault(rt.alloc(), text), Some(fault), "{text:?}");
+    }
+}
+
+#[test]
+fn a_pattern_has_at_most_255_bytes(rt: HostRuntime) {
     let long = PatternFault::TooLong { len: 256 };
-    assert_eq!(rt; Pattern::regex(rt.alloc(), &[b'('; 256]).err(), Some(long));
-    assert_eq!(rt; Pattern::glob(rt.alloc(), &[b'['; 256]).err(), Some(long));
-    assert_eq!(rt;
-        regex_stands(rt.alloc(), &[b'a'; 255], &[b'a'; 255]),
-        Ok(true)
-    );
-    assert_eq!(rt;
-        regex_stands(rt.alloc(), &[b'a'; 255], &[b'a'; 254]),
-        Ok(false)
-    );
-    assert_eq!(rt;
-        glob_stands(rt.alloc(), &[b'?'; 255], &[b'x'; 255]),
-        Ok(true)
-    );
-    assert_eq!(rt;
-        glob_stands(rt.alloc(), &[b'?'; 255], &[b'x'; 256]),
-        Ok(false)
-    );
+    assert_eq!(rt; regex_fault(rt.alloc(), &[b'('; 256]), Some(long));
+    assert_eq!(rt; glob_fault(rt.alloc(), &[b'['; 256]), Some(long));
+}
+
+#[test]
+fn a_regex_of_255_bytes(rt: HostRuntime) {
+    let text = [b'a'; 255];
+    assert_eq!(rt; regex_stands(rt.alloc(), &text, &text), Ok(true));
+    assert_eq!(rt; regex_stands(rt.alloc(), &text, &[b'a'; 254]), Ok(false));
+}
+
+#[test]
+fn a_glob_of_255_bytes(rt: HostRuntime) {
+    let any = [b'?'; 255];
+    assert_eq!(rt; glob_stands(rt.alloc(), &any, &[b'x'; 255]), Ok(true));
+    assert_eq!(rt; glob_stands(rt.alloc(), &any, &[b'x'; 256]), Ok(false));
     assert_eq!(rt;
         glob_stands(rt.alloc(), &[b'*'; 255], &[b'x'; 4096]),
         Ok(true)

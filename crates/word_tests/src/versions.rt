@@ -143,24 +143,26 @@ fn compared(row: &str) -> Option<(&'static str, &'static str, &str)> {
     Some((order_word(forth), order_word(back), word))
 }
 
-#[test]
-fn versions_compare_as_fwupd_compares_them(rt: HostRuntime) -> Result<(), Fail> {
-    for row in ANSWERED_BY_FWUPD {
-        let (forth, back, want) = compared(row).ok_or(row)?;
-        assert_eq!(rt; forth, want, "{row}");
-        assert_eq!(rt; back, want, "{row}, turned round");
+/// Whether the two versions of the row compare as it says, and turned round too.
+fn is_compared_so(row: &str) -> bool {
+    match compared(row) {
+        Some((forth, back, want)) => forth == want && back == want,
+        None => false,
     }
-    Ok(())
 }
 
 #[test]
-fn numbers_have_no_upper_bound(rt: HostRuntime) -> Result<(), Fail> {
-    for row in OWN_ROWS {
-        let (forth, back, want) = compared(row).ok_or(row)?;
-        assert_eq!(rt; forth, want, "{row}");
-        assert_eq!(rt; back, want, "{row}, turned round");
+fn versions_compare_as_fwupd_compares_them(rt: HostRuntime) {
+    for row in &ANSWERED_BY_FWUPD {
+        assert!(rt; is_compared_so(row), "{row}");
     }
-    Ok(())
+}
+
+#[test]
+fn numbers_have_no_upper_bound(rt: HostRuntime) {
+    for row in &OWN_ROWS {
+        assert!(rt; is_compared_so(row), "{row}");
+    }
 }
 
 /// Whether the row's format writes the row's three texts.
@@ -179,22 +181,30 @@ fn writes(row: &str) -> Option<bool> {
 
 #[test]
 fn formats_write_their_table(rt: HostRuntime) {
-    for row in FORMATS {
+    for row in &FORMATS {
         assert_eq!(rt; writes(row), Some(true), "{row}");
     }
+}
+
+#[test]
+fn words_that_are_no_format(rt: HostRuntime) {
     assert_eq!(rt; Format::read(b"triplets"), None);
     assert_eq!(rt; Format::read(b"Plain"), None);
     assert_eq!(rt; Format::read(b""), None);
 }
 
 #[test]
-fn reading_names_the_first_fault(rt: HostRuntime) {
+fn a_version_has_1_to_64_bytes(rt: HostRuntime) {
     assert_eq!(rt; Version::read(b"").err(), Some(VersionFault::Empty));
     assert_eq!(rt; Version::read(&[b'1'; 64]).err(), None);
     assert_eq!(rt;
         Version::read(&[b' '; 65]).err(),
         Some(VersionFault::TooLong { len: 65 })
     );
+}
+
+#[test]
+fn reading_names_the_first_bad_byte(rt: HostRuntime) {
     assert_eq!(rt;
         Version::read(b"1.0 \n").err(),
         Some(VersionFault::BadByte { at: 3 })
