@@ -1,37 +1,52 @@
 //! What `check` says of documents.
-use crate::documents::{BASE, changed, told};
+use crate::documents::{BASE, changed, sink_of, source_of, told};
 use document_commands::check;
 use outer_traits::{MemorySink, MemorySource};
 use std::alloc::Global;
 use std::test::Fail;
 
-/// What is told of the check of a document, whose source fails at a call, into a sink of some room.
-fn checked(alloc: Global, document: &str, failing: u32, room: usize) -> Result<String, Fail> {
-    let bytes = document.as_bytes().to_vec(alloc)?;
-    let mut source = MemorySource::new(bytes, 100, [failing].to_vec(alloc)?);
-    let mut sink = MemorySink::new(alloc, room, Vec::new(alloc))?;
-    let ended = check(alloc, &mut source, &mut sink);
+/// What is told of the check of a source into a sink.
+fn checked_into(
+    alloc: Global,
+    source: &mut MemorySource,
+    sink: &mut MemorySink,
+) -> Result<String, Fail> {
+    let ended = check(alloc, source, sink);
     told(alloc, &ended, sink.bytes())
 }
 
+/// What is told of the check of a document, whose source fails at a call, into a sink of some room.
+fn checked(alloc: Global, document: &str, failing: u32, room: usize) -> Result<String, Fail> {
+    let mut source = source_of(alloc, document, failing)?;
+    let mut sink = sink_of(alloc, room)?;
+    checked_into(alloc, &mut source, &mut sink)
+}
+
+const EMPTY: &str =
+    r#"{"format":1,"machine":{"daemon":"1.9.5","pool":1},"components":[],"boards":[],"clients":[],"boots":[{"time":0}]}"#;
+
+/// Documents, and what is told of them.
+const DOCUMENTS: [(&str, &str); 3] = [
+    (BASE, "ok boards 1 components 1 clients 1 boots 1\n"),
+    (EMPTY, "ok boards 0 components 0 clients 0 boots 1\n"),
+    (r#"{"format":1,"mach"#, "document 0 0 0 text: not-json: "),
+];
+
 #[test]
 fn documents_are_checked(rt: HostRuntime) -> Result<(), Fail> {
-    let alloc = rt.alloc();
-    let tripple = changed(alloc, "triplet", "tripple")?;
-    let empty =
-        r#"{"format":1,"machine":{"daemon":"1.9.5","pool":1},"components":[],"boards":[],"clients":[],"boots":[{"time":0}]}"#;
-    let rows: [(&str, &str); 4] = [
-        (BASE, "ok boards 1 components 1 clients 1 boots 1\n"),
-        (empty, "ok boards 0 components 0 clients 0 boots 1\n"),
-        (r#"{"format":1,"mach"#, "document 0 0 0 text: not-json: "),
-        (
-            tripple.as_str(),
-            "boards 0 0 0 version-format: wrong-kind: ",
-        ),
-    ];
-    for (document, wanted) in rows {
-        assert_eq!(rt; checked(alloc, document, 0, 100)?.as_str(), wanted);
+    for (document, wanted) in &DOCUMENTS {
+        assert_eq!(rt; checked(rt.alloc(), document, 0, 100)?.as_str(), *wanted);
     }
+    Ok(())
+}
+
+#[test]
+fn a_fault_is_told_at_its_place(rt: HostRuntime) -> Result<(), Fail> {
+    let tripple = changed(rt.alloc(), "triplet", "tripple")?;
+    assert_eq!(rt;
+        checked(rt.alloc(), tripple.as_str(), 0, 100)?.as_str(),
+        "boards 0 0 0 version-format: wrong-kind: "
+    );
     Ok(())
 }
 

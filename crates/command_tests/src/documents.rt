@@ -1,6 +1,7 @@
 //! The base document, and how the end of a command is told.
 use document_commands::Ended;
-use std::alloc::Global;
+use outer_traits::{MemorySink, MemorySource};
+use std::alloc::{AllocError, Global};
 use std::test::Fail;
 
 /// The base document: one board, whose firmware of version 1.0.0 may be updated to 1.1.0.
@@ -29,18 +30,35 @@ pub fn changed(alloc: Global, old: &str, new: &str) -> Result<String, Fail> {
     Ok(text)
 }
 
+/// A source of a document, which gives 100 bytes at a time and fails at that call.
+pub fn source_of(alloc: Global, document: &str, failing: u32) -> Result<MemorySource, Fail> {
+    let bytes = document.as_bytes().to_vec(alloc)?;
+    let calls = [failing].to_vec(alloc)?;
+    Ok(MemorySource::new(bytes, 100, calls))
+}
+
+/// A sink of so much room.
+pub fn sink_of(alloc: Global, room: usize) -> Result<MemorySink, Fail> {
+    Ok(MemorySink::new(alloc, room, Vec::new(alloc))?)
+}
+
+/// What went wrong, where something did.
+fn told_end(alloc: Global, ended: &Ended) -> Result<String, AllocError> {
+    match ended {
+        Ended::Done => String::from_str(alloc, ""),
+        Ended::SourceFault => String::from_str(alloc, "no reading: "),
+        Ended::TooLong => String::from_str(alloc, "too long: "),
+        Ended::Document { place, reason } => format!(in alloc; "{place}: {reason}: "),
+        Ended::Plugins(_) => String::from_str(alloc, "no arrangement: "),
+        Ended::SinkFault => String::from_str(alloc, "no writing: "),
+        Ended::NoMemory => String::from_str(alloc, "no memory: "),
+    }
+}
+
 /// What is told of the end of a command: what was printed, where it went well; else what went wrong, and
 /// what was printed before.
 pub fn told(alloc: Global, ended: &Ended, printed: &[u8]) -> Result<String, Fail> {
-    let mut text = match ended {
-        Ended::Done => String::new(alloc),
-        Ended::SourceFault => String::from_str(alloc, "no reading: ")?,
-        Ended::TooLong => String::from_str(alloc, "too long: ")?,
-        Ended::Document { place, reason } => format!(in alloc; "{place}: {reason}: ")?,
-        Ended::Plugins(_) => String::from_str(alloc, "no arrangement: ")?,
-        Ended::SinkFault => String::from_str(alloc, "no writing: ")?,
-        Ended::NoMemory => String::from_str(alloc, "no memory: ")?,
-    };
+    let mut text = told_end(alloc, ended)?;
     text.push_str(std::str::from_utf8(printed).unwrap_or("no text"))?;
     Ok(text)
 }

@@ -26,21 +26,31 @@ fn check_names_the_sections(rt: HostRuntime) -> Result<(), Fail> {
     Ok(())
 }
 
+fn texts_of(alloc: Global, words: &[&[u8]]) -> Result<Vec<Text>, Fail> {
+    let mut texts = Vec::new(alloc);
+    for word in words {
+        texts.push(Text::read(word).ok_or("no text")?)?;
+    }
+    Ok(texts)
+}
+
+/// Whether that is written of the texts.
+pub fn are_named(alloc: Global, words: &[&[u8]], wanted: &[u8]) -> Result<bool, Fail> {
+    let texts = texts_of(alloc, words)?;
+    let mut out = sink(alloc)?;
+    write_ids(alloc, &texts, &mut out)?;
+    Ok(out.bytes() == wanted)
+}
+
+const TEXTS: [&[u8]; 2] = [b"EMU\\BOARD", b"6BA7B810-9DAD-11D1-80B4-00C04FD430C8"];
+
 /// The GUIDs of `python3 -c 'import uuid; print(uuid.uuid5(uuid.NAMESPACE_DNS, r"EMU\BOARD"))'`, and one that is named.
+const NAMED: &[u8] =
+    b"EMU\\BOARD 5958ab99-73ed-53bb-b697-892e64a6241b\n6BA7B810-9DAD-11D1-80B4-00C04FD430C8 6ba7b810-9dad-11d1-80b4-00c04fd430c8\n";
+
 #[test]
 fn ids_names_each_text(rt: HostRuntime) -> Result<(), Fail> {
-    let mut texts = Vec::new(rt.alloc());
-    for bytes in [
-        b"EMU\\BOARD".as_slice(),
-        b"6BA7B810-9DAD-11D1-80B4-00C04FD430C8".as_slice(),
-    ] {
-        texts.push(Text::read(bytes).ok_or("no text")?)?;
-    }
-    let mut out = sink(rt.alloc())?;
-    write_ids(rt.alloc(), &texts, &mut out)?;
-    let wanted =
-        b"EMU\\BOARD 5958ab99-73ed-53bb-b697-892e64a6241b\n6BA7B810-9DAD-11D1-80B4-00C04FD430C8 6ba7b810-9dad-11d1-80b4-00c04fd430c8\n";
-    assert_eq!(rt; out.bytes(), wanted.as_slice());
+    assert!(rt; are_named(rt.alloc(), &TEXTS, NAMED)?);
     Ok(())
 }
 

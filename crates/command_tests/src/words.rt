@@ -231,16 +231,27 @@ fn lines_at_most(rt: HostRuntime) -> Result<(), Fail> {
     Ok(())
 }
 
+/// `ids` with so many texts.
+fn ids_of(alloc: Global, count: u32) -> Result<Vec<&'static [u8]>, Fail> {
+    let mut words: Vec<&'static [u8]> = Vec::new(alloc);
+    words.push(b"ids".as_slice())?;
+    for _ in 0..count {
+        words.push(b"a".as_slice())?;
+    }
+    Ok(words)
+}
+
 /// `ids` takes 64 texts and no more.
 #[test]
 fn as_many_texts(rt: HostRuntime) -> Result<(), Fail> {
-    let mut words: Vec<&[u8]> = Vec::new(rt.alloc());
-    words.push(b"ids".as_slice())?;
-    for _ in 0..64 {
-        words.push(b"a".as_slice())?;
-    }
+    let words = ids_of(rt.alloc(), 64)?;
     assert!(rt; read_words(rt.alloc(), &words).is_ok());
-    words.push(b"a".as_slice())?;
+    Ok(())
+}
+
+#[test]
+fn one_text_more(rt: HostRuntime) -> Result<(), Fail> {
+    let words = ids_of(rt.alloc(), 65)?;
     assert_eq!(rt; shown(rt.alloc(), &words)?.as_str(), "usage");
     Ok(())
 }
