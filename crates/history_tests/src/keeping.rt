@@ -116,7 +116,10 @@ fn are_these(rows: &[Row], first: &Row, second: &Row) -> bool {
 }
 
 // A row that was begun, and one that was pending and has failed.
-fn make_two(keeper: &mut SqlKeeper<MemStore>) -> Result<(), Fail> {
+fn make_two(keeper: &mut SqlKeeper<MemStore>) -> Result<(), Fail>
+    requires silent { keeper.old.tells ≡ false }
+    requires no_doubt { doubtful keeper.old ≡ None }
+{
     let first = row(1, b"t1", b"usb1", RowState::Begun)?;
     let second = row(2, b"t2", b"usb2", RowState::Pending)?;
     keeper.commit(&Change::Add(first))?;
