@@ -1,5 +1,5 @@
 //! What no clause says: that calls succeed, and that the tables are the ones that were meant.
-ghost use Rattle.std.specs.Prelude.{◌≡◌, IfOk, List, None, [], false};
+ghost use Rattle.std.specs.Prelude.{◌≡◌, ◌≤◌, IfOk, List, None, [], false};
 ghost use Rattle.sqlite.specs.Steps.{over_memory};
 ghost use Rattle.history_keeper.specs.declared.row.Row.{Row};
 ghost use Rattle.history_sqlite.specs.Keeping.{doubtful};
@@ -17,19 +17,38 @@ use std::rt::HostRuntime;
 use std::test::Fail;
 use version_formats::Version;
 
+// The texts of a row, which are the same in each.
+#[derive(Clone, Copy)]
+struct Texts {
+    component: Name,
+    version_old: Version,
+    version_new: Version,
+    protocol: Name,
+}
+
+fn read_texts() -> Result<Texts, Fail> {
+    Ok(Texts {
+        component: Name::read(b"org.example.board")?,
+        version_old: Version::read(b"1.0.0")?,
+        version_new: Version::read(b"1.1.0")?,
+        protocol: Name::read(b"org.usb.dfu")?,
+    })
+}
+
 fn row(entry: u32, tag: &[u8], device: &[u8], state: RowState) -> Result<Row, Fail>
     ensures entry { IfOk result (λ row. row.entry ≡ entry) }
     ensures added { IfOk result (λ row. row.time_added ≡ 1000) }
     ensures changed { IfOk result (λ row. row.time_changed ≡ 1001) }
 {
+    let texts = read_texts()?;
     Ok(Row {
         entry,
         tag: Name::read(tag)?,
         client: 3,
         device: device_id(device, None),
-        component: Name::read(b"org.example.board")?,
-        version_old: Version::read(b"1.0.0")?,
-        version_new: Version::read(b"1.1.0")?,
+        component: texts.component,
+        version_old: texts.version_old,
+        version_new: texts.version_new,
         digest: [7; 32],
         flags: 5,
         state,
@@ -37,7 +56,7 @@ fn row(entry: u32, tag: &[u8], device: &[u8], state: RowState) -> Result<Row, Fa
         time_added: 1000,
         time_changed: 1001,
         duration: 30,
-        protocol: Some(Name::read(b"org.usb.dfu")?),
+        protocol: Some(texts.protocol),
         retry_of: Some(9),
     })
 }
@@ -91,27 +110,46 @@ fn failing(alloc: Global, call: u32, keep: bool) -> Result<SqlKeeper<MemStore>, 
     Ok(SqlKeeper::planned(alloc, plan)?)
 }
 
-#[test]
-fn rows_come_back(rt: HostRuntime) -> Result<(), Fail> {
-    let alloc = rt.alloc();
-    let mut keeper = silent(alloc)?;
-    keeper.commit(&Change::Add(row(1, b"t1", b"usb1", RowState::Begun)?))?;
-    keeper.commit(&Change::Add(row(2, b"t2", b"usb2", RowState::Pending)?))?;
+// Whether these are the two rows, in this order, and no other.
+fn are_these(rows: &[Row], first: &Row, second: &Row) -> bool {
+    rows.len() == 2 && is_same(&rows[0], first) && is_same(&rows[1], second)
+}
+
+// A row that was begun, and one that was pending and has failed.
+fn make_two(keeper: &mut SqlKeeper<MemStore>) -> Result<(), Fail>
+    requires silent { keeper.old.tells ≡ false }
+    requires no_doubt { doubtful keeper.old ≡ None }
+{
+    let first = row(1, b"t1", b"usb1", RowState::Begun)?;
+    let second = row(2, b"t2", b"usb2", RowState::Pending)?;
+    keeper.commit(&Change::Add(first))?;
+    keeper.commit(&Change::Add(second))?;
     keeper.commit(&Change::Advance {
         entry: 2,
         state: RowState::Failed,
         reason: 10,
         time: 2000,
     })?;
-    keeper.reopen()?;
-    let rows = keeper.load(alloc)?;
+    Ok(())
+}
+
+// Whether these are the rows that `make_two` makes.
+fn are_the_two(rows: &[Row]) -> Result<bool, Fail> {
     let first = row(1, b"t1", b"usb1", RowState::Begun)?;
     let mut second = row(2, b"t2", b"usb2", RowState::Failed)?;
     second.reason = 10;
     second.time_changed = 2000;
-    assert_eq!(rt; rows.len(), 2);
-    assert!(rt; is_same(&rows[0], &first));
-    assert!(rt; is_same(&rows[1], &second));
+    Ok(are_these(rows, &first, &second))
+}
+
+#[test]
+fn rows_come_back(rt: HostRuntime) -> Result<(), Fail> {
+    let alloc = rt.alloc();
+    let mut keeper = silent(alloc)?;
+    make_two(&mut keeper)?;
+    keeper.reopen()?;
+    let rows = keeper.load(alloc)?;
+    assert!(rt; are_the_two(&rows)?);
     assert_eq!(rt; keeper.calls(), 5);
     Ok(())
 }
@@ -142,18 +180,21 @@ fn a_tag_comes_once(rt: HostRuntime) -> Result<(), Fail> {
     Ok(())
 }
 
+// Whether a commit whose call fails is refused, how many rows are found later, and how many calls were made.
+fn planned_commit(alloc: Global, keep: bool) -> Result<(bool, usize, u64), Fail> {
+    let mut keeper = failing(alloc, 1, keep)?;
+    let begun = row(1, b"t1", b"usb1", RowState::Begun)?;
+    let stored = keeper.commit(&Change::Add(begun));
+    keeper.reopen()?;
+    let count = keeper.load(alloc)?.len();
+    Ok((stored == Err(KeeperRefusal::Fault), count, keeper.calls()))
+}
+
 #[test]
 fn a_planned_commit_is_kept_or_lost(rt: HostRuntime) -> Result<(), Fail> {
     let alloc = rt.alloc();
-    for (keep, count) in [(false, 0), (true, 1)] {
-        let mut keeper = failing(alloc, 1, keep)?;
-        let stored = keeper.commit(&Change::Add(row(1, b"t1", b"usb1", RowState::Begun)?));
-        assert!(rt; stored == Err(KeeperRefusal::Fault));
-        keeper.reopen()?;
-        let rows = keeper.load(alloc)?;
-        assert_eq!(rt; rows.len(), count);
-        assert_eq!(rt; keeper.calls(), 3);
-    }
+    assert!(rt; planned_commit(alloc, false)? == (true, 0, 3));
+    assert!(rt; planned_commit(alloc, true)? == (true, 1, 3));
     Ok(())
 }
 
@@ -205,6 +246,10 @@ const OLDER_HISTORY: &str = "CREATE TABLE history (
   time_changed INTEGER NOT NULL
 ) STRICT;";
 
+const FIRST: &str = "INSERT INTO schema (number) VALUES (1);";
+
+const SECOND: &str = "INSERT INTO schema (number) VALUES (2);";
+
 // Columns and rules of the tables that are other ones than a keeper makes.
 const OTHER_COLUMNS: [(&str, &str); 7] = [
     (
@@ -243,113 +288,126 @@ fn found(alloc: Global, tables: &str, rows: &str) -> Result<usize, KeeperRefusal
 }
 
 #[test]
-fn other_tables_and_rows_are_a_fault(rt: HostRuntime) -> Result<(), Fail> {
+fn tables_of_its_own_are_found_empty(rt: HostRuntime) -> Result<(), Fail> {
     let alloc = rt.alloc();
     let tables = format!(in alloc; "{SCHEMA}{HISTORY}")?;
-    let one = "INSERT INTO schema (number) VALUES (2);";
     assert!(rt; found(alloc, "", "") == Ok(0));
-    assert!(rt; found(alloc, tables.as_str(), one) == Ok(0));
-    assert!(rt; found(alloc, SCHEMA, one) == Err(KeeperRefusal::Fault));
-    assert!(rt; found(alloc, HISTORY, "") == Err(KeeperRefusal::Fault));
+    assert!(rt; found(alloc, tables.as_str(), SECOND) == Ok(0));
     assert!(rt; found(alloc, "CREATE TABLE other (a INTEGER) STRICT;", "") == Ok(0));
-    for (old, new) in OTHER_COLUMNS {
-        let other = tables.replace(alloc, old, new)?;
-        assert!(rt;
-            found(alloc, other.as_str(), one) == Err(KeeperRefusal::Fault),
-            "{new}"
-        );
+    Ok(())
+}
+
+#[test]
+fn one_table_of_two_is_a_fault(rt: HostRuntime) -> Result<(), Fail> {
+    let alloc = rt.alloc();
+    assert!(rt; found(alloc, SCHEMA, SECOND) == Err(KeeperRefusal::Fault));
+    assert!(rt; found(alloc, HISTORY, "") == Err(KeeperRefusal::Fault));
+    Ok(())
+}
+
+#[test]
+fn other_columns_are_a_fault(rt: HostRuntime) -> Result<(), Fail> {
+    let alloc = rt.alloc();
+    let tables = format!(in alloc; "{SCHEMA}{HISTORY}")?;
+    for (old, new) in &OTHER_COLUMNS {
+        let other = tables.replace(alloc, *old, *new)?;
+        let refused = found(alloc, other.as_str(), SECOND) == Err(KeeperRefusal::Fault);
+        assert!(rt; refused, "{new}");
     }
-    let cases = [
-        ("INSERT INTO schema VALUES (2), (2);", "", None),
-        ("INSERT INTO schema VALUES (1);", "", None),
-        ("INSERT INTO schema VALUES (3);", "", None),
-        ("", "", None),
-        (
-            one,
-            "(1, 't', 1, x'0000000000000000000000000000000000000000', 'c', '1', '2', x'0000000000000000000000000000000000000000000000000000000000000000', 0, 100, 0, 5, 5, 0, NULL, NULL)",
-            Some(1),
-        ),
-        (
-            one,
-            "(1, 't', 1, x'00000000000000000000000000000000000000', 'c', '1', '2', x'0000000000000000000000000000000000000000000000000000000000000000', 0, 100, 0, 5, 5, 0, NULL, NULL)",
-            None,
-        ),
-        (
-            one,
-            "(1, 't', 1, x'0000000000000000000000000000000000000000', 'c', '1', '2', x'00000000000000000000000000000000000000000000000000000000000000', 0, 100, 0, 5, 5, 0, NULL, NULL)",
-            None,
-        ),
-        (
-            one,
-            "(1, 't', 1, x'0000000000000000000000000000000000000000', 'c', '1', '2', x'0000000000000000000000000000000000000000000000000000000000000000', 0, 5, 0, 5, 5, 0, NULL, NULL)",
-            None,
-        ),
-        (
-            one,
-            "(1, 't', -1, x'0000000000000000000000000000000000000000', 'c', '1', '2', x'0000000000000000000000000000000000000000000000000000000000000000', 0, 4, 0, 5, 5, 0, NULL, NULL)",
-            None,
-        ),
-        (
-            one,
-            "(4294967296, 't', 1, x'0000000000000000000000000000000000000000', 'c', '1', '2', x'0000000000000000000000000000000000000000000000000000000000000000', 0, 3, 0, 5, 5, 0, NULL, NULL)",
-            None,
-        ),
-        (
-            one,
-            "(1, 't u', 1, x'0000000000000000000000000000000000000000', 'c', '1', '2', x'0000000000000000000000000000000000000000000000000000000000000000', 0, 2, 0, 5, 5, 0, NULL, NULL)",
-            None,
-        ),
-        (
-            one,
-            "(1, 't', 1, x'0000000000000000000000000000000000000000', 'c', '', '2', x'0000000000000000000000000000000000000000000000000000000000000000', 0, 1, 0, 5, 5, 0, NULL, NULL)",
-            None,
-        ),
-        (
-            one,
-            "(1, 't', 1, x'0000000000000000000000000000000000000000', 'c', '1', '2', x'0000000000000000000000000000000000000000000000000000000000000000', 256, 1, 0, 5, 5, 0, NULL, NULL)",
-            None,
-        ),
-        (
-            one,
-            "(1, 't', 1, x'0000000000000000000000000000000000000000', 'c', '1', '2', x'0000000000000000000000000000000000000000000000000000000000000000', 0, 100, 0, 5, 5, 4294967295, 'org.usb.dfu', 4294967295)",
-            Some(1),
-        ),
-        (
-            one,
-            "(1, 't', 1, x'0000000000000000000000000000000000000000', 'c', '1', '2', x'0000000000000000000000000000000000000000000000000000000000000000', 0, 100, 0, 5, 5, 4294967296, NULL, NULL)",
-            None,
-        ),
-        (
-            one,
-            "(1, 't', 1, x'0000000000000000000000000000000000000000', 'c', '1', '2', x'0000000000000000000000000000000000000000000000000000000000000000', 0, 100, 0, 5, 5, -1, NULL, NULL)",
-            None,
-        ),
-        (
-            one,
-            "(1, 't', 1, x'0000000000000000000000000000000000000000', 'c', '1', '2', x'0000000000000000000000000000000000000000000000000000000000000000', 0, 100, 0, 5, 5, 0, 't u', NULL)",
-            None,
-        ),
-        (
-            one,
-            "(1, 't', 1, x'0000000000000000000000000000000000000000', 'c', '1', '2', x'0000000000000000000000000000000000000000000000000000000000000000', 0, 100, 0, 5, 5, 0, NULL, -1)",
-            None,
-        ),
-        (
-            one,
-            "(1, 't', 1, x'0000000000000000000000000000000000000000', 'c', '1', '2', x'0000000000000000000000000000000000000000000000000000000000000000', 0, 100, 0, 5, 5, 0, NULL, 4294967296)",
-            None,
-        ),
-    ];
-    for (number, values, want) in cases {
-        let rows = if values.is_empty() {
-            format!(in alloc; "{number}")?
-        } else {
-            format!(in alloc; "{number} INSERT INTO history2 VALUES {values};")?
-        };
-        assert!(rt;
-            found(alloc, tables.as_str(), rows.as_str()).ok() == want,
-            "{rows}"
-        );
+    Ok(())
+}
+
+// Numbers in the table `schema` that no keeper writes.
+const NUMBERS: [&str; 4] = [
+    "INSERT INTO schema VALUES (2), (2);",
+    "INSERT INTO schema VALUES (1);",
+    "INSERT INTO schema VALUES (3);",
+    "",
+];
+
+#[test]
+fn other_numbers_of_a_schema_are_a_fault(rt: HostRuntime) -> Result<(), Fail> {
+    let alloc = rt.alloc();
+    let tables = format!(in alloc; "{SCHEMA}{HISTORY}")?;
+    for number in &NUMBERS {
+        let count = found(alloc, tables.as_str(), *number).ok();
+        assert!(rt; count == None, "{number}");
+    }
+    Ok(())
+}
+
+// Values of one row, and how many rows are found then, if it is no fault.
+const ONE_ROW: [(&str, Option<usize>); 15] = [
+    (
+        "(1, 't', 1, x'0000000000000000000000000000000000000000', 'c', '1', '2', x'0000000000000000000000000000000000000000000000000000000000000000', 0, 100, 0, 5, 5, 0, NULL, NULL)",
+        Some(1),
+    ),
+    (
+        "(1, 't', 1, x'00000000000000000000000000000000000000', 'c', '1', '2', x'0000000000000000000000000000000000000000000000000000000000000000', 0, 100, 0, 5, 5, 0, NULL, NULL)",
+        None,
+    ),
+    (
+        "(1, 't', 1, x'0000000000000000000000000000000000000000', 'c', '1', '2', x'00000000000000000000000000000000000000000000000000000000000000', 0, 100, 0, 5, 5, 0, NULL, NULL)",
+        None,
+    ),
+    (
+        "(1, 't', 1, x'0000000000000000000000000000000000000000', 'c', '1', '2', x'0000000000000000000000000000000000000000000000000000000000000000', 0, 5, 0, 5, 5, 0, NULL, NULL)",
+        None,
+    ),
+    (
+        "(1, 't', -1, x'0000000000000000000000000000000000000000', 'c', '1', '2', x'0000000000000000000000000000000000000000000000000000000000000000', 0, 4, 0, 5, 5, 0, NULL, NULL)",
+        None,
+    ),
+    (
+        "(4294967296, 't', 1, x'0000000000000000000000000000000000000000', 'c', '1', '2', x'0000000000000000000000000000000000000000000000000000000000000000', 0, 3, 0, 5, 5, 0, NULL, NULL)",
+        None,
+    ),
+    (
+        "(1, 't u', 1, x'0000000000000000000000000000000000000000', 'c', '1', '2', x'0000000000000000000000000000000000000000000000000000000000000000', 0, 2, 0, 5, 5, 0, NULL, NULL)",
+        None,
+    ),
+    (
+        "(1, 't', 1, x'0000000000000000000000000000000000000000', 'c', '', '2', x'0000000000000000000000000000000000000000000000000000000000000000', 0, 1, 0, 5, 5, 0, NULL, NULL)",
+        None,
+    ),
+    (
+        "(1, 't', 1, x'0000000000000000000000000000000000000000', 'c', '1', '2', x'0000000000000000000000000000000000000000000000000000000000000000', 256, 1, 0, 5, 5, 0, NULL, NULL)",
+        None,
+    ),
+    (
+        "(1, 't', 1, x'0000000000000000000000000000000000000000', 'c', '1', '2', x'0000000000000000000000000000000000000000000000000000000000000000', 0, 100, 0, 5, 5, 4294967295, 'org.usb.dfu', 4294967295)",
+        Some(1),
+    ),
+    (
+        "(1, 't', 1, x'0000000000000000000000000000000000000000', 'c', '1', '2', x'0000000000000000000000000000000000000000000000000000000000000000', 0, 100, 0, 5, 5, 4294967296, NULL, NULL)",
+        None,
+    ),
+    (
+        "(1, 't', 1, x'0000000000000000000000000000000000000000', 'c', '1', '2', x'0000000000000000000000000000000000000000000000000000000000000000', 0, 100, 0, 5, 5, -1, NULL, NULL)",
+        None,
+    ),
+    (
+        "(1, 't', 1, x'0000000000000000000000000000000000000000', 'c', '1', '2', x'0000000000000000000000000000000000000000000000000000000000000000', 0, 100, 0, 5, 5, 0, 't u', NULL)",
+        None,
+    ),
+    (
+        "(1, 't', 1, x'0000000000000000000000000000000000000000', 'c', '1', '2', x'0000000000000000000000000000000000000000000000000000000000000000', 0, 100, 0, 5, 5, 0, NULL, -1)",
+        None,
+    ),
+    (
+        "(1, 't', 1, x'0000000000000000000000000000000000000000', 'c', '1', '2', x'0000000000000000000000000000000000000000000000000000000000000000', 0, 100, 0, 5, 5, 0, NULL, 4294967296)",
+        None,
+    ),
+];
+
+#[test]
+fn a_row_out_of_range_is_a_fault(rt: HostRuntime) -> Result<(), Fail> {
+    let alloc = rt.alloc();
+    let tables = format!(in alloc; "{SCHEMA}{HISTORY}")?;
+    for (values, want) in &ONE_ROW {
+        let rows = format!(in alloc; "{SECOND} INSERT INTO history2 VALUES {values};")?;
+        let count = found(alloc, tables.as_str(), rows.as_str()).ok();
+        assert!(rt; count == *want, "{rows}");
     }
     Ok(())
 }
@@ -375,42 +433,67 @@ fn taken_over(alloc: Global, tables: &str, rows: &str) -> Result<Vec<Row>, Keepe
     again.load(alloc)
 }
 
-#[test]
-fn older_rows_are_taken_over(rt: HostRuntime) -> Result<(), Fail> {
-    let alloc = rt.alloc();
-    let tables = format!(in alloc; "{SCHEMA}{OLDER_HISTORY}")?;
-    let rows = taken_over(alloc, tables.as_str(), OLDER_ROWS)?;
+// Whether these are the rows of `OLDER_ROWS`.
+fn are_the_older_two(rows: &[Row]) -> Result<bool, Fail> {
     let mut first = older(row(1, b"t1", b"usb1", RowState::Failed)?);
     first.device = DeviceId::from_bytes([1; 20]);
     first.reason = 10;
     let mut second = older(row(2, b"t2", b"usb2", RowState::Begun)?);
     second.device = DeviceId::from_bytes([2; 20]);
-    assert_eq!(rt; rows.len(), 2);
-    assert!(rt; is_same(&rows[0], &first));
-    assert!(rt; is_same(&rows[1], &second));
+    Ok(are_these(rows, &first, &second))
+}
+
+#[test]
+fn older_rows_are_taken_over(rt: HostRuntime) -> Result<(), Fail> {
+    let alloc = rt.alloc();
+    let tables = format!(in alloc; "{SCHEMA}{OLDER_HISTORY}")?;
+    let rows = taken_over(alloc, tables.as_str(), OLDER_ROWS)?;
+    assert!(rt; are_the_older_two(&rows)?);
     Ok(())
 }
 
 #[test]
-fn tables_that_are_not_taken_over(rt: HostRuntime) -> Result<(), Fail> {
+fn older_tables_are_taken_over_by_their_number(rt: HostRuntime) -> Result<(), Fail> {
     let alloc = rt.alloc();
     let older = format!(in alloc; "{SCHEMA}{OLDER_HISTORY}")?;
-    let all = format!(in alloc; "{SCHEMA}{HISTORY}{OLDER_HISTORY}")?;
-    let one = "INSERT INTO schema VALUES (1);";
-    let two = "INSERT INTO schema VALUES (2);";
-    assert!(rt; found(alloc, older.as_str(), one) == Ok(0));
-    assert!(rt; found(alloc, older.as_str(), two) == Err(KeeperRefusal::Fault));
+    assert!(rt; found(alloc, older.as_str(), FIRST) == Ok(0));
+    assert!(rt; found(alloc, older.as_str(), SECOND) == Err(KeeperRefusal::Fault));
     assert!(rt; found(alloc, older.as_str(), "") == Err(KeeperRefusal::Fault));
     assert!(rt; found(alloc, OLDER_HISTORY, "") == Err(KeeperRefusal::Fault));
-    assert!(rt; found(alloc, all.as_str(), one) == Err(KeeperRefusal::Fault));
-    assert!(rt; found(alloc, all.as_str(), two) == Ok(0));
+    Ok(())
+}
+
+#[test]
+fn tables_of_both_schemas_are_not_taken_over(rt: HostRuntime) -> Result<(), Fail> {
+    let alloc = rt.alloc();
+    let all = format!(in alloc; "{SCHEMA}{HISTORY}{OLDER_HISTORY}")?;
+    assert!(rt; found(alloc, all.as_str(), FIRST) == Err(KeeperRefusal::Fault));
+    assert!(rt; found(alloc, all.as_str(), SECOND) == Ok(0));
+    Ok(())
+}
+
+#[test]
+fn older_tables_with_a_column_more_are_not_taken_over(rt: HostRuntime) -> Result<(), Fail> {
+    let alloc = rt.alloc();
+    let older = format!(in alloc; "{SCHEMA}{OLDER_HISTORY}")?;
     let more = older.replace(
         alloc,
         "  time_changed INTEGER NOT NULL\n",
         "  time_changed INTEGER NOT NULL,\n  more INTEGER\n",
     )?;
-    assert!(rt; found(alloc, more.as_str(), one) == Err(KeeperRefusal::Fault));
+    assert!(rt; found(alloc, more.as_str(), FIRST) == Err(KeeperRefusal::Fault));
     Ok(())
+}
+
+// The row of an entry up to 25, whose tag and device are of the entry.
+fn numbered(entry: u32) -> Result<Row, Fail>
+    requires small { entry ≤ 25 }
+    ensures entry { IfOk result (λ row. row.entry ≡ entry) }
+    ensures added { IfOk result (λ row. row.time_added ≡ 1000) }
+    ensures changed { IfOk result (λ row. row.time_changed ≡ 1001) }
+{
+    let tag = [b'a' + entry as u8];
+    row(entry, &tag, &tag, RowState::Success)
 }
 
 // Opens the keeper of a file, which tells no rows, loads, and adds one row more.
@@ -419,17 +502,15 @@ fn one_more(rt: &HostRuntime, path: &str) -> Result<usize, Fail> {
     let mut keeper = FileKeeper {
         keeper: SqlKeeper::adopt(rt.alloc(), connection)?,
     };
-    let rows = keeper.load(rt.alloc())?;
-    let entry = (rows.len() % 25) as u32 + 1;
-    let tag = [b'a' + entry as u8];
-    keeper.commit(&Change::Add(row(entry, &tag, &tag, RowState::Success)?))?;
-    Ok(rows.len())
+    let count = keeper.load(rt.alloc())?.len();
+    let added = numbered((count % 25) as u32 + 1)?;
+    keeper.commit(&Change::Add(added))?;
+    Ok(count)
 }
 
 #[test]
 fn a_file_keeps_its_rows(rt: HostRuntime) -> Result<(), Fail> {
-    let _ = fs::remove_dir_all(&rt, "history_tests_kept");
-    fs::create_dir(&rt, "history_tests_kept")?;
+    make_folder(&rt, "history_tests_kept")?;
     for count in 0..3 {
         let found = one_more(&rt, "history_tests_kept/history.db")?;
         assert_eq!(rt; found, count);
@@ -457,52 +538,65 @@ fn is_left(rt: &HostRuntime, path: &str) -> Result<bool, Fail> {
     Ok(refusal == Some(KeeperRefusal::Fault) && before.as_slice() == after.as_slice())
 }
 
+// Whether a file of this database is left as it was.
+fn is_database_left(rt: &HostRuntime, path: &str, tables: &str, rows: &str) -> Result<bool, Fail> {
+    make_file(rt, path, tables, rows)?;
+    is_left(rt, path)
+}
+
+// Whether a file of these bytes is left as it was.
+fn are_bytes_left(rt: &HostRuntime, path: &str, bytes: &[u8]) -> Result<bool, Fail> {
+    fs::write(rt, path, bytes)?;
+    is_left(rt, path)
+}
+
+// A folder with nothing in it.
+fn make_folder(rt: &HostRuntime, path: &str) -> Result<(), Fail> {
+    let _ = fs::remove_dir_all(rt, path);
+    fs::create_dir(rt, path)?;
+    Ok(())
+}
+
+const STRANGE_ROW: &str =
+    "INSERT INTO schema VALUES (2); INSERT INTO history2 VALUES (1, 't', 1, x'00', 'c', '1', '2', x'00', 0, 100, 0, 5, 5, 0, NULL, NULL);";
+
+const OLDER_STRANGE_ROW: &str =
+    "INSERT INTO schema VALUES (1); INSERT INTO history VALUES (1, 't', 1, x'00', 'c', '1', '2', x'00', 0, 100, 0, 5, 5);";
+
 #[test]
-fn another_file_is_left_as_it_was(rt: HostRuntime) -> Result<(), Fail> {
-    let alloc = rt.alloc();
-    let _ = fs::remove_dir_all(&rt, "history_tests_left");
-    fs::create_dir(&rt, "history_tests_left")?;
-    let tables = format!(in alloc; "{SCHEMA}{HISTORY}")?;
-    let strange =
-        "INSERT INTO schema VALUES (2); INSERT INTO history2 VALUES (1, 't', 1, x'00', 'c', '1', '2', x'00', 0, 100, 0, 5, 5, 0, NULL, NULL);";
-    let older_tables = format!(in alloc; "{SCHEMA}{OLDER_HISTORY}")?;
-    let older_strange =
-        "INSERT INTO schema VALUES (1); INSERT INTO history VALUES (1, 't', 1, x'00', 'c', '1', '2', x'00', 0, 100, 0, 5, 5);";
-    make_file(
-        &rt,
-        "history_tests_left/number.db",
-        tables.as_str(),
-        "INSERT INTO schema VALUES (3);",
-    )?;
-    assert!(rt; is_left(&rt, "history_tests_left/number.db")?);
-    make_file(&rt, "history_tests_left/row.db", tables.as_str(), strange)?;
-    assert!(rt; is_left(&rt, "history_tests_left/row.db")?);
-    make_file(
-        &rt,
-        "history_tests_left/older.db",
-        older_tables.as_str(),
-        older_strange,
-    )?;
-    assert!(rt; is_left(&rt, "history_tests_left/older.db")?);
-    make_file(
-        &rt,
-        "history_tests_left/table.db",
-        SCHEMA,
-        "INSERT INTO schema VALUES (2);",
-    )?;
-    assert!(rt; is_left(&rt, "history_tests_left/table.db")?);
-    fs::write(
-        &rt,
-        "history_tests_left/no.db",
-        b"no database at all, but a text of some length",
-    )?;
-    assert!(rt; is_left(&rt, "history_tests_left/no.db")?);
-    fs::write(&rt, "history_tests_left/byte.db", b"x")?;
-    assert!(rt; is_left(&rt, "history_tests_left/byte.db")?);
-    assert!(rt;
-        SqlKeeper::file(&rt, "history_tests_left/none/no.db", Unknown).err()
-            == Some(KeeperRefusal::Fault)
-    );
+fn another_schema_is_left_as_it_was(rt: HostRuntime) -> Result<(), Fail> {
+    make_folder(&rt, "history_tests_schema")?;
+    let tables = format!(in rt.alloc(); "{SCHEMA}{HISTORY}")?;
+    let number = "INSERT INTO schema VALUES (3);";
+    let path = "history_tests_schema/number.db";
+    assert!(rt; is_database_left(&rt, path, tables.as_str(), number)?);
+    let path = "history_tests_schema/table.db";
+    assert!(rt; is_database_left(&rt, path, SCHEMA, SECOND)?);
+    fs::remove_dir_all(&rt, "history_tests_schema")?;
+    Ok(())
+}
+
+#[test]
+fn strange_rows_are_left_as_they_were(rt: HostRuntime) -> Result<(), Fail> {
+    make_folder(&rt, "history_tests_rows")?;
+    let tables = format!(in rt.alloc(); "{SCHEMA}{HISTORY}")?;
+    let path = "history_tests_rows/row.db";
+    assert!(rt; is_database_left(&rt, path, tables.as_str(), STRANGE_ROW)?);
+    let older = format!(in rt.alloc(); "{SCHEMA}{OLDER_HISTORY}")?;
+    let path = "history_tests_rows/older.db";
+    assert!(rt; is_database_left(&rt, path, older.as_str(), OLDER_STRANGE_ROW)?);
+    fs::remove_dir_all(&rt, "history_tests_rows")?;
+    Ok(())
+}
+
+#[test]
+fn no_database_is_left_as_it_was(rt: HostRuntime) -> Result<(), Fail> {
+    make_folder(&rt, "history_tests_left")?;
+    let text = b"no database at all, but a text of some length";
+    assert!(rt; are_bytes_left(&rt, "history_tests_left/no.db", text)?);
+    assert!(rt; are_bytes_left(&rt, "history_tests_left/byte.db", b"x")?);
+    let refusal = SqlKeeper::file(&rt, "history_tests_left/none/no.db", Unknown).err();
+    assert!(rt; refusal == Some(KeeperRefusal::Fault));
     fs::remove_dir_all(&rt, "history_tests_left")?;
     Ok(())
 }

@@ -45,16 +45,19 @@ fn failing(alloc: Global, keep: bool) -> Result<SqlMarks<MemStore>, Fail>
     Ok(SqlMarks::planned(alloc, plan)?)
 }
 
+// Whether a mark whose call fails is refused, and how many marks are found later.
+fn planned_mark(alloc: Global, keep: bool) -> Result<(bool, usize), Fail> {
+    let mut keeper = failing(alloc, keep)?;
+    let refused = keeper.mark(7) == Err(KeeperRefusal::Fault);
+    keeper.reopen()?;
+    let marks = keeper.load(alloc)?;
+    Ok((refused, marks.len()))
+}
+
 #[test]
 fn a_planned_mark_is_kept_or_lost(rt: HostRuntime) -> Result<(), Fail> {
-    let alloc = rt.alloc();
-    for (keep, count) in [(false, 0), (true, 1)] {
-        let mut keeper = failing(alloc, keep)?;
-        assert!(rt; keeper.mark(7) == Err(KeeperRefusal::Fault));
-        keeper.reopen()?;
-        let marks = keeper.load(alloc)?;
-        assert_eq!(rt; marks.len(), count);
-    }
+    assert!(rt; planned_mark(rt.alloc(), false)? == (true, 0));
+    assert!(rt; planned_mark(rt.alloc(), true)? == (true, 1));
     Ok(())
 }
 
@@ -72,27 +75,32 @@ fn found(alloc: Global, tables: &str) -> Result<usize, KeeperRefusal> {
     Ok(marks.len())
 }
 
+const OWN_TABLE: &str =
+    "CREATE TABLE reported (place INTEGER PRIMARY KEY, entry INTEGER NOT NULL UNIQUE) STRICT; INSERT INTO reported (entry) VALUES (5), (2);";
+
+const OTHER_TABLES: [&str; 4] = [
+    "CREATE TABLE reported (place INTEGER PRIMARY KEY, entry INTEGER NOT NULL) STRICT;",
+    "CREATE TABLE reported (entry INTEGER NOT NULL UNIQUE) STRICT;",
+    "CREATE TABLE reported (place INTEGER PRIMARY KEY, entry INTEGER NOT NULL UNIQUE) STRICT; INSERT INTO reported (entry) VALUES (4294967296);",
+    "CREATE TABLE reported (place INTEGER PRIMARY KEY, entry INTEGER NOT NULL UNIQUE) STRICT; INSERT INTO reported (entry) VALUES (-1);",
+];
+
 #[test]
 fn another_table_is_a_fault(rt: HostRuntime) -> Result<(), Fail> {
     let alloc = rt.alloc();
     assert!(rt; found(alloc, "") == Ok(0));
-    assert!(rt;
-        found(
-            alloc,
-            "CREATE TABLE reported (place INTEGER PRIMARY KEY, entry INTEGER NOT NULL UNIQUE) STRICT; INSERT INTO reported (entry) VALUES (5), (2);"
-        ) == Ok(2)
-    );
-    for tables in [
-        "CREATE TABLE reported (place INTEGER PRIMARY KEY, entry INTEGER NOT NULL) STRICT;",
-        "CREATE TABLE reported (entry INTEGER NOT NULL UNIQUE) STRICT;",
-        "CREATE TABLE reported (place INTEGER PRIMARY KEY, entry INTEGER NOT NULL UNIQUE) STRICT; INSERT INTO reported (entry) VALUES (4294967296);",
-        "CREATE TABLE reported (place INTEGER PRIMARY KEY, entry INTEGER NOT NULL UNIQUE) STRICT; INSERT INTO reported (entry) VALUES (-1);",
-    ] {
-        assert!(rt;
-            found(alloc, tables) == Err(KeeperRefusal::Fault),
-            "{tables}"
-        );
+    assert!(rt; found(alloc, OWN_TABLE) == Ok(2));
+    for tables in &OTHER_TABLES {
+        let refused = found(alloc, *tables) == Err(KeeperRefusal::Fault);
+        assert!(rt; refused, "{tables}");
     }
+    Ok(())
+}
+
+// Opens the marks of a file, and marks one entry more.
+fn mark_one(rt: &HostRuntime, path: &str, entry: u32) -> Result<(), Fail> {
+    let mut keeper = FileMarks::open(rt, path)?;
+    keeper.mark(entry)?;
     Ok(())
 }
 
@@ -101,8 +109,7 @@ fn a_file_keeps_its_marks(rt: HostRuntime) -> Result<(), Fail> {
     let _ = fs::remove_dir_all(&rt, "history_tests_marks");
     fs::create_dir(&rt, "history_tests_marks")?;
     for entry in 1..4 {
-        let mut keeper = FileMarks::open(&rt, "history_tests_marks/reports.db")?;
-        keeper.mark(entry)?;
+        mark_one(&rt, "history_tests_marks/reports.db", entry)?;
     }
     let mut keeper = FileMarks::open(&rt, "history_tests_marks/reports.db")?;
     let marks = keeper.load(rt.alloc())?;

@@ -60,72 +60,63 @@ fn a_cut_at_every_event_of_a_whole_install(rt: HostRuntime) -> Result<(), Fail> 
     Ok(())
 }
 
+const AT_TORN_WRITE: Scene = Scene {
+    fault: Some(BoardFault::Torn),
+    ..PLAIN
+};
+
+const HALF_WRITTEN: Left = Left {
+    rows: 1,
+    last: Some((RowState::Failed, 0)),
+    seen: [TORN, OLD],
+    began: 1,
+    ended: 0,
+};
+
 /// The power goes in the midst of a write, with the boot or without it: the row has failed, and the board
 /// isn't written again.
 #[test]
 fn a_torn_write(rt: HostRuntime) -> Result<(), Fail> {
-    let scene = Scene {
-        fault: Some(BoardFault::Torn),
-        ..PLAIN
-    };
-    for (limit, told) in [(Some(5), Told::Off), (None, finished(1, RowState::Failed))] {
-        let days = two_days(&rt, rt.alloc(), &scene, &[], limit, Wish::Newer)?;
-        assert_eq!(rt;
-            days.told,
-            [told, kept(1, RowState::Failed)],
-            "limit {limit:?}"
-        );
-        assert_eq!(rt;
-            days.left,
-            Left {
-                rows: 1,
-                last: Some((RowState::Failed, 0)),
-                seen: [TORN, OLD],
-                began: 1,
-                ended: 0,
-            },
-            "limit {limit:?}"
-        );
-    }
+    let cut = two_days(&rt, rt.alloc(), &AT_TORN_WRITE, &[], Some(5), Wish::Newer)?;
+    assert_eq!(rt; cut.told, [Told::Off, kept(1, RowState::Failed)]);
+    assert_eq!(rt; cut.left, HALF_WRITTEN);
+    let whole = two_days(&rt, rt.alloc(), &AT_TORN_WRITE, &[], None, Wish::Newer)?;
+    assert_eq!(rt;
+        whole.told,
+        [finished(1, RowState::Failed), kept(1, RowState::Failed)]
+    );
+    assert_eq!(rt; whole.left, HALF_WRITTEN);
     Ok(())
 }
 
+const NOT_WRITTEN: Left = Left {
+    rows: 1,
+    last: Some((RowState::Success, 0)),
+    seen: [OLD, OLD],
+    began: 0,
+    ended: 0,
+};
+
 /// A reinstall that is cut between its claim and its write is judged by the version alone: it succeeded, and
-/// nothing was written. Without its flag it is refused.
+/// nothing was written.
 #[test]
 fn a_reinstall_cut_before_its_write(rt: HostRuntime) -> Result<(), Fail> {
-    let alloc = rt.alloc();
-    let days = two_days(
-        &rt,
-        alloc,
-        &PLAIN,
-        &[],
-        Some(2),
-        Wish::Same {
-            allow_reinstall: true,
-        },
-    )?;
+    let wish = Wish::Same {
+        allow_reinstall: true,
+    };
+    let days = two_days(&rt, rt.alloc(), &PLAIN, &[], Some(2), wish)?;
     assert_eq!(rt; days.told, [Told::Off, kept(1, RowState::Success)]);
-    assert_eq!(rt;
-        days.left,
-        Left {
-            rows: 1,
-            last: Some((RowState::Success, 0)),
-            seen: [OLD, OLD],
-            began: 0,
-            ended: 0,
-        }
-    );
-    let days = two_days(
-        &rt,
-        alloc,
-        &PLAIN,
-        &[],
-        None,
-        Wish::Same {
-            allow_reinstall: false,
-        },
-    )?;
+    assert_eq!(rt; days.left, NOT_WRITTEN);
+    Ok(())
+}
+
+/// A reinstall without its flag is refused.
+#[test]
+fn a_reinstall_that_is_not_allowed(rt: HostRuntime) -> Result<(), Fail> {
+    let wish = Wish::Same {
+        allow_reinstall: false,
+    };
+    let days = two_days(&rt, rt.alloc(), &PLAIN, &[], None, wish)?;
     assert_eq!(rt; days.told, [Told::Refused(Why::SameVersion); 2]);
     Ok(())
 }

@@ -66,54 +66,62 @@ fn play<R: Abort>(
     (answers, close(house))
 }
 
+/// The first board shows a stranger after its first call, and its updates go by the bootloader.
+const STRANGER: Scene = Scene {
+    kind: Kind::Loader,
+    flag: Some(DeviceFlag::NeedsBootloader),
+    fault: Some(BoardFault::Stranger),
+    ..PLAIN
+};
+
+/// What the play comes to over a new house.
+fn played<R: Abort>(rt: &R, alloc: Global) -> Result<(Answers, Left), Fail> {
+    let plugins = plugins(alloc, STRANGER.kind)?;
+    let request = request("t1", "usb1")?;
+    let device = device("usb1")?;
+    let mut shelf = shelf(alloc)?;
+    let house = house(rt, alloc, &STRANGER, Vec::new(alloc), &[])?;
+    Ok(play(rt, alloc, house, &request, &device, &mut shelf, &plugins))
+}
+
+/// The device is judged by the settle that follows the plug, and by none before or after it.
+fn settles_once(answers: &Answers) -> bool {
+    let judged = matches!(
+        &answers.settled,
+        Settling::Judged {
+            entry: 1,
+            state: RowState::Failed,
+            stored: Stored::Yes,
+        }
+    );
+    judged
+        && matches!(&answers.early, Settling::NoDevice)
+        && matches!(&answers.late, Settling::Nothing)
+}
+
+const BEGUN: Told = Told::Finished {
+    entry: 1,
+    state: RowState::Begun,
+    stored: Stored::Unchanged,
+};
+
+const UNWRITTEN: Left = Left {
+    rows: 1,
+    last: Some((RowState::Failed, 0)),
+    seen: [OLD, OLD],
+    began: 0,
+    ended: 0,
+};
+
 /// A stranger stands in the port after the detach: nothing is written, and the row stays begun until the device is
 /// back and is settled.
 #[test]
 fn a_stranger_after_detach_with_a_plug_and_a_settle(rt: HostRuntime) -> Result<(), Fail> {
-    let alloc = rt.alloc();
-    let scene = Scene {
-        kind: Kind::Loader,
-        flag: Some(DeviceFlag::NeedsBootloader),
-        fault: Some(BoardFault::Stranger),
-        ..PLAIN
-    };
-    let plugins = plugins(alloc, scene.kind)?;
-    let request = request("t1", "usb1")?;
-    let device = device("usb1")?;
-    let mut shelf = shelf(alloc)?;
-    let house = house(&rt, alloc, &scene, Vec::new(alloc), &[])?;
-    let (answers, left) = play(&rt, alloc, house, &request, &device, &mut shelf, &plugins);
-    assert_eq!(rt;
-        answers.told,
-        Told::Finished {
-            entry: 1,
-            state: RowState::Begun,
-            stored: Stored::Unchanged,
-        }
-    );
-    assert!(rt; matches!(answers.early, Settling::NoDevice));
+    let (answers, left) = played(&rt, rt.alloc())?;
+    assert!(rt; settles_once(&answers));
+    assert_eq!(rt; answers.told, BEGUN);
     assert_eq!(rt; answers.plugged, PlugAnswer::Done { seen: OLD });
-    assert!(rt;
-        matches!(
-            answers.settled,
-            Settling::Judged {
-                entry: 1,
-                state: RowState::Failed,
-                stored: Stored::Yes,
-            }
-        )
-    );
-    assert!(rt; matches!(answers.late, Settling::Nothing));
     assert_eq!(rt; answers.again, kept(1, RowState::Failed));
-    assert_eq!(rt;
-        left,
-        Left {
-            rows: 1,
-            last: Some((RowState::Failed, 0)),
-            seen: [OLD, OLD],
-            began: 0,
-            ended: 0,
-        }
-    );
+    assert_eq!(rt; left, UNWRITTEN);
     Ok(())
 }

@@ -1,5 +1,5 @@
 //! Installs that go well, are repeated, are put off, or find the history full.
-ghost use Rattle.std.specs.Prelude.{◌≡◌, []};
+ghost use Rattle.std.specs.Prelude.{◌≡◌, ◌≤◌, []};
 ghost use Rattle.daemon_core.specs.Housed.{past};
 
 use crate::days::{FIRST, SECOND};
@@ -53,75 +53,60 @@ fn two_and_one<R: Abort>(
     ([one, two, three], close(house))
 }
 
+/// What they come to over a new house of this scene, after these rows.
+fn told_of<R: Abort>(
+    rt: &R,
+    alloc: Global,
+    scene: &Scene,
+    rows: Vec<Row>,
+    requests: [&Request; 2],
+) -> Result<([Told; 3], Left), Fail>
+    requires { scene.now.pool ≤ 16384 }
+{
+    let plugins = plugins(alloc, scene.kind)?;
+    let mut shelf = shelf(alloc)?;
+    let house = house(rt, alloc, scene, rows, &[])?;
+    Ok(two_and_one(rt, alloc, house, requests, &mut shelf, &plugins))
+}
+
+/// The first board was updated by the only row.
+const FIRST_UPDATED: Left = Left {
+    rows: 1,
+    last: Some((RowState::Success, 0)),
+    seen: [NEW, OLD],
+    began: 1,
+    ended: 1,
+};
+
 /// A request that repeats a tag is answered with what became of the first, in the same boot and in the next one.
 #[test]
 fn a_repeated_request(rt: HostRuntime) -> Result<(), Fail> {
     let alloc = rt.alloc();
-    let plugins = plugins(alloc, Kind::Flash)?;
     let request = request("t1", "usb1")?;
-    let mut shelf = shelf(alloc)?;
-    let house = house(&rt, alloc, &PLAIN, Vec::new(alloc), &[])?;
-    let (told, left) = two_and_one(
-        &rt,
-        alloc,
-        house,
-        [&request, &request],
-        &mut shelf,
-        &plugins,
-    );
-    assert_eq!(rt;
-        told,
-        [
-            done(1),
-            kept(1, RowState::Success),
-            kept(1, RowState::Success)
-        ]
-    );
-    assert_eq!(rt;
-        left,
-        Left {
-            rows: 1,
-            last: Some((RowState::Success, 0)),
-            seen: [NEW, OLD],
-            began: 1,
-            ended: 1,
-        }
-    );
+    let (told, left) = told_of(&rt, alloc, &PLAIN, Vec::new(alloc), [&request, &request])?;
+    let again = kept(1, RowState::Success);
+    assert_eq!(rt; told, [done(1), again, again]);
+    assert_eq!(rt; left, FIRST_UPDATED);
     Ok(())
 }
+
+const AT_REBOOT: Scene = Scene {
+    kind: Kind::Capsule,
+    flag: Some(DeviceFlag::NeedsReboot),
+    ..PLAIN
+};
 
 /// An install that needs a reboot: the device takes no other one until a boot has judged it.
 #[test]
 fn a_needs_reboot_install(rt: HostRuntime) -> Result<(), Fail> {
     let alloc = rt.alloc();
-    let scene = Scene {
-        kind: Kind::Capsule,
-        flag: Some(DeviceFlag::NeedsReboot),
-        ..PLAIN
-    };
-    let plugins = plugins(alloc, scene.kind)?;
-    let requests = [&request("t1", "usb1")?, &request("t2", "usb1")?];
-    let mut shelf = shelf(alloc)?;
-    let house = house(&rt, alloc, &scene, Vec::new(alloc), &[])?;
-    let (told, left) = two_and_one(&rt, alloc, house, requests, &mut shelf, &plugins);
-    assert_eq!(rt;
-        told,
-        [
-            finished(1, RowState::NeedsReboot),
-            Told::Refused(Why::Unsettled { entry: 1 }),
-            kept(1, RowState::Success),
-        ]
-    );
-    assert_eq!(rt;
-        left,
-        Left {
-            rows: 1,
-            last: Some((RowState::Success, 0)),
-            seen: [NEW, OLD],
-            began: 1,
-            ended: 1,
-        }
-    );
+    let first = request("t1", "usb1")?;
+    let second = request("t2", "usb1")?;
+    let (told, left) = told_of(&rt, alloc, &AT_REBOOT, Vec::new(alloc), [&first, &second])?;
+    let waiting = finished(1, RowState::NeedsReboot);
+    let refused = Told::Refused(Why::Unsettled { entry: 1 });
+    assert_eq!(rt; told, [waiting, refused, kept(1, RowState::Success)]);
+    assert_eq!(rt; left, FIRST_UPDATED);
     Ok(())
 }
 
@@ -163,47 +148,90 @@ fn offline_days<R: Abort>(
     Ok(put_off_and_done(rt, alloc, house, absent, &request, &mut shelf, &plugins))
 }
 
+/// A board that is absent as the second boot begins, how the row of the install ends then, and what is left.
+struct Ending {
+    absent: Option<u32>,
+    state: RowState,
+    left: Left,
+}
+
+const ENDINGS: [Ending; 3] = [
+    Ending {
+        absent: None,
+        state: RowState::Success,
+        left: FIRST_UPDATED,
+    },
+    Ending {
+        absent: Some(0),
+        state: RowState::Failed,
+        left: Left {
+            rows: 1,
+            last: Some((RowState::Failed, 1)),
+            seen: [Seen::Gone, OLD],
+            began: 0,
+            ended: 0,
+        },
+    },
+    Ending {
+        absent: Some(1),
+        state: RowState::Failed,
+        left: Left {
+            rows: 1,
+            last: Some((RowState::Failed, 10)),
+            seen: [OLD, Seen::Gone],
+            began: 0,
+            ended: 0,
+        },
+    },
+];
+
 /// An offline install is done by the daemon as the next boot begins. Where its device is absent, or another one that
 /// it requires, it has failed, for the reason of the refusal, and nothing is written.
 #[test]
 fn an_offline_install_with_its_device_absent_and_present(rt: HostRuntime) -> Result<(), Fail> {
-    for (absent, state, reason, seen, writes) in [
-        (None, RowState::Success, 0, [NEW, OLD], 1),
-        (Some(0), RowState::Failed, 1, [Seen::Gone, OLD], 0),
-        (Some(1), RowState::Failed, 10, [OLD, Seen::Gone], 0),
-    ] {
+    for ending in &ENDINGS {
+        let absent = ending.absent;
         let (told, left) = offline_days(&rt, rt.alloc(), absent)?;
+        let later = kept(1, ending.state);
         assert_eq!(rt;
             told,
-            [Told::PutOff { entry: 1 }, kept(1, state)],
+            [Told::PutOff { entry: 1 }, later],
             "absent {absent:?}"
         );
-        assert_eq!(rt;
-            left,
-            Left {
-                rows: 1,
-                last: Some((state, reason)),
-                seen,
-                began: writes,
-                ended: writes,
-            },
-            "absent {absent:?}"
-        );
+        assert_eq!(rt; left, ending.left, "absent {absent:?}");
     }
     Ok(())
 }
 
-/// A row of a device that no board has.
-fn row(alloc: Global, entry: u32) -> Result<Row, Fail> {
-    let tag = format!(in alloc; "old{entry}")?;
-    Ok(Row {
-        entry,
-        tag: Name::read(tag.as_bytes())?,
-        client: 1,
-        device: device_id(b"elsewhere", None),
+/// The texts of a row but for its tag.
+#[derive(Clone, Copy)]
+struct Texts {
+    component: Name,
+    version_old: Version,
+    version_new: Version,
+}
+
+fn read_texts() -> Result<Texts, Fail> {
+    Ok(Texts {
         component: Name::read(b"com.example.hub")?,
         version_old: Version::read(b"1.0.0")?,
         version_new: Version::read(b"1.1.0")?,
+    })
+}
+
+/// A row of a device that no board has.
+fn row(alloc: Global, entry: u32) -> Result<Row, Fail> {
+    let text = format!(in alloc; "old{entry}")?;
+    let tag = Name::read(text.as_bytes())?;
+    let texts = read_texts()?;
+    Ok(Row {
+        entry,
+        tag,
+        client: 1,
+        device: device_id(b"elsewhere", None),
+        component: texts.component,
+        version_old: texts.version_old,
+        version_new: texts.version_new,
         digest: [0; 32],
         flags: 0,
         state: RowState::Success,
@@ -234,28 +262,19 @@ fn rows(alloc: Global, count: u32) -> Result<Vec<Row>, Fail> {
 #[test]
 fn a_history_of_65535_rows_and_two_installs(rt: HostRuntime) -> Result<(), Fail> {
     let alloc = rt.alloc();
-    let plugins = plugins(alloc, Kind::Flash)?;
-    let requests = [&request("t1", "usb1")?, &request("t2", "usb2")?];
-    let mut shelf = shelf(alloc)?;
-    let house = house(&rt, alloc, &PLAIN, rows(alloc, 65_535)?, &[])?;
-    let (told, left) = two_and_one(&rt, alloc, house, requests, &mut shelf, &plugins);
+    let first = request("t1", "usb1")?;
+    let second = request("t2", "usb2")?;
+    let before = rows(alloc, 65_535)?;
+    let (told, left) = told_of(&rt, alloc, &PLAIN, before, [&first, &second])?;
+    let refused = Told::Refused(Why::RowsFull);
     assert_eq!(rt;
         told,
-        [
-            done(65_536),
-            Told::Refused(Why::RowsFull),
-            kept(65_536, RowState::Success),
-        ]
+        [done(65_536), refused, kept(65_536, RowState::Success)]
     );
-    assert_eq!(rt;
-        left,
-        Left {
-            rows: 65_536,
-            last: Some((RowState::Success, 0)),
-            seen: [NEW, OLD],
-            began: 1,
-            ended: 1,
-        }
-    );
+    let updated = Left {
+        rows: 65_536,
+        ..FIRST_UPDATED
+    };
+    assert_eq!(rt; left, updated);
     Ok(())
 }

@@ -54,37 +54,45 @@ fn beside_claim<R: Abort>(
     (refused, [told, later], close(house))
 }
 
-/// A device whose parent is being updated by another client's claim is refused until that is done.
-#[test]
-fn a_device_in_use_by_anothers_claim(rt: HostRuntime) -> Result<(), Fail> {
-    let alloc = rt.alloc();
+/// What they come to over a new house, in which the second board's firmware wants the first one as its parent.
+fn told_beside_claim<R: Abort>(
+    rt: &R,
+    alloc: Global,
+    requests: [&Request; 2],
+) -> Result<(Why, [Told; 2], Left), Fail> {
     let scene = Scene {
         wants: Wants::FirstAsParent,
         ..PLAIN
     };
     let plugins = plugins(alloc, scene.kind)?;
-    let requests = [&request("t1", "usb1")?, &request("t2", "usb2")?];
     let mut shelf = shelf(alloc)?;
-    let house = house(&rt, alloc, &scene, Vec::new(alloc), &[])?;
-    let (refused, told, left) = beside_claim(&rt, alloc, house, requests, &mut shelf, &plugins);
-    assert_eq!(rt;
-        refused,
-        Why::Unmet(Unmet {
-            index: 0,
-            cause: UnmetCause::DeviceInUse { entry: 1 },
-        })
-    );
+    let house = house(rt, alloc, &scene, Vec::new(alloc), &[])?;
+    Ok(beside_claim(rt, alloc, house, requests, &mut shelf, &plugins))
+}
+
+const IN_USE: Why = Why::Unmet(Unmet {
+    index: 0,
+    cause: UnmetCause::DeviceInUse { entry: 1 },
+});
+
+/// Both boards were updated.
+const BOTH_UPDATED: Left = Left {
+    rows: 2,
+    last: Some((RowState::Success, 0)),
+    seen: [NEW, NEW],
+    began: 2,
+    ended: 2,
+};
+
+/// A device whose parent is being updated by another client's claim is refused until that is done.
+#[test]
+fn a_device_in_use_by_anothers_claim(rt: HostRuntime) -> Result<(), Fail> {
+    let first = request("t1", "usb1")?;
+    let second = request("t2", "usb2")?;
+    let (refused, told, left) = told_beside_claim(&rt, rt.alloc(), [&first, &second])?;
+    assert_eq!(rt; refused, IN_USE);
     assert_eq!(rt; told, [done(1), done(2)]);
-    assert_eq!(rt;
-        left,
-        Left {
-            rows: 2,
-            last: Some((RowState::Success, 0)),
-            seen: [NEW, NEW],
-            began: 2,
-            ended: 2,
-        }
-    );
+    assert_eq!(rt; left, BOTH_UPDATED);
     Ok(())
 }
 
@@ -110,37 +118,42 @@ fn beside_hold<R: Abort>(
     (refused, [told, later], close(house))
 }
 
+const ONE_BLOCK: Scene = Scene { pool: 1, ..PLAIN };
+
+/// What they come to over a new house with a pool of one block.
+fn told_beside_hold<R: Abort>(
+    rt: &R,
+    alloc: Global,
+    requests: [&Request; 2],
+) -> Result<(Why, [Told; 2], Left), Fail> {
+    let plugins = plugins(alloc, ONE_BLOCK.kind)?;
+    let mut shelf = shelf(alloc)?;
+    let house = house(rt, alloc, &ONE_BLOCK, Vec::new(alloc), &[])?;
+    Ok(beside_hold(rt, alloc, house, requests, &mut shelf, &plugins))
+}
+
 /// A pool of one block: a second client has no room while the first has a hold, and both installs go well one after
-/// the other. A payload of two blocks has none at all.
+/// the other.
 #[test]
 fn a_pool_of_one_block(rt: HostRuntime) -> Result<(), Fail> {
-    let alloc = rt.alloc();
-    let scene = Scene { pool: 1, ..PLAIN };
-    let plugins = plugins(alloc, Kind::Flash)?;
-    let requests = [&request("t1", "usb1")?, &request("t2", "usb2")?];
-    let mut shelf = shelf(alloc)?;
-    let one = house(&rt, alloc, &scene, Vec::new(alloc), &[])?;
-    let (refused, told, left) = beside_hold(&rt, alloc, one, requests, &mut shelf, &plugins);
+    let first = request("t1", "usb1")?;
+    let second = request("t2", "usb2")?;
+    let (refused, told, left) = told_beside_hold(&rt, rt.alloc(), [&first, &second])?;
     assert_eq!(rt; refused, Why::NoRoom { need: 1, free: 0 });
     assert_eq!(rt; told, [done(1), done(2)]);
-    assert_eq!(rt;
-        left,
-        Left {
-            rows: 2,
-            last: Some((RowState::Success, 0)),
-            seen: [NEW, NEW],
-            began: 2,
-            ended: 2,
-        }
-    );
+    assert_eq!(rt; left, BOTH_UPDATED);
+    Ok(())
+}
+
+/// A payload of two blocks has no room at all in a pool of one.
+#[test]
+fn a_payload_of_two_blocks(rt: HostRuntime) -> Result<(), Fail> {
     let large = Scene {
         size: 4097,
-        ..scene
+        ..ONE_BLOCK
     };
-    let days = two_days(&rt, alloc, &large, &[], None, Wish::Newer)?;
-    assert_eq!(rt;
-        days.told,
-        [Told::Refused(Why::NoRoom { need: 2, free: 1 }); 2]
-    );
+    let days = two_days(&rt, rt.alloc(), &large, &[], None, Wish::Newer)?;
+    let refused = Told::Refused(Why::NoRoom { need: 2, free: 1 });
+    assert_eq!(rt; days.told, [refused; 2]);
     Ok(())
 }

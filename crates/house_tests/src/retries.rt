@@ -7,7 +7,7 @@ use crate::driver::{boot, install, put_off};
 use crate::left::{Left, close};
 use crate::requests::{offline, request, retry};
 use crate::scenes::{PLAIN, Scene, house, plugins, shelf};
-use crate::told::{Told, Why, done, finished, kept};
+use crate::told::{Told, Why};
 use daemon_core::House;
 use emulated_boards::BoardFault;
 use fw_facts::{Mode, Seen};
@@ -17,7 +17,7 @@ use plugin_trait::Plugin;
 use std::alloc::Global;
 use std::process::Abort;
 use std::test::Fail;
-use update_log::{Request, RetryFault};
+use update_log::{Request, RetryFault, Stored};
 
 const OLD: Seen = Seen::Home {
     raw: 0x0100_0000,
@@ -33,6 +33,20 @@ const NEW: Seen = Seen::Home {
 const FAILING: Scene = Scene {
     fault: Some(BoardFault::Failed),
     ..PLAIN
+};
+
+/// The first install failed.
+const FAILED: Told = Told::Finished {
+    entry: 1,
+    state: RowState::Failed,
+    stored: Stored::Yes,
+};
+
+/// The second row's install succeeded.
+const DONE: Told = Told::Finished {
+    entry: 2,
+    state: RowState::Success,
+    stored: Stored::Yes,
 };
 
 /// Another row tries the failed one again.
@@ -60,79 +74,79 @@ fn two_and_two<R: Abort>(
     ([one, two, three, four], close(house))
 }
 
+/// What they come to over a new house, where these calls of the keeper fail.
+fn told_of<R: Abort>(
+    rt: &R,
+    alloc: Global,
+    failing: &[(u32, bool)],
+    requests: [&Request; 4],
+) -> Result<([Told; 4], Left), Fail> {
+    let plugins = plugins(alloc, FAILING.kind)?;
+    let mut shelf = shelf(alloc)?;
+    let house = house(rt, alloc, &FAILING, Vec::new(alloc), failing)?;
+    Ok(two_and_two(rt, alloc, house, requests, &mut shelf, &plugins))
+}
+
+const TRIED_ONCE: [Told; 4] = [
+    FAILED,
+    DONE,
+    RETRIED,
+    Told::Refused(Why::Retry(RetryFault::NotFailed {
+        state: RowState::Success,
+    })),
+];
+
+/// The first board was updated by the second row.
+const FIRST_UPDATED: Left = Left {
+    rows: 2,
+    last: Some((RowState::Success, 0)),
+    seen: [NEW, OLD],
+    began: 1,
+    ended: 1,
+};
+
 /// An install that failed is tried again, once: the second request that names its row is refused, in the same boot and
 /// in the next one.
 #[test]
 fn a_failed_install_is_tried_again_once(rt: HostRuntime) -> Result<(), Fail> {
-    let alloc = rt.alloc();
-    let plugins = plugins(alloc, FAILING.kind)?;
-    let requests = [
-        &request("t1", "usb1")?,
-        &retry("t2", "usb1", 1)?,
-        &retry("t3", "usb1", 1)?,
-        &retry("t4", "usb1", 2)?,
-    ];
-    let mut shelf = shelf(alloc)?;
-    let house = house(&rt, alloc, &FAILING, Vec::new(alloc), &[])?;
-    let (told, left) = two_and_two(&rt, alloc, house, requests, &mut shelf, &plugins);
-    let succeeded = RetryFault::NotFailed {
-        state: RowState::Success,
-    };
-    assert_eq!(rt;
-        told,
-        [
-            finished(1, RowState::Failed),
-            done(2),
-            RETRIED,
-            Told::Refused(Why::Retry(succeeded)),
-        ]
-    );
-    assert_eq!(rt;
-        left,
-        Left {
-            rows: 2,
-            last: Some((RowState::Success, 0)),
-            seen: [NEW, OLD],
-            began: 1,
-            ended: 1,
-        }
-    );
+    let first = request("t1", "usb1")?;
+    let second = retry("t2", "usb1", 1)?;
+    let third = retry("t3", "usb1", 1)?;
+    let fourth = retry("t4", "usb1", 2)?;
+    let requests = [&first, &second, &third, &fourth];
+    let (told, left) = told_of(&rt, rt.alloc(), &[], requests)?;
+    assert_eq!(rt; told, TRIED_ONCE);
+    assert_eq!(rt; left, FIRST_UPDATED);
     Ok(())
 }
+
+const NAMED_WRONGLY: [Told; 4] = [
+    FAILED,
+    Told::Refused(Why::Retry(RetryFault::OtherDevice)),
+    Told::Refused(Why::Retry(RetryFault::NoRow)),
+    DONE,
+];
+
+/// The second board was updated by the second row.
+const SECOND_UPDATED: Left = Left {
+    rows: 2,
+    last: Some((RowState::Success, 0)),
+    seen: [OLD, NEW],
+    began: 1,
+    ended: 1,
+};
 
 /// The row of one device is not one that another device's install can name, and a row that isn't there neither.
 #[test]
 fn another_device_and_a_row_that_is_not_there(rt: HostRuntime) -> Result<(), Fail> {
-    let alloc = rt.alloc();
-    let plugins = plugins(alloc, FAILING.kind)?;
-    let requests = [
-        &request("t1", "usb1")?,
-        &retry("t2", "usb2", 1)?,
-        &retry("t2", "usb1", 2)?,
-        &request("t2", "usb2")?,
-    ];
-    let mut shelf = shelf(alloc)?;
-    let house = house(&rt, alloc, &FAILING, Vec::new(alloc), &[])?;
-    let (told, left) = two_and_two(&rt, alloc, house, requests, &mut shelf, &plugins);
-    assert_eq!(rt;
-        told,
-        [
-            finished(1, RowState::Failed),
-            Told::Refused(Why::Retry(RetryFault::OtherDevice)),
-            Told::Refused(Why::Retry(RetryFault::NoRow)),
-            done(2),
-        ]
-    );
-    assert_eq!(rt;
-        left,
-        Left {
-            rows: 2,
-            last: Some((RowState::Success, 0)),
-            seen: [OLD, NEW],
-            began: 1,
-            ended: 1,
-        }
-    );
+    let first = request("t1", "usb1")?;
+    let second = retry("t2", "usb2", 1)?;
+    let third = retry("t2", "usb1", 2)?;
+    let fourth = request("t2", "usb2")?;
+    let requests = [&first, &second, &third, &fourth];
+    let (told, left) = told_of(&rt, rt.alloc(), &[], requests)?;
+    assert_eq!(rt; told, NAMED_WRONGLY);
+    assert_eq!(rt; left, SECOND_UPDATED);
     Ok(())
 }
 
@@ -159,99 +173,75 @@ fn put_off_and_asked<R: Abort>(
     ([one, two, three, four, five], close(house))
 }
 
+/// The same over a new house.
+fn put_off_told<R: Abort>(
+    rt: &R,
+    alloc: Global,
+    requests: [&Request; 3],
+) -> Result<([Told; 5], Left), Fail> {
+    let plugins = plugins(alloc, FAILING.kind)?;
+    let mut shelf = shelf(alloc)?;
+    let house = house(rt, alloc, &FAILING, Vec::new(alloc), &[])?;
+    Ok(put_off_and_asked(rt, alloc, house, requests, &mut shelf, &plugins))
+}
+
+const DONE_LATER: [Told; 5] = [
+    FAILED,
+    Told::PutOff { entry: 2 },
+    Told::Refused(Why::Unsettled { entry: 2 }),
+    Told::Kept {
+        entry: 2,
+        state: RowState::Success,
+    },
+    RETRIED,
+];
+
 /// A retry that is put off is done as the next boot begins. Until then its row hinders others, and from then on it is
 /// the one that tries the failed row again.
 #[test]
 fn a_retry_that_is_put_off(rt: HostRuntime) -> Result<(), Fail> {
-    let alloc = rt.alloc();
-    let plugins = plugins(alloc, FAILING.kind)?;
-    let later = offline("t2", "usb1")?;
-    let requests = [
-        &request("t1", "usb1")?,
-        &Request {
-            retry_of: Some(1),
-            ..later
-        },
-        &retry("t3", "usb1", 1)?,
-    ];
-    let mut shelf = shelf(alloc)?;
-    let house = house(&rt, alloc, &FAILING, Vec::new(alloc), &[])?;
-    let (told, left) = put_off_and_asked(&rt, alloc, house, requests, &mut shelf, &plugins);
-    assert_eq!(rt;
-        told,
-        [
-            finished(1, RowState::Failed),
-            Told::PutOff { entry: 2 },
-            Told::Refused(Why::Unsettled { entry: 2 }),
-            kept(2, RowState::Success),
-            RETRIED,
-        ]
-    );
-    assert_eq!(rt;
-        left,
-        Left {
-            rows: 2,
-            last: Some((RowState::Success, 0)),
-            seen: [NEW, OLD],
-            began: 1,
-            ended: 1,
-        }
-    );
+    let first = request("t1", "usb1")?;
+    let later = Request {
+        retry_of: Some(1),
+        ..offline("t2", "usb1")?
+    };
+    let other = retry("t3", "usb1", 1)?;
+    let (told, left) = put_off_told(&rt, rt.alloc(), [&first, &later, &other])?;
+    assert_eq!(rt; told, DONE_LATER);
+    assert_eq!(rt; left, FIRST_UPDATED);
     Ok(())
 }
 
-/// What becomes of a retry whose claim is in doubt: call 4 of the keeper is its commit. Where that was kept, the row is
-/// judged, tries the first one again, and can be tried again itself; where it was lost, the retry is done anew.
-const DOUBTFUL: [(&[(u32, bool)], [Told; 2], usize); 2] = [
-    (
-        &[(4, true)],
-        [
-            Told::Kept {
-                entry: 2,
-                state: RowState::Failed,
-            },
-            RETRIED,
-        ],
-        2,
-    ),
-    (
-        &[(4, false)],
-        [
-            Told::Finished {
-                entry: 2,
-                state: RowState::Success,
-                stored: update_log::Stored::Yes,
-            },
-            RETRIED,
-        ],
-        2,
-    ),
+/// The commit of the retry's claim is call 4 of the keeper. Where it was kept, the row is judged, tries the first one
+/// again, and can be tried again itself.
+const KEPT: [Told; 4] = [
+    FAILED,
+    Told::Refused(Why::KeeperFault),
+    Told::Kept {
+        entry: 2,
+        state: RowState::Failed,
+    },
+    RETRIED,
 ];
 
-#[test]
-fn a_retry_in_doubt_is_kept_or_lost(rt: HostRuntime) -> Result<(), Fail> {
-    let alloc = rt.alloc();
-    let plugins = plugins(alloc, FAILING.kind)?;
+/// Where it was lost, the retry is done anew.
+const LOST: [Told; 4] = [FAILED, Told::Refused(Why::KeeperFault), DONE, RETRIED];
+
+/// What becomes of a retry whose claim is in doubt, and how many rows there are then.
+fn doubted<R: Abort>(rt: &R, alloc: Global, kept: bool) -> Result<([Told; 4], usize), Fail> {
     let first = request("t1", "usb1")?;
     let second = retry("t2", "usb1", 1)?;
     let third = retry("t3", "usb1", 1)?;
-    for (failing, later, rows) in DOUBTFUL {
-        let mut shelf = shelf(alloc)?;
-        let house = house(&rt, alloc, &FAILING, Vec::new(alloc), failing)?;
-        let requests = [&first, &second, &second, &third];
-        let (told, left) = two_and_two(&rt, alloc, house, requests, &mut shelf, &plugins);
-        let [again, other] = later;
-        assert_eq!(rt;
-            told,
-            [
-                finished(1, RowState::Failed),
-                Told::Refused(Why::KeeperFault),
-                again,
-                other,
-            ],
-            "{failing:?}"
-        );
-        assert_eq!(rt; left.rows, rows, "{failing:?}");
-    }
+    let requests = [&first, &second, &second, &third];
+    let (told, left) = told_of(rt, alloc, &[(4, kept)], requests)?;
+    Ok((told, left.rows))
+}
+
+#[test]
+fn a_retry_in_doubt_is_kept_or_lost(rt: HostRuntime) -> Result<(), Fail> {
+    let kept = doubted(&rt, rt.alloc(), true)?;
+    assert!(rt; kept == (KEPT, 2));
+    let lost = doubted(&rt, rt.alloc(), false)?;
+    assert!(rt; lost == (LOST, 2));
     Ok(())
 }

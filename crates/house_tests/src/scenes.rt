@@ -10,7 +10,7 @@ use daemon_core::House;
 use emulated_boards::{Board, BoardFault, PlannedFault};
 use fw_base::{Line, Listed, Name};
 use fw_facts::{Component, DeviceFlag, DeviceFlags, MachineFacts, Release, Requirement, Sheet};
-use guid_ids::{device_id, guid_of};
+use guid_ids::{Guid, device_id, guid_of};
 use history_keeper::{KeeperPlan, MemoryKeeper, Row};
 use outer_traits::MemoryShelf;
 use plugin_trait::Plugin;
@@ -85,23 +85,44 @@ fn flags(flag: Option<DeviceFlag>) -> DeviceFlags {
     }
 }
 
-fn sheet(alloc: Global, scene: &Scene, port: &str, parent: Option<&str>) -> Result<Sheet, Fail> {
+/// The names on a sheet.
+#[derive(Clone, Copy)]
+struct Names {
+    port: Name,
+    plugin: Name,
+    parent: Option<Name>,
+}
+
+fn read_names(kind: Kind, port: &str, parent: Option<&str>) -> Result<Names, Fail> {
     let parent = match parent {
         Some(parent) => Some(Name::read(parent.as_bytes())?),
         None => None,
     };
-    let plugin = Name::read(plugin_name(scene.kind).as_bytes())?;
-    let mut runtime_guids = Vec::new(alloc);
-    runtime_guids.push(guid_of(port.as_bytes()))?;
-    Ok(Sheet {
+    Ok(Names {
         port: Name::read(port.as_bytes())?,
+        plugin: Name::read(plugin_name(kind).as_bytes())?,
+        parent,
+    })
+}
+
+fn one_guid(alloc: Global, port: &str) -> Result<Listed<Guid>, Fail> {
+    let mut guids = Vec::new(alloc);
+    guids.push(guid_of(port.as_bytes()))?;
+    Ok(Listed::of(guids))
+}
+
+fn sheet(alloc: Global, scene: &Scene, port: &str, parent: Option<&str>) -> Result<Sheet, Fail> {
+    let names = read_names(scene.kind, port, parent)?;
+    let runtime_guids = one_guid(alloc, port)?;
+    Ok(Sheet {
+        port: names.port,
         device: device_id(port.as_bytes(), None),
         priority: 0,
-        plugin,
+        plugin: names.plugin,
         name: Line::empty(),
         vendor: Line::empty(),
         vendor_ids: Listed::of(Vec::new(alloc)),
-        runtime_guids: Listed::of(runtime_guids),
+        runtime_guids,
         loader_guids: Listed::of(Vec::new(alloc)),
         counterparts: Listed::of(Vec::new(alloc)),
         flags: flags(scene.flag),
@@ -111,7 +132,7 @@ fn sheet(alloc: Global, scene: &Scene, port: &str, parent: Option<&str>) -> Resu
         size_min: 0,
         size_max: 4_194_304,
         duration: 0,
-        parent,
+        parent: names.parent,
         unreachable: false,
         power_low: false,
         lid: false,
@@ -155,13 +176,12 @@ fn component(
     ensures requirements { IfOk result (λ c. c.requirements ≡ requirements.items) }
 {
     let id = Name::read(port.as_bytes())?;
-    let mut provides = Vec::new(alloc);
-    provides.push(guid_of(port.as_bytes()))?;
+    let provides = one_guid(alloc, port)?;
     let releases = releases(alloc, size)?;
     Ok(Component {
         id,
         name: Line::empty(),
-        provides: Listed::of(provides),
+        provides,
         requirements: Listed::of(requirements),
         format: None,
         protocol: None,
@@ -207,15 +227,22 @@ fn catalogue(alloc: Global, scene: &Scene) -> Result<Catalogue, Fail> {
     Ok(Catalogue::of(alloc, components)?)
 }
 
+/// The plugin of the boards, without a rule.
+fn vetoes(alloc: Global, kind: Kind) -> Result<Listed<PluginVetoes>, Fail> {
+    let plugin = Name::read(plugin_name(kind).as_bytes())?;
+    let mut vetoes = Vec::new(alloc);
+    vetoes.push(PluginVetoes {
+        plugin,
+        rules: Listed::of(Vec::new(alloc)),
+    })?;
+    Ok(Listed::of(vetoes))
+}
+
 fn facts(alloc: Global, scene: &Scene) -> Result<Facts, Fail>
     ensures sheets { IfOk result (λ facts. length facts.sheets ≡ 2) }
     ensures pool { IfOk result (λ facts. facts.pool ≡ scene.now.pool) }
 {
-    let mut vetoes = Vec::new(alloc);
-    vetoes.push(PluginVetoes {
-        plugin: Name::read(plugin_name(scene.kind).as_bytes())?,
-        rules: Listed::of(Vec::new(alloc)),
-    })?;
+    let vetoes = vetoes(alloc, scene.kind)?;
     let catalogue = catalogue(alloc, scene)?;
     let sheets = sheets(alloc, scene)?;
     Ok(Facts {
@@ -228,7 +255,7 @@ fn facts(alloc: Global, scene: &Scene) -> Result<Facts, Fail>
         },
         catalogue,
         features: Listed::of(Vec::new(alloc)),
-        vetoes: Listed::of(vetoes),
+        vetoes,
         sheets: Listed::of(sheets),
         pool: scene.pool,
     })

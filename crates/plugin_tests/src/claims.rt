@@ -104,6 +104,19 @@ fn walk(claim: Begun, plugin: &dyn Plugin) -> (Board, Payload)
     closed.into_parts()
 }
 
+fn make_bench(alloc: Global) -> Result<Bench, Fail> {
+    let name = Name::read(b"bench")?;
+    Ok(Bench {
+        sheet: PluginSheet {
+            name,
+            conflicts: Listed::of(Vec::new(alloc)),
+            after: Listed::of(Vec::new(alloc)),
+            before: Listed::of(Vec::new(alloc)),
+            better_than: Listed::of(Vec::new(alloc)),
+        },
+    })
+}
+
 // The board behind a claim with these flags, of which one side fits.
 fn claimed(
     rt: &impl Abort,
@@ -111,16 +124,7 @@ fn claimed(
     flags: DeviceFlags,
     fitting: Mode,
 ) -> Result<Board, Fail> {
-    let none = Listed::of(Vec::new(alloc));
-    let bench = Bench {
-        sheet: PluginSheet {
-            name: Name::read(b"bench")?,
-            conflicts: Listed::of(Vec::new(alloc)),
-            after: Listed::of(Vec::new(alloc)),
-            before: Listed::of(Vec::new(alloc)),
-            better_than: none,
-        },
-    };
+    let bench = make_bench(alloc)?;
     let mut pool = Pool::new(alloc, 1)?;
     let mut board = Board::new(alloc, OLD, Vec::new(alloc));
     board.reserve_marks(4)?;
@@ -137,26 +141,31 @@ fn claimed(
     Ok(board)
 }
 
-#[test]
-fn a_claim_takes_the_steps_that_its_trace_asks_for(rt: HostRuntime) -> Result<(), Fail> {
-    let alloc = rt.alloc();
-    let by_loader = DeviceFlags::empty().with(DeviceFlag::NeedsBootloader);
-    let began = Mark::Began { entry: 7 };
-    let ended = Mark::Ended {
+const BEGAN: Mark = Mark::Began { entry: 7 };
+
+fn ended() -> Mark {
+    Mark::Ended {
         entry: 7,
         digest: Sha256::digest(NEW),
-    };
-    let at_once = [began, ended];
-    let in_loader = [Mark::Entered, began, ended, Mark::Left];
-    let unwritten = [Mark::Entered, Mark::Left];
-    for (flags, fitting, marks) in [
-        (DeviceFlags::empty(), Mode::Runtime, at_once.as_slice()),
-        (DeviceFlags::empty(), Mode::Bootloader, [].as_slice()),
-        (by_loader, Mode::Bootloader, in_loader.as_slice()),
-        (by_loader, Mode::Runtime, unwritten.as_slice()),
-    ] {
-        let board = claimed(&rt, alloc, flags, fitting)?;
-        assert!(rt; board.marks() == marks);
     }
+}
+
+#[test]
+fn a_claim_of_a_plain_board_writes_at_once(rt: HostRuntime) -> Result<(), Fail> {
+    let plain = DeviceFlags::empty();
+    let fitting = claimed(&rt, rt.alloc(), plain, Mode::Runtime)?;
+    assert!(rt; fitting.marks() == [BEGAN, ended()]);
+    let other = claimed(&rt, rt.alloc(), plain, Mode::Bootloader)?;
+    assert!(rt; other.marks().is_empty());
+    Ok(())
+}
+
+#[test]
+fn a_claim_by_the_bootloader_enters_and_leaves_it(rt: HostRuntime) -> Result<(), Fail> {
+    let by_loader = DeviceFlags::empty().with(DeviceFlag::NeedsBootloader);
+    let fitting = claimed(&rt, rt.alloc(), by_loader, Mode::Bootloader)?;
+    assert!(rt; fitting.marks() == [Mark::Entered, BEGAN, ended(), Mark::Left]);
+    let other = claimed(&rt, rt.alloc(), by_loader, Mode::Runtime)?;
+    assert!(rt; other.marks() == [Mark::Entered, Mark::Left]);
     Ok(())
 }

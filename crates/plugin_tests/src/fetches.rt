@@ -99,45 +99,49 @@ fn whole(digest: Digest, len: u32, head: [u8; HEAD_BYTES]) -> Told {
     Told::Whole { digest, len, head }
 }
 
+const PAYLOADS: [(Digest, u32, [u8; HEAD_BYTES]); 3] = [
+    (ABC, 3, [97, 98, 99, 0, 0, 0, 0, 0, 0, 0, 0, 0, 0, 0]),
+    (EMPTY, 0, [0; HEAD_BYTES]),
+    (
+        COUNTED,
+        COUNTED_BYTES,
+        [0, 1, 2, 3, 4, 5, 6, 7, 8, 9, 10, 11, 12, 13],
+    ),
+];
+
 #[test]
 fn a_file_of_that_digest_and_size_is_the_payload(rt: HostRuntime) -> Result<(), Fail> {
     let mut shelf = shelf(rt.alloc(), &[])?;
     let mut pool = Pool::new(rt.alloc(), 3)?;
-    for (name, size, head) in [
-        (ABC, 3, *b"abc\0\0\0\0\0\0\0\0\0\0\0"),
-        (EMPTY, 0, [0; HEAD_BYTES]),
-        (
-            COUNTED,
-            COUNTED_BYTES,
-            [0, 1, 2, 3, 4, 5, 6, 7, 8, 9, 10, 11, 12, 13],
-        ),
-    ] {
-        let answer = fetched(&mut pool, &mut shelf, &name, size);
-        assert_eq!(rt; answer, whole(name, size, head), "size {size}");
+    for (name, size, head) in &PAYLOADS {
+        let answer = fetched(&mut pool, &mut shelf, name, *size);
+        assert_eq!(rt; answer, whole(*name, *size, *head), "size {size}");
     }
     // One call for each length, and one for each block.
     assert_eq!(rt; shelf.calls(), 3 + 4);
     Ok(())
 }
 
+const REFUSALS: [(Digest, u32, Told); 9] = [
+    ([0; 32], 3, Told::Missing),
+    ([0; 32], 0, Told::Missing),
+    (ABC, 2, Told::Length(3)),
+    (ABC, 0, Told::Length(3)),
+    (ABC, 8192, Told::Length(3)),
+    (COUNTED, 4096, Told::Length(9000)),
+    (EMPTY, 1, Told::Length(0)),
+    // Another length counts before another digest.
+    (WRONG, 4, Told::Length(3)),
+    (WRONG, 3, Told::Mismatch(ABC)),
+];
+
 #[test]
 fn a_file_that_is_no_such_payload_is_refused(rt: HostRuntime) -> Result<(), Fail> {
     let mut shelf = shelf(rt.alloc(), &[])?;
     let mut pool = Pool::new(rt.alloc(), 3)?;
-    for (name, size, want) in [
-        ([0; 32], 3, Told::Missing),
-        ([0; 32], 0, Told::Missing),
-        (ABC, 2, Told::Length(3)),
-        (ABC, 0, Told::Length(3)),
-        (ABC, 8192, Told::Length(3)),
-        (COUNTED, 4096, Told::Length(9000)),
-        (EMPTY, 1, Told::Length(0)),
-        // Another length counts before another digest.
-        (WRONG, 4, Told::Length(3)),
-        (WRONG, 3, Told::Mismatch(ABC)),
-    ] {
-        let answer = fetched(&mut pool, &mut shelf, &name, size);
-        assert_eq!(rt; answer, want, "size {size}");
+    for (name, size, want) in &REFUSALS {
+        let answer = fetched(&mut pool, &mut shelf, name, *size);
+        assert_eq!(rt; answer, *want, "size {size}");
     }
     Ok(())
 }

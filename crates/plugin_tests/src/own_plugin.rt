@@ -106,16 +106,29 @@ fn machine(alloc: Global, lid_closed: bool) -> MachineFacts {
     }
 }
 
+fn put(alloc: Global, plugins: &mut Vec<Box<dyn Plugin>>, name: &[u8]) -> Result<(), Fail> {
+    let lid = make_lid(alloc, name)?;
+    plugins.push(Box::new(alloc, lid)?)?;
+    Ok(())
+}
+
+fn two_lids(alloc: Global) -> Result<Vec<Box<dyn Plugin>>, Fail> {
+    let mut plugins: Vec<Box<dyn Plugin>> = Vec::new(alloc);
+    put(alloc, &mut plugins, b"one")?;
+    put(alloc, &mut plugins, b"two")?;
+    Ok(plugins)
+}
+
+const TURNS: [(bool, usize); 3] = [(false, 0), (true, 1), (false, 0)];
+
 #[test]
 fn each_plugin_is_started(rt: HostRuntime) -> Result<(), Fail> {
     let alloc = rt.alloc();
-    let mut plugins: Vec<Box<dyn Plugin>> = Vec::new(alloc);
-    plugins.push(Box::new(alloc, make_lid(alloc, b"one")?)?)?;
-    plugins.push(Box::new(alloc, make_lid(alloc, b"two")?)?)?;
-    for (lid_closed, vetoes) in [(false, 0), (true, 1), (false, 0)] {
-        start_all(&mut plugins, &machine(alloc, lid_closed));
+    let mut plugins = two_lids(alloc)?;
+    for (lid_closed, vetoes) in &TURNS {
+        start_all(&mut plugins, &machine(alloc, *lid_closed));
         for plugin in &plugins {
-            assert_eq!(rt; plugin.vetoes().len(), vetoes);
+            assert_eq!(rt; plugin.vetoes().len(), *vetoes);
         }
     }
     assert_eq!(rt; plugins.len(), 2);
