@@ -6,13 +6,14 @@ ghost use Rattle.history_keeper.specs.Histories.{IsHistory};
 ghost use Rattle.site_making.specs.Settled.{vetoes_of};
 ghost use Rattle.campaign_inputs.specs.Begin.{CanBegin};
 ghost use Rattle.update_plans.specs.Tags.{IsTag};
+ghost use Rattle.campaign_plans.specs.Printed.{plan_text};
 ghost use Rattle.fwupd_service.specs.Updates.{PlanEnds, PlanGoes, WasPrinted, printed_plan};
 
 use crate::loading::{Loaded, load, load_status};
 use crate::ran::RunLeft;
 use crate::run::stop_status;
 use campaign_inputs::{ClientLimit, open_campaign};
-use campaign_plans::{plan_first, write_plan};
+use campaign_plans::{FirstPlan, plan_first, write_plan};
 use command_outputs::OutputStop;
 use fw_base::{Name, NoMemory};
 use history_keeper::{Keeper, Row};
@@ -101,10 +102,24 @@ fn print<T: Sink>(
     ensures sink_quiet { (result ≡ Status.SinkFault) ⊎ (T.faults out.new ≡ T.faults out.old) }
     ensures sink_counts { T.faults out.old ≤ T.faults out.new }
 {
-    let first = match plan_first(alloc, campaign, rows, tag) {
-        Ok(first) => first,
-        Err(NoMemory) => return Status::NoMemory,
-    };
+    match plan_first(alloc, campaign, rows, tag) {
+        Ok(first) => print_first(alloc, campaign, &first, out),
+        Err(NoMemory) => Status::NoMemory,
+    }
+}
+
+// Prints a plan that was made.
+fn print_first<T: Sink>(
+    alloc: Global,
+    campaign: &Campaign,
+    first: &FirstPlan,
+    out: &mut T,
+) -> Status
+    ensures printed { WasPrinted (plan_text campaign.now.facts first.now.state.views first.now.plan.steps) result (T.taken out.old) (T.taken out.new) }
+    ensures sink_fault { result ≡ Status.SinkFault → Rose (T.faults out.old) (T.faults out.new) }
+    ensures sink_quiet { (result ≡ Status.SinkFault) ⊎ (T.faults out.new ≡ T.faults out.old) }
+    ensures sink_counts { T.faults out.old ≤ T.faults out.new }
+{
     let views = first.state.views();
     match write_plan(alloc, &campaign.facts, views, first.plan.steps.items(), out) {
         Ok(()) => Status::Done,
