@@ -88,16 +88,22 @@ fn framed(alloc: Global, frame: Frame, new: &str) -> Result<String, Fail> {
     Ok(text)
 }
 
+fn put_note(wrong: &mut String, new: &str, answer: &str) -> Result<(), Fail> {
+    wrong.push_str(new)?;
+    wrong.push_str(": ")?;
+    wrong.push_str(answer)?;
+    wrong.push_str("\n")?;
+    Ok(())
+}
+
 /// Notes what is told of a document, where it isn't what was wanted.
 fn note(alloc: Global, wrong: &mut String, text: &str, new: &str, want: &str) -> Result<(), Fail> {
     let answer = told(alloc, text.as_bytes())?;
-    if answer.as_str() != want {
-        wrong.push_str(new)?;
-        wrong.push_str(": ")?;
-        wrong.push_str(answer.as_str())?;
-        wrong.push_str("\n")?;
+    if answer.as_str() == want {
+        Ok(())
+    } else {
+        put_note(wrong, new, answer.as_str())
     }
-    Ok(())
 }
 
 /// The rows of which something else is told.

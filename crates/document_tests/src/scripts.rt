@@ -69,6 +69,21 @@ enum Section {
     Boots,
 }
 
+/// What is told of a text between two others.
+fn told_between(
+    alloc: Global,
+    section: Section,
+    between: (&str, &str),
+    part: &str,
+) -> Result<String, Fail> {
+    let (front, back) = between;
+    let text = joined(alloc, &[front, part, back])?;
+    match section {
+        Section::Clients => told_of_clients(alloc, text.as_str()),
+        Section::Boots => told_of_boots(alloc, text.as_str()),
+    }
+}
+
 /// The first row of which something else is told than it says, with what is told; empty where there
 /// is none. A row's text stands between two others.
 fn wrong(
@@ -77,14 +92,9 @@ fn wrong(
     between: (&str, &str),
     rows: &[&str],
 ) -> Result<String, Fail> {
-    let (front, back) = between;
     for row in rows {
         let (part, want) = row.split_once(" => ").unwrap_or((row, ""));
-        let text = joined(alloc, &[front, part, back])?;
-        let told = match section {
-            Section::Clients => told_of_clients(alloc, text.as_str())?,
-            Section::Boots => told_of_boots(alloc, text.as_str())?,
-        };
+        let told = told_between(alloc, section, between, part)?;
         if told.as_str() != want {
             return joined(alloc, &[row, " but ", told.as_str()]);
         }
@@ -244,14 +254,34 @@ const RESULTS: &str = r#"[{"time":0,"scripts":[[
 {"do":"settle","device":"usb1"},{"do":"unplug","device":"usb1"},{"do":"plug","device":"usb1"},
 {"do":"install","device":"usb1","tag":"t","version":"1"}]]}]"#;
 
+fn words_of_boots(alloc: Global, boots: Vec<Boot>) -> Result<String, Fail> {
+    let parts = part(alloc, boots)?;
+    words_of(alloc, parts.scripts.items())
+}
+
 #[test]
 fn a_name_is_a_device_or_a_guid_or_a_port(rt: HostRuntime) -> Result<(), Fail> {
-    let alloc = rt.alloc();
-    let words = match boots_of(alloc, RESULTS)? {
-        Ok(boots) => words_of(alloc, part(alloc, boots)?.scripts.items())?,
-        Err(stop) => told_stop(alloc, stop)?,
+    let words = match boots_of(rt.alloc(), RESULTS)? {
+        Ok(boots) => words_of_boots(rt.alloc(), boots)?,
+        Err(stop) => told_stop(rt.alloc(), stop)?,
     };
     assert_eq!(rt; words.as_str(), "id guid port settle unplug plug install ");
+    Ok(())
+}
+
+fn put_number(alloc: Global, text: &mut String, number: u64) -> Result<(), Fail> {
+    let written = format!(in alloc; " {number}")?;
+    text.push_str(written.as_str())?;
+    Ok(())
+}
+
+fn put_plan(alloc: Global, text: &mut String, plan: &BootPlan) -> Result<(), Fail> {
+    put_number(alloc, text, plan.time)?;
+    put_number(alloc, text, u64::from(plan.limit.unwrap_or(0)))?;
+    for at in plan.absent.items() {
+        put_number(alloc, text, u64::from(*at))?;
+    }
+    text.push_str(";")?;
     Ok(())
 }
 
@@ -259,12 +289,7 @@ fn a_name_is_a_device_or_a_guid_or_a_port(rt: HostRuntime) -> Result<(), Fail> {
 fn plans_of(alloc: Global, plans: &[BootPlan]) -> Result<String, Fail> {
     let mut text = String::new(alloc);
     for plan in plans {
-        let limit = plan.limit.unwrap_or(0);
-        text.push_str(format!(in alloc; "{} {limit}", plan.time)?.as_str())?;
-        for at in plan.absent.items() {
-            text.push_str(format!(in alloc; " {at}")?.as_str())?;
-        }
-        text.push_str(";")?;
+        put_plan(alloc, &mut text, plan)?;
     }
     Ok(text)
 }
@@ -272,13 +297,17 @@ fn plans_of(alloc: Global, plans: &[BootPlan]) -> Result<String, Fail> {
 const PLANS: &str =
     r#"[{"time":7},{"time":5,"cut-after":3,"absent":["usb2","usb1","usb2"],"scripts":[]}]"#;
 
+fn plans_of_boots(alloc: Global, boots: Vec<Boot>) -> Result<String, Fail> {
+    let parts = part(alloc, boots)?;
+    plans_of(alloc, parts.plans.items())
+}
+
 #[test]
 fn a_boot_is_kept_as_stated(rt: HostRuntime) -> Result<(), Fail> {
-    let alloc = rt.alloc();
-    let text = match boots_of(alloc, PLANS)? {
-        Ok(boots) => plans_of(alloc, part(alloc, boots)?.plans.items())?,
-        Err(stop) => told_stop(alloc, stop)?,
+    let text = match boots_of(rt.alloc(), PLANS)? {
+        Ok(boots) => plans_of_boots(rt.alloc(), boots)?,
+        Err(stop) => told_stop(rt.alloc(), stop)?,
     };
-    assert_eq!(rt; text.as_str(), "7 0;5 3 1 0 1;");
+    assert_eq!(rt; text.as_str(), " 7 0; 5 3 1 0 1;");
     Ok(())
 }

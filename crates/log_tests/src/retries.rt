@@ -9,6 +9,7 @@ use release_catalogue::ReleaseRef;
 use std::alloc::Global;
 use std::test::Fail;
 use update_log::{Decision, Request, RetryFault, Stage, verdict};
+use version_formats::Version;
 
 /// The rows that a request finds, of which the first is the one that it may name.
 #[derive(Clone, Copy)]
@@ -49,11 +50,17 @@ fn second_row(state: RowState) -> Result<Row, Fail> {
     })
 }
 
+/// The first row, and one that tries it again.
+fn two_rows(alloc: Global, first: Row, state: RowState) -> Result<Vec<Row>, Fail> {
+    let second = second_row(state)?;
+    Ok(Vec::from_slice(alloc, &[first, second])?)
+}
+
 fn rows_of(alloc: Global, past: Past) -> Result<Vec<Row>, Fail> {
     let first = first_row(past)?;
     match past {
-        Past::TriedAgain => Ok(Vec::from_slice(alloc, &[first, second_row(RowState::Success)?])?),
-        Past::PutOff => Ok(Vec::from_slice(alloc, &[first, second_row(RowState::Pending)?])?),
+        Past::TriedAgain => two_rows(alloc, first, RowState::Success),
+        Past::PutOff => two_rows(alloc, first, RowState::Pending),
         Past::Failed | Past::OfAnotherDevice | Past::InState(_) | Past::OfAnotherPayload => Ok(
             Vec::from_slice(alloc, &[first])?,
         ),
@@ -173,10 +180,10 @@ fn request_of(level: Level, entry: u32) -> Result<Request, Fail> {
     if !level.has(2) {
         return Ok(request);
     }
-    let missing = crate::scenes::request("t2", "usb1", "9.9.9")?;
+    let missing = Version::read(b"9.9.9")?;
     Ok(Request {
-        retry_of: Some(entry),
-        ..missing
+        version: missing,
+        ..request
     })
 }
 

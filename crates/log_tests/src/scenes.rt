@@ -98,8 +98,8 @@ fn catalogue(alloc: Global) -> Result<Catalogue, Fail> {
     Ok(Catalogue::from_value(alloc, &value)?)
 }
 
-fn vetoes(alloc: Global, level: Level) -> Result<Vec<PluginVetoes>, Fail> {
-    let plugin = Name::read(b"flash")?;
+/// A rule that forbids each update, where it hinders.
+fn rules(alloc: Global, level: Level) -> Result<Vec<VetoRule>, Fail> {
     let mut rules = Vec::new(alloc);
     if level.has(11) {
         rules.push(VetoRule {
@@ -107,6 +107,12 @@ fn vetoes(alloc: Global, level: Level) -> Result<Vec<PluginVetoes>, Fail> {
             flags: DeviceFlags::empty(),
         })?;
     }
+    Ok(rules)
+}
+
+fn vetoes(alloc: Global, level: Level) -> Result<Vec<PluginVetoes>, Fail> {
+    let plugin = Name::read(b"flash")?;
+    let rules = rules(alloc, level)?;
     let mut vetoes = Vec::new(alloc);
     vetoes.push(PluginVetoes {
         plugin,
@@ -115,13 +121,18 @@ fn vetoes(alloc: Global, level: Level) -> Result<Vec<PluginVetoes>, Fail> {
     Ok(vetoes)
 }
 
+/// The features of a client that has the one that is wanted.
+fn wanted(alloc: Global) -> Result<Listed<Name>, Fail> {
+    let feature = Name::read(b"detach-action")?;
+    Ok(Listed::of(Vec::from_slice(alloc, &[feature])?))
+}
+
 /// Client 1 has no feature, clients 2 and 3 have the one that is wanted.
 fn features(alloc: Global) -> Result<Vec<Listed<Name>>, Fail> {
-    let feature = Name::read(b"detach-action")?;
     let mut features = Vec::new(alloc);
     features.push(Listed::of(Vec::new(alloc)))?;
-    features.push(Listed::of(Vec::from_slice(alloc, &[feature])?))?;
-    features.push(Listed::of(Vec::from_slice(alloc, &[feature])?))?;
+    features.push(wanted(alloc)?)?;
+    features.push(wanted(alloc)?)?;
     Ok(features)
 }
 

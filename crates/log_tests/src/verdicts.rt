@@ -498,17 +498,22 @@ fn decided_at_each_stage(story: &Story) -> Result<[u32; 3], Fail> {
     Ok([ask, claim, schedule])
 }
 
+/// Whether client 2 can claim the board, and it is refused at each stage since the board is in use.
+fn is_busy_first(story: &mut Story) -> Result<bool, Fail> {
+    if hold(story)? && story.claim(2, &FETCHED)? {
+        Ok(decided_at_each_stage(story)? == [3, 3, 3])
+    } else {
+        Ok(false)
+    }
+}
+
 /// Whether it is refused for its version, and while client 2 has claimed the board, for that at each stage.
 fn busy_is_first(alloc: Global) -> Result<bool, Fail> {
     let mut story = story_over(alloc, Level(14), 4, Vec::new(alloc))?;
     if decided_at_each_stage(&story)? != [9, 9, 9] {
         return Ok(false);
     }
-    if hold(&mut story)? && story.claim(2, &FETCHED)? {
-        Ok(decided_at_each_stage(&story)? == [3, 3, 3])
-    } else {
-        Ok(false)
-    }
+    is_busy_first(&mut story)
 }
 
 #[test]
@@ -517,15 +522,17 @@ fn a_device_in_use_hinders_first(rt: HostRuntime) -> Result<(), Fail> {
     Ok(())
 }
 
+/// A row that is settled, with a tag of its own.
+fn settled_row(alloc: Global, entry: u32) -> Result<Row, Fail> {
+    let tag = format!(in alloc; "r{entry}")?;
+    row(entry, tag.as_str(), 2, RowState::Success, [10; 32])
+}
+
 /// A history that is full of rows of one device. All are settled but perhaps the last, which has that tag.
 fn full(alloc: Global, tag: &str, last: RowState) -> Result<Vec<Row>, Fail> {
     let mut rows = Vec::new(alloc);
     for entry in 1..65_536 {
-        let tag = format!(in alloc; "r{entry}")?;
-        put(
-            &mut rows,
-            &row(entry, tag.as_str(), 2, RowState::Success, [10; 32])?,
-        )?;
+        put(&mut rows, &settled_row(alloc, entry)?)?;
     }
     put(&mut rows, &row(65_536, tag, 2, last, [10; 32])?)?;
     Ok(rows)

@@ -36,10 +36,13 @@ fn sheet(alloc: Global, port: &str) -> Result<Sheet, Fail> {
     })
 }
 
-/// The sheets of the boards in five ports.
+/// The ports of the boards.
+const PORTS: [&str; 5] = ["usb1", "usb2", "usb3", "usb4", "usb5"];
+
+/// The sheets of the boards.
 fn sheets(alloc: Global) -> Result<Vec<Sheet>, Fail> {
     let mut sheets = Vec::new(alloc);
-    for port in ["usb1", "usb2", "usb3", "usb4", "usb5"] {
+    for port in &PORTS {
         sheets.push(sheet(alloc, port)?)?;
     }
     Ok(sheets)

@@ -130,30 +130,51 @@ fn boot(found: Found, boards: Vec<BoardSeen>) -> Event {
     }
 }
 
+/// The marks that are told.
+#[derive(Clone, Copy)]
+enum Marks {
+    Nothing,
+    One(Mark),
+    Two(Mark, Mark),
+}
+
+fn told_of(marks: Marks) -> Told {
+    match marks {
+        Marks::Nothing => Told::none(),
+        Marks::One(mark) => Told::one(mark),
+        Marks::Two(first, second) => Told::two(first, second),
+    }
+}
+
 /// What a boot shows of the five boards, and what was untold of three of them.
+const SEEN_BOARDS: [(u32, Seen, Marks); 5] = [
+    (0, HOME, Marks::Two(BEGAN, ENDED)),
+    (1, LOADER, Marks::One(Mark::Entered)),
+    (2, Seen::Gone, Marks::Nothing),
+    (3, Seen::Stranger, Marks::One(Mark::Left)),
+    (4, BROKEN, Marks::Nothing),
+];
+
 fn boards(alloc: Global) -> Result<Vec<BoardSeen>, Fail> {
     let mut boards = Vec::new(alloc);
-    for (board, seen, untold) in [
-        (0, HOME, Told::two(BEGAN, ENDED)),
-        (1, LOADER, Told::one(Mark::Entered)),
-        (2, Seen::Gone, Told::none()),
-        (3, Seen::Stranger, Told::one(Mark::Left)),
-        (4, BROKEN, Told::none()),
-    ] {
+    for (board, seen, marks) in &SEEN_BOARDS {
         boards.push(BoardSeen {
-            board,
-            seen,
-            untold,
+            board: *board,
+            seen: *seen,
+            untold: told_of(*marks),
         })?;
     }
     Ok(boards)
 }
 
+const BOOTS: [Found; 4] = [Found::Plain, Found::Kept, Found::Lost, Found::Fault];
+
 fn put_boots(alloc: Global, log: &mut Vec<Event>) -> Result<(), Fail> {
-    for found in [Found::Plain, Found::Kept, Found::Lost, Found::Fault] {
-        log.push(boot(found, Vec::new(alloc)))?;
+    for found in &BOOTS {
+        log.push(boot(*found, Vec::new(alloc)))?;
     }
-    log.push(boot(Found::Kept, boards(alloc)?))?;
+    let boards = boards(alloc)?;
+    log.push(boot(Found::Kept, boards))?;
     Ok(())
 }
 
@@ -205,13 +226,13 @@ const ASKED: [(Option<u32>, AskAnswer); 4] = [
 ];
 
 fn put_asks(log: &mut Vec<Event>) -> Result<(), Fail> {
-    for (pending, answer) in ASKED {
+    for (pending, answer) in &ASKED {
         let request = request()?;
         log.push(Event::Ask {
             client: 1,
             request,
-            pending,
-            answer,
+            pending: *pending,
+            answer: *answer,
         })?;
     }
     Ok(())
@@ -227,25 +248,25 @@ const TAKEN: [ClaimAnswer; 3] = [
 ];
 
 fn put_claims(log: &mut Vec<Event>) -> Result<(), Fail> {
-    for answer in TAKEN {
+    for answer in &TAKEN {
         let request = request()?;
         log.push(Event::Claim {
             client: 1,
             request,
             fetched: FetchNote::Missing,
-            answer,
+            answer: *answer,
         })?;
     }
     Ok(())
 }
 
 fn put_schedules(log: &mut Vec<Event>) -> Result<(), Fail> {
-    for answer in TAKEN {
+    for answer in &TAKEN {
         let request = request()?;
         log.push(Event::Schedule {
             client: 1,
             request,
-            answer,
+            answer: *answer,
         })?;
     }
     Ok(())
@@ -264,26 +285,29 @@ const TRIED_BEFORE: AskAnswer = AskAnswer::Refused(Refusal::Retry(RetryFault::Re
     entry: 3,
 }));
 
-/// Asks and a schedule that name a row. The ask of a row that was put off doesn't tell it.
+const NO_BLOCKS: AskAnswer = AskAnswer::Hold {
+    blocks: 0,
+    release: RELEASE,
+};
+
+/// Asks that name a row. That of a row that was put off doesn't tell it.
+const RETRIES: [(Option<u32>, AskAnswer); 2] = [(None, TRIED_BEFORE), (Some(4), NO_BLOCKS)];
+
+/// These asks, and a schedule that names a row.
 fn put_retries(log: &mut Vec<Event>) -> Result<(), Fail> {
-    log.push(Event::Ask {
-        client: 1,
-        request: retry(2)?,
-        pending: None,
-        answer: TRIED_BEFORE,
-    })?;
-    log.push(Event::Ask {
-        client: 1,
-        request: retry(2)?,
-        pending: Some(4),
-        answer: AskAnswer::Hold {
-            blocks: 0,
-            release: RELEASE,
-        },
-    })?;
+    for (pending, answer) in &RETRIES {
+        let request = retry(2)?;
+        log.push(Event::Ask {
+            client: 1,
+            request,
+            pending: *pending,
+            answer: *answer,
+        })?;
+    }
+    let request = retry(65_536)?;
     log.push(Event::Schedule {
         client: 1,
-        request: retry(65_536)?,
+        request,
         answer: ClaimAnswer::Entry(4),
     })?;
     Ok(())
@@ -297,13 +321,13 @@ const RESUMED: [(ResumeAnswer, Stored); 4] = [
 ];
 
 fn put_resumptions(log: &mut Vec<Event>) -> Result<(), Fail> {
-    for (answer, stored) in RESUMED {
+    for (answer, stored) in &RESUMED {
         log.push(Event::Resume {
             client: 0,
             entry: 4,
             fetched: Some(FetchNote::Missing),
-            answer,
-            stored,
+            answer: *answer,
+            stored: *stored,
         })?;
     }
     Ok(())
@@ -319,41 +343,46 @@ const STEPS: [Op; 6] = [
 ];
 
 fn put_starts(log: &mut Vec<Event>) -> Result<(), Fail> {
-    for op in STEPS {
+    for op in &STEPS {
         log.push(Event::Start {
             client: 1,
             entry: 4,
-            op,
+            op: *op,
         })?;
     }
     Ok(())
 }
 
+/// A step that ended, its outcome, what is told, and what is seen of the board then.
+type StepEnd = (Op, Result<(), BoardFault>, Marks, Seen);
+
+const ENDS: [StepEnd; 10] = [
+    (Op::Write, Ok(()), Marks::Two(BEGAN, ENDED), HOME),
+    (Op::Write, Err(BoardFault::Failed), Marks::Nothing, LOADER),
+    (Op::Write, Err(BoardFault::Torn), Marks::One(BEGAN), BROKEN),
+    (Op::Write, Err(BoardFault::Gone), Marks::Nothing, Seen::Gone),
+    (
+        Op::Write,
+        Err(BoardFault::Stranger),
+        Marks::Nothing,
+        Seen::Stranger,
+    ),
+    (Op::Prepare, Ok(()), Marks::Nothing, HOME),
+    (Op::Detach, Ok(()), Marks::One(Mark::Entered), LOADER),
+    (Op::Attach, Ok(()), Marks::One(Mark::Left), HOME),
+    (Op::Reload, Err(BoardFault::Failed), Marks::Nothing, HOME),
+    (Op::Cleanup, Ok(()), Marks::Nothing, HOME),
+];
+
 fn put_ends(log: &mut Vec<Event>) -> Result<(), Fail> {
-    for (op, outcome, told, seen) in [
-        (Op::Write, Ok(()), Told::two(BEGAN, ENDED), HOME),
-        (Op::Write, Err(BoardFault::Failed), Told::none(), LOADER),
-        (Op::Write, Err(BoardFault::Torn), Told::one(BEGAN), BROKEN),
-        (Op::Write, Err(BoardFault::Gone), Told::none(), Seen::Gone),
-        (
-            Op::Write,
-            Err(BoardFault::Stranger),
-            Told::none(),
-            Seen::Stranger,
-        ),
-        (Op::Prepare, Ok(()), Told::none(), HOME),
-        (Op::Detach, Ok(()), Told::one(Mark::Entered), LOADER),
-        (Op::Attach, Ok(()), Told::one(Mark::Left), HOME),
-        (Op::Reload, Err(BoardFault::Failed), Told::none(), HOME),
-        (Op::Cleanup, Ok(()), Told::none(), HOME),
-    ] {
+    for (op, outcome, marks, seen) in &ENDS {
         log.push(Event::End {
             client: 1,
             entry: 4,
-            op,
-            outcome,
-            told,
-            seen,
+            op: *op,
+            outcome: *outcome,
+            told: told_of(*marks),
+            seen: *seen,
         })?;
     }
     Ok(())
@@ -368,12 +397,12 @@ const FINISHED: [(RowState, Stored); 5] = [
 ];
 
 fn put_finishes(log: &mut Vec<Event>) -> Result<(), Fail> {
-    for (state, stored) in FINISHED {
+    for (state, stored) in &FINISHED {
         log.push(Event::Finish {
             client: 1,
             entry: 4,
-            state,
-            stored,
+            state: *state,
+            stored: *stored,
         })?;
     }
     Ok(())
@@ -385,14 +414,14 @@ const JUDGED: [(RowState, Stored); 2] = [
 ];
 
 fn put_judgements(log: &mut Vec<Event>) -> Result<(), Fail> {
-    for (state, stored) in JUDGED {
+    for (state, stored) in &JUDGED {
         let version = Version::read(b"1.1.0")?;
         log.push(Event::Judge {
             client: 0,
             entry: 4,
             version,
-            state,
-            stored,
+            state: *state,
+            stored: *stored,
         })?;
     }
     Ok(())
@@ -407,24 +436,24 @@ const PLUGS: [PlugAnswer; 5] = [
 ];
 
 fn put_unplugs(log: &mut Vec<Event>) -> Result<(), Fail> {
-    for answer in PLUGS {
+    for answer in &PLUGS {
         let device = Selector::Port(Name::read(b"usb1")?);
         log.push(Event::Unplug {
             client: 1,
             device,
-            answer,
+            answer: *answer,
         })?;
     }
     Ok(())
 }
 
 fn put_plugs(log: &mut Vec<Event>) -> Result<(), Fail> {
-    for answer in PLUGS {
+    for answer in &PLUGS {
         let device = Selector::Port(Name::read(b"usb1")?);
         log.push(Event::Plug {
             client: 1,
             device,
-            answer,
+            answer: *answer,
         })?;
     }
     Ok(())
@@ -432,29 +461,46 @@ fn put_plugs(log: &mut Vec<Event>) -> Result<(), Fail> {
 
 fn put_given_back(log: &mut Vec<Event>) -> Result<(), Fail> {
     let tag = Name::read(b"t1")?;
-    for what in [Back::Tag(tag), Back::Pending(4), Back::Entry(5)] {
-        log.push(Event::GiveBack { client: 2, what })?;
-    }
+    let tag = Back::Tag(tag);
+    let pending = Back::Pending(4);
+    let entry = Back::Entry(5);
+    log.push(Event::GiveBack {
+        client: 2,
+        what: tag,
+    })?;
+    log.push(Event::GiveBack {
+        client: 2,
+        what: pending,
+    })?;
+    log.push(Event::GiveBack {
+        client: 2,
+        what: entry,
+    })?;
     Ok(())
 }
 
+fn put_question(log: &mut Vec<Event>, query: Query) -> Result<(), Fail> {
+    log.push(Event::Query { client: 1, query })?;
+    Ok(())
+}
+
+/// The questions, of a device in a port.
 fn put_questions(log: &mut Vec<Event>) -> Result<(), Fail> {
     let device = Selector::Port(Name::read(b"usb1")?);
+    put_question(log, Query::Devices)?;
+    put_question(log, Query::Releases(device))?;
+    put_question(log, Query::Upgrades(device))?;
+    put_question(log, Query::History)?;
+    put_question(log, Query::Results(device))?;
+    put_question(log, Query::Settle(device))
+}
+
+/// Questions of a device that is named otherwise.
+fn put_questions_of_others(log: &mut Vec<Event>) -> Result<(), Fail> {
     let by_id = Selector::Id(device_id(b"gone", None));
     let by_guid = Selector::Guid(guid_of(b"2082B5E0-7A64-478A-B1B2-E3404FAB6DAD"));
-    for query in [
-        Query::Devices,
-        Query::Releases(device),
-        Query::Upgrades(device),
-        Query::History,
-        Query::Results(device),
-        Query::Settle(device),
-        Query::Results(by_id),
-        Query::Results(by_guid),
-    ] {
-        log.push(Event::Query { client: 1, query })?;
-    }
-    Ok(())
+    put_question(log, Query::Results(by_id))?;
+    put_question(log, Query::Results(by_guid))
 }
 
 /// What a client does, in the order of the report.
@@ -479,7 +525,8 @@ fn put_others(log: &mut Vec<Event>) -> Result<(), Fail> {
     put_unplugs(log)?;
     put_plugs(log)?;
     put_given_back(log)?;
-    put_questions(log)
+    put_questions(log)?;
+    put_questions_of_others(log)
 }
 
 fn put_events(alloc: Global, log: &mut Vec<Event>) -> Result<(), Fail> {

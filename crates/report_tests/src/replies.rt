@@ -185,26 +185,22 @@ fn prepare(scene: Scene, story: &mut Story) -> Result<bool, Fail> {
     }
 }
 
-/// Where what a client is told behind a text isn't what was meant.
-fn reply_differs_at(
-    alloc: Global,
-    story: &Story,
-    ask: Ask,
-    meant: &str,
-) -> Result<Option<usize>, Fail> {
+/// What a client is told behind a text.
+fn reply(alloc: Global, story: &Story, ask: Ask) -> Result<Vec<u8>, Fail> {
     // The check has to be shown each type that a question holds.
     let _named: Option<Selector> = None;
     let query = query(ask)?;
     let mut told = Vec::new(alloc);
     told.extend_from_slice(b"told: ")?;
     write_reply(story.facts(), story.state(), &query, &mut told)?;
-    let whole = format!(in alloc; "told: {meant}")?;
-    Ok(differs_at(&told, whole.as_bytes()))
+    Ok(told)
 }
 
 /// Whether that is told of the story.
 fn is_told(alloc: Global, story: &Story, ask: Ask, meant: &str) -> Result<bool, Fail> {
-    Ok(reply_differs_at(alloc, story, ask, meant)?.is_none())
+    let told = reply(alloc, story, ask)?;
+    let whole = format!(in alloc; "told: {meant}")?;
+    Ok(differs_at(&told, whole.as_bytes()).is_none())
 }
 
 /// Whether the scene is brought about with this machine, and that is told of it.

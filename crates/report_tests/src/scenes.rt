@@ -90,8 +90,8 @@ fn is_hindered(hub: Hub) -> bool {
 fn sheet(alloc: Global, port: &str, hub: Hub) -> Result<Sheet, Fail> {
     let name = Name::read(port.as_bytes())?;
     let plugin = Name::read(b"flash")?;
-    let guids = guids_of(alloc, hub)?;
     let line = Line::read(name_of(hub).as_bytes())?;
+    let guids = guids_of(alloc, hub)?;
     Ok(Sheet {
         port: name,
         device: device_id(port.as_bytes(), None),
@@ -142,19 +142,37 @@ fn release(alloc: Global, version: &str) -> Result<String, Fail> {
     Ok(format!(in alloc; "{{\"version\":\"{version}\",\"sha256\":\"{half}{half}\",\"size\":14}}")?)
 }
 
+fn put_release(alloc: Global, text: &mut String, version: &str) -> Result<(), Fail> {
+    let release = release(alloc, version)?;
+    text.push_str(&release)?;
+    Ok(())
+}
+
+/// So many newer releases, then the one that the hub runs and an older one.
+fn releases(alloc: Global, newer: u32) -> Result<String, Fail> {
+    let mut text = String::new(alloc);
+    for _ in 0..newer {
+        put_release(alloc, &mut text, "1.2.0")?;
+        text.push_str(",")?;
+    }
+    put_release(alloc, &mut text, "1.1.0")?;
+    text.push_str(",")?;
+    put_release(alloc, &mut text, "1.0.0")?;
+    Ok(text)
+}
+
+/// The text of the hub's catalogue, with these members beside.
+fn catalogue_text(alloc: Global, beside: &str, newer: u32) -> Result<String, Fail> {
+    let releases = releases(alloc, newer)?;
+    Ok(format!(in alloc;
+        "[{{\"id\":\"com.example.hub\",{beside}\"provides\":[\"2082b5e0-7a64-478a-b1b2-e3404fab6dad\"],\"releases\":[{releases}]}}]"
+    )?)
+}
+
 /// A catalogue of the hub with these members beside: so many newer releases, then the one that it runs
 /// and an older one.
 fn catalogue(alloc: Global, beside: &str, newer: u32) -> Result<Catalogue, Fail> {
-    let mut releases = String::new(alloc);
-    for _ in 0..newer {
-        releases.push_str(&release(alloc, "1.2.0")?)?;
-        releases.push_str(",")?;
-    }
-    let now = release(alloc, "1.1.0")?;
-    let older = release(alloc, "1.0.0")?;
-    let text = format!(in alloc;
-        "[{{\"id\":\"com.example.hub\",{beside}\"provides\":[\"2082b5e0-7a64-478a-b1b2-e3404fab6dad\"],\"releases\":[{releases}{now},{older}]}}]"
-    )?;
+    let text = catalogue_text(alloc, beside, newer)?;
     let value = Value::from_str(alloc, text.as_str())?;
     Ok(Catalogue::from_value(alloc, &value)?)
 }
@@ -184,10 +202,15 @@ fn facts(
     })
 }
 
+/// The tag of the row with that entry.
+fn tag_of(alloc: Global, entry: u32) -> Result<Name, Fail> {
+    let tag = format!(in alloc; "t{entry}")?;
+    Ok(Name::read(tag.as_bytes())?)
+}
+
 /// A row of the board in a port, from 1.0.0 to 1.1.0.
 fn row(alloc: Global, entry: u32, port: &str, state: RowState, reason: u8) -> Result<Row, Fail> {
-    let tag = format!(in alloc; "t{entry}")?;
-    let tag = Name::read(tag.as_bytes())?;
+    let tag = tag_of(alloc, entry)?;
     let component = Name::read(b"com.example.hub")?;
     let version_old = Version::read(b"1.0.0")?;
     let version_new = Version::read(b"1.1.0")?;
@@ -276,27 +299,41 @@ pub fn no_hub(alloc: Global) -> Result<Story, Fail> {
 const WORDS: &str =
     r#""custom":{"LVFS::VersionFormat":"triplet","LVFS::UpdateProtocol":"com.example.hub"},"#;
 
+/// A row that was put off, which tries the first one again.
+fn retried_row(alloc: Global) -> Result<Row, Fail> {
+    let protocol = Name::read(b"org.usb.dfu")?;
+    let mut row = row(alloc, 2, "usb1", RowState::Pending, 0)?;
+    row.duration = 30;
+    row.protocol = Some(protocol);
+    row.retry_of = Some(1);
+    Ok(row)
+}
+
+/// Rows of boards that the machine hasn't any more.
+const STRAYS: [(u32, &str, RowState); 2] = [
+    (3, "gone", RowState::Begun),
+    (4, "away", RowState::NeedsReboot),
+];
+
 fn hindered_rows(alloc: Global) -> Result<Vec<Row>, Fail> {
     let mut rows = Vec::new(alloc);
     put(&mut rows, &row(alloc, 1, "usb1", RowState::Failed, 4)?)?;
-    let mut second = row(alloc, 2, "usb1", RowState::Pending, 0)?;
-    second.duration = 30;
-    second.protocol = Some(Name::read(b"org.usb.dfu")?);
-    second.retry_of = Some(1);
-    put(&mut rows, &second)?;
-    put(&mut rows, &row(alloc, 3, "gone", RowState::Begun, 0)?)?;
-    put(&mut rows, &row(alloc, 4, "away", RowState::NeedsReboot, 0)?)?;
+    put(&mut rows, &retried_row(alloc)?)?;
+    for (entry, port, state) in &STRAYS {
+        put(&mut rows, &row(alloc, *entry, port, *state, 0)?)?;
+    }
     Ok(rows)
 }
+
+const HINDERED_HUBS: [(&str, Hub); 2] = [
+    ("usb1", Hub::Hindered("Hub of ports")),
+    ("usb2", Hub::Hindered("")),
+];
 
 /// A machine of which nothing is well, with two hubs: one runs 1.1.0, and one has no good image.
 pub fn hindered(alloc: Global) -> Result<Story, Fail> {
     let catalogue = catalogue(alloc, WORDS, 1)?;
-    let hubs = [
-        ("usb1", Hub::Hindered("Hub of ports")),
-        ("usb2", Hub::Hindered("")),
-    ];
-    let facts = facts(alloc, false, catalogue, &hubs)?;
+    let facts = facts(alloc, false, catalogue, &HINDERED_HUBS)?;
     let rows = hindered_rows(alloc)?;
     booted(alloc, facts, rows, &[0x0101_0000, 0])
 }

@@ -50,13 +50,20 @@ fn sink(alloc: Global, room: usize, failing: u32) -> Result<MemorySink, Fail> {
     Ok(MemorySink::new(alloc, room, calls)?)
 }
 
-/// A client asks each question, takes the hub out of its port, and asks again: whether it could.
-fn asks(story: &mut Story) -> Result<bool, Fail> {
+/// A client asks each question.
+fn asks_each(story: &mut Story) -> Result<(), Fail> {
     let hub = device_in("usb1")?;
     story.query(1, &Query::Devices)?;
     story.query(1, &Query::Releases(hub))?;
     story.query(1, &Query::Upgrades(hub))?;
     story.query(1, &Query::History)?;
+    Ok(())
+}
+
+/// Then it waits for the hub's row, takes the hub out of its port, and asks again: whether it could.
+fn asks(story: &mut Story) -> Result<bool, Fail> {
+    let hub = device_in("usb1")?;
+    asks_each(story)?;
     let settled = story.settle(1, &hub)?;
     story.unplug(1, &hub)?;
     story.query(1, &Query::Upgrades(hub))?;

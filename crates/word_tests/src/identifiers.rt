@@ -153,7 +153,7 @@ fn guids_of_texts(rt: HostRuntime) {
     }
 }
 
-const GUID: &str = "2082b5e0-7a64-478a-b1b2-e3404fab6dad";
+const OWN_GUID: &str = "2082b5e0-7a64-478a-b1b2-e3404fab6dad";
 
 /// Whether the GUID has that text and is the text's, and has the bytes that it is made of.
 fn is_its_own(guid: Guid, text: &[u8]) -> bool {
@@ -164,8 +164,8 @@ fn is_its_own(guid: Guid, text: &[u8]) -> bool {
 
 #[test]
 fn a_guid_is_its_own(rt: HostRuntime) -> Result<(), Fail> {
-    let guid = Guid::read(GUID.as_bytes()).ok_or("no GUID")?;
-    assert!(rt; is_its_own(guid, GUID.as_bytes()));
+    let guid = Guid::read(OWN_GUID.as_bytes()).ok_or("no GUID")?;
+    assert!(rt; is_its_own(guid, OWN_GUID.as_bytes()));
     assert_eq!(rt;
         Guid::read(b"2082B5E0-7a64-478A-B1B2-E3404FAB6DAD"),
         Some(guid)

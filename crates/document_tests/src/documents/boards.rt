@@ -1,5 +1,5 @@
 //! The boards.
-use super::{BOARD, Frame, note, wrong_rows};
+use super::{BOARD, Frame, told, wrong_rows};
 use std::alloc::Global;
 use std::test::Fail;
 
@@ -172,16 +172,23 @@ fn boards_behind_the_first(rt: HostRuntime) -> Result<(), Fail> {
     Ok(())
 }
 
+/// Puts a member behind the others, whose value is the port of that number.
+fn put_port(alloc: Global, boards: &mut String, member: &str, number: u64) -> Result<(), Fail> {
+    let port = format!(in alloc; ",\"{member}\":\"usb{number}\"")?;
+    boards.push_str(port.as_str())?;
+    Ok(())
+}
+
 /// A board with the port of that number, attached to the one before it or to none.
 fn one_more(alloc: Global, boards: &mut String, number: u64, chained: bool) -> Result<(), Fail> {
-    let parent = number.saturating_sub(1);
     boards.push_str(
         r#",{"physical":"p","plugin":"flash","instance-ids":["a"],"version-format":"plain","image":"""#,
     )?;
     if chained {
-        boards.push_str(format!(in alloc; r#","parent":"usb{parent}""#)?.as_str())?;
+        put_port(alloc, boards, "parent", number.saturating_sub(1))?;
     }
-    boards.push_str(format!(in alloc; r#","port":"usb{number}"}}"#)?.as_str())?;
+    put_port(alloc, boards, "port", number)?;
+    boards.push_str("}")?;
     Ok(())
 }
 
@@ -193,21 +200,22 @@ fn with_boards(alloc: Global, more: u64, chained: bool) -> Result<String, Fail> 
     super::framed(alloc, MORE, boards.as_str())
 }
 
+/// How many boards there are more, whether they are chained, and what is told.
+const CHAINS: [(u64, bool, &str); 5] = [
+    (8, true, "read"),
+    (9, true, "boards 9 0 0 parent: bad-reference"),
+    (20, true, "boards 9 0 0 parent: bad-reference"),
+    (255, false, "read"),
+    (256, false, "document 0 0 0 boards: too-many"),
+];
+
 /// A board stands at most eight boards under the first of its chain.
 #[test]
 fn chains_of_boards(rt: HostRuntime) -> Result<(), Fail> {
-    let alloc = rt.alloc();
-    let mut wrong = String::new(alloc);
-    for (more, chained, want) in [
-        (8, true, "read"),
-        (9, true, "boards 9 0 0 parent: bad-reference"),
-        (20, true, "boards 9 0 0 parent: bad-reference"),
-        (255, false, "read"),
-        (256, false, "document 0 0 0 boards: too-many"),
-    ] {
-        let text = with_boards(alloc, more, chained)?;
-        note(alloc, &mut wrong, text.as_str(), want, want)?;
+    for (more, chained, want) in &CHAINS {
+        let text = with_boards(rt.alloc(), *more, *chained)?;
+        let answer = told(rt.alloc(), text.as_bytes())?;
+        assert_eq!(rt; answer.as_str(), *want, "{more} more");
     }
-    assert_eq!(rt; wrong.as_str(), "");
     Ok(())
 }

@@ -1,5 +1,5 @@
 //! How long lists and texts may be.
-use super::{BOARD, Frame, MACHINE, SECTION, framed, note};
+use super::{BOARD, Frame, MACHINE, SECTION, framed, note, told};
 use std::alloc::Global;
 use std::test::Fail;
 
@@ -98,18 +98,20 @@ fn wrong_texts(
     Ok(wrong)
 }
 
+const MACHINE_LISTS: &[(&str, &str)] = &[("\"hardware\":[", "machine 0 0 0 hardware: too-many")];
+
 #[test]
 fn the_list_of_the_machine(rt: HostRuntime) -> Result<(), Fail> {
-    let lists = [("\"hardware\":[", "machine 0 0 0 hardware: too-many")];
-    let wrong = wrong_lists(rt.alloc(), MACHINE, &lists)?;
+    let wrong = wrong_lists(rt.alloc(), MACHINE, MACHINE_LISTS)?;
     assert_eq!(rt; wrong.as_str(), "");
     Ok(())
 }
 
+const DAEMON: &[(&str, u32, &str)] = &[("\"daemon\":\"", 64, "machine 0 0 0 daemon: bad-version")];
+
 #[test]
 fn the_version_of_the_daemon(rt: HostRuntime) -> Result<(), Fail> {
-    let texts = [("\"daemon\":\"", 64, "machine 0 0 0 daemon: bad-version")];
-    let wrong = wrong_texts(rt.alloc(), MACHINE, &texts)?;
+    let wrong = wrong_texts(rt.alloc(), MACHINE, DAEMON)?;
     assert_eq!(rt; wrong.as_str(), "");
     Ok(())
 }
@@ -120,10 +122,11 @@ const SKU: Frame = Frame {
     back: "}",
 };
 
+const SKU_TEXT: &[(&str, u32, &str)] = &[("\"sku\":\"", 255, "machine 0 0 0 smbios: wrong-kind")];
+
 #[test]
 fn texts_of_the_firmware(rt: HostRuntime) -> Result<(), Fail> {
-    let texts = [("\"sku\":\"", 255, "machine 0 0 0 smbios: wrong-kind")];
-    let wrong = wrong_texts(rt.alloc(), SKU, &texts)?;
+    let wrong = wrong_texts(rt.alloc(), SKU, SKU_TEXT)?;
     assert_eq!(rt; wrong.as_str(), "");
     Ok(())
 }
@@ -181,20 +184,24 @@ const SECTIONS: &[(&str, u32, &str)] = &[
     ("\"boots\":[", 33, "document 0 0 0 boots: too-many"),
 ];
 
+/// A section of so many faulty entries.
+fn section_of(front: &'static str, count: u32, fault: &'static str) -> Limit {
+    Limit {
+        front,
+        part: "3",
+        between: ",",
+        back: "]",
+        most: count,
+        fault,
+    }
+}
+
 #[test]
 fn the_count_stands_before_the_entries(rt: HostRuntime) -> Result<(), Fail> {
-    let alloc = rt.alloc();
-    let mut wrong = String::new(alloc);
+    let mut wrong = String::new(rt.alloc());
     for (front, count, fault) in SECTIONS {
-        let section = Limit {
-            front,
-            part: "3",
-            between: ",",
-            back: "]",
-            most: *count,
-            fault,
-        };
-        note_parts(alloc, &mut wrong, SECTION, section, *count, fault)?;
+        let section = section_of(front, *count, fault);
+        note_parts(rt.alloc(), &mut wrong, SECTION, section, *count, fault)?;
     }
     assert_eq!(rt; wrong.as_str(), "");
     Ok(())
@@ -252,39 +259,54 @@ const PLAN: Frame = Frame {
     back: "]",
 };
 
+/// A frame, whether planned faults stand in it, how many entries there are, and what is told.
+type EntryLimit = (Frame, bool, u32, &'static str);
+
+const ENTRIES: [EntryLimit; 4] = [
+    (IDS, false, 64, "read"),
+    (IDS, false, 65, "machine 0 0 0 ids: too-many"),
+    (PLAN, true, 64, "read"),
+    (PLAN, true, 65, "boards 0 0 0 faults: too-many"),
+];
+
+/// What is told of so many entries.
+fn told_of_numbers(alloc: Global, row: &EntryLimit) -> Result<String, Fail> {
+    let (frame, planned, count, _) = *row;
+    let parts = all_numbered(alloc, planned, count)?;
+    let text = framed(alloc, frame, parts.as_str())?;
+    told(alloc, text.as_bytes())
+}
+
 #[test]
 fn limits_of_entries_that_differ(rt: HostRuntime) -> Result<(), Fail> {
-    let alloc = rt.alloc();
-    let mut wrong = String::new(alloc);
-    for (frame, planned, count, want) in [
-        (IDS, false, 64, "read"),
-        (IDS, false, 65, "machine 0 0 0 ids: too-many"),
-        (PLAN, true, 64, "read"),
-        (PLAN, true, 65, "boards 0 0 0 faults: too-many"),
-    ] {
-        let parts = all_numbered(alloc, planned, count)?;
-        let text = framed(alloc, frame, parts.as_str())?;
-        note(alloc, &mut wrong, text.as_str(), want, want)?;
+    for row in &ENTRIES {
+        let told = told_of_numbers(rt.alloc(), row)?;
+        assert_eq!(rt; told.as_str(), row.3);
     }
-    assert_eq!(rt; wrong.as_str(), "");
     Ok(())
 }
 
-/// The whole object is the first level, and 127 levels are read.
+/// How many lists stand in one another, and what is told. The whole object is the first level, and 127
+/// levels are read.
+const DEPTHS: [(u32, &str); 3] = [
+    (126, "read"),
+    (127, "document 0 0 0 text: not-json"),
+    (128, "document 0 0 0 text: not-json"),
+];
+
+/// What is told of so many lists in one another.
+fn told_of_nested(alloc: Global, depth: u32) -> Result<String, Fail> {
+    let nested = nested(alloc, depth)?;
+    let text = framed(alloc, SECTION, nested.as_str())?;
+    told(alloc, text.as_bytes())
+}
+
 #[test]
 fn nested_lists(rt: HostRuntime) -> Result<(), Fail> {
-    let alloc = rt.alloc();
-    let mut wrong = String::new(alloc);
-    for (depth, want) in [
-        (126, "read"),
-        (127, "document 0 0 0 text: not-json"),
-        (128, "document 0 0 0 text: not-json"),
-    ] {
-        let nested = nested(alloc, depth)?;
-        let text = framed(alloc, SECTION, nested.as_str())?;
-        note(alloc, &mut wrong, text.as_str(), want, want)?;
+    for (depth, want) in &DEPTHS {
+        let told = told_of_nested(rt.alloc(), *depth)?;
+        assert_eq!(rt; told.as_str(), *want, "{depth} lists");
     }
-    assert_eq!(rt; wrong.as_str(), "");
     Ok(())
 }
 

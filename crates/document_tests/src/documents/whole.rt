@@ -21,11 +21,10 @@ const TEXTS: &[&str] = &[
 
 #[test]
 fn whole_texts(rt: HostRuntime) -> Result<(), Fail> {
-    let alloc = rt.alloc();
-    let mut wrong = String::new(alloc);
+    let mut wrong = String::new(rt.alloc());
     for row in TEXTS {
         let (text, want) = row.split_once(" => ").unwrap_or((row, ""));
-        note(alloc, &mut wrong, text, text, want)?;
+        note(rt.alloc(), &mut wrong, text, text, want)?;
     }
     assert_eq!(rt; wrong.as_str(), "");
     Ok(())
@@ -38,19 +37,14 @@ fn bytes_that_are_no_text(rt: HostRuntime) -> Result<(), Fail> {
     Ok(())
 }
 
+const NOT_JSON: &str = "document 0 0 0 text: not-json";
+
 #[test]
 fn each_front_of_a_document_is_no_json(rt: HostRuntime) -> Result<(), Fail> {
-    let alloc = rt.alloc();
-    let mut wrong = String::new(alloc);
+    let mut wrong = String::new(rt.alloc());
     for (end, _) in BASE.char_indices() {
         let (front, _) = BASE.split_at_checked(end).unwrap_or(("{}", ""));
-        note(
-            alloc,
-            &mut wrong,
-            front,
-            front,
-            "document 0 0 0 text: not-json",
-        )?;
+        note(rt.alloc(), &mut wrong, front, front, NOT_JSON)?;
     }
     assert_eq!(rt; wrong.as_str(), "");
     Ok(())

@@ -3,6 +3,18 @@ use super::{Section, joined, told_of_boots, told_of_clients};
 use std::alloc::Global;
 use std::test::Fail;
 
+/// So many equal entries.
+fn list_of(alloc: Global, entry: &str, count: u32) -> Result<String, Fail> {
+    let mut list = String::new(alloc);
+    for i in 0..count {
+        if 0 < i {
+            list.push_str(",")?;
+        }
+        list.push_str(entry)?;
+    }
+    Ok(list)
+}
+
 /// What is told of a list of so many equal entries, between two texts.
 fn told_of(
     alloc: Global,
@@ -11,13 +23,7 @@ fn told_of(
     entry: &str,
     count: u32,
 ) -> Result<String, Fail> {
-    let mut list = String::new(alloc);
-    for i in 0..count {
-        if 0 < i {
-            list.push_str(",")?;
-        }
-        list.push_str(entry)?;
-    }
+    let list = list_of(alloc, entry, count)?;
     let text = joined(alloc, &[between.0, list.as_str(), between.1])?;
     match section {
         Section::Clients => told_of_clients(alloc, text.as_str()),
@@ -43,6 +49,12 @@ fn lists_of_clients(rt: HostRuntime) -> Result<(), Fail> {
     let alloc = rt.alloc();
     let clients = told_of_both(alloc, Section::Clients, ("[", "]"), "{}", 16)?;
     assert_eq!(rt; clients.as_str(), "read; document 0 0 0 clients: too-many");
+    Ok(())
+}
+
+#[test]
+fn lists_of_features(rt: HostRuntime) -> Result<(), Fail> {
+    let alloc = rt.alloc();
     let between = (r#"[{"features":["#, "]}]");
     let features = told_of_both(alloc, Section::Clients, between, r#""a""#, 64)?;
     assert_eq!(rt; features.as_str(), "read; clients 0 0 0 features: too-many");
@@ -80,18 +92,20 @@ fn items_of_all_boots(rt: HostRuntime) -> Result<(), Fail> {
     Ok(())
 }
 
+/// What stands behind 8192 items, and what is told.
+const LAST: [(&str, &str); 2] = [
+    (r#",{}]]}]"#, "boots 0 0 8192 do: too-many"),
+    (r#",3]]}]"#, "boots 0 0 8192 entry: wrong-kind"),
+];
+
 /// The item that is one too many is told before what is wrong with its `do`, but not before it is
 /// known to be an object.
 #[test]
 fn the_item_that_is_one_too_many(rt: HostRuntime) -> Result<(), Fail> {
-    let alloc = rt.alloc();
-    for (last, want) in [
-        (r#",{}]]}]"#, "boots 0 0 8192 do: too-many"),
-        (r#",3]]}]"#, "boots 0 0 8192 entry: wrong-kind"),
-    ] {
-        let between = (r#"[{"time":0,"scripts":[["#, last);
-        let told = told_of(alloc, Section::Boots, between, ASK, 8192)?;
-        assert_eq!(rt; told.as_str(), want);
+    for (last, want) in &LAST {
+        let between = (r#"[{"time":0,"scripts":[["#, *last);
+        let told = told_of(rt.alloc(), Section::Boots, between, ASK, 8192)?;
+        assert_eq!(rt; told.as_str(), *want);
     }
     Ok(())
 }
