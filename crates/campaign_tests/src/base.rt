@@ -1,5 +1,5 @@
 //! One document, and what a run of it leaves once some pieces of it are changed.
-ghost use Rattle.std.specs.Prelude.{◌≡◌, None};
+ghost use Rattle.std.specs.Prelude.{◌≡◌, IfOk, None, length};
 ghost use Rattle.history_sqlite.specs.Keeping.{doubtful};
 
 use crate::meeting::{Doors, Meeting, NOBODY, Pair, WaitingShelf};
@@ -112,9 +112,10 @@ pub(crate) const WELL: Outside = Outside {
 /// All files in memory, of which such calls fail.
 fn files(alloc: Global, failing: &[u32]) -> Result<MemoryShelf, Fail> {
     let mut files: Vec<(Digest, Vec<u8>)> = Vec::new(alloc);
-    for (name, text) in FILES {
+    for (name, text) in &FILES {
         if let Some(digest) = read_digest(name.as_bytes()) {
-            files.push((digest, text.as_bytes().to_vec(alloc)?))?;
+            let bytes = text.as_bytes().to_vec(alloc)?;
+            files.push((digest, bytes))?;
         }
     }
     Ok(MemoryShelf::new(files, failing.to_vec(alloc)?))
@@ -241,14 +242,46 @@ fn left_by<K: Drop>(
         marks: _,
         shelves: _,
     } = ran;
+    let status = format!(in alloc; "{status}")?;
+    let report = sink.bytes().to_vec(alloc)?;
+    let begun = all_begun(alloc, &boards)?;
     let left = Left {
-        status: format!(in alloc; "{status}")?,
-        report: sink.bytes().to_vec(alloc)?,
+        status,
+        report,
         events: log.items().len(),
-        begun: all_begun(alloc, &boards)?,
+        begun,
         met: meeting.was_kept(),
     };
     Ok((left, keeper))
+}
+
+/// A source of a document, of which such calls fail.
+fn source(alloc: Global, document: &str, failing: &[u32]) -> Result<MemorySource, Fail> {
+    let bytes = document.as_bytes().to_vec(alloc)?;
+    let failing = failing.to_vec(alloc)?;
+    Ok(MemorySource::new(bytes, 4096, failing))
+}
+
+/// A sink with room for a report, of which such calls fail.
+fn sink(alloc: Global, failing: &[u32]) -> Result<MemorySink, Fail> {
+    let failing = failing.to_vec(alloc)?;
+    Ok(MemorySink::new(alloc, 1_048_576, failing)?)
+}
+
+/// The two plugins with these rules.
+fn plugins(
+    alloc: Global,
+    rules: &[Rules; 2],
+    meeting: &Arc<Meeting, Global>,
+) -> Result<Vec<Box<dyn Plugin>>, Fail>
+    ensures { IfOk result (λ plugins. length plugins.items ≡ 2) }
+{
+    let first = Named::new(alloc, &rules[0], meeting)?;
+    let second = Named::new(alloc, &rules[1], meeting)?;
+    let mut plugins: Vec<Box<dyn Plugin>> = Vec::new(alloc);
+    plugins.push(Box::new(alloc, first)?)?;
+    plugins.push(Box::new(alloc, second)?)?;
+    Ok(plugins)
 }
 
 /// Runs the campaign of a document. The keeper comes back.
@@ -267,12 +300,9 @@ fn campaign<R: Threads + Wait + Sync, K: Keeper + Send + Drop>(
         meeting,
         pair: outside.pair,
     };
-    let bytes = document.as_bytes().to_vec(alloc)?;
-    let mut source = MemorySource::new(bytes, 4096, outside.source.to_vec(alloc)?);
-    let mut sink = MemorySink::new(alloc, 1_048_576, outside.sink.to_vec(alloc)?)?;
-    let mut plugins: Vec<Box<dyn Plugin>> = Vec::new(alloc);
-    plugins.push(Box::new(alloc, Named::new(alloc, &outside.rules[0], meeting)?)?)?;
-    plugins.push(Box::new(alloc, Named::new(alloc, &outside.rules[1], meeting)?)?)?;
+    let mut source = source(alloc, document, outside.source)?;
+    let mut sink = sink(alloc, outside.sink)?;
+    let plugins = plugins(alloc, &outside.rules, meeting)?;
     let ran = run_campaign(
         rt,
         alloc,

@@ -17,20 +17,38 @@ use version_formats::Version;
 /// An entry, and the number in its tag.
 pub(crate) type Past = (u32, u32);
 
+/// The texts of a row but for its tag.
+#[derive(Clone, Copy)]
+struct Texts {
+    component: Name,
+    version_old: Version,
+    version_new: Version,
+}
+
+fn read_texts() -> Result<Texts, Fail> {
+    Ok(Texts {
+        component: Name::read(b"com.example.hub")?,
+        version_old: Version::read(b"1.0.0")?,
+        version_new: Version::read(b"1.1.0")?,
+    })
+}
+
 /// A row of a device that no board has.
 fn row(alloc: Global, entry: u32, tag: u32) -> Result<Row, Fail>
     ensures added { IfOk result (λ row. row.time_added ≡ 10) }
     ensures changed { IfOk result (λ row. row.time_changed ≡ 20) }
 {
-    let tag = format!(in alloc; "old{tag}")?;
+    let text = format!(in alloc; "old{tag}")?;
+    let tag = Name::read(text.as_bytes())?;
+    let texts = read_texts()?;
     Ok(Row {
         entry,
-        tag: Name::read(tag.as_bytes())?,
+        tag,
         client: 1,
         device: device_id(b"elsewhere", None),
-        component: Name::read(b"com.example.hub")?,
-        version_old: Version::read(b"1.0.0")?,
-        version_new: Version::read(b"1.1.0")?,
+        component: texts.component,
+        version_old: texts.version_old,
+        version_new: texts.version_new,
         digest: [0; 32],
         flags: 0,
         state: RowState::Success,

@@ -103,6 +103,29 @@ fn items(alloc: Global, dice: &mut Dice) -> Result<String, Fail> {
     Ok(items)
 }
 
+/// A boot of this number, whose scripts have no items yet.
+fn empty_boot(alloc: Global, dice: &mut Dice, number: u32) -> Result<String, Fail> {
+    let time = format!(in alloc; "1{number}000")?;
+    let plan = [
+        ("LIMIT", dice.pick(&LIMITS)),
+        ("ABSENT", dice.pick(&ABSENT)),
+    ];
+    let planned = changed(alloc, BOOT, &plan)?;
+    with(alloc, &planned, "TIME", &time)
+}
+
+const SCRIPTS: [&str; 3] = ["ITEMS1", "ITEMS2", "ITEMS3"];
+
+/// A boot of this number.
+fn boot(alloc: Global, dice: &mut Dice, number: u32) -> Result<String, Fail> {
+    let mut boot = empty_boot(alloc, dice, number)?;
+    for script in &SCRIPTS {
+        let items = items(alloc, dice)?;
+        boot = with(alloc, &boot, *script, &items)?;
+    }
+    Ok(boot)
+}
+
 /// A few boots, with commas between them.
 fn boots(alloc: Global, dice: &mut Dice) -> Result<String, Fail> {
     let mut boots = String::new(alloc);
@@ -110,15 +133,7 @@ fn boots(alloc: Global, dice: &mut Dice) -> Result<String, Fail> {
         if number > 0 {
             boots.push_str(",")?;
         }
-        let time = format!(in alloc; "1{number}000")?;
-        let plan = [
-            ("LIMIT", dice.pick(&LIMITS)),
-            ("ABSENT", dice.pick(&ABSENT)),
-        ];
-        let mut boot = with(alloc, &changed(alloc, BOOT, &plan)?, "TIME", &time)?;
-        for script in ["ITEMS1", "ITEMS2", "ITEMS3"] {
-            boot = with(alloc, &boot, script, &items(alloc, dice)?)?;
-        }
+        let boot = boot(alloc, dice, number)?;
         boots.push_str(&boot)?;
     }
     Ok(boots)
@@ -134,13 +149,22 @@ fn board(alloc: Global, dice: &mut Dice, port: &str) -> Result<String, Fail> {
     changed(alloc, BOARD, &changes)
 }
 
+const LATER_PORTS: [&str; 2] = ["b2", "b3"];
+
+/// Three boards, with commas between them.
+fn boards(alloc: Global, dice: &mut Dice) -> Result<String, Fail> {
+    let mut boards = board(alloc, dice, "b1")?;
+    for port in &LATER_PORTS {
+        let board = board(alloc, dice, *port)?;
+        boards.push_str(",")?;
+        boards.push_str(&board)?;
+    }
+    Ok(boards)
+}
+
 /// A document with three boards and three clients.
 fn site(alloc: Global, dice: &mut Dice) -> Result<String, Fail> {
-    let mut boards = board(alloc, dice, "b1")?;
-    for port in ["b2", "b3"] {
-        boards.push_str(",")?;
-        boards.push_str(&board(alloc, dice, port)?)?;
-    }
+    let boards = boards(alloc, dice)?;
     let boots = boots(alloc, dice)?;
     let text = with(alloc, SITE, "POOL", dice.pick(&POOLS))?;
     let text = with(alloc, &text, "BOARDS", &boards)?;

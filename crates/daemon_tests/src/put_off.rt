@@ -1,14 +1,12 @@
 //! The daemon's own turns over a history with a row that was put off and one that was begun.
 use crate::noted::{Noted, RowEnd, Verdict, noted_log, row_ends};
 use crate::own_day::{Evening, Tasks, own_day};
-use crate::scenes::{NEW, boards, booted, facts, shelf};
-use board_plugins::Flash;
+use crate::scenes::{NEW, boards, booted, facts, plugins, shelf};
 use fw_base::Name;
 use fw_facts::{Mode, Seen};
 use guid_ids::device_id;
 use history_keeper::{MemoryKeeper, Row, RowState};
 use outer_traits::NoGate;
-use plugin_trait::Plugin;
 use sha2::{Digest as _, Sha256};
 use std::alloc::Global;
 use std::process::Abort;
@@ -38,14 +36,17 @@ const STEPS: [(Op, Seen); 4] = [
 
 /// The row of an install of a version on the board in a port.
 fn row(entry: u32, port: &str, version: &str, flags: u8, state: RowState) -> Result<Row, Fail> {
+    let name = Name::read(port.as_bytes())?;
+    let version_old = Version::read(b"0.9.0")?;
+    let version_new = Version::read(version.as_bytes())?;
     Ok(Row {
         entry,
-        tag: Name::read(port.as_bytes())?,
+        tag: name,
         client: 1,
         device: device_id(port.as_bytes(), None),
-        component: Name::read(port.as_bytes())?,
-        version_old: Version::read(b"0.9.0")?,
-        version_new: Version::read(version.as_bytes())?,
+        component: name,
+        version_old,
+        version_new,
         digest: Sha256::digest(NEW),
         flags,
         state,
@@ -67,9 +68,27 @@ fn put(rows: &mut Vec<Row>, row: &Row) -> Result<(), Fail> {
 /// The first board's install was put off, and the second board's was begun, of that version.
 fn rows(alloc: Global, begun: &str) -> Result<Vec<Row>, Fail> {
     let mut rows = Vec::new(alloc);
-    put(&mut rows, &row(1, "usb1", "1.1.0", 1, RowState::Pending)?)?;
-    put(&mut rows, &row(2, "usb2", begun, 0, RowState::Begun)?)?;
+    let first = row(1, "usb1", "1.1.0", 1, RowState::Pending)?;
+    let second = row(2, "usb2", begun, 0, RowState::Begun)?;
+    put(&mut rows, &first)?;
+    put(&mut rows, &second)?;
     Ok(rows)
+}
+
+/// What these tasks come to over these rows.
+fn evening_of<R: Abort + Wait>(
+    rt: &R,
+    alloc: Global,
+    begun: &str,
+    tasks: &Tasks<NoGate>,
+) -> Result<Evening<MemoryKeeper>, Fail> {
+    let facts = facts(alloc, false, 1)?;
+    let boards = boards(alloc)?;
+    let mut shelf = shelf(alloc)?;
+    let rows = rows(alloc, begun)?;
+    let keeper = MemoryKeeper::new(rows, Vec::new(alloc));
+    let house = booted(rt, alloc, facts, boards, keeper);
+    Ok(own_day(rt, alloc, house, &mut shelf, tasks))
 }
 
 /// A day over these rows.
@@ -78,58 +97,70 @@ fn evening<R: Abort + Wait>(
     alloc: Global,
     begun: &str,
 ) -> Result<Evening<MemoryKeeper>, Fail> {
-    let facts = facts(alloc, false, 1)?;
-    let boards = boards(alloc)?;
-    let mut plugins: Vec<Box<dyn Plugin>> = Vec::new(alloc);
-    plugins.push(Box::new(alloc, Flash::new(alloc)?)?)?;
-    let mut shelf = shelf(alloc)?;
-    let keeper = MemoryKeeper::new(rows(alloc, begun)?, Vec::new(alloc));
-    let house = booted(rt, alloc, facts, boards, keeper);
+    let plugins = plugins(alloc)?;
     let tasks = Tasks {
         put_off: 1,
         begun: 2,
         plugins: plugins.as_slice(),
         gate: &NoGate,
     };
-    Ok(own_day(rt, alloc, house, &mut shelf, &tasks))
+    evening_of(rt, alloc, begun, &tasks)
+}
+
+/// The events of the boot, and of the first board's install until its steps.
+const BEFORE_STEPS: [Noted; 3] = [
+    Noted::Boot {
+        boot: 1,
+        found: Found::Plain,
+    },
+    Noted::Held {
+        entry: 1,
+        blocks: 1,
+    },
+    Noted::Begun {
+        entry: 1,
+        len: 14,
+        raw: 0x0101_0000,
+        stored: Stored::Yes,
+    },
+];
+
+const FINISHED: Noted = Noted::Finished {
+    entry: 1,
+    state: RowState::Success,
+    stored: Stored::Yes,
+};
+
+/// The events of one step.
+fn push_step(all: &mut Vec<Noted>, op: Op, seen: Seen) -> Result<(), Fail> {
+    all.push(Noted::Started { entry: 1, op })?;
+    all.push(Noted::Ended {
+        entry: 1,
+        op,
+        outcome: Ok(()),
+        seen,
+    })?;
+    Ok(())
+}
+
+/// How the second board's row is judged.
+fn judged_second(judged: RowState) -> Result<Noted, Fail> {
+    Ok(Noted::Judged {
+        entry: 2,
+        version: Version::read(b"1.0.0")?,
+        state: judged,
+        stored: Stored::Yes,
+    })
 }
 
 /// What the log of such a day tells, where the second board's row ends in that state.
 fn events(alloc: Global, judged: RowState) -> Result<Vec<Noted>, Fail> {
-    let stored = Stored::Yes;
-    let entry = 1;
-    let mut all = Vec::new(alloc);
-    all.push(Noted::Boot {
-        boot: 1,
-        found: Found::Plain,
-    })?;
-    all.push(Noted::Held { entry, blocks: 1 })?;
-    all.push(Noted::Begun {
-        entry,
-        len: 14,
-        raw: 0x0101_0000,
-        stored,
-    })?;
-    for (op, seen) in STEPS {
-        all.push(Noted::Started { entry, op })?;
-        all.push(Noted::Ended {
-            entry,
-            op,
-            outcome: Ok(()),
-            seen,
-        })?;
+    let mut all = Vec::from_slice(alloc, &BEFORE_STEPS)?;
+    for (op, seen) in &STEPS {
+        push_step(&mut all, *op, *seen)?;
     }
-    all.push(Noted::Finished {
-        entry,
-        state: RowState::Success,
-        stored,
-    })?;
-    all.push(Noted::Judged {
-        entry: 2,
-        version: Version::read(b"1.0.0")?,
-        state: judged,
-        stored,
-    })?;
+    all.push(FINISHED)?;
+    all.push(judged_second(judged)?)?;
     Ok(all)
 }
 
@@ -144,36 +175,42 @@ fn ended(entry: u32, state: RowState) -> RowEnd {
     }
 }
 
+/// Whether the day tells these verdicts: the first install went well, the second row was judged so, and the row that
+/// was finished needs no judgement.
+fn has_verdicts(evening: &Evening<MemoryKeeper>, state: RowState) -> bool {
+    let judged = Verdict::Done {
+        state,
+        stored: Stored::Yes,
+    };
+    evening.answers.finished.state == RowState::Success
+        && Verdict::of(&evening.answers.judged) == judged
+        && Verdict::of(&evening.answers.again) == Verdict::Settled
+}
+
+/// Whether the log and the rows of the day are those in which the second row ended so.
+fn has_told(alloc: Global, evening: &Evening<MemoryKeeper>, state: RowState) -> Result<bool, Fail> {
+    let log = noted_log(alloc, evening.log.items())?;
+    let events = events(alloc, state)?;
+    let ends = row_ends(alloc, evening.keeper.rows())?;
+    let wanted = [ended(1, RowState::Success), ended(2, state)];
+    Ok(log.as_slice() == events.as_slice() && ends.as_slice() == wanted.as_slice())
+}
+
 /// The daemon asks for the install that was put off, fetches, resumes and runs it, and judges the row that
-/// was begun by the version that its device shows. The row that was finished needs no judgement.
+/// was begun by the version that its device shows.
 #[test]
 fn an_install_put_off_is_resumed_and_one_begun_is_judged(rt: HostRuntime) -> Result<(), Fail> {
-    let alloc = rt.alloc();
-    for (begun, state) in [("1.0.0", RowState::Success), ("1.1.0", RowState::Failed)] {
-        let evening = evening(&rt, alloc, begun)?;
-        let answers = evening.answers;
-        assert_eq!(rt; answers.finished.state, RowState::Success, "of {begun}");
-        assert_eq!(rt;
-            Verdict::of(&answers.judged),
-            Verdict::Done {
-                state,
-                stored: Stored::Yes
-            },
-            "of {begun}"
-        );
-        assert_eq!(rt; Verdict::of(&answers.again), Verdict::Settled, "of {begun}");
-        let events = events(alloc, state)?;
-        assert_eq!(rt;
-            noted_log(alloc, evening.log.items())?.as_slice(),
-            events.as_slice(),
-            "of {begun}"
-        );
-        let ends = [ended(1, RowState::Success), ended(2, state)];
-        assert_eq!(rt;
-            row_ends(alloc, evening.keeper.rows())?.as_slice(),
-            ends.as_slice(),
-            "of {begun}"
-        );
-    }
+    let evening = evening(&rt, rt.alloc(), "1.0.0")?;
+    assert!(rt; has_verdicts(&evening, RowState::Success));
+    assert!(rt; has_told(rt.alloc(), &evening, RowState::Success)?);
+    Ok(())
+}
+
+/// A row of another version than its device shows has failed.
+#[test]
+fn an_install_begun_of_another_version_has_failed(rt: HostRuntime) -> Result<(), Fail> {
+    let evening = evening(&rt, rt.alloc(), "1.1.0")?;
+    assert!(rt; has_verdicts(&evening, RowState::Failed));
+    assert!(rt; has_told(rt.alloc(), &evening, RowState::Failed)?);
     Ok(())
 }

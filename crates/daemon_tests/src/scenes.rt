@@ -14,7 +14,7 @@ use device_list::Selector;
 use emulated_boards::Board;
 use fw_base::{Line, Listed, Name};
 use fw_facts::{Component, DeviceFlag, DeviceFlags, MachineFacts, Release, Requirement, Sheet};
-use guid_ids::{device_id, guid_of};
+use guid_ids::{Guid, device_id, guid_of};
 use history_keeper::{Keeper, MemoryKeeper};
 use outer_traits::{Gate, MemoryShelf};
 use plugin_trait::Plugin;
@@ -45,24 +45,44 @@ pub struct Scene {
     pub second: &'static str,
 }
 
-fn sheet(alloc: Global, port: &str, parent: Option<&str>) -> Result<Sheet, Fail> {
-    let name = Name::read(port.as_bytes())?;
-    let plugin = Name::read(b"flash")?;
+/// The names on a sheet.
+#[derive(Clone, Copy)]
+struct Names {
+    port: Name,
+    plugin: Name,
+    parent: Option<Name>,
+}
+
+fn read_names(port: &str, parent: Option<&str>) -> Result<Names, Fail> {
     let parent = match parent {
         Some(parent) => Some(Name::read(parent.as_bytes())?),
         None => None,
     };
-    let mut runtime_guids = Vec::new(alloc);
-    runtime_guids.push(guid_of(port.as_bytes()))?;
+    Ok(Names {
+        port: Name::read(port.as_bytes())?,
+        plugin: Name::read(b"flash")?,
+        parent,
+    })
+}
+
+fn one_guid(alloc: Global, port: &str) -> Result<Listed<Guid>, Fail> {
+    let mut guids = Vec::new(alloc);
+    guids.push(guid_of(port.as_bytes()))?;
+    Ok(Listed::of(guids))
+}
+
+fn sheet(alloc: Global, port: &str, parent: Option<&str>) -> Result<Sheet, Fail> {
+    let names = read_names(port, parent)?;
+    let runtime_guids = one_guid(alloc, port)?;
     Ok(Sheet {
-        port: name,
+        port: names.port,
         device: device_id(port.as_bytes(), None),
         priority: 0,
-        plugin,
+        plugin: names.plugin,
         name: Line::empty(),
         vendor: Line::empty(),
         vendor_ids: Listed::of(Vec::new(alloc)),
-        runtime_guids: Listed::of(runtime_guids),
+        runtime_guids,
         loader_guids: Listed::of(Vec::new(alloc)),
         counterparts: Listed::of(Vec::new(alloc)),
         flags: DeviceFlags::empty().with(DeviceFlag::Updatable),
@@ -72,7 +92,7 @@ fn sheet(alloc: Global, port: &str, parent: Option<&str>) -> Result<Sheet, Fail>
         size_min: 0,
         size_max: 4_194_304,
         duration: 0,
-        parent,
+        parent: names.parent,
         unreachable: false,
         power_low: false,
         lid: false,
@@ -108,13 +128,12 @@ fn component(alloc: Global, port: &str, requirements: Vec<Requirement>) -> Resul
     ensures requirements { IfOk result (λ c. c.requirements ≡ requirements.items) }
 {
     let id = Name::read(port.as_bytes())?;
-    let mut provides = Vec::new(alloc);
-    provides.push(guid_of(port.as_bytes()))?;
+    let provides = one_guid(alloc, port)?;
     let releases = releases(alloc)?;
     Ok(Component {
         id,
         name: Line::empty(),
-        provides: Listed::of(provides),
+        provides,
         requirements: Listed::of(requirements),
         format: None,
         protocol: None,
@@ -145,16 +164,23 @@ fn catalogue(alloc: Global, wants_parent: bool) -> Result<Catalogue, Fail> {
     Ok(Catalogue::of(alloc, components)?)
 }
 
+/// The plugin of the boards, without a rule.
+fn vetoes(alloc: Global) -> Result<Listed<PluginVetoes>, Fail> {
+    let plugin = Name::read(b"flash")?;
+    let mut vetoes = Vec::new(alloc);
+    vetoes.push(PluginVetoes {
+        plugin,
+        rules: Listed::of(Vec::new(alloc)),
+    })?;
+    Ok(Listed::of(vetoes))
+}
+
 /// The facts of a machine with these two boards, and of a pool of so many blocks.
 pub fn facts(alloc: Global, wants_parent: bool, pool: u32) -> Result<Facts, Fail>
     ensures sheets { IfOk result (λ facts. length facts.sheets ≡ 2) }
     ensures pool { IfOk result (λ facts. facts.pool ≡ pool) }
 {
-    let mut vetoes = Vec::new(alloc);
-    vetoes.push(PluginVetoes {
-        plugin: Name::read(b"flash")?,
-        rules: Listed::of(Vec::new(alloc)),
-    })?;
+    let vetoes = vetoes(alloc)?;
     let catalogue = catalogue(alloc, wants_parent)?;
     let sheets = sheets(alloc)?;
     Ok(Facts {
@@ -167,7 +193,7 @@ pub fn facts(alloc: Global, wants_parent: bool, pool: u32) -> Result<Facts, Fail
         },
         catalogue,
         features: Listed::of(Vec::new(alloc)),
-        vetoes: Listed::of(vetoes),
+        vetoes,
         sheets: Listed::of(sheets),
         pool,
     })
@@ -262,6 +288,30 @@ pub fn shelf(alloc: Global) -> Result<MemoryShelf, Fail> {
     Ok(MemoryShelf::new(files, Vec::new(alloc)))
 }
 
+/// The plugin of both boards.
+pub fn plugins(alloc: Global) -> Result<Vec<Box<dyn Plugin>>, Fail> {
+    let mut plugins: Vec<Box<dyn Plugin>> = Vec::new(alloc);
+    plugins.push(Box::new(alloc, Flash::new(alloc)?)?)?;
+    Ok(plugins)
+}
+
+/// Plays a scene with what its clients ask, and tells why the second one was refused.
+fn refused_of<R: Abort + Wait, G: Gate>(
+    rt: &R,
+    alloc: Global,
+    scene: &Scene,
+    asks: &Asks<G>,
+) -> Result<Refusal, Fail>
+    requires { scene.now.pool ≤ 16384 }
+{
+    let facts = facts(alloc, scene.wants_parent, scene.pool)?;
+    let boards = boards(alloc)?;
+    let mut shelf = shelf(alloc)?;
+    let keeper = MemoryKeeper::new(Vec::new(alloc), Vec::new(alloc));
+    let house = booted(rt, alloc, facts, boards, keeper);
+    Ok(named_day(rt, alloc, house, &mut shelf, asks))
+}
+
 /// Plays a scene, and tells why the second client was refused.
 pub fn refused<R: Abort + Wait, G: Gate>(
     rt: &R,
@@ -271,15 +321,9 @@ pub fn refused<R: Abort + Wait, G: Gate>(
 ) -> Result<Refusal, Fail>
     requires { scene.now.pool ≤ 16384 }
 {
-    let facts = facts(alloc, scene.wants_parent, scene.pool)?;
-    let boards = boards(alloc)?;
     let first = request(b"t1", "usb1")?;
     let second = request(b"t2", scene.second)?;
-    let mut plugins: Vec<Box<dyn Plugin>> = Vec::new(alloc);
-    plugins.push(Box::new(alloc, Flash::new(alloc)?)?)?;
-    let mut shelf = shelf(alloc)?;
-    let keeper = MemoryKeeper::new(Vec::new(alloc), Vec::new(alloc));
-    let house = booted(rt, alloc, facts, boards, keeper);
+    let plugins = plugins(alloc)?;
     let asks = Asks {
         plan: scene.plan,
         first: &first,
@@ -287,5 +331,5 @@ pub fn refused<R: Abort + Wait, G: Gate>(
         plugins: plugins.as_slice(),
         gate,
     };
-    Ok(named_day(rt, alloc, house, &mut shelf, &asks))
+    refused_of(rt, alloc, scene, &asks)
 }

@@ -9,7 +9,7 @@ use crate::driver::{
 };
 use crate::left::{Left, close};
 use crate::requests::{Wish, request};
-use crate::scenes::{Kind, PLAIN, Scene, Wants, house, plugins, shelf};
+use crate::scenes::{PLAIN, Scene, Wants, house, plugins, shelf};
 use crate::told::{Told, Why, done};
 use daemon_core::House;
 use fw_facts::{Mode, Seen};

@@ -154,7 +154,7 @@ fn ended() -> Mark {
 fn a_claim_of_a_plain_board_writes_at_once(rt: HostRuntime) -> Result<(), Fail> {
     let plain = DeviceFlags::empty();
     let fitting = claimed(&rt, rt.alloc(), plain, Mode::Runtime)?;
-    assert!(rt; fitting.marks() == [BEGAN, ended()]);
+    assert!(rt; fitting.marks() == [BEGAN, ended()].as_slice());
     let other = claimed(&rt, rt.alloc(), plain, Mode::Bootloader)?;
     assert!(rt; other.marks().is_empty());
     Ok(())
@@ -164,8 +164,8 @@ fn a_claim_of_a_plain_board_writes_at_once(rt: HostRuntime) -> Result<(), Fail> 
 fn a_claim_by_the_bootloader_enters_and_leaves_it(rt: HostRuntime) -> Result<(), Fail> {
     let by_loader = DeviceFlags::empty().with(DeviceFlag::NeedsBootloader);
     let fitting = claimed(&rt, rt.alloc(), by_loader, Mode::Bootloader)?;
-    assert!(rt; fitting.marks() == [Mark::Entered, BEGAN, ended(), Mark::Left]);
+    assert!(rt; fitting.marks() == [Mark::Entered, BEGAN, ended(), Mark::Left].as_slice());
     let other = claimed(&rt, rt.alloc(), by_loader, Mode::Runtime)?;
-    assert!(rt; other.marks() == [Mark::Entered, Mark::Left]);
+    assert!(rt; other.marks() == [Mark::Entered, Mark::Left].as_slice());
     Ok(())
 }

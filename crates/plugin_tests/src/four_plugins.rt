@@ -161,9 +161,9 @@ fn ended() -> Mark {
 // Whether the board has the marks of an update that goes by the bootloader, or of one that doesn't.
 fn has_marks(board: &Board, by_loader: bool) -> bool {
     if by_loader {
-        board.marks() == [Mark::Entered, BEGAN, ended(), Mark::Left]
+        board.marks() == [Mark::Entered, BEGAN, ended(), Mark::Left].as_slice()
     } else {
-        board.marks() == [BEGAN, ended()]
+        board.marks() == [BEGAN, ended()].as_slice()
     }
 }
 

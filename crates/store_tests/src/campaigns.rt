@@ -1,5 +1,5 @@
 //! Campaigns of one board, and what a run of one leaves.
-ghost use Rattle.std.specs.Prelude.{◌≡◌, None};
+ghost use Rattle.std.specs.Prelude.{◌≡◌, IfOk, None, length};
 
 use board_plugins::Flash;
 use daemon_core::HomeBoards;
@@ -36,18 +36,21 @@ pub(crate) enum Asked {
     Again,
 }
 
+/// What is asked for in the first boot.
+fn asked_first(alloc: Global, asked: Asked) -> Result<String, Fail> {
+    match asked {
+        Asked::Repeated => Ok(format!(in alloc; "{INSTALL},{INSTALL}")?),
+        Asked::PutOff => Ok(String::from_str(alloc, OFFLINE)?),
+        Asked::Again => Ok(String::from_str(alloc, INSTALL)?),
+    }
+}
+
 /// The document of a campaign.
 pub(crate) fn document(alloc: Global, asked: Asked) -> Result<String, Fail> {
-    let (first, second) = match asked {
-        Asked::Repeated => (
-            format!(in alloc; "{INSTALL},{INSTALL}")?,
-            format!(in alloc; "{INSTALL}")?,
-        ),
-        Asked::PutOff => (format!(in alloc; "{OFFLINE}")?, String::new(alloc)),
-        Asked::Again => (
-            format!(in alloc; "{INSTALL}")?,
-            format!(in alloc; "{INSTALL}")?,
-        ),
+    let first = asked_first(alloc, asked)?;
+    let second = match asked {
+        Asked::Repeated | Asked::Again => INSTALL,
+        Asked::PutOff => "",
     };
     Ok(format!(in alloc;
         "{FRONT}{{\"time\":1000,\"scripts\":[[{first}]]}},{{\"time\":2000,\"scripts\":[[{second}]]}}]}}"
@@ -126,6 +129,22 @@ fn left_by<K: Drop>(
     Ok((left, keeper))
 }
 
+/// The shelf of the only client.
+fn shelves(alloc: Global) -> Result<Vec<MemoryShelf>, Fail> {
+    let mut shelves = Vec::new(alloc);
+    shelves.push(shelf(alloc)?)?;
+    Ok(shelves)
+}
+
+/// The plugin of the board.
+fn plugins(alloc: Global) -> Result<Vec<Box<dyn Plugin>>, Fail>
+    ensures { IfOk result (λ plugins. length plugins.items ≡ 1) }
+{
+    let mut plugins: Vec<Box<dyn Plugin>> = Vec::new(alloc);
+    plugins.push(Box::new(alloc, Flash::new(alloc)?)?)?;
+    Ok(plugins)
+}
+
 /// Runs the campaign of a document over a keeper, which comes back.
 pub(crate) fn run<R: Threads + Wait + Sync, K: Keeper + Send + Drop>(
     rt: &R,
@@ -135,12 +154,11 @@ pub(crate) fn run<R: Threads + Wait + Sync, K: Keeper + Send + Drop>(
 ) -> Result<(Left, K), Fail>
     requires no_doubt { K.doubt keeper ≡ None }
 {
-    let mut shelves = Vec::new(alloc);
-    shelves.push(shelf(alloc)?)?;
-    let mut source = MemorySource::new(document.as_bytes().to_vec(alloc)?, 4096, Vec::new(alloc));
+    let shelves = shelves(alloc)?;
+    let bytes = document.as_bytes().to_vec(alloc)?;
+    let mut source = MemorySource::new(bytes, 4096, Vec::new(alloc));
     let mut sink = MemorySink::new(alloc, 1_048_576, Vec::new(alloc))?;
-    let mut plugins: Vec<Box<dyn Plugin>> = Vec::new(alloc);
-    plugins.push(Box::new(alloc, Flash::new(alloc)?)?)?;
+    let plugins = plugins(alloc)?;
     let ran = run_campaign(
         rt,
         alloc,
