@@ -24,8 +24,8 @@ returns-in-Err-Fault g c =
       counts = e.counts;
     }
 
-pub returns : goal.returns
-returns g c =
+pub returns-in-Err-NoMemory : goal.returns-in-Err-NoMemory
+returns-in-Err-NoMemory g c =
     let e = c.load.ensures in
     record {
       says = rw c.nothing-in-Err-NoMemory.ensures.stop (inl c.nothing-in-Err-NoMemory.ensures.rows);
