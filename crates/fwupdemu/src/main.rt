@@ -37,9 +37,8 @@ const MARKS: &str = "reports.db";
 /// How many bytes of the output are gathered before they are handed on.
 const GATHERED: usize = 65_536;
 
-/// Runs the command of the command line with the program's four plugins, over the keepers that it is about. `host` is
-/// the same runtime, of which the history's file and the shelves are made. `NoMemory` comes only where the words, the
-/// shelves or the plugins couldn't be made.
+/// Runs the command of the command line. `host` is the same runtime, of which the history's file and the shelves are
+/// made. `NoMemory` comes only where the words, the shelves or the plugins couldn't be made.
 fn run<R: Runtime + AllocGlobal + Threads + Wait + Sync>(
     rt: &R,
     host: &HostRuntime,
@@ -49,24 +48,45 @@ fn run<R: Runtime + AllocGlobal + Threads + Wait + Sync>(
         Err(error) if error.kind() == io::ErrorKind::OutOfMemory => return Err(NoMemory),
         Err(_) => return Ok(Status::Usage),
     };
-    let alloc = rt.alloc();
-    let mut words = Vec::new(alloc);
+    let mut words = Vec::new(rt.alloc());
     for word in args.skip(1) {
         words.push(word)?;
     }
-    let mut texts = Vec::new(alloc);
+    let mut texts = Vec::new(rt.alloc());
     for word in &words {
         texts.push(word.as_bytes())?;
     }
+    run_words(rt, host, &texts)
+}
+
+/// Makes the program's four plugins, and runs the command that the words say with them.
+fn run_words<R: Runtime + AllocGlobal + Threads + Wait + Sync>(
+    rt: &R,
+    host: &HostRuntime,
+    words: &[&[u8]],
+) -> Result<Status, NoMemory> {
+    let alloc = rt.alloc();
     let mut plugins: Vec<Box<dyn Plugin>> = Vec::new(alloc);
     plugins.push(Box::new(alloc, Flash::new(alloc)?)?)?;
     plugins.push(Box::new(alloc, Loader::new(alloc)?)?)?;
     plugins.push(Box::new(alloc, Capsule::new(alloc)?)?)?;
     plugins.push(Box::new(alloc, Power::new(alloc)?)?)?;
-    match kept_by(alloc, &texts)? {
-        Kept::Nothing => run_over_nothing(rt, host, &texts, plugins),
-        Kept::History => run_over_history(rt, host, &texts, plugins),
-        Kept::HistoryAndMarks => report_over_files(rt, host, &texts, plugins),
+    run_over_kept(rt, host, words, plugins)
+}
+
+/// Runs the command over the keepers that it is about.
+fn run_over_kept<R: Runtime + AllocGlobal + Threads + Wait + Sync>(
+    rt: &R,
+    host: &HostRuntime,
+    words: &[&[u8]],
+    plugins: Vec<Box<dyn Plugin>>,
+) -> Result<Status, NoMemory>
+    requires { AreProgram (map (λ p. own_sheet p) plugins.items) (λ machine. map (λ p. vetoes_of (own_sheet p) (vetoes_on p machine)) plugins.items) }
+{
+    match kept_by(rt.alloc(), words)? {
+        Kept::Nothing => run_over_nothing(rt, host, words, plugins),
+        Kept::History => run_over_history(rt, host, words, plugins),
+        Kept::HistoryAndMarks => report_over_files(rt, host, words, plugins),
     }
 }
 

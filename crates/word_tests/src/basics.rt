@@ -91,7 +91,10 @@ fn ends(text: &[u8]) -> Option<(u8, u8)> {
 #[test]
 fn digests_in_lower_case(rt: HostRuntime) {
     assert_eq!(rt; ends(EMPTY), Some((0xe3, 0x55)));
-    assert_eq!(rt; ends(&EMPTY[1..]), None);
+    assert_eq!(rt;
+        ends(b"3b0c44298fc1c149afbf4c8996fb92427ae41e4649b934ca495991b7852b855"),
+        None
+    );
     assert_eq!(rt;
         ends(b"E3B0C44298FC1C149AFBF4C8996FB92427AE41E4649B934CA495991B7852B855"),
         None

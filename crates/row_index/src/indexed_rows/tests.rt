@@ -28,17 +28,24 @@ fn row(entry: u32, tag: &[u8], device: &[u8], state: RowState) -> Result<Row, Fa
     })
 }
 
-/// Puts a row behind the others.
-fn put(rows: &mut Vec<Row>, row: &Row) -> Result<(), Fail> {
-    rows.extend_from_slice(slice::from_ref(row))?;
+/// Puts such a row behind the others.
+fn put(
+    rows: &mut Vec<Row>,
+    entry: u32,
+    tag: &[u8],
+    device: &[u8],
+    state: RowState,
+) -> Result<(), Fail> {
+    let row = row(entry, tag, device, state)?;
+    rows.extend_from_slice(slice::from_ref(&row))?;
     Ok(())
 }
 
 fn history(alloc: Global) -> Result<IndexedRows, Fail> {
     let mut list = Vec::new(alloc);
-    put(&mut list, &row(1, b"t1", b"usb1", RowState::Success)?)?;
-    put(&mut list, &row(2, b"t2", b"usb2", RowState::NeedsReboot)?)?;
-    put(&mut list, &row(3, b"t3", b"usb1", RowState::Pending)?)?;
+    put(&mut list, 1, b"t1", b"usb1", RowState::Success)?;
+    put(&mut list, 2, b"t2", b"usb2", RowState::NeedsReboot)?;
+    put(&mut list, 3, b"t3", b"usb1", RowState::Pending)?;
     let mut rows = IndexedRows::new(alloc);
     rows.put(list);
     Ok(rows)

@@ -17,7 +17,7 @@ pub returns-in-Err-Fault : goal.returns-in-Err-Fault
 returns-in-Err-Fault g c =
     let e = c.load.ensures in
     record {
-      says = rw (c.nothing.ensures.stop) (c.nothing.ensures.rows, e.cause c.in-Err-Fault.is);
+      says = rw (c.nothing.ensures.stop) (c.nothing.ensures.rows, e.cause (rw c.in-Err-Fault.field-0-is at c.in-Err-Fault.is));
       told_stay = e.unchanged;
       no_doubt = e.no_doubt;
       quiet = inl c.nothing.ensures.stop;

@@ -10,4 +10,4 @@ returns-in-Ok-clause-printed g c =
     subst (λ (text : List ℕ). Took text (g.T.Sink.taken c.args.out.now) (g.T.Sink.taken c.write_plan.new.out))
     (ap (λ (seen : List DeviceView). plan_text c.args.campaign.now.facts seen c.items.result.now) c.views-views.ensures
     ∙ ap (λ (steps : List PlanStep). plan_text c.args.campaign.now.facts c.args.first.now.state.views steps) c.items.ensures)
-    c.write_plan.ensures.whole
+    (rw c.in-Ok.is at c.write_plan.ensures.whole)

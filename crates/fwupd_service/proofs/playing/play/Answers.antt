@@ -15,3 +15,8 @@ pub returns-clause-plans : goal.returns-clause-plans
 returns-clause-plans g c =
     let begun = if-ok _ _ _ c.new_house.ensures.begun c.in-Ok.is in
     c.play_house-played.ensures.plans ∙ ap plans_in begun.places_are ∙ plans-new c.args.campaign.boards.items
+
+pub returns-clause-played : goal.returns-clause-played
+returns-clause-played g c =
+    let begun = if-ok _ _ _ c.new_house.ensures.begun c.in-Ok.is in
+    rw (begun.facts_are, begun.first_are, begun.keeper_is, c.items.ensures, c.items-2.ensures) at c.play_house-played.ensures.played
