@@ -106,13 +106,24 @@ fn refused(boot: &str) -> usize {
     count
 }
 
+/// How many lines of a boot end so. The last one of a boot may stand without its end of line.
+fn lines_with(boot: &str, end: &str) -> usize {
+    let mut count: usize = 0;
+    for line in boot.lines() {
+        if line.ends_with(end) {
+            count = count.saturating_add(1);
+        }
+    }
+    count
+}
+
 /// Whether the install of this boot failed, or one client's retry went well and the other's was refused.
 fn is_boot(boot: &str, races: bool) -> bool {
-    let writes = boot.matches(" start write\n").count();
+    let writes = lines_with(boot, " start write");
     if races {
-        writes == 1 && boot.matches(" finish success\n").count() == 1 && refused(boot) == 1
+        writes == 1 && lines_with(boot, " finish success") == 1 && refused(boot) == 1
     } else {
-        writes == 1 && boot.matches(" finish failed\n").count() == 1
+        writes == 1 && lines_with(boot, " finish failed") == 1
     }
 }
 

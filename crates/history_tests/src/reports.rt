@@ -29,13 +29,14 @@ fn read_texts() -> Result<Texts, Fail> {
     })
 }
 
-fn row(entry: u32, tag: &[u8], state: RowState) -> Result<Row, Fail> {
+// A row of the board in this port: two rows that aren't settled are of two boards.
+fn row(entry: u32, tag: &[u8], port: &[u8], state: RowState) -> Result<Row, Fail> {
     let texts = read_texts()?;
     Ok(Row {
         entry,
         tag: Name::read(tag)?,
         client: 1,
-        device: device_id(b"usb-1", None),
+        device: device_id(port, None),
         component: texts.component,
         version_old: texts.version_old,
         version_new: texts.version_new,
@@ -53,11 +54,11 @@ fn row(entry: u32, tag: &[u8], state: RowState) -> Result<Row, Fail> {
 
 fn rows() -> Result<[Row; 5], Fail> {
     Ok([
-        row(1, b"t1", RowState::Success)?,
-        row(2, b"t2", RowState::Begun)?,
-        row(3, b"t3", RowState::Failed)?,
-        row(4, b"t4", RowState::NeedsReboot)?,
-        row(5, b"t5", RowState::Pending)?,
+        row(1, b"t1", b"usb-1", RowState::Success)?,
+        row(2, b"t2", b"usb-2", RowState::Begun)?,
+        row(3, b"t3", b"usb-3", RowState::Failed)?,
+        row(4, b"t4", b"usb-4", RowState::NeedsReboot)?,
+        row(5, b"t5", b"usb-5", RowState::Pending)?,
     ])
 }
 
@@ -97,7 +98,7 @@ fn sink(alloc: Global, room: usize) -> Result<MemorySink, Fail> {
 
 #[test]
 fn line_of_the_first_install(rt: HostRuntime) -> Result<(), Fail> {
-    let line = line_of(rt.alloc(), &row(1, b"t1", RowState::Success)?)?;
+    let line = line_of(rt.alloc(), &row(1, b"t1", b"usb-1", RowState::Success)?)?;
     let want =
         b"{\"changed\":1000,\"component\":\"com.example.hub\",\"device\":\"3a49404014b67758fd430a9d09ba0807820b5c47\",\"digest\":\"abababababababababababababababababababababababababababababababab\",\"duration\":0,\"entry\":1,\"new\":\"1.1.0\",\"old\":\"1.0.0\",\"protocol\":null,\"reason\":0,\"retry-of\":null,\"state\":\"success\",\"tag\":\"t1\"}\n";
     assert_eq!(rt; line.as_slice(), want.as_slice());
@@ -129,7 +130,7 @@ fn greatest_line(alloc: Global) -> Result<Vec<u8>, Fail> {
         retry_of: Some(7),
         reason: 16,
         time_changed: 9223372036854775807,
-        ..row(8, b"a\"b\\c", RowState::Failed)?
+        ..row(8, b"a\"b\\c", b"usb-1", RowState::Failed)?
     };
     Ok(line_of(alloc, &told)?)
 }
@@ -204,7 +205,7 @@ fn each_row_is_sent_once(rt: HostRuntime) -> Result<(), Fail> {
 
 // The first row is sent over a keeper whose third call, the mark, fails, and then all rows once more.
 fn lengths_about_a_doubt(alloc: Global, keep: bool) -> Result<(bool, usize, usize), Fail> {
-    let rows = [row(1, b"t1", RowState::Success)?];
+    let rows = [row(1, b"t1", b"usb-1", RowState::Success)?];
     let mut keeper = marks(alloc, &[], &[KeeperPlan { call: 3, keep }])?;
     let mut out = sink(alloc, 4096)?;
     let stop = send(alloc, &rows, &mut keeper, 1, &mut out)?;
@@ -217,7 +218,7 @@ fn lengths_about_a_doubt(alloc: Global, keep: bool) -> Result<(bool, usize, usiz
 #[test]
 fn doubtful_mark_is_kept_or_lost(rt: HostRuntime) -> Result<(), Fail> {
     let alloc = rt.alloc();
-    let whole = line_of(alloc, &row(1, b"t1", RowState::Success)?)?.len();
+    let whole = line_of(alloc, &row(1, b"t1", b"usb-1", RowState::Success)?)?.len();
     assert!(rt; lengths_about_a_doubt(alloc, true)? == (true, 0, 0));
     assert!(rt; lengths_about_a_doubt(alloc, false)? == (true, 0, whole));
     Ok(())
