@@ -14,7 +14,7 @@ Commands:
   check                 counts a document's sections, or names its first fault
   remotes               counts what each remote has, and what of it is merged
   explain PORT VERSION  tells which requirements hold for the device there
-  plan TAG              tells which installs bring each device as far as it can come
+  plan TAG              tells which installs bring each device as far as it can
   update TAG            makes these installs in the document's first boot
   ids TEXT ..           writes the GUID of each text
   make N [--clients C]  plays a generated campaign of N boards and C clients
