@@ -1,5 +1,5 @@
 """Tries of the file of the marks, `reports.db`, beside a history of three rows that are to be reported: what is no such
-file, files that may not be read or written, other tables, and numbers that no entry is. Where the marks can't be kept,
+file, files that may not be read or written, other tables, and numbers that have no 32 bits. Where the marks can't be kept,
 `report` ends with 7, prints nothing, and leaves the file. Where they can, a further call prints nothing."""
 import os
 import sqlite3
@@ -224,7 +224,7 @@ TABLES = [
     ("a CHECK", TABLE.replace("UNIQUE", "UNIQUE CHECK (entry < 3)")),
     ("a view", "CREATE VIEW reported AS SELECT 1 AS place, 1 AS entry"),
 ]
-NO_ENTRIES = (0, -1, 2**32, 2**63 - 1, -(2**63))
+NO_ENTRIES = (-1, 2**32, 2**63 - 1, -(2**63))
 
 
 def other_table(site, index, random):
@@ -238,7 +238,7 @@ def other_table(site, index, random):
 
 
 def no_entry(site, index, random):
-    """A number that no entry is among the marks."""
+    """A number that has no 32 bits is among the marks."""
     site.fresh()
     real_history(site.folder / "history.db", 3)
     make(marks(site), [1, NO_ENTRIES[index]])
@@ -259,5 +259,5 @@ def kinds():
     return [
         Kind("what is no file of marks, or may be one", of_table, len(TRIES)),
         Kind("another table of the marks", other_table, len(TABLES)),
-        Kind("a mark of no entry", no_entry, len(NO_ENTRIES)),
+        Kind("a mark without 32 bits", no_entry, len(NO_ENTRIES)),
     ]
