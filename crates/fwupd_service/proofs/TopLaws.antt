@@ -1,5 +1,5 @@
 -- What a run comes to.
-use Rattle.std.proofs.Common.{◌≡◌, ℕ, List, [], ◌∷◌, map, Option, Some, None, refl, subst, inr, arith}
+use Rattle.std.proofs.Common.{◌≡◌, ℕ, List, [], ◌∷◌, map, Option, Some, None, false, true, refl, subst, inr, arith}
 use Rattle.std.specs.Prelude.{Result, Ok, Err, IfOk, IfErr, IsSome}
 use Rattle.emulated_boards.specs.Boards.{BoardState}
 use Rattle.history_keeper.specs.declared.change.Change.{Change}
@@ -88,7 +88,7 @@ pub words-wanted : {K Q : Type 0} (told : K → List Row → Type 0) (doubted : 
 words-wanted told doubted faults shelves now sheets vetoes words command read status keeper left old new before after reads wants e done = go command (subst (Reads command) wants reads)
   where
     go : (command : Option Command) → IsSome command → WordsEnd told doubted faults shelves now sheets vetoes words command status keeper left old new before after
-    go None some = absurd some
+    go None some = let bad : false ≡ true = some in cc
     go (Some command) some = inr (e, done)
 
 -- Shelves that nobody used stay.

@@ -179,4 +179,4 @@ pub plan-requires-clause-tag : goal.plan-requires-clause-tag
 plan-requires-clause-tag g c = subst CommandFits c.in-Plan.is c.requires.fits
 
 pub update-requires-clause-tag : goal.update-requires-clause-tag
-update-requires-clause-tag g c = subst CommandFits c.in-Update.is c.requires.fits
+update-requires-clause-tag g c = λ κs lives. subst CommandFits c.in-Update.is c.requires.fits
