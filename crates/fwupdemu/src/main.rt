@@ -182,7 +182,7 @@ fn status_of<K: Drop, M: Drop>(ran: Ran<FolderShelf<HostRuntime>, K, M>) -> Stat
     status
 }
 
-/// Runs a command that keeps no history, over a keeper that stays unused. The output is gathered as by
+/// Runs a command that keeps no history, over keepers that stay unused. The output is gathered as by
 /// `run_over_history`.
 fn run_over_nothing<R: Runtime + AllocGlobal + Threads + Wait + Sync>(
     rt: &R,

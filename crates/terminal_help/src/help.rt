@@ -22,7 +22,7 @@ Commands:
 
 The document comes on standard input; fwupdemu-document(5) and docs/FORMATS.md
 describe it. `run` and `update` take payloads from the folder payloads/, and
-keep their history in the file history.db, which `plan` reads.
+keep their history in the file history.db, which `plan` and `report` read.
 
 Example, in a copy of the folder examples/first-install:
   fwupdemu run < campaign.json";
