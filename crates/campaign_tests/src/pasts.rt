@@ -61,9 +61,10 @@ fn row(alloc: Global, entry: u32, tag: u32) -> Result<Row, Fail>
     })
 }
 
-/// Puts a row behind the others.
-fn put(rows: &mut Vec<Row>, row: &Row) -> Result<(), Fail> {
-    rows.extend_from_slice(slice::from_ref(row))?;
+/// Puts the row of an entry behind the others.
+fn put(alloc: Global, rows: &mut Vec<Row>, entry: u32, tag: u32) -> Result<(), Fail> {
+    let row = row(alloc, entry, tag)?;
+    rows.extend_from_slice(slice::from_ref(&row))?;
     Ok(())
 }
 
@@ -71,7 +72,7 @@ fn put(rows: &mut Vec<Row>, row: &Row) -> Result<(), Fail> {
 pub(crate) fn rows(alloc: Global, past: &[Past]) -> Result<Vec<Row>, Fail> {
     let mut rows = Vec::new(alloc);
     for (entry, tag) in past {
-        put(&mut rows, &row(alloc, *entry, *tag)?)?;
+        put(alloc, &mut rows, *entry, *tag)?;
     }
     Ok(rows)
 }

@@ -59,19 +59,25 @@ fn row(entry: u32, port: &str, version: &str, flags: u8, state: RowState) -> Res
     })
 }
 
-/// Puts a row behind the others.
-fn put(rows: &mut Vec<Row>, row: &Row) -> Result<(), Fail> {
-    rows.extend_from_slice(slice::from_ref(row))?;
+/// Puts the row of the first board's install, which was put off.
+fn put_first(rows: &mut Vec<Row>) -> Result<(), Fail> {
+    let row = row(1, "usb1", "1.1.0", 1, RowState::Pending)?;
+    rows.extend_from_slice(slice::from_ref(&row))?;
     Ok(())
 }
 
-/// The first board's install was put off, and the second board's was begun, of that version.
+/// Puts the row of the second board's install, which was begun, of that version.
+fn put_second(rows: &mut Vec<Row>, begun: &str) -> Result<(), Fail> {
+    let row = row(2, "usb2", begun, 0, RowState::Begun)?;
+    rows.extend_from_slice(slice::from_ref(&row))?;
+    Ok(())
+}
+
+/// Both rows.
 fn rows(alloc: Global, begun: &str) -> Result<Vec<Row>, Fail> {
     let mut rows = Vec::new(alloc);
-    let first = row(1, "usb1", "1.1.0", 1, RowState::Pending)?;
-    let second = row(2, "usb2", begun, 0, RowState::Begun)?;
-    put(&mut rows, &first)?;
-    put(&mut rows, &second)?;
+    put_first(&mut rows)?;
+    put_second(&mut rows, begun)?;
     Ok(rows)
 }
 

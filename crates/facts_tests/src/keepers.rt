@@ -120,15 +120,34 @@ const LINKS: [(u32, &[u8], u32, &[u8], Option<usize>); 8] = [
     (1, b"x", 3, b"x", Some(2)),
 ];
 
+/// Puts a row behind the others that tries the row of an entry again.
+fn put_retry(
+    rows: &mut Vec<Row>,
+    entry: u32,
+    tag: &[u8],
+    device: &[u8],
+    state: RowState,
+    tried: u32,
+) -> Result<(), Fail> {
+    let row = retry(entry, tag, device, state, tried)?;
+    rows.extend_from_slice(slice::from_ref(&row))?;
+    Ok(())
+}
+
+/// Puts a failed row of the device `x`.
+fn put_failed(rows: &mut Vec<Row>) -> Result<(), Fail> {
+    let row = row(1, b"a", b"x", RowState::Failed)?;
+    rows.extend_from_slice(slice::from_ref(&row))?;
+    Ok(())
+}
+
 /// The rows of one line of `LINKS`. Where 9 stands there is no third row.
 fn linked(alloc: Global, second: (u32, &[u8]), third: (u32, &[u8])) -> Result<Vec<Row>, Fail> {
     let mut rows = Vec::new(alloc);
-    put(&mut rows, &row(1, b"a", b"x", RowState::Failed)?)?;
-    let again = retry(2, b"b", second.1, RowState::Success, second.0)?;
-    put(&mut rows, &again)?;
+    put_failed(&mut rows)?;
+    put_retry(&mut rows, 2, b"b", second.1, RowState::Success, second.0)?;
     if third.0 != 9 {
-        let last = retry(3, b"c", third.1, RowState::Begun, third.0)?;
-        put(&mut rows, &last)?;
+        put_retry(&mut rows, 3, b"c", third.1, RowState::Begun, third.0)?;
     }
     Ok(rows)
 }

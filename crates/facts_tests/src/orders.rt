@@ -46,6 +46,7 @@ const THREE: [Row; 3] = [
 #[test]
 fn three_plugins(rt: HostRuntime) -> Result<(), Fail> {
     let sheets = stated_all(rt.alloc(), &THREE)?;
+    assert_eq!(rt; sheets.len(), 3);
     let plan = arrange(rt.alloc(), sheets.as_slice())?;
     assert_eq!(rt; plan.order.items(), [1, 0, 2].as_slice());
     assert_eq!(rt; plan.enabled.items(), [true, true, true].as_slice());
@@ -62,6 +63,7 @@ const REPEATED: [Row; 3] = [
 #[test]
 fn a_repeated_name(rt: HostRuntime) -> Result<(), Fail> {
     let sheets = stated_all(rt.alloc(), &REPEATED)?;
+    assert_eq!(rt; sheets.len(), 3);
     match arrange(rt.alloc(), sheets.as_slice()) {
         Err(fault) => assert!(rt; is_repeat(&fault, b"a")),
         Ok(_) => panic!(rt; "two plugins have one name"),
@@ -76,9 +78,12 @@ fn is_repeat(fault: &OrderFault, wanted: &[u8]) -> bool {
     }
 }
 
-/// Whether the plugins are refused for the cycle of these names.
+/// Whether the plugins, 64 at most, are refused for the cycle of these names.
 fn is_cycle(alloc: Global, rows: &[Row], wanted: &[&[u8]]) -> Result<bool, Fail> {
     let sheets = stated_all(alloc, rows)?;
+    if sheets.len() > 64 {
+        return Ok(false);
+    }
     let wanted = list(alloc, wanted)?;
     match arrange(alloc, sheets.as_slice()) {
         Err(OrderFault::Cycle { names }) => Ok(names.items() == wanted.items()),
@@ -113,6 +118,7 @@ const CONFLICTS: [Row; 4] = [
 #[test]
 fn conflicts_in_turn(rt: HostRuntime) -> Result<(), Fail> {
     let sheets = stated_all(rt.alloc(), &CONFLICTS)?;
+    assert_eq!(rt; sheets.len(), 4);
     let plan = arrange(rt.alloc(), sheets.as_slice())?;
     assert_eq!(rt;
         plan.enabled.items(),

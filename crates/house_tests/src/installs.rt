@@ -244,16 +244,17 @@ fn row(alloc: Global, entry: u32) -> Result<Row, Fail> {
     })
 }
 
-/// Puts a row behind the others.
-fn put(rows: &mut Vec<Row>, row: &Row) -> Result<(), Fail> {
-    rows.extend_from_slice(slice::from_ref(row))?;
+/// Puts the row of an entry behind the others.
+fn put(alloc: Global, rows: &mut Vec<Row>, entry: u32) -> Result<(), Fail> {
+    let row = row(alloc, entry)?;
+    rows.extend_from_slice(slice::from_ref(&row))?;
     Ok(())
 }
 
 fn rows(alloc: Global, count: u32) -> Result<Vec<Row>, Fail> {
     let mut rows = Vec::new(alloc);
     for entry in 1..=count {
-        put(&mut rows, &row(alloc, entry)?)?;
+        put(alloc, &mut rows, entry)?;
     }
     Ok(rows)
 }

@@ -196,9 +196,17 @@ pub fn row(
     })
 }
 
-/// Puts a row behind the others.
-pub fn put(rows: &mut Vec<Row>, row: &Row) -> Result<(), Fail> {
-    rows.extend_from_slice(slice::from_ref(row))?;
+/// Puts such a row behind the others.
+pub fn put(
+    rows: &mut Vec<Row>,
+    entry: u32,
+    tag: &str,
+    client: u32,
+    state: RowState,
+    digest: [u8; 32],
+) -> Result<(), Fail> {
+    let row = row(entry, tag, client, state, digest)?;
+    rows.extend_from_slice(slice::from_ref(&row))?;
     Ok(())
 }
 
@@ -207,7 +215,7 @@ fn rows_at(alloc: Global, level: Level) -> Result<Vec<Row>, Fail> {
     let mut rows = Vec::new(alloc);
     if level.has(4) {
         let tag = if level.has(0) { "t1" } else { "earlier" };
-        put(&mut rows, &row(1, tag, 2, RowState::Begun, [10; 32])?)?;
+        put(&mut rows, 1, tag, 2, RowState::Begun, [10; 32])?;
     }
     Ok(rows)
 }

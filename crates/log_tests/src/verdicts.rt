@@ -1,6 +1,6 @@
 //! The verdict and the plain program decide the same, and what was meant.
 use crate::scenes::{
-    Level, client_at, pool_at, put, release_at, request, request_at, row, story_at, story_over,
+    Level, client_at, pool_at, put, release_at, request, request_at, story_at, story_over,
 };
 use device_list::Selector;
 use fw_base::Name;
@@ -293,7 +293,7 @@ fn a_device_out_of_its_port(rt: HostRuntime) -> Result<(), Fail> {
 /// The machine of that level, over one row that was put off by a client.
 fn put_off(alloc: Global, level: Level, client: u32, digest: [u8; 32]) -> Result<Story, Fail> {
     let mut rows = Vec::new(alloc);
-    put(&mut rows, &row(1, "t1", client, RowState::Pending, digest)?)?;
+    put(&mut rows, 1, "t1", client, RowState::Pending, digest)?;
     story_over(alloc, level, pool_at(level), rows)
 }
 
@@ -522,19 +522,19 @@ fn a_device_in_use_hinders_first(rt: HostRuntime) -> Result<(), Fail> {
     Ok(())
 }
 
-/// A row that is settled, with a tag of its own.
-fn settled_row(alloc: Global, entry: u32) -> Result<Row, Fail> {
+/// Puts a row that is settled, with a tag of its own.
+fn put_settled(alloc: Global, rows: &mut Vec<Row>, entry: u32) -> Result<(), Fail> {
     let tag = format!(in alloc; "r{entry}")?;
-    row(entry, tag.as_str(), 2, RowState::Success, [10; 32])
+    put(rows, entry, tag.as_str(), 2, RowState::Success, [10; 32])
 }
 
 /// A history that is full of rows of one device. All are settled but perhaps the last, which has that tag.
 fn full(alloc: Global, tag: &str, last: RowState) -> Result<Vec<Row>, Fail> {
     let mut rows = Vec::new(alloc);
     for entry in 1..65_536 {
-        put(&mut rows, &settled_row(alloc, entry)?)?;
+        put_settled(alloc, &mut rows, entry)?;
     }
-    put(&mut rows, &row(65_536, tag, 2, last, [10; 32])?)?;
+    put(&mut rows, 65_536, tag, 2, last, [10; 32])?;
     Ok(rows)
 }
 

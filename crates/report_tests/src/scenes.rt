@@ -234,9 +234,17 @@ fn row(alloc: Global, entry: u32, port: &str, state: RowState, reason: u8) -> Re
     })
 }
 
-/// Puts a row behind the others.
-fn put(rows: &mut Vec<Row>, row: &Row) -> Result<(), Fail> {
-    rows.extend_from_slice(slice::from_ref(row))?;
+/// Puts such a row behind the others.
+fn put(
+    alloc: Global,
+    rows: &mut Vec<Row>,
+    entry: u32,
+    port: &str,
+    state: RowState,
+    reason: u8,
+) -> Result<(), Fail> {
+    let row = row(alloc, entry, port, state, reason)?;
+    rows.extend_from_slice(slice::from_ref(&row))?;
     Ok(())
 }
 
@@ -245,7 +253,7 @@ fn rows(alloc: Global, count: u32) -> Result<Vec<Row>, Fail> {
     let mut rows = Vec::new(alloc);
     for before in 0..count {
         let entry = before.saturating_add(1);
-        put(&mut rows, &row(alloc, entry, "usb1", RowState::Success, 0)?)?;
+        put(alloc, &mut rows, entry, "usb1", RowState::Success, 0)?;
     }
     Ok(rows)
 }
@@ -309,6 +317,12 @@ fn retried_row(alloc: Global) -> Result<Row, Fail> {
     Ok(row)
 }
 
+fn put_retried(alloc: Global, rows: &mut Vec<Row>) -> Result<(), Fail> {
+    let row = retried_row(alloc)?;
+    rows.extend_from_slice(slice::from_ref(&row))?;
+    Ok(())
+}
+
 /// Rows of boards that the machine hasn't any more.
 const STRAYS: [(u32, &str, RowState); 2] = [
     (3, "gone", RowState::Begun),
@@ -317,10 +331,10 @@ const STRAYS: [(u32, &str, RowState); 2] = [
 
 fn hindered_rows(alloc: Global) -> Result<Vec<Row>, Fail> {
     let mut rows = Vec::new(alloc);
-    put(&mut rows, &row(alloc, 1, "usb1", RowState::Failed, 4)?)?;
-    put(&mut rows, &retried_row(alloc)?)?;
+    put(alloc, &mut rows, 1, "usb1", RowState::Failed, 4)?;
+    put_retried(alloc, &mut rows)?;
     for (entry, port, state) in &STRAYS {
-        put(&mut rows, &row(alloc, *entry, port, *state, 0)?)?;
+        put(alloc, &mut rows, *entry, port, *state, 0)?;
     }
     Ok(rows)
 }

@@ -52,10 +52,11 @@ fn sink(alloc: Global, room: usize, failing: u32) -> Result<MemorySink, Fail> {
 
 /// A client asks each question.
 fn asks_each(story: &mut Story) -> Result<(), Fail> {
-    let hub = device_in("usb1")?;
+    let releases = Query::Releases(device_in("usb1")?);
+    let upgrades = Query::Upgrades(device_in("usb1")?);
     story.query(1, &Query::Devices)?;
-    story.query(1, &Query::Releases(hub))?;
-    story.query(1, &Query::Upgrades(hub))?;
+    story.query(1, &releases)?;
+    story.query(1, &upgrades)?;
     story.query(1, &Query::History)?;
     Ok(())
 }

@@ -269,19 +269,20 @@ const ENTRIES: [EntryLimit; 4] = [
     (PLAN, true, 65, "boards 0 0 0 faults: too-many"),
 ];
 
-/// What is told of so many entries.
-fn told_of_numbers(alloc: Global, row: &EntryLimit) -> Result<String, Fail> {
-    let (frame, planned, count, _) = *row;
+/// Whether that is told of so many entries.
+fn is_told_of_numbers(alloc: Global, row: &EntryLimit) -> Result<bool, Fail> {
+    let (frame, planned, count, want) = *row;
     let parts = all_numbered(alloc, planned, count)?;
     let text = framed(alloc, frame, parts.as_str())?;
-    told(alloc, text.as_bytes())
+    let told = told(alloc, text.as_bytes())?;
+    Ok(told.as_str() == want)
 }
 
 #[test]
 fn limits_of_entries_that_differ(rt: HostRuntime) -> Result<(), Fail> {
     for row in &ENTRIES {
-        let told = told_of_numbers(rt.alloc(), row)?;
-        assert_eq!(rt; told.as_str(), row.3);
+        let count = row.2;
+        assert!(rt; is_told_of_numbers(rt.alloc(), row)?, "{count} entries");
     }
     Ok(())
 }

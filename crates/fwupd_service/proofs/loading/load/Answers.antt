@@ -31,6 +31,6 @@ returns-in-Err-NoMemory g c =
       says = rw c.nothing-in-Err-NoMemory.ensures.stop (inl c.nothing-in-Err-NoMemory.ensures.rows);
       told_stay = e.unchanged;
       no_doubt = e.no_doubt;
-      quiet = quiet-other _ _ _ c.in-Err-NoMemory.is e.quiet;
+      quiet = quiet-other _ _ _ (rw c.in-Err-NoMemory.field-0-is at c.in-Err-NoMemory.is) e.quiet;
       counts = e.counts;
     }
