@@ -34,9 +34,10 @@ class Site:
         self.fresh()
 
     def fresh(self):
-        """Returns the folder as the first install has it, without a history. What a kind has noted of the history that was
-        here goes with it."""
+        """Returns the folder as the first install has it, without a history. What was noted of the history that was here
+        goes with it."""
         self.kept.pop("made", None)
+        self.kept.pop("told", None)
         if self.folder.is_dir():
             shutil.rmtree(self.folder)
         payloads = TOP / "examples/first-install/payloads"

@@ -1,6 +1,7 @@
 """Calls of the built program, and what may come of any of them: one of the statuses of docs/FORMATS.md with its text on
 standard error, and on standard output what the command writes, a front of it, or nothing. Never a signal, and never
 a call that doesn't end."""
+import json
 import os
 import re
 import subprocess
@@ -68,6 +69,13 @@ EVENTS = [
 EVENT = re.compile("|".join(EVENTS).encode())
 BELOW = re.compile(rb"  [^\n]+")
 REQUIREMENT = rf"  {NUMBER} (?:holds|unmet {CAUSE})\n"
+QUOTED = r'"(?:[!#-\[\]-~]|\\["\\]){1,64}"'
+# The line of a row that is reported.
+ROW = (
+    rf'\{{"changed":{NUMBER},"component":{QUOTED},"device":"[0-9a-f]{{40}}","digest":"[0-9a-f]{{64}}"'
+    rf',"duration":{NUMBER},"entry":{NUMBER},"new":{QUOTED},"old":{QUOTED},"protocol":(?:null|{QUOTED})'
+    rf',"reason":{NUMBER},"retry-of":(?:null|{NUMBER}),"state":"(?:success|failed)","tag":{QUOTED}\}}\n'
+)
 LINES = {
     b"check": r"ok boards \d+ components \d+ clients \d+ boots \d+\n",
     b"remotes": rf"(?:remote {NAME} order \d+ (?:en|dis)abled components \d+ releases \d+ kept \d+\n)+releases \d+\n",
@@ -75,6 +83,7 @@ LINES = {
     b"explain": rf"explain {NAME} {NAME}\n(?:{REQUIREMENT})*verdict (?:accept|refused {REFUSAL})\n",
     b"make": r"boards \d+ clients \d+ accepted \d+ writes \d+ success \d+ failed \d+ kept \d+\n",
     b"ids": r"(?:[^\n]{1,255} [0-9a-f]{8}(?:-[0-9a-f]{4}){3}-[0-9a-f]{12}\n){1,64}",
+    b"report": rf"(?:{ROW})*",
 }
 
 
@@ -129,6 +138,23 @@ def report_fault(out, whole):
     return None
 
 
+def entries_told(out):
+    """Returns the entries of the lines of rows that are whole, in their order."""
+    return [json.loads(line)["entry"] for line in out.split(b"\n")[:-1]]
+
+
+def rows_fault(out, status):
+    """Returns what is wrong with the lines of rows: all are whole but under 5, where the last may be cut, and there are
+    none of a history that isn't valid."""
+    whole = out if status != 5 else out[: out.rfind(b"\n") + 1]
+    if status == 9 or not re.fullmatch(LINES[b"report"], whole.decode("utf-8", "replace")):
+        return f"other lines than those of rows: {out[:300]!r}"
+    entries = entries_told(whole)
+    if any(one >= other for one, other in zip(entries, entries[1:])):
+        return f"rows that don't come in their order: {entries}"
+    return None
+
+
 def output_fault(word, ended):
     """Returns what is wrong with the output of a command."""
     out, status = ended.out, ended.status
@@ -138,6 +164,8 @@ def output_fault(word, ended):
         return f"output under status {status}: {out[:100]!r}"
     if word in (b"run", b"update"):
         return report_fault(out, status in (0, 7, 9))
+    if word == b"report":
+        return rows_fault(out, status)
     if status == 0 and not re.fullmatch(LINES.get(word, "no command"), out.decode("utf-8", "replace")):
         return f"none of the lines of {word!r}: {out[:200]!r}"
     return None

@@ -4,11 +4,21 @@ import re
 import uuid
 
 from documents import RICH
+from files import real_history
 from kinds import Kind
-from trial import call, fault_of
+from trial import call, entries_told, fault_of
 
-FORMS = ["run", "check", "remotes", "plan", "update", "explain", "ids", "make", "help", "--", "-", "-h", "--help", "--clients", "--clients=3", "", "RUN"]
-VALUES = ["usb1", "usb2", "1.1.0", "9", "1", "0", "16", "17", "256", "257", "04", "+4", "1.0", "com.example.hub", "é", "a b"]
+COMMANDS = ["run", "check", "remotes", "plan", "update", "explain", "ids", "make", "report"]
+FORMS = [*COMMANDS, "help", "--", "-", "-h", "--help", "--clients", "--clients=3", "--max", "--max=3", "", "RUN"]
+VALUES = [
+    "usb1", "usb2", "1.1.0", "9", "1", "0", "16", "17", "256", "257", "04", "+4", "1.0", "com.example.hub", "é", "a b",
+]
+# Values of `--max`: the bounds, what wraps around to a number within them, and what only looks like a number.
+MOST = [
+    "1", "2", "65535", "65536", "0", "65537", "065536", "00", "-1", "+1", "4294967296", "4294967297",
+    "18446744073709551616", "18446744073709551617", "9" * 40, "1e3", "0x10", "1.0", "1_000", "1,000", " 1", "1 ", "１",
+    "٣", "", "x", "--", "--max", "--max=1",
+]
 NUMBER = re.compile(r"[1-9][0-9]{0,8}")
 NAME = re.compile(rb"[!-~]{1,64}")
 TAG = re.compile(rb"[!-~]{1,56}")
@@ -24,26 +34,38 @@ def values_of(words):
     return None if any(it.startswith("-") for it in before) else before + behind
 
 
-def made(words):
-    """Whether the words behind `make` are a number and perhaps the option."""
+def with_option(words, option):
+    """Returns the values among the words behind a command, and those of its option, or None where a word stands for
+    another option, or where the option lacks its value."""
     before, behind = (words[: words.index("--")], words[words.index("--") + 1 :]) if "--" in words else (words, [])
-    clients, values, rest = [], [], list(before)
+    stated, values, rest = [], [], list(before)
     while rest:
         it = rest.pop(0)
-        if it == "--clients":
+        if it == option:
             if not rest:
-                return False
-            clients.append(rest.pop(0))
-        elif it.startswith("--clients="):
-            clients.append(it[len("--clients=") :])
+                return None
+            stated.append(rest.pop(0))
+        elif it.startswith(f"{option}="):
+            stated.append(it[len(option) + 1 :])
         elif it.startswith("-"):
-            return False
+            return None
         else:
             values.append(it)
-    values += behind
+    return values + behind, stated
+
+
+def made(words):
+    """Whether the words behind `make` are a number and perhaps the option."""
+    values, clients = with_option(words, "--clients") or ([], [])
     if len(values) != 1 or len(clients) > 1:
         return False
     return in_range(values[0], 256) and all(in_range(it, 16) for it in clients)
+
+
+def reported(words):
+    """Whether the words behind `report` are perhaps the option, and no more."""
+    values, most = with_option(words, "--max") or (["no"], [])
+    return not values and len(most) <= 1 and all(in_range(it, 65536) for it in most)
 
 
 def in_range(digits, most):
@@ -68,6 +90,8 @@ def is_command(words):
     values = values_of(words[1:])
     if words[0] == "make":
         return made(words[1:])
+    if words[0] == "report":
+        return reported(words[1:])
     if values is None:
         return False
     if words[0] in ("run", "check", "remotes"):
@@ -96,15 +120,44 @@ def judged(site, words):
         wanted = "".join(f"{it} {guid_of(it)}\n" for it in values_of(words[1:]))
         if ended.out != wanted.encode():
             fault = f"other GUIDs than Python's: {ended.out!r}"
+    if not fault and words and words[0] == "report":
+        fault = told_fault(site, words, ended)
     return fault and f"{words!r}: {fault}"
+
+
+def told_fault(site, words, ended):
+    """Returns what is wrong where more rows are told than the words say, or one that was told over this history
+    before."""
+    told = site.kept.setdefault("told", set())
+    entries = entries_told(ended.out)
+    most = with_option(words[1:], "--max")
+    if entries and len(entries) > int((most[1] or [65536])[0]):
+        return f"{len(entries)} rows are told"
+    twice = told.intersection(entries)
+    told.update(entries)
+    return f"told before: {sorted(twice)}" if twice else None
+
+
+def at_most(site, index, random):
+    """`report` with each value of its option, behind it and in one word with it, alone, and before another word, over a
+    history of a few rows."""
+    value = MOST[index // 6]
+    site.fresh()
+    real_history(site.folder / "history.db", 4)
+    option = (["--max", value], [f"--max={value}"])[index % 2]
+    words = (option, [*option, "--"], [*option, "--max", "2"])[index % 6 // 2]
+    fault = judged(site, ["report", *words])
+    return fault or judged(site, ["report"])
 
 
 def few(site, index, random):
     """Some words of those that mean something, and others."""
-    words = [random.choice(FORMS[:7] if random.random() < 0.8 else FORMS)]
+    words = [random.choice(COMMANDS if random.random() < 0.8 else FORMS)]
     words += [random.choice(VALUES + FORMS) for _ in range(random.choice((0, 0, 1, 1, 2, 2, 3, 4)))]
     if random.random() < 0.3:
         words.insert(random.randrange(len(words) + 1), random.choice(["--clients", "--", "--clients=16", "--clients=017"]))
+    if words[0] == "report" and random.random() < 0.5:
+        words[1:] = random.choice((["--max", random.choice(MOST)], [f"--max={random.choice(MOST)}"])) + words[1:2]
     return judged(site, words)
 
 
@@ -118,22 +171,24 @@ def any_word(random, most):
 
 def strange(site, index, random):
     """Words of any bytes, most of them no UTF-8, behind a command or alone."""
-    words = random.choice(([], ["ids"], ["ids"], ["ids", "--"], ["explain"], ["make"], ["run"]))
+    known = ["ids"], ["ids"], ["ids", "--"], ["explain"], ["make"], ["run"], ["report"], ["report", "--max"]
+    words = random.choice(([], *known))
     return judged(site, words + [any_word(random, 300) for _ in range(random.choice((1, 1, 2, 3)))])
 
 
 def many(site, index, random):
     """63, 64 and 65 words, and many more, behind each command."""
-    count = (0, 1, 2, 63, 64, 65, 66, 128, 1000, 20000)[index // 6]
-    word = ("ids", "ids", "explain", "make", "run", "x")[index % 6]
-    words = [word, *(["--"] if index % 6 == 1 else []), *(f"w{i}" for i in range(count))]
+    count = (0, 1, 2, 63, 64, 65, 66, 128, 1000, 20000)[index // 7]
+    word = ("ids", "ids", "explain", "make", "run", "report", "x")[index % 7]
+    words = [word, *(["--"] if index % 7 == 1 else []), *(f"w{i}" for i in range(count))]
     return judged(site, words)
 
 
 def long(site, index, random):
     """One word of 255 bytes, 256, and as many as the system lets a word have."""
-    length = (56, 57, 255, 256, 4096, 100000, 131071)[index // 5]
-    return judged(site, [("ids", "explain", "make", "plan", "x")[index % 5], "a" * length])
+    length = (56, 57, 255, 256, 4096, 100000, 131071)[index // 6]
+    words = (("ids",), ("explain",), ("make",), ("plan",), ("x",), ("report", "--max"))[index % 6]
+    return judged(site, [*words, ("1" if index % 6 == 5 else "a") * length])
 
 
 def kinds():
@@ -141,6 +196,7 @@ def kinds():
     return [
         Kind("words that nearly mean something", few),
         Kind("words of any bytes", strange),
-        Kind("many words", many, 60),
-        Kind("a long word", long, 35),
+        Kind("many words", many, 70),
+        Kind("a long word", long, 42),
+        Kind("how many rows to report", at_most, 6 * len(MOST)),
     ]

@@ -19,10 +19,10 @@ use Rattle.client_plays.specs.Endings.{IsScriptItem}
 use Rattle.client_scripts.specs.declared.item.Item.{Item}
 use Rattle.site_types.specs.declared.campaign.Campaign.{Campaign}
 use Rattle.release_catalogue.specs.Lookup.{Chosen}
-use Rattle.update_plans.specs.Plans.{Scene, release_at, request_of}
+use Rattle.update_plans.specs.Plans.{Scene, release_at, request_of, scene}
 use Rattle.update_plans.specs.declared.plan.PlanStep.{PlanStep}
 use Rattle.campaign_plans.specs.declared.first_plan.FirstPlan.{FirstPlan}
-use Rattle.campaign_plans.specs.FirstPlans.{IsFirstPlan, first_log}
+use Rattle.campaign_plans.specs.FirstPlans.{IsFirstPlan, first_log, first_steps}
 use Rattle.campaign_plans.specs.Printed.{plan_text}
 use Rattle.campaign_plans.proofs.FirstPlanned.{past_of_first}
 use Rattle.campaign_plans.specs.Updating.{Plays, first_alone, install_of, installs_from, one_script}
@@ -31,7 +31,7 @@ use Rattle.fwupd_service.specs.declared.loading.LoadStop.TheVariants as loads
 use Rattle.fwupd_service.specs.Begins.{CanBePlayed, IsReadyFor}
 use Rattle.fwupd_service.specs.Loads.{IsJudged, LoadSays, WasLoaded}
 use Rattle.fwupd_service.specs.Tops.{Left}
-use Rattle.fwupd_service.specs.Updates.{OnlyLoaded, printed_plan}
+use Rattle.fwupd_service.specs.Updates.{OnlyLoaded, planned_items, printed_plan}
 
 -- Rows that were loaded are those that the keeper told before, if it tells any still.
 pub rows_told : (before after : List Row → Type 0) (loaded : List Row) → StillTold before after → ((all : List Row) → after all → loaded ≡ all) → AreTold before after loaded
@@ -102,7 +102,7 @@ one-few most (boot ∷ boots) items some =
     All-cons (λ (of_boot : List (List Item)). length of_boot ≤ most) (items ∷ []) [] (omega (arith, some)) (All-nil (λ (of_boot : List (List Item)). length of_boot ≤ most))
 
 -- So the campaign of a plan can be played where the one that it was made of can.
-pub plan-can-be-played : (s : Scene) (number : ℕ) (steps : List PlanStep) (old new : Campaign) → Plays (installs_from s number steps) old new → CanBePlayed old → CanBePlayed new
+plan-can-be-played : (s : Scene) (number : ℕ) (steps : List PlanStep) (old new : Campaign) → Plays (installs_from s number steps) old new → CanBePlayed old → CanBePlayed new
 plan-can-be-played s number steps old new p can = record {
   few = rw p.facts can.few;
   count = rw (p.facts, p.boards) can.count;
@@ -113,6 +113,10 @@ plan-can-be-played s number steps old new p can = record {
   items = rw p.scripts (one-may old.boots (installs_from s number steps) (installs-may s number steps));
   clients = rw p.scripts (one-few 16 old.boots (installs_from s number steps) (omega arith));
 }
+
+pub planned-can-be-played : (campaign : Campaign) (rows : List Row) (tag : List ℕ) (made : Campaign) → Plays (planned_items campaign rows tag) campaign made → CanBePlayed campaign → CanBePlayed made
+planned-can-be-played campaign rows tag made =
+    plan-can-be-played (scene campaign.facts rows 1 tag) 1 (first_steps campaign.facts (map shown_by campaign.boards.items) campaign.boots rows tag) campaign made
 
 pub plan-is-ready : (shelves plugins : ℕ) (items : List Item) (old new : Campaign) → Plays items old new → IsReadyFor shelves plugins old → IsReadyFor shelves plugins new
 plan-is-ready shelves plugins items old new p ready = record {

@@ -1,24 +1,30 @@
 -- What a run comes to.
 use Rattle.std.proofs.Common.{◌≡◌, ℕ, List, [], ◌∷◌, map, Option, Some, None, refl, subst, inr, arith}
-use Rattle.std.specs.Prelude.{Result, Ok, Err, IfOk, IfErr}
+use Rattle.std.specs.Prelude.{Result, Ok, Err, IfOk, IfErr, IsSome}
 use Rattle.emulated_boards.specs.Boards.{BoardState}
 use Rattle.history_keeper.specs.declared.change.Change.{Change}
 use Rattle.history_keeper.specs.declared.row.Row.{Row}
 use Rattle.update_log.specs.declared.event.Event.{Event}
 use Rattle.daemon_core.specs.House.{shown_by}
 use Rattle.client_plays.specs.Shelves.{means_for}
+use Rattle.fw_facts.specs.declared.machine.MachineFacts.{MachineFacts}
+use Rattle.plugin_order.specs.declared.sheet.PluginSheet.{PluginSheet}
 use Rattle.plugin_trait.specs.Steps.{PluginSteps}
+use Rattle.update_log.specs.declared.facts.PluginVetoes.{PluginVetoes}
 use Rattle.client_plays.specs.Tools.{ShelfTold, ShelvesStay}
 use Rattle.campaign_runs.specs.declared.ending.Ran.{Ran}
 use Rattle.campaign_runs.specs.Planned.{with_plans}
 use Rattle.site_types.specs.declared.campaign.Campaign.{Campaign}
 use Rattle.command_words.specs.declared.command.Command.{Command}
 use Rattle.command_words.specs.declared.command.Command.TheVariants as commands
+use Rattle.command_words.specs.declared.command.WordsFault.{WordsFault}
+use Rattle.command_words.specs.Commands.{Reads}
 use Rattle.run_status.specs.declared.status.Status.{Status}
 use Rattle.run_status.specs.declared.status.Status.TheVariants as statuses
 use Rattle.report_queue.specs.Stops.{Told}
 use Rattle.fwupd_service.specs.Campaigns.{ShelvesStand, WasPlayed}
-use Rattle.fwupd_service.specs.Commands.{KeepsShelves}
+use Rattle.fwupd_service.specs.Commands.{KeepsShelves, NothingDone, WordsEnd}
+use Rattle.fwupd_service.specs.Plugged.{PluginWords}
 use Rattle.fwupd_service.specs.Ends.{IsReported}
 use Rattle.fwupd_service.specs.Reported.{FaultTold, KeepsMarks, MarksTold}
 use Rattle.fwupd_service.specs.Tops.{CampaignTold, Left}
@@ -74,6 +80,16 @@ marks-untold told (Some (commands.Report max)) status keeper left before after e
 pub no-fault-told : (command : Option Command) (status : Status) (rows rows' marks marks' : ℕ) → (status ≡ statuses.KeeperFault → ⊥) → FaultTold command status rows rows' marks marks'
 no-fault-told (Some (commands.Report max)) status rows rows' marks marks' none = λ e. absurd (none e)
 no-fault-told _ status rows rows' marks marks' none = tt
+
+-- Where there was no memory for the words of a command nothing was done.
+pub words-wanted : {K Q : Type 0} (told : K → List Row → Type 0) (doubted : K → Option Change) (faults : K → ℕ) (shelves now : List ShelfTold) (sheets : List PluginSheet) (vetoes : MachineFacts → List PluginVetoes) (words : PluginWords Q)
+    (command : Option Command) (read : Result Command WordsFault) (status : Status) (keeper : K) (left : Left K) (old new before after : Option (List ℕ))
+    → Reads command read → read ≡ Err WordsFault.NoMemory → status ≡ statuses.NoMemory → NothingDone keeper left old new before after → WordsEnd told doubted faults shelves now sheets vetoes words command status keeper left old new before after
+words-wanted told doubted faults shelves now sheets vetoes words command read status keeper left old new before after reads wants e done = go command (subst (Reads command) wants reads)
+  where
+    go : (command : Option Command) → IsSome command → WordsEnd told doubted faults shelves now sheets vetoes words command status keeper left old new before after
+    go None some = absurd some
+    go (Some command) some = inr (e, done)
 
 -- Shelves that nobody used stay.
 pub stay-same : (shelves : List ShelfTold) → ShelvesStay shelves shelves

@@ -112,11 +112,11 @@ fn update_campaign<
 {
     let mut keeper = keeper;
     let Loaded { rows, stop } = load(alloc, &mut keeper);
-    if let Some(stop) = stop {
-        return RunLeft::loaded(alloc, load_status(stop), rows, shelves, keeper);
-    }
-    match updated(alloc, campaign, &rows, &tag) {
-        Ok(made) => run_ready(rt, alloc, made, plugins, shelves, keeper, gate, out),
-        Err(NoMemory) => RunLeft::loaded(alloc, Status::NoMemory, rows, shelves, keeper),
+    match stop {
+        Some(stop) => RunLeft::loaded(alloc, load_status(stop), rows, shelves, keeper),
+        None => match updated(alloc, campaign, &rows, &tag) {
+            Ok(made) => run_ready(rt, alloc, made, plugins, shelves, keeper, gate, out),
+            Err(NoMemory) => RunLeft::loaded(alloc, Status::NoMemory, rows, shelves, keeper),
+        },
     }
 }

@@ -2,8 +2,8 @@ use Rattle.std.proofs.Common.{◌≡◌, ◌∙◌, None, refl, inl, inr}
 use Rattle.fwupd_service.proofs.LoadLaws.{loaded-only, only-loaded}
 use Rattle.fwupd_service.proofs.planning.plan_campaign.Goals as goal
 
-pub print-requires-clause-history : goal.print-requires-clause-history
-print-requires-clause-history g c = λ κs lives. rw c.deref.ensures.value (loaded-only _ _ _ _ _ _ _ c.load-rows.ensures c.in-None.is).says.1
+pub print-status-requires-clause-history : goal.print-status-requires-clause-history
+print-status-requires-clause-history g c = λ κs lives. rw c.deref.ensures.value (loaded-only _ _ _ _ _ _ _ c.load-rows.ensures c.in-None.is).says.1
 
 pub returns-in-None-clause-goes : goal.returns-in-None-clause-goes
 returns-in-None-clause-goes g c =

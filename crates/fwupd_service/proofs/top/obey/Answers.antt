@@ -83,7 +83,7 @@ pub returns-in-Explain-clause-ends : goal.returns-in-Explain-clause-ends
 returns-in-Explain-clause-ends g c = rw (c.in-Explain.is, c.with_marks-in-Explain.ensures) c.run_explain.ensures.ends
 
 pub returns-in-Ids-clause-ends : goal.returns-in-Ids-clause-ends
-returns-in-Ids-clause-ends g c = rw (c.in-Ids.is, c.with_marks-in-Ids.ensures) (record { unread = refl; written = c.run_ids.ensures.written; nothing = c.run_ids.ensures.nothing })
+returns-in-Ids-clause-ends g c = rw (c.in-Ids.is, c.with_marks-in-Ids.ensures) (record { unread = refl; written = rw c.items.ensures at c.run_ids.ensures.written; nothing = c.run_ids.ensures.nothing })
 
 pub returns-in-Report-clause-ends : goal.returns-in-Report-clause-ends
 returns-in-Report-clause-ends g c = rw c.in-Report.is (record { unread = refl; log = c.report.ensures.log; boards = c.report.ensures.boards; rows_stay = c.report.ensures.rows_stay })
@@ -176,7 +176,7 @@ returns-in-Report-clause-fault_told g c = rw c.in-Report.is c.report.ensures.fau
 -- ---- what the calls want
 
 pub plan-requires-clause-tag : goal.plan-requires-clause-tag
-plan-requires-clause-tag g c = λ κs lives. subst CommandFits c.in-Plan.is c.requires.fits
+plan-requires-clause-tag g c = subst CommandFits c.in-Plan.is c.requires.fits
 
 pub update-requires-clause-tag : goal.update-requires-clause-tag
-update-requires-clause-tag g c = λ κs lives. subst CommandFits c.in-Update.is c.requires.fits
+update-requires-clause-tag g c = subst CommandFits c.in-Update.is c.requires.fits

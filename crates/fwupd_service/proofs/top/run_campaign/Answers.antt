@@ -1,11 +1,18 @@
 use Rattle.std.proofs.Common.{◌≡◌, ℕ, List, map, Bor, refl, sym, ◌∙◌}
 use Rattle.run_status.specs.declared.status.Status.{Status}
 use Rattle.fwupd_service.proofs.MakeWords.{words-fit}
-use Rattle.fwupd_service.proofs.TopLaws.{keeps-same, marks-same, marks-untold, no-fault-told, stay-same}
+use Rattle.fwupd_service.proofs.TopLaws.{keeps-same, marks-same, marks-untold, no-fault-told, stay-same, words-wanted}
 use Rattle.fwupd_service.proofs.top.run_campaign.Goals as goal
 
 pub obey-requires-clause-fits : goal.obey-requires-clause-fits
 obey-requires-clause-fits g c = λ κs lives. words-fit (map {A = Bor (List ℕ)} {B = List ℕ} (λ word. word.now) c.args.words.now) c.in-Ok.command c.in-Ok.ensures
+
+pub returns-clause-ends : goal.returns-clause-ends
+returns-clause-ends g c =
+    let e = c.nothing-in-Err-NoMemory.ensures in
+    rw c.with_marks-in-Err-NoMemory.ensures
+    (words-wanted _ _ _ _ _ _ _ _ _ c.read_words.result _ _ _ _ _ _ _ c.read_words.ensures (rw c.in-Err-NoMemory.field-0-is at c.in-Err-NoMemory.is) e.status
+    (record { unread = refl; nothing = record { log = e.log; opening = e.opening; boards = e.boards; keeper_is = e.keeper; nothing = refl } }))
 
 pub returns-in-Err-Usage-clause-shelves : goal.returns-in-Err-Usage-clause-shelves
 returns-in-Err-Usage-clause-shelves g c = rw (c.with_marks.ensures, c.nothing.ensures.shelves) (stay-same _)

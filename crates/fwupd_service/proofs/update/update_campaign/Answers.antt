@@ -1,5 +1,6 @@
 use Rattle.std.proofs.Common.{◌≡◌, ◌∙◌, None, refl, inl, inr}
-use Rattle.fwupd_service.proofs.LoadLaws.{loaded-only, only-loaded, plan-can-be-played, plan-is-ready}
+use Rattle.fwupd_service.proofs.LoadLaws.{loaded-only, only-loaded, planned-can-be-played, plan-is-ready}
+use Rattle.fwupd_service.proofs.TopLaws.{stay-same}
 use Rattle.fwupd_service.proofs.update.update_campaign.Goals as goal
 
 pub returns-in-Some-clause-goes : goal.returns-in-Some-clause-goes
@@ -13,7 +14,8 @@ returns-in-Some-clause-goes g c =
     })
 
 pub run_ready-requires-clause-ready : goal.run_ready-requires-clause-ready
-run_ready-requires-clause-ready g c = λ κs lives. plan-can-be-played _ _ _ _ _ c.in-Ok.ensures c.requires.ready
+run_ready-requires-clause-ready g c = λ κs lives.
+    planned-can-be-played c.args.campaign c.load-rows.result.rows.items c.args.tag c.in-Ok.made (rw c.deref.ensures.value at c.in-Ok.ensures) c.requires.ready
 
 pub run_ready-requires-clause-shelves : goal.run_ready-requires-clause-shelves
 run_ready-requires-clause-shelves g c = λ κs lives. plan-is-ready _ _ _ _ _ c.in-Ok.ensures c.requires.shelves
@@ -27,3 +29,9 @@ returns-in-Ok-clause-goes g c = inr (inr (record {
   plays = rw c.deref.ensures.value at c.in-Ok.ensures;
   went = c.run_ready.ensures.went;
 }))
+
+pub returns-in-Some-clause-shelves : goal.returns-in-Some-clause-shelves
+returns-in-Some-clause-shelves g c = rw c.loaded.ensures.shelves (stay-same _)
+
+pub returns-in-Err-clause-shelves : goal.returns-in-Err-clause-shelves
+returns-in-Err-clause-shelves g c = rw c.loaded-in-Err.ensures.shelves (stay-same _)
