@@ -390,6 +390,8 @@ class Campaign:
         self.devices = devices_of(self.boards)
         self.hardware = hardware_ids(self.machine.get("smbios", {})) + [it.lower() for it in self.machine.get("hardware", [])]
         self.lines, self.events, self.count, self.limit = [], 0, 0, None
+        # The rows that were finished in this boot.
+        self.finished = set()
 
     # -- what is told
 
@@ -613,6 +615,7 @@ class Campaign:
             state = self.closing(row, board, outcomes)
             self.event(f"{line} finish {state}")
             row.state = state
+            self.finished.add(row.entry)
         except Cut:
             self.event(f"client {client} gave-back entry {row.entry}", False)
             raise
@@ -645,6 +648,10 @@ class Campaign:
     @staticmethod
     def judgement(row, board):
         return "success" if compared(board.version, row.new) == 0 else "failed"
+
+    def can_be_judged(self, row):
+        """Whether nothing has to come before it: no boot, no finish."""
+        return row.state == "begun" or row.state == "needs-reboot" and row.entry not in self.finished
 
     def judge(self, client, row, board):
         state = self.judgement(row, board)
@@ -687,7 +694,7 @@ class Campaign:
             return None
         board = self.device_named(name)
         row = self.row_of(board, OPEN_STATES) if board else None
-        if kind == "settle" and row and row.state == "begun" and board.is_here:
+        if kind == "settle" and row and self.can_be_judged(row) and board.is_here:
             return self.judge(client, row, board)
         named = name.lower() if is_guid(name) or is_device_id(name) else name
         self.event(f"client {client} {kind} {named}")
@@ -721,7 +728,7 @@ class Campaign:
     # -- boots
 
     def start_boot(self, number, boot):
-        self.limit, self.count = boot.get("cut-after"), 0
+        self.limit, self.count, self.finished = boot.get("cut-after"), 0, set()
         self.event(f"boot {number} time {boot['time']}", False)
         for board in self.boards:
             board.boot(board.port in boot.get("absent", []))
