@@ -24,7 +24,7 @@ use Rattle.fwupd_service.specs.Plugged.{PluginWords}
 use Rattle.fwupd_service.specs.Tops.{CampaignTold, Left, RunEnds, RunWent}
 use Rattle.host_service.specs.Over.{RanOver}
 
-module _ {K Q : Type 0} (told : K → List Row → Type 0) (doubted : K → Option Change) (faults : K → ℕ) (keeper : K) (left : Left K) (held last : List Row) (only : (all : List Row) → told keeper all → all ≡ held) (tells : told left.keeper last) where
+module _ {K : Type 0} (told : K → List Row → Type 0) (doubted : K → Option Change) (faults : K → ℕ) (keeper : K) (left : Left K) (held last : List Row) (only : (all : List Row) → told keeper all → all ≡ held) (tells : told left.keeper last) where
   opened-so : IsOpening (told keeper) (told left.keeper) left.opening left.log → (left.opening ≡ held) ⊎ ((left.opening ≡ []) × AllFaults (past_of left.log))
   opened-so (inl a) = inl (only left.opening (a last tells))
   opened-so (inr (e, still, none)) = inr (e, none)
@@ -52,7 +52,7 @@ module _ {K Q : Type 0} (told : K → List Row → Type 0) (doubted : K → Opti
     unfolding Kept
     stands-so boards t k = record { campaign = c; legal = t.legal; opened = opened-so k.opening_is; kept = kept-so k.keeps }
 
-  run-so : (shelves now : List ShelfTold) (sheets : List PluginSheet) (vetoes : MachineFacts → List PluginVetoes) (words : PluginWords Q) (status : Status) (old new before after : Option (List ℕ)) → RunEnds told doubted faults shelves now sheets vetoes words status keeper left old new before after → (left.log ≡ []) ⊎ RanOver held last left.opening left.log
+  run-so : {Q : Type 0} (shelves now : List ShelfTold) (sheets : List PluginSheet) (vetoes : MachineFacts → List PluginVetoes) (words : PluginWords Q) (status : Status) (old new before after : Option (List ℕ)) → RunEnds told doubted faults shelves now sheets vetoes words status keeper left old new before after → (left.log ≡ []) ⊎ RanOver held last left.opening left.log
   run-so shelves now sheets vetoes words status old new before after (inl s) = inl s.nothing.log
   run-so shelves now sheets vetoes words status old new before after (inr w) =
       elim w.went [
@@ -60,7 +60,7 @@ module _ {K Q : Type 0} (told : K → List Row → Type 0) (doubted : K → Opti
         | inr n ↦ inl n.1.log
       ]
 
-  pub words-so : (shelves now : List ShelfTold) (sheets : List PluginSheet) (vetoes : MachineFacts → List PluginVetoes) (words : PluginWords Q) (command : Option Command) (status : Status) (old new before after : Option (List ℕ)) → command ≡ Some Command.Run → WordsEnd told doubted faults shelves now sheets vetoes words command status keeper left old new before after → (left.log ≡ []) ⊎ RanOver held last left.opening left.log
+  pub words-so : {Q : Type 0} (shelves now : List ShelfTold) (sheets : List PluginSheet) (vetoes : MachineFacts → List PluginVetoes) (words : PluginWords Q) (command : Option Command) (status : Status) (old new before after : Option (List ℕ)) → command ≡ Some Command.Run → WordsEnd told doubted faults shelves now sheets vetoes words command status keeper left old new before after → (left.log ≡ []) ⊎ RanOver held last left.opening left.log
   words-so shelves now sheets vetoes words command status old new before after e w =
       elim (subst (λ (x : Option Command). WordsEnd told doubted faults shelves now sheets vetoes words x status keeper left old new before after) e w) [
         | inl r ↦ run-so shelves now sheets vetoes words status old new before after r

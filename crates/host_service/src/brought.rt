@@ -1,5 +1,5 @@
 //! The shelves.
-ghost use Rattle.std.specs.Prelude.{◌≡◌, IfOk};
+ghost use Rattle.std.specs.Prelude.{◌≡◌, IfOk, replicate};
 ghost use Rattle.client_plays.specs.Has.{shelves_told};
 ghost use Rattle.host_service.specs.Brought.{folder_shelves};
 
@@ -17,10 +17,24 @@ pub fn shelves_over(
 ) -> Result<Vec<FolderShelf<HostRuntime>>, NoMemory>
     ensures { IfOk result (λ shelves. shelves_told (⟦<FolderShelf<HostRuntime> as outer_traits::Shelf>⟧).files (⟦<FolderShelf<HostRuntime> as outer_traits::Shelf>⟧).faults shelves.items ≡ folder_shelves) }
 {
+    let shelves = new_shelves(host, folder)?;
+    Ok(shelves)
+}
+
+// So many, none of which has met a fault.
+fn new_shelves(host: &HostRuntime, folder: &str) -> Result<Vec<FolderShelf<HostRuntime>>, NoMemory>
+    ensures { IfOk result (λ shelves. shelves.items ≡ replicate 16 0) }
+{
     let mut shelves = Vec::new(host.alloc());
     for _ in 0..SHELVES {
-        let folder = String::from_str(host.alloc(), folder)?;
-        shelves.push(FolderShelf::new(host.clone()?, folder))?;
+        shelves.push(new_shelf(host, folder)?)?;
     }
     Ok(shelves)
+}
+
+fn new_shelf(host: &HostRuntime, folder: &str) -> Result<FolderShelf<HostRuntime>, NoMemory>
+    ensures { IfOk result (λ shelf. shelf ≡ 0) }
+{
+    let folder = String::from_str(host.alloc(), folder)?;
+    Ok(FolderShelf::new(host.clone()?, folder))
 }

@@ -8,8 +8,8 @@ use Rattle.host_service.proofs.FileLaws.{words-so}
 use Rattle.host_service.proofs.over.run_over_file.Goals as goal
 
 -- the keeper that was opened tells no other rows than the file held
-pub returns-clause-over : goal.returns-clause-over
-returns-clause-over g c is held holds left tells =
+pub returns : goal.returns
+returns g c is held holds left tells =
     let keeper = c.in_ok-keeper.keeper in
     let only : (all : List Row) → TellsHeld g.H.Start over_files keeper.keeper all → all ≡ held = λ all t.
     same_rows (database over_files keeper.keeper) all held t.holds (c.in_ok-keeper.ensures.tells held holds t.clean).holds in
