@@ -11,7 +11,7 @@ use fw_base::NoMemory;
 use fwupd_service::{Kept, Ran, Status, kept_by};
 use history_keeper::{KeeperRefusal, MemoryKeeper};
 use history_sqlite::FileKeeper;
-use host_service::{run_over_file, run_over_folder};
+use host_service::run_over_folder;
 use marks_sqlite::FileMarks;
 use outer_traits::{FolderShelf, ReadSource, WriteSink};
 use plugin_trait::Plugin;
@@ -90,9 +90,8 @@ fn run_over_kept<R: Runtime + AllocGlobal + Threads + Wait + Sync>(
     }
 }
 
-/// Runs over the history in its file. What that file held is unknown to the program: the contract of
-/// `run_over_file` speaks of whatever it held. The output is gathered, so that a long report takes few calls of the
-/// system; what can't be handed on at the end is a fault of writing, whatever came before.
+/// Runs over the history in its file. The output is gathered, so that a long report takes few calls of the system; what
+/// can't be handed on at the end is a fault of writing, whatever came before.
 fn run_over_history<R: Runtime + AllocGlobal + Threads + Wait + Sync>(
     rt: &R,
     host: &HostRuntime,
@@ -101,28 +100,29 @@ fn run_over_history<R: Runtime + AllocGlobal + Threads + Wait + Sync>(
 ) -> Result<Status, NoMemory>
     requires { AreProgram (map (λ p. own_sheet p) plugins.items) (λ machine. map (λ p. vetoes_of (own_sheet p) (vetoes_on p machine)) plugins.items) }
 {
+    let history = match FileKeeper::open(host, HISTORY, Unknown) {
+        Ok(history) => history,
+        Err(KeeperRefusal::Fault) => return Ok(Status::KeeperFault),
+        Err(KeeperRefusal::NoMemory) => return Ok(Status::NoMemory),
+    };
+    FileKeeper::<Unknown>::crosses();
+    let unused = MemoryMarks::new(Vec::new(rt.alloc()), Vec::new(rt.alloc()));
     let mut source = ReadSource::new(rt.reader());
     let Ok(mut gathered) = BufWriter::with_capacity(rt.alloc(), GATHERED, io::writer(rt)) else {
         return Err(NoMemory);
     };
     let mut sink = WriteSink::new(&mut gathered);
-    let unused = MemoryMarks::new(Vec::new(rt.alloc()), Vec::new(rt.alloc()));
-    let ran = match run_over_file(
+    let ran = run_over_folder(
         rt,
         host,
         words,
         &mut source,
         SHELF,
         plugins,
-        HISTORY,
-        Unknown,
+        history,
         unused,
         &mut sink,
-    ) {
-        Ok(ran) => ran,
-        Err(KeeperRefusal::Fault) => return Ok(Status::KeeperFault),
-        Err(KeeperRefusal::NoMemory) => return Ok(Status::NoMemory),
-    };
+    )?;
     let status = status_of(ran);
     match gathered.flush() {
         Ok(()) => Ok(status),

@@ -96,15 +96,10 @@ fn sink(alloc: Global, room: usize) -> Result<MemorySink, Fail> {
     Ok(MemorySink::new(alloc, room, Vec::new(alloc))?)
 }
 
-// The line of a first install that went well.
-fn first_line(alloc: Global) -> Result<Vec<u8>, Fail> {
-    let first = row(1, b"t1", b"usb-1", RowState::Success)?;
-    Ok(line_of(alloc, &first)?)
-}
-
 #[test]
 fn line_of_the_first_install(rt: HostRuntime) -> Result<(), Fail> {
-    let line = first_line(rt.alloc())?;
+    let rows = rows()?;
+    let line = line_of(rt.alloc(), &rows[0])?;
     let want =
         b"{\"changed\":1000,\"component\":\"com.example.hub\",\"device\":\"3a49404014b67758fd430a9d09ba0807820b5c47\",\"digest\":\"abababababababababababababababababababababababababababababababab\",\"duration\":0,\"entry\":1,\"new\":\"1.1.0\",\"old\":\"1.0.0\",\"protocol\":null,\"reason\":0,\"retry-of\":null,\"state\":\"success\",\"tag\":\"t1\"}\n";
     assert_eq!(rt; line.as_slice(), want.as_slice());
@@ -224,7 +219,8 @@ fn lengths_about_a_doubt(alloc: Global, keep: bool) -> Result<(bool, usize, usiz
 #[test]
 fn doubtful_mark_is_kept_or_lost(rt: HostRuntime) -> Result<(), Fail> {
     let alloc = rt.alloc();
-    let whole = first_line(alloc)?.len();
+    let rows = rows()?;
+    let whole = line_of(alloc, &rows[0])?.len();
     assert!(rt; lengths_about_a_doubt(alloc, true)? == (true, 0, 0));
     assert!(rt; lengths_about_a_doubt(alloc, false)? == (true, 0, whole));
     Ok(())

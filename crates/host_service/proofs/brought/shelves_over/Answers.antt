@@ -2,4 +2,4 @@ use Rattle.std.proofs.Common.{refl}
 use Rattle.host_service.proofs.brought.shelves_over.Goals as goal
 
 pub returns : goal.returns
-returns g c = rw c.in_ok-shelves.ensures refl
+returns c = rw c.in_ok-shelves.ensures refl
