@@ -96,8 +96,8 @@ fn add(
     entry: u32,
     tag: u32,
 ) -> Result<(), Fail> {
-    let row = row(alloc, entry, tag)?;
-    insert(connection, &row)?;
+    let rows = [row(alloc, entry, tag)?];
+    insert(connection, &rows[0])?;
     Ok(())
 }
 
