@@ -2,21 +2,20 @@
 //! plugins and shelves, and ends with its status.
 #![tactic(auto)]
 
-ghost use Rattle.std.specs.Prelude.{map};
+ghost use Rattle.std.specs.Prelude.{◌≡◌, None, map};
 ghost use Rattle.site_making.specs.Settled.{vetoes_of};
 ghost use Rattle.host_service.specs.Brought.{AreProgram};
 
 use board_plugins::{Capsule, Flash, Loader, Power};
 use fw_base::NoMemory;
 use fwupd_service::{Kept, Ran, Status, kept_by};
-use history_keeper::{KeeperRefusal, MemoryKeeper};
-use history_sqlite::FileKeeper;
+use history_file::HistoryFile;
+use history_keeper::{Keeper, KeeperRefusal, MemoryKeeper};
 use host_service::run_over_folder;
 use marks_sqlite::FileMarks;
-use outer_traits::{FolderShelf, ReadSource, WriteSink};
+use outer_traits::{ReadSource, Sink, Source, WriteSink};
 use plugin_trait::Plugin;
-use report_queue::MemoryMarks;
-use sqlite::Unknown;
+use report_queue::{MarkKeeper, MemoryMarks};
 use std::io::{BufWriter, IsTerminal, Write};
 use std::process::ExitCode;
 use std::rt::{HostRuntime, Runtime};
@@ -100,30 +99,28 @@ fn run_over_history<R: Runtime + AllocGlobal + Threads + Wait + Sync>(
 ) -> Result<Status, NoMemory>
     requires { AreProgram (map (λ p. own_sheet p) plugins.items) (λ machine. map (λ p. vetoes_of (own_sheet p) (vetoes_on p machine)) plugins.items) }
 {
-    let history = match FileKeeper::open(host, HISTORY, Unknown) {
+    let history = match HistoryFile::open(host, HISTORY) {
         Ok(history) => history,
         Err(KeeperRefusal::Fault) => return Ok(Status::KeeperFault),
         Err(KeeperRefusal::NoMemory) => return Ok(Status::NoMemory),
     };
-    FileKeeper::<Unknown>::crosses();
+    HistoryFile::crosses();
     let unused = MemoryMarks::new(Vec::new(rt.alloc()), Vec::new(rt.alloc()));
     let mut source = ReadSource::new(rt.reader());
     let Ok(mut gathered) = BufWriter::with_capacity(rt.alloc(), GATHERED, io::writer(rt)) else {
         return Err(NoMemory);
     };
     let mut sink = WriteSink::new(&mut gathered);
-    let ran = run_over_folder(
+    let status = status_over(
         rt,
         host,
         words,
         &mut source,
-        SHELF,
         plugins,
         history,
         unused,
         &mut sink,
     )?;
-    let status = status_of(ran);
     match gathered.flush() {
         Ok(()) => Ok(status),
         Err(_) => Ok(Status::SinkFault),
@@ -140,7 +137,7 @@ fn report_over_files<R: Runtime + AllocGlobal + Threads + Wait + Sync>(
 ) -> Result<Status, NoMemory>
     requires { AreProgram (map (λ p. own_sheet p) plugins.items) (λ machine. map (λ p. vetoes_of (own_sheet p) (vetoes_on p machine)) plugins.items) }
 {
-    let history = match FileKeeper::open(host, HISTORY, Unknown) {
+    let history = match HistoryFile::open(host, HISTORY) {
         Ok(history) => history,
         Err(KeeperRefusal::Fault) => return Ok(Status::KeeperFault),
         Err(KeeperRefusal::NoMemory) => return Ok(Status::NoMemory),
@@ -150,26 +147,45 @@ fn report_over_files<R: Runtime + AllocGlobal + Threads + Wait + Sync>(
         Err(KeeperRefusal::Fault) => return Ok(Status::KeeperFault),
         Err(KeeperRefusal::NoMemory) => return Ok(Status::NoMemory),
     };
-    FileKeeper::<Unknown>::crosses();
+    HistoryFile::crosses();
     let mut source = ReadSource::new(rt.reader());
     let mut output = io::writer(rt);
     let mut sink = WriteSink::new(&mut output);
-    let ran = run_over_folder(
+    status_over(
         rt,
         host,
         words,
         &mut source,
-        SHELF,
         plugins,
         history,
         marks,
         &mut sink,
-    )?;
-    Ok(status_of(ran))
+    )
 }
 
-/// The status of a run. All else that it left is let go of.
-fn status_of<K: Drop, M: Drop>(ran: Ran<FolderShelf<HostRuntime>, K, M>) -> Status {
+/// Runs over these streams and keepers, and says with which status that ended. All else that it left is let go of.
+fn status_over<
+    R: Runtime + AllocGlobal + Threads + Wait + Sync,
+    S: Source,
+    K: Keeper + Send + Drop,
+    M: MarkKeeper + Drop,
+    T: Sink,
+>(
+    rt: &R,
+    host: &HostRuntime,
+    words: &[&[u8]],
+    source: &mut S,
+    plugins: Vec<Box<dyn Plugin>>,
+    keeper: K,
+    marks: M,
+    out: &mut T,
+) -> Result<Status, NoMemory>
+    requires four { AreProgram (map (λ p. own_sheet p) plugins.items) (λ machine. map (λ p. vetoes_of (own_sheet p) (vetoes_on p machine)) plugins.items) }
+    requires no_doubt { K.doubt keeper ≡ None }
+{
+    let ran = run_over_folder(
+        rt, host, words, source, SHELF, plugins, keeper, marks, out,
+    )?;
     let Ran {
         status,
         log: _,
@@ -179,7 +195,7 @@ fn status_of<K: Drop, M: Drop>(ran: Ran<FolderShelf<HostRuntime>, K, M>) -> Stat
         marks: _,
         shelves: _,
     } = ran;
-    status
+    Ok(status)
 }
 
 /// Runs a command that keeps no history, over keepers that stay unused. The output is gathered as by
@@ -200,18 +216,16 @@ fn run_over_nothing<R: Runtime + AllocGlobal + Threads + Wait + Sync>(
         return Err(NoMemory);
     };
     let mut sink = WriteSink::new(&mut gathered);
-    let ran = run_over_folder(
+    let status = status_over(
         rt,
         host,
         words,
         &mut source,
-        SHELF,
         plugins,
         unused,
         unused_marks,
         &mut sink,
     )?;
-    let status = status_of(ran);
     match gathered.flush() {
         Ok(()) => Ok(status),
         Err(_) => Ok(Status::SinkFault),

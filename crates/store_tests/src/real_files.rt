@@ -1,8 +1,9 @@
 //! Histories in real files.
 use crate::campaigns::{Asked, Left, document, run};
 use crate::files::{Failing, plan};
+use history_file::HistoryFile;
 use history_sqlite::database_files::open_path;
-use history_sqlite::{FileKeeper, SqlKeeper};
+use history_sqlite::SqlKeeper;
 use sqlite::Unknown;
 use std::fs;
 use std::rt::HostRuntime;
@@ -20,9 +21,9 @@ fn run_at<R: Threads + Wait + Sync>(
     let alloc = host.alloc();
     let connection = open_path(host, path, Unknown)?;
     let keeper = SqlKeeper::adopt_planned(alloc, connection, plan(alloc, failing)?)?;
-    FileKeeper::<Unknown>::crosses();
+    HistoryFile::crosses();
     let text = document(alloc, Asked::Again)?;
-    let (left, _keeper) = run(rt, alloc, &text, FileKeeper { keeper })?;
+    let (left, _keeper) = run(rt, alloc, &text, HistoryFile { keeper })?;
     Ok(left)
 }
 
