@@ -1,8 +1,8 @@
-//! The top call with what the program brings to it: its four plugins, and a shelf over one folder for each client.
+//! The top call over what the program brings to it.
 //!
-//! `run_over_folder` makes the shelves and calls `run_campaign`; its contract is that of the top call, of the four sheets
-//! and of sixteen shelves (`specs/Brought.antt`). The program's `main` hands in its streams, its words, the keepers and
-//! the plugins.
+//! `run_over_folder` makes a shelf over one folder for each client and calls `run_campaign`. Its contract is that of the
+//! top call over sixteen shelves and four plugins (`specs/Brought.antt`). The program's `main` hands in the plugins, its
+//! streams, its words and the keepers.
 #![tactic(auto)]
 
 mod brought;
