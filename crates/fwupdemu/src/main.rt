@@ -183,9 +183,7 @@ fn status_over<
     requires four { AreProgram (map (λ p. own_sheet p) plugins.items) (λ machine. map (λ p. vetoes_of (own_sheet p) (vetoes_on p machine)) plugins.items) }
     requires no_doubt { K.doubt keeper ≡ None }
 {
-    let ran = run_over_folder(
-        rt, host, words, source, SHELF, plugins, keeper, marks, out,
-    )?;
+    let ran = run_over_folder(rt, host, words, source, SHELF, plugins, keeper, marks, out)?;
     let Ran {
         status,
         log: _,

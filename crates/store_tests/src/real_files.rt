@@ -2,8 +2,8 @@
 use crate::campaigns::{Asked, Left, document, run};
 use crate::files::{Failing, plan};
 use history_file::HistoryFile;
-use history_sqlite::database_files::open_path;
 use history_sqlite::SqlKeeper;
+use history_sqlite::database_files::open_path;
 use sqlite::Unknown;
 use std::fs;
 use std::rt::HostRuntime;
