@@ -1,11 +1,14 @@
 """Tries of calls of the system that fail: one call of one kind, by its number, is answered with an error, by the tool
-strace. Whatever could not be stored is told, and the next run finds a sound history and writes nothing twice."""
+strace. Whatever could not be stored is told, and the next run finds a sound history and writes nothing twice. Where a
+payload can't be read, the install that wanted it is refused, and the next one finds it."""
+import hashlib
 import json
 import os
 import shutil
 
 from files import FIRST, run, twice_written
 from kinds import Kind, Skipped
+from rich import NEW
 from streams import history_fault
 from trial import call, fault_of
 
@@ -27,17 +30,23 @@ def three_boots():
 DOCUMENT = three_boots()
 
 
-def fails(site, index, random):
-    """One call fails, and a run over what is left goes well."""
-    name, error, number = FAULTS[index]
+def run_failing(site, document, name, error, number, *only):
+    """Plays a campaign, in which that call of the system fails."""
     tool = shutil.which("strace")
     if not tool:
         raise Skipped("there is no strace here")
-    site.fresh()
-    words = ["-f", "-o", os.devnull, "-e", f"trace={name}", "-e", f"inject={name}:error={error}:when={number}"]
-    first = call(tool, [*words, site.program, "run"], site.folder, DOCUMENT)
-    if b"PTRACE" in first.told or b"ptrace" in first.told:
+    words = ["-f", "-o", os.devnull, *only, "-e", f"trace={name}", "-e", f"inject={name}:error={error}:when={number}"]
+    ended = call(tool, [*words, site.program, "run"], site.folder, document)
+    if b"PTRACE" in ended.told or b"ptrace" in ended.told:
         raise Skipped("no program can be traced here")
+    return ended
+
+
+def fails(site, index, random):
+    """One call fails, and a run over what is left goes well."""
+    name, error, number = FAULTS[index]
+    site.fresh()
+    first = run_failing(site, DOCUMENT, name, error, number)
     fault = fault_of(["run"], first, (0, 5, 7))
     if not fault:
         second = run(site, DOCUMENT)
@@ -52,14 +61,8 @@ def log_removed(site, index, random):
     """One call fails, and then the log is removed. KNOWN EDGE: where the history was just being made, what is left may
     be a page of a file that is no database by itself; each later run leaves it, and ends with 7."""
     name, error, number = MAKING[index]
-    tool = shutil.which("strace")
-    if not tool:
-        raise Skipped("there is no strace here")
     site.fresh()
-    words = ["-f", "-o", os.devnull, "-e", f"trace={name}", "-e", f"inject={name}:error={error}:when={number}"]
-    first = call(tool, [*words, site.program, "run"], site.folder, FIRST)
-    if b"PTRACE" in first.told or b"ptrace" in first.told:
-        raise Skipped("no program can be traced here")
+    first = run_failing(site, FIRST, name, error, number)
     log, base = site.folder / "history.db-wal", site.folder / "history.db"
     log.unlink(missing_ok=True)
     left = base.read_bytes() if base.exists() else b""
@@ -72,9 +75,46 @@ def log_removed(site, index, random):
     return fault and f"call {number} of {name} fails with {error}, and the log is removed: {fault}"
 
 
+# So many reads a payload takes, of a block of 4,096 bytes each.
+READS = 3
+
+
+def payload_of_blocks(site):
+    """Puts a payload of so many blocks on the shelf. Returns where it lies, and a document with two installs of it."""
+    shelf = site.folder / "payloads"
+    payload = (shelf / NEW).read_bytes().ljust(4096 * (READS - 1) + 1, b".")
+    path = shelf / hashlib.sha256(payload).hexdigest()
+    path.write_bytes(payload)
+    document = json.loads(FIRST)
+    document["components"][0]["releases"][0] |= {"sha256": path.name, "size": len(payload)}
+    script = document["boots"][0]["scripts"][0]
+    script.append({**script[0], "tag": "t2"})
+    return path, json.dumps(document).encode()
+
+
+TOLD = (
+    b"client 1 claim t1 refused 14 payload shelf-fault\n", b"client 1 claim t2 entry 1\n",
+    b"client 1 entry 1 end write ok 1.1.0 runtime began ended\n",
+)
+
+
+def read_fails(site, index, random):
+    """A read of a payload fails, the first one or one midway: that is a fault of the shelf, and the next install finds
+    the payload."""
+    site.fresh()
+    path, document = payload_of_blocks(site)
+    only = ("-P", os.path.realpath(path))
+    ended = run_failing(site, document, "read,pread64,readv,preadv", "EIO", index + 1, *only)
+    fault = fault_of(["run"], ended, (0,))
+    if not fault and not all(line in ended.out for line in TOLD):
+        fault = f"got {ended.out!r}"
+    return fault and f"read {index + 1} of {READS} of a payload fails: {fault}"
+
+
 def kinds():
     """Returns the kinds of tries with calls that fail."""
     return [
         Kind("a call of the system that fails, and the run after it", fails, len(FAULTS)),
+        Kind("a read of a payload that fails", read_fails, READS),
         Kind("a call that fails, and a log that is removed", log_removed, len(MAKING)),
     ]
