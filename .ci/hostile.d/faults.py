@@ -1,16 +1,18 @@
 """Tries of calls of the system that fail: one call of one kind, by its number, is answered with an error, by the tool
 strace. Whatever could not be stored is told, and the next run finds a sound history and writes nothing twice. Where a
-payload can't be read, the install that wanted it is refused, and the next one finds it."""
+payload can't be read, the install that wanted it is refused, and the next one finds it. A row whose mark could not be
+stored isn't reported, and no row is reported twice."""
 import hashlib
 import json
 import os
 import shutil
 
-from files import FIRST, run, twice_written
+from files import FIRST, real_history, run, twice_written
 from kinds import Kind, Skipped
+from marks import ALL, marks, report
 from rich import NEW
 from streams import history_fault
-from trial import call, fault_of
+from trial import call, entries_told, fault_of
 
 # Which calls fail, with which error, and how many there are of each at most.
 CALLS = [
@@ -30,13 +32,14 @@ def three_boots():
 DOCUMENT = three_boots()
 
 
-def run_failing(site, document, name, error, number, *only):
-    """Plays a campaign, in which that call of the system fails."""
+def call_failing(site, word, document, name, error, number, *only):
+    """Calls a command over a document, in which that call of the system fails: that of any file, or of these paths."""
     tool = shutil.which("strace")
     if not tool:
         raise Skipped("there is no strace here")
-    words = ["-f", "-o", os.devnull, *only, "-e", f"trace={name}", "-e", f"inject={name}:error={error}:when={number}"]
-    ended = call(tool, [*words, site.program, "run"], site.folder, document)
+    words = ["-f", "-o", os.devnull, *(it for path in only for it in ("-P", os.path.realpath(path)))]
+    words += ["-e", f"trace={name}", "-e", f"inject={name}:error={error}:when={number}"]
+    ended = call(tool, [*words, site.program, word], site.folder, document)
     if b"PTRACE" in ended.told or b"ptrace" in ended.told:
         raise Skipped("no program can be traced here")
     return ended
@@ -46,7 +49,7 @@ def fails(site, index, random):
     """One call fails, and a run over what is left goes well."""
     name, error, number = FAULTS[index]
     site.fresh()
-    first = run_failing(site, DOCUMENT, name, error, number)
+    first = call_failing(site, "run", DOCUMENT, name, error, number)
     fault = fault_of(["run"], first, (0, 5, 7))
     if not fault:
         second = run(site, DOCUMENT)
@@ -62,7 +65,7 @@ def log_removed(site, index, random):
     be a page of a file that is no database by itself; each later run leaves it, and ends with 7."""
     name, error, number = MAKING[index]
     site.fresh()
-    first = run_failing(site, FIRST, name, error, number)
+    first = call_failing(site, "run", FIRST, name, error, number)
     log, base = site.folder / "history.db-wal", site.folder / "history.db"
     log.unlink(missing_ok=True)
     left = base.read_bytes() if base.exists() else b""
@@ -103,12 +106,33 @@ def read_fails(site, index, random):
     the payload."""
     site.fresh()
     path, document = payload_of_blocks(site)
-    only = ("-P", os.path.realpath(path))
-    ended = run_failing(site, document, "read,pread64,readv,preadv", "EIO", index + 1, *only)
+    ended = call_failing(site, "run", document, "read,pread64,readv,preadv", "EIO", index + 1, path)
     fault = fault_of(["run"], ended, (0,))
     if not fault and not all(line in ended.out for line in TOLD):
         fault = f"got {ended.out!r}"
     return fault and f"read {index + 1} of {READS} of a payload fails: {fault}"
+
+
+# Which calls that store the marks fail.
+MARKING = [(name, error, number) for name, error in (("pwrite64", "EIO"), ("pwrite64", "ENOSPC"), ("fdatasync", "EIO"))
+           for number in range(1, 13)]
+
+
+def mark_fails(site, index, random):
+    """A call that stores the marks fails: the rows before are told, and the next call tells the others, but perhaps for
+    the one whose mark was in doubt."""
+    name, error, number = MARKING[index]
+    site.fresh()
+    real_history(site.folder / "history.db", len(ALL))
+    path = marks(site)
+    first = call_failing(site, "report", b"", name, error, number, path, f"{path}-wal")
+    next_one, last = report(site), report(site)
+    fault = fault_of(["report"], first, (0, 7)) or fault_of(["report"], next_one, (0,)) or fault_of(["report"], last, (0,))
+    before, behind = entries_told(first.out), entries_told(next_one.out)
+    lost = 0 if first.status == 0 else 1
+    if not fault and (before + behind != sorted({*before, *behind}) or len(before + behind) < len(ALL) - lost or last.out):
+        fault = f"told {before} with status {first.status}, then {behind}, then {last.out!r}"
+    return fault and f"call {number} of {name} fails with {error}: {fault}"
 
 
 def kinds():
@@ -116,5 +140,6 @@ def kinds():
     return [
         Kind("a call of the system that fails, and the run after it", fails, len(FAULTS)),
         Kind("a read of a payload that fails", read_fails, READS),
+        Kind("a mark that can't be stored", mark_fails, len(MARKING)),
         Kind("a call that fails, and a log that is removed", log_removed, len(MAKING)),
     ]
