@@ -126,12 +126,13 @@ def mark_fails(site, index, random):
     real_history(site.folder / "history.db", len(ALL))
     path = marks(site)
     first = call_failing(site, "report", b"", name, error, number, path, f"{path}-wal")
-    next_one, last = report(site), report(site)
-    fault = fault_of(["report"], first, (0, 7)) or fault_of(["report"], next_one, (0,)) or fault_of(["report"], last, (0,))
-    before, behind = entries_told(first.out), entries_told(next_one.out)
-    lost = 0 if first.status == 0 else 1
-    if not fault and (before + behind != sorted({*before, *behind}) or len(before + behind) < len(ALL) - lost or last.out):
-        fault = f"told {before} with status {first.status}, then {behind}, then {last.out!r}"
+    second, third = report(site), report(site)
+    fault = fault_of(["report"], first, (0, 7)) or fault_of(["report"], second, (0,)) or fault_of(["report"], third, (0,))
+    before, behind = entries_told(first.out), entries_told(second.out)
+    each = sorted({*before, *behind})
+    lost = len(ALL) - len(each)
+    if not fault and (before + behind != each or lost > (first.status == 7) or third.out):
+        fault = f"told {before} with status {first.status}, then {behind}, then {third.out!r}"
     return fault and f"call {number} of {name} fails with {error}: {fault}"
 
 
