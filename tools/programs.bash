@@ -90,7 +90,7 @@ unshow() {
 # lack just that.
 is_full() {
     local left
-    ! grep -q 'No space left on device' "$2" 2>/dev/null || return 0
+    ! grep -q -e 'No space left on device' -e '^rt: the disk is full' "$2" 2>/dev/null || return 0
     left=$(df -Pk "$1" | awk 'END { print $4 }')
     [ "${left:-20000}" -lt 20000 ]
 }
