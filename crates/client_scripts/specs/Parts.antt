@@ -9,7 +9,9 @@ use Rattle.fw_facts.specs.declared.seen.Seen.TheVariants as seen
 use Rattle.fw_facts.specs.declared.sheet.Sheet.{Sheet}
 use Rattle.device_list.specs.declared.selector.Selector.{Selector}
 use Rattle.device_list.specs.declared.selector.Selector.TheVariants as selectors
-use Rattle.client_scripts.specs.Words.{mode_word}
+use Rattle.update_log.specs.declared.refusal.Refusal.{Refusal}
+use Rattle.update_log.specs.Known.{refusal_number}
+use Rattle.client_scripts.specs.Words.{mode_word, refusal_word}
 
 -- A version, by the format of the board's sheet; a board without one shows `-`.
 abbrev pub version_text : Option Sheet → ℕ → List ℕ
@@ -37,3 +39,7 @@ abbrev pub selector_text : Selector → List ℕ
 selector_text (selectors.Id device) = encode_lower device
 selector_text (selectors.Guid guid) = guid_text guid
 selector_text (selectors.Port port) = port
+
+-- That a request is refused, with the number of the refusal and its word.
+abbrev pub refused_as : Refusal → List ℕ
+refused_as refusal = codes "refused " ++ decimal (refusal_number refusal) ++ codes " " ++ refusal_word refusal

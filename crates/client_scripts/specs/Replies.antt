@@ -27,8 +27,9 @@ use Rattle.history_keeper.specs.Histories.{is_unsettled}
 use Rattle.update_log.specs.declared.event.Query.{Query}
 use Rattle.update_log.specs.declared.event.Query.TheVariants as queries
 use Rattle.update_log.specs.declared.facts.Facts.{Facts}
+use Rattle.update_log.specs.declared.refusal.Refusal.TheVariants as refusals
 use Rattle.update_log.specs.Once.{is_pending}
-use Rattle.client_scripts.specs.Parts.{retry_text, seen_text}
+use Rattle.client_scripts.specs.Parts.{refused_as, retry_text, seen_text}
 use Rattle.client_scripts.specs.Words.{order_word, problem_word, state_word}
 
 -- ---- lines
@@ -39,7 +40,7 @@ reply_line text = codes "  " ++ text ++ codes "\n"
 
 -- The device isn't found, or it isn't present where it has to be.
 abbrev pub no_device : List ℕ
-no_device = reply_line (codes "refused 1 no-device")
+no_device = reply_line (refused_as refusals.NoDevice)
 
 -- There is nothing to list.
 abbrev pub none_listed : List ℕ

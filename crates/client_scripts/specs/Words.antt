@@ -7,6 +7,8 @@ use Rattle.fw_facts.specs.declared.seen.Mode.{Mode}
 use Rattle.fw_facts.specs.declared.seen.Mode.TheVariants as modes
 use Rattle.history_keeper.specs.declared.row.RowState.{RowState}
 use Rattle.history_keeper.specs.declared.row.RowState.TheVariants as states
+use Rattle.update_log.specs.declared.refusal.Refusal.{Refusal}
+use Rattle.update_log.specs.declared.refusal.Refusal.TheVariants as refusals
 
 -- A row's state.
 abbrev pub state_word : RowState → List ℕ
@@ -36,3 +38,23 @@ abbrev pub order_word : Ordering → List ℕ
 order_word Ordering.Greater = codes "newer"
 order_word Ordering.Equal = codes "same"
 order_word Ordering.Less = codes "older"
+
+-- Why a request is refused.
+abbrev pub refusal_word : Refusal → List ℕ
+refusal_word refusals.NoDevice = codes "no-device"
+refusal_word refusals.NoRelease = codes "no-release"
+refusal_word (refusals.Busy entry) = codes "busy"
+refusal_word (refusals.Unsettled entry) = codes "unsettled"
+refusal_word refusals.NotUpdatable = codes "not-updatable"
+refusal_word refusals.Locked = codes "locked"
+refusal_word (refusals.Problem problem) = codes "problem"
+refusal_word refusals.SameVersion = codes "same-version"
+refusal_word refusals.Older = codes "older"
+refusal_word (refusals.Unmet unmet) = codes "unmet"
+refusal_word (refusals.Veto plugin) = codes "veto"
+refusal_word (refusals.Size len min max) = codes "size"
+refusal_word (refusals.NoRoom need free) = codes "no-room"
+refusal_word (refusals.Payload note) = codes "payload"
+refusal_word refusals.RowsFull = codes "rows-full"
+refusal_word refusals.KeeperFault = codes "keeper-fault"
+refusal_word (refusals.Retry fault) = codes "retry"

@@ -2,8 +2,9 @@
 ghost use Rattle.std.specs.Prelude.{◌≡◌, ◌++◌, ◌-◌, OnOk};
 ghost use Rattle.client_scripts.specs.Replies.{left_out, no_device, none_listed};
 
-use crate::parts::put_number;
+use crate::parts::{put_number, put_refused_as};
 use std::alloc::AllocError;
+use update_log::Refusal;
 
 /// The most lines of a list.
 pub const LINES_MAX: usize = 64;
@@ -12,7 +13,9 @@ pub const LINES_MAX: usize = 64;
 pub fn put_no_device(out: &mut Vec<u8>) -> Result<(), AllocError>
     ensures { OnOk result (out.new.items ≡ out.old.items ++ no_device) }
 {
-    out.extend_from_slice(b"  refused 1 no-device\n")
+    out.extend_from_slice(b"  ")?;
+    put_refused_as(out, &Refusal::NoDevice)?;
+    out.extend_from_slice(b"\n")
 }
 
 /// Puts the line behind the text that says that there is nothing to list.

@@ -2,12 +2,13 @@
 ghost use Rattle.std.specs.Prelude.{◌≡◌, ◌++◌, OnOk};
 ghost use Rattle.std.specs.Option.{option_copied};
 ghost use Rattle.std.specs.Fmt.{decimal};
-ghost use Rattle.client_scripts.specs.Parts.{port_text, retry_text, seen_text, selector_text, version_text};
+ghost use Rattle.client_scripts.specs.Parts.{port_text, refused_as, retry_text, seen_text, selector_text, version_text};
 
-use crate::words::mode_word;
+use crate::words::{mode_word, refusal_word};
 use device_list::Selector;
 use fw_facts::{Seen, Sheet};
 use std::alloc::AllocError;
+use update_log::Refusal;
 use version_formats::render;
 
 /// Puts a number behind the text, in decimal.
@@ -75,4 +76,14 @@ pub fn put_selector(out: &mut Vec<u8>, selector: &Selector) -> Result<(), AllocE
         Selector::Guid(guid) => out.extend_from_slice(&guid.text()),
         Selector::Port(port) => out.extend_from_slice(port.bytes()),
     }
+}
+
+/// Puts a refusal behind the text, by its number and its word.
+pub fn put_refused_as(out: &mut Vec<u8>, refusal: &Refusal) -> Result<(), AllocError>
+    ensures { OnOk result (out.new.items ≡ out.old.items ++ refused_as refusal.now) }
+{
+    out.extend_from_slice(b"refused ")?;
+    put_number(out, u64::from(refusal.number()))?;
+    out.extend_from_slice(b" ")?;
+    out.extend_from_slice(refusal_word(refusal).as_bytes())
 }

@@ -1,10 +1,11 @@
 //! Words that a client reads.
 ghost use Rattle.std.specs.Prelude.{◌≡◌};
-ghost use Rattle.client_scripts.specs.Words.{mode_word, order_word, problem_word, state_word};
+ghost use Rattle.client_scripts.specs.Words.{mode_word, order_word, problem_word, refusal_word, state_word};
 
 use fw_facts::{Mode, Problem};
 use history_keeper::RowState;
 use std::cmp::Ordering;
+use update_log::Refusal;
 
 /// The word of a row's state.
 pub fn state_word(state: RowState) -> &'static str
@@ -52,5 +53,30 @@ pub fn order_word(order: Ordering) -> &'static str
         Ordering::Greater => "newer",
         Ordering::Equal => "same",
         Ordering::Less => "older",
+    }
+}
+
+/// The word of a refusal.
+pub fn refusal_word(refusal: &Refusal) -> &'static str
+    ensures { result.now ≡ refusal_word refusal.now }
+{
+    match refusal {
+        Refusal::NoDevice => "no-device",
+        Refusal::NoRelease => "no-release",
+        Refusal::Busy { .. } => "busy",
+        Refusal::Unsettled { .. } => "unsettled",
+        Refusal::NotUpdatable => "not-updatable",
+        Refusal::Locked => "locked",
+        Refusal::Problem(_) => "problem",
+        Refusal::SameVersion => "same-version",
+        Refusal::Older => "older",
+        Refusal::Unmet(_) => "unmet",
+        Refusal::Veto { .. } => "veto",
+        Refusal::Size { .. } => "size",
+        Refusal::NoRoom { .. } => "no-room",
+        Refusal::Payload(_) => "payload",
+        Refusal::RowsFull => "rows-full",
+        Refusal::KeeperFault => "keeper-fault",
+        Refusal::Retry(_) => "retry",
     }
 }

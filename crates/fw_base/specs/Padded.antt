@@ -1,5 +1,5 @@
 -- Short texts kept in an array, with zeros behind them.
-use Rattle.std.specs.Prelude.{◌≡◌, ℕ, ◌+◌, ◌-◌, ◌≤◌, min, List, ◌++◌, length, take, replicate}
+use Rattle.std.specs.Prelude.{◌≡◌, ℕ, ◌+◌, ◌-◌, ◌≤◌, min, List, ◌++◌, length, take, replicate, Result, Ok}
 use Rattle.std.proofs.Common.{◌∙◌, sym, ap, arith, length-append}
 use Rattle.std.proofs.lemmas.List.{length-take, length-replicate}
 
@@ -11,6 +11,11 @@ padded width text = text ++ replicate (width - length text) 0
 pub record IsPadded (width : ℕ) (bytes : List ℕ) (len : ℕ) : Type 0 where
   pub short : len ≤ width
   pub is : bytes ≡ padded width (take len bytes)
+
+-- the array keeps a text that a reader takes, and gives back
+pub record Keeps {F : Type 0} (read : List ℕ → Result (List ℕ) F) (width : ℕ) (bytes : List ℕ) (len : ℕ) : Type 0 where
+  pub padded : IsPadded width bytes len
+  pub accepted : read (take len bytes) ≡ Ok (take len bytes)
 
 -- the text has the length that was kept
 pub length_kept : (width : ℕ) (bytes : List ℕ) (len : ℕ) → IsPadded width bytes len → length (take len bytes) ≡ len

@@ -1,5 +1,5 @@
 //! Lines: what people call a device or a vendor, blanks and letters past ASCII included.
-ghost use Rattle.std.specs.Prelude.{◌≡◌, ◌≤◌, [], length, position};
+ghost use Rattle.std.specs.Prelude.{◌≡◌, ◌≤◌, [], length, position, Ok};
 ghost use Rattle.fw_base.specs.Lines.{line_read, is_no_line_byte};
 
 use std::marker::Model;
@@ -17,20 +17,21 @@ pub struct Line {
 
 impl Model for Line {
     ghost use Rattle.std.specs.Prelude.{List, ℕ, length, take};
-    ghost use Rattle.fw_base.specs.Padded.{IsPadded, padded};
+    ghost use Rattle.fw_base.specs.Padded.{Keeps, padded};
     ghost use Rattle.fw_base.specs.Padded.{kept_again};
+    ghost use Rattle.fw_base.specs.Lines.{line_read};
 
     ghost Value = { List ℕ };
 
     ghost view = { λ s. take s.len s.bytes };
 
-    ghost invariant = { λ s. IsPadded 255 s.bytes s.len };
+    ghost invariant = { λ s. Keeps line_read 255 s.bytes s.len };
 
     ghost inverse = { λ xs. record { bytes = padded 255 xs; len = length xs } };
 
     ghost use Rattle.fw_base.specs.declared.line.Line.TheInside.{Inside};
 
-    ghost inverse_ok = { λ a h. kept_again {X = Inside} (λ b n. record { bytes = b; len = n }) 255 a.bytes a.len h };
+    ghost inverse_ok = { λ a h. kept_again {X = Inside} (λ b n. record { bytes = b; len = n }) 255 a.bytes a.len h.padded };
 }
 
 impl PartialEq for Line {
@@ -78,7 +79,8 @@ impl Line {
     }
 
     fn keep(bytes: &[u8]) -> Line
-        requires { length bytes.now ≤ 255 }
+        requires short { length bytes.now ≤ 255 }
+        requires accepted { line_read bytes.now ≡ Ok bytes.now }
         ensures { result ≡ bytes.now }
     {
         let mut kept = [0; 255];
@@ -104,6 +106,13 @@ impl Line {
         ensures { result.now ≡ self.now }
     {
         &self.bytes[..self.len]
+    }
+
+    /// A law: its reader takes the bytes of a line, and gives them back.
+    pub fn reads_back(&self)
+        ensures { line_read self.now ≡ Ok self.now }
+    {
+        let _ = &self.bytes;
     }
 }
 

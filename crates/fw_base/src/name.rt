@@ -1,5 +1,5 @@
 //! Names: tags, ports, plugins, protocols and other words without blanks.
-ghost use Rattle.std.specs.Prelude.{◌≡◌, ◌≤◌, length, position};
+ghost use Rattle.std.specs.Prelude.{◌≡◌, ◌≤◌, length, position, Ok};
 ghost use Rattle.fw_base.specs.Names.{name_read, is_no_name_byte};
 
 use std::marker::Model;
@@ -17,20 +17,21 @@ pub struct Name {
 
 impl Model for Name {
     ghost use Rattle.std.specs.Prelude.{List, ℕ, length, take};
-    ghost use Rattle.fw_base.specs.Padded.{IsPadded, padded};
+    ghost use Rattle.fw_base.specs.Padded.{Keeps, padded};
     ghost use Rattle.fw_base.specs.Padded.{kept_again};
+    ghost use Rattle.fw_base.specs.Names.{name_read};
 
     ghost Value = { List ℕ };
 
     ghost view = { λ s. take s.len s.bytes };
 
-    ghost invariant = { λ s. IsPadded 64 s.bytes s.len };
+    ghost invariant = { λ s. Keeps name_read 64 s.bytes s.len };
 
     ghost inverse = { λ xs. record { bytes = padded 64 xs; len = length xs } };
 
     ghost use Rattle.fw_base.specs.declared.name.Name.TheInside.{Inside};
 
-    ghost inverse_ok = { λ a h. kept_again {X = Inside} (λ b n. record { bytes = b; len = n }) 64 a.bytes a.len h };
+    ghost inverse_ok = { λ a h. kept_again {X = Inside} (λ b n. record { bytes = b; len = n }) 64 a.bytes a.len h.padded };
 }
 
 impl PartialEq for Name {
@@ -83,7 +84,8 @@ impl Name {
     }
 
     fn keep(bytes: &[u8]) -> Name
-        requires { length bytes.now ≤ 64 }
+        requires short { length bytes.now ≤ 64 }
+        requires accepted { name_read bytes.now ≡ Ok bytes.now }
         ensures { result ≡ bytes.now }
     {
         let mut kept = [0; 64];
@@ -99,6 +101,13 @@ impl Name {
         ensures { result.now ≡ self.now }
     {
         &self.bytes[..self.len]
+    }
+
+    /// A law: its reader takes the bytes of a name, and gives them back.
+    pub fn reads_back(&self)
+        ensures { name_read self.now ≡ Ok self.now }
+    {
+        let _ = &self.bytes;
     }
 }
 

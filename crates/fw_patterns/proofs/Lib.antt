@@ -7,3 +7,9 @@ pub mod PlaceLemmas
 pub mod MatchLemmas
 pub mod DecidingLemmas
 pub mod GlobLemmas
+pub mod WritingSigns
+pub mod WritingMembers
+pub mod WritingClasses
+pub mod WritingMarks
+pub mod WritingBranches
+pub mod RegexLemmas

@@ -2,6 +2,7 @@
 ghost use Rattle.std.specs.Prelude.{◌≡◌, ◌⊎◌, ◌≤◌, ◌↔◌, IsTrue, IfOk, MatchResult, List, ℕ, Ok, Err, length, map, position};
 ghost use Rattle.fw_patterns.specs.Reading.{Gives, glob_pattern, glob_piece, glob_read, is_no_glob_byte, regex_marks, regex_read};
 ghost use Rattle.fw_patterns.specs.Deciding.{in_pattern};
+ghost use Rattle.fw_patterns.specs.Regexes.{InRegex, IsRegex, WritesRegex};
 ghost use Rattle.fw_patterns.specs.Relation.{InGlob, InPattern};
 ghost use Rattle.fw_patterns.specs.declared.fault.PatternFault.TheVariants.{NoMemory as OutOfMemory};
 
@@ -60,7 +61,9 @@ impl Pattern {
     ///
     /// The first fault in reading order is answered; a text of more than 255 bytes is refused first.
     pub fn regex(alloc: Global, text: &[u8]) -> Result<Pattern, PatternFault>
-        ensures { Gives (λ pattern. pattern) result (regex_read text.now) }
+        ensures read { Gives (λ pattern. pattern) result (regex_read text.now) }
+        ensures written { MatchResult result (λ pattern. WritesRegex pattern text.now) (λ fault. (fault ≡ OutOfMemory) ⊎ (length text.now ≤ 255 → IsRegex text.now → ⊥)) }
+        ensures stands { IfOk result (λ pattern. (t : List ℕ) → InPattern pattern t ↔ InRegex text.now t) }
     {
         if text.len() > PATTERN_MAX {
             return Err(PatternFault::TooLong { len: text.len() });

@@ -10,6 +10,7 @@ pub mod Unfailing
 pub mod Completing
 pub mod PlannedBoards
 pub mod PlanCompleting
+pub mod PrintCompleting
 pub mod LoadLaws
 pub mod PlanAccepting
 pub mod ReportLaws

@@ -22,11 +22,8 @@ use Rattle.client_plays.specs.Tools.{ShelfTold}
 use Rattle.campaign_runs.specs.Planned.{with_plans}
 use Rattle.site_types.specs.declared.campaign.Campaign.{Campaign}
 use Rattle.site_types.specs.declared.site.Site.{Site}
-use Rattle.campaign_inputs.specs.Opened.{HasStopped, IsOpened}
 use Rattle.campaign_inputs.specs.Settled.{IsCampaignOf}
 use Rattle.campaign_inputs.specs.declared.opening.ClientLimit.TheVariants as limits
-use Rattle.campaign_inputs.specs.declared.opening.OpenStop.{OpenStop}
-use Rattle.campaign_inputs.specs.declared.opening.OpenStop.TheVariants as stops
 use Rattle.campaign_plans.specs.Updating.{Plays}
 use Rattle.report_text.specs.Report.{report}
 use Rattle.run_status.specs.declared.status.Status.{Status}
@@ -34,14 +31,14 @@ use Rattle.run_status.specs.declared.status.Status.TheVariants as statuses
 use Rattle.fwupd_service.specs.declared.loading.LoadStop.{LoadStop}
 use Rattle.fwupd_service.specs.declared.loading.LoadStop.TheVariants as loads
 use Rattle.fwupd_service.specs.Campaigns.{IsBadHistory, IsOpening}
-use Rattle.fwupd_service.specs.Complete.{GivesSite, HistoryHeld, PlanDone, RunDone, SitePlanned, SiteUpdated, SiteWentWhole}
+use Rattle.fwupd_service.specs.Complete.{HistoryHeld, InputGave, RunDone, SitePlanned, SiteUpdated, WorkDone}
 use Rattle.fwupd_service.specs.Ends.{CampaignEnds}
 use Rattle.fwupd_service.specs.Plugged.{AreStarted, PluginWords, work_of}
 use Rattle.fwupd_service.specs.Loads.{LoadSays, WasLoaded, load_status}
 use Rattle.fwupd_service.specs.Telling.{any_fault}
-use Rattle.fwupd_service.specs.Tops.{CampaignTold, Left, RunStopped, Went, stop_status}
+use Rattle.fwupd_service.specs.Tops.{CampaignTold, Left, Went, stop_status}
 use Rattle.fwupd_service.specs.Updates.{NotPlanned, OnlyLoaded, PlanEnds, PlanGoes, PlanPlayed, UpdateEnds, UpdateGoes, WasPrinted, planned_items, printed_plan}
-use Rattle.fwupd_service.proofs.Completing.{site-same, stopped, valid-opening}
+use Rattle.fwupd_service.proofs.Completing.{none-gave, site-gave, valid-opening}
 use Rattle.fwupd_service.proofs.FaultsTold.{counted-none, no-fault-told}
 
 -- ---- the load
@@ -78,49 +75,38 @@ module _ {K : Type 0} (told : K → List Row → Type 0) (doubted : K → Option
       let valid : IsHistory left.opening = held-rows (told keeper) (told left.keeper) left.opening held.valid w.says.0 in
       absurd (breaks.faulty.breaks (history_front left.opening (breaks.at + 1) valid))
 
-  -- What stops a run stops a plan as well.
-  plan-stopped : (Complete : Type 0) (shelves : ℕ) (sheets : List PluginSheet) (keeper : K) (old new : Option (List ℕ)) (site : Site) (stop : OpenStop)
-      → HasStopped (limits.Shelves shelves) sheets stop old new → GivesSite shelves old site → CanBeArranged sheets → PlanDone Complete (stop_status stop)
-  plan-stopped Complete shelves sheets keeper old new site stops.SourceFault h given can = tt
-  plan-stopped Complete shelves sheets keeper old new site stops.NoMemory h given can = tt
-  plan-stopped Complete shelves sheets keeper old new site stops.TooLong h given can =
-      absurd (stopped told ⊥ shelves sheets keeper old new site stops.TooLong h given can)
-  plan-stopped Complete shelves sheets keeper old new site (stops.Document place reason) h given can =
-      absurd (stopped told ⊥ shelves sheets keeper old new site (stops.Document place reason) h given can)
-  plan-stopped Complete shelves sheets keeper old new site (stops.TooManyClients asked most) h given can =
-      absurd (stopped told ⊥ shelves sheets keeper old new site (stops.TooManyClients asked most) h given can)
-  plan-stopped Complete shelves sheets keeper old new site (stops.Plugins fault) h given can =
-      absurd (stopped told ⊥ shelves sheets keeper old new site (stops.Plugins fault) h given can)
-
   -- ---- `plan`
 
   plan-printed : (sheets : List PluginSheet) (vetoes : MachineFacts → List PluginVetoes) (tag : List ℕ) (site : Site) (campaign : Campaign) (left : Left K) (before after : Option (List ℕ)) (status : Status)
       → IsCampaignOf site sheets (vetoes site.machine) campaign → WasPrinted (printed_plan campaign left.opening tag) status before after
-      → PlanDone (SitePlanned sheets vetoes tag site left before after) status
+      → WorkDone (SitePlanned sheets vetoes tag site left before after) status
   plan-printed sheets vetoes tag site campaign left before after statuses.Done settled p = record { campaign = campaign; settled = settled; printed = p }
   plan-printed sheets vetoes tag site campaign left before after statuses.SinkFault settled p = tt
   plan-printed sheets vetoes tag site campaign left before after statuses.NoMemory settled p = tt
   plan-printed sheets vetoes tag site campaign left before after _ settled p = absurd p
 
-  pub plan-complete : (shelves : ℕ) (sheets : List PluginSheet) (vetoes : MachineFacts → List PluginVetoes) (tag : List ℕ) (status : Status) (keeper : K) (left : Left K) (old new before after : Option (List ℕ)) (site : Site)
+  pub plan-complete : (shelves : ℕ) (sheets : List PluginSheet) (vetoes : MachineFacts → List PluginVetoes) (tag : List ℕ) (status : Status) (keeper : K) (left : Left K) (old new before after : Option (List ℕ))
       → PlanEnds told doubted faults shelves sheets vetoes tag status keeper left old new before after
-      → GivesSite shelves old site → CanBeArranged sheets → HistoryHeld told faults keeper left
-      → PlanDone (SitePlanned sheets vetoes tag site left before after) status
-  plan-complete shelves sheets vetoes tag status keeper left old new before after site ends given can held = at ends
+      → CanBeArranged sheets → HistoryHeld told faults keeper left
+      → InputGave (limits.Shelves shelves) status old new (λ site. WorkDone (SitePlanned sheets vetoes tag site left before after) status)
+  plan-complete shelves sheets vetoes tag status keeper left old new before after ends can held = at ends
     where
-      Complete : Type 0
-      Complete = SitePlanned sheets vetoes tag site left before after
+      Done : Status → Site → Type 0
+      Done s site = WorkDone (SitePlanned sheets vetoes tag site left before after) s
 
-      went : (campaign : Campaign) → IsOpened (limits.Shelves shelves) sheets vetoes old new campaign → PlanGoes told doubted faults tag campaign status keeper left before after → PlanDone Complete status
-      went campaign o (inl n) = subst (PlanDone Complete) (sym n.status_is) (load-held (PlanDone Complete) n.stop keeper left tt held n.only.loaded)
-      went campaign o (inr p) =
-          let same : o.site ≡ site = site-same shelves sheets old new site given o.bytes o.site o.came o.states.read o.states.stated in
-          let settled : IsCampaignOf site sheets (vetoes site.machine) campaign = subst (λ (x : Site). IsCampaignOf x sheets (vetoes x.machine) campaign) same o.settled in
-          plan-printed sheets vetoes tag site campaign left before after status settled p.printed
+      Gave : Status → Type 0
+      Gave s = InputGave (limits.Shelves shelves) s old new (Done s)
 
-      at : PlanEnds told doubted faults shelves sheets vetoes tag status keeper left old new before after → PlanDone Complete status
-      at (inl s) = subst (PlanDone Complete) (sym s.status_is) (plan-stopped Complete shelves sheets left.keeper old new site s.stop s.stopped given can)
-      at (inr w) = went w.campaign w.opened w.goes
+      went : (campaign : Campaign) (site : Site) → IsCampaignOf site sheets (vetoes site.machine) campaign → PlanGoes told doubted faults tag campaign status keeper left before after → Done status site
+      went campaign site settled (inl n) =
+          subst (λ (s : Status). Done s site) (sym n.status_is) (load-held (λ (s : Status). Done s site) n.stop keeper left tt held n.only.loaded)
+      went campaign site settled (inr p) = plan-printed sheets vetoes tag site campaign left before after status settled p.printed
+
+      at : PlanEnds told doubted faults shelves sheets vetoes tag status keeper left old new before after → Gave status
+      at (inl s) = subst Gave (sym s.status_is) (none-gave (limits.Shelves shelves) sheets s.stop old new (Done (stop_status s.stop)) s.stopped can)
+      at (inr w) =
+          site-gave (limits.Shelves shelves) sheets vetoes status old new w.campaign (Done status) w.opened
+          (went w.campaign w.opened.site w.opened.settled w.goes)
 
 -- ---- `update`
 
@@ -142,17 +128,20 @@ module _ {K Q : Type 0} (told : K → List Row → Type 0) (doubted : K → Opti
       bad (inr (v, silent, others)) = silent
   update-ended shelves sheets vetoes started tag site campaign made rows keeper left before after statuses.SinkFault a s t p valid quiet e = tt
   update-ended shelves sheets vetoes started tag site campaign made rows keeper left before after statuses.NoMemory a s t p valid quiet e = tt
-  update-ended shelves sheets vetoes started tag site campaign made rows keeper left before after statuses.SourceFault a s t p valid quiet e = tt
   update-ended shelves sheets vetoes started tag site campaign made rows keeper left before after _ a s t p valid quiet e = absurd e
 
-  pub update-complete : (shelves now : List ShelfTold) (sheets : List PluginSheet) (vetoes : MachineFacts → List PluginVetoes) (tag : List ℕ) (status : Status) (keeper : K) (left : Left K) (old new before after : Option (List ℕ)) (site : Site)
+  pub update-complete : (shelves now : List ShelfTold) (sheets : List PluginSheet) (vetoes : MachineFacts → List PluginVetoes) (tag : List ℕ) (status : Status) (keeper : K) (left : Left K) (old new before after : Option (List ℕ))
       → UpdateEnds told doubted faults shelves now sheets vetoes words tag status keeper left old new before after
-      → GivesSite (length shelves) old site → CanBeArranged sheets → HistoryHeld told faults keeper left
-      → RunDone told left.keeper (SiteUpdated told shelves sheets vetoes words tag site keeper left before after) status
-  update-complete shelves now sheets vetoes tag status keeper left old new before after site ends given can held = at ends
+      → CanBeArranged sheets → HistoryHeld told faults keeper left
+      → InputGave (limits.Shelves (length shelves)) status old new
+      (λ site. RunDone told left.keeper (SiteUpdated told shelves sheets vetoes words tag site keeper left before after) status)
+  update-complete shelves now sheets vetoes tag status keeper left old new before after ends can held = at ends
     where
-      Complete : Type 0
-      Complete = SiteUpdated told shelves sheets vetoes words tag site keeper left before after
+      Done : Status → Site → Type 0
+      Done s site = RunDone told left.keeper (SiteUpdated told shelves sheets vetoes words tag site keeper left before after) s
+
+      Gave : Status → Type 0
+      Gave s = InputGave (limits.Shelves (length shelves)) s old new (Done s)
 
       -- the keeper between the load and the first boot counted no fault either, and tells the same rows
       quiet-middle : (middle : K) → faults keeper ≤ faults middle → faults middle ≤ faults left.keeper → faults left.keeper ≡ faults middle
@@ -175,22 +164,23 @@ module _ {K Q : Type 0} (told : K → List Row → Type 0) (doubted : K → Opti
           no-fault-told left.log
           (counted-none (2 ^ 64 - 1) (keeper_faults (past_of left.log)) (faults middle) (faults left.keeper) w.keeper_stands.counted same counting)
 
-      played : (started : List Q) (campaign : Campaign) → AreStarted words sheets campaign.facts started → IsCampaignOf site sheets (vetoes site.machine) campaign → PlanPlayed told doubted faults shelves now (work_of words started) tag campaign status keeper left before after → RunDone told left.keeper Complete status
-      played started campaign a settled p = of p.went
+      played : (started : List Q) (campaign : Campaign) (site : Site) → AreStarted words sheets campaign.facts started → IsCampaignOf site sheets (vetoes site.machine) campaign → PlanPlayed told doubted faults shelves now (work_of words started) tag campaign status keeper left before after → Done status site
+      played started campaign site a settled p = of p.went
         where
-          of : Went told doubted faults shelves now (work_of words started) status p.made p.middle left (report p.made.facts left.opening left.log) before after → RunDone told left.keeper Complete status
+          of : Went told doubted faults shelves now (work_of words started) status p.made p.middle left (report p.made.facts left.opening left.log) before after → Done status site
           of (inl w) =
               update-ended shelves sheets vetoes started tag site campaign p.made p.rows keeper left before after status a settled (planned started p.made p.middle p.rows p.loaded.says.0 w) p.plays
               (valid started p.made p.middle p.loaded.told_stay w) (quiet started p.made p.middle p.loaded.counts w) w.ends
-          of (inr (e, nothing)) = subst (RunDone told left.keeper Complete) (sym e) tt
+          of (inr (e, nothing)) = subst (λ (s : Status). Done s site) (sym e) tt
 
-      went : (started : List Q) (campaign : Campaign) → AreStarted words sheets campaign.facts started → IsOpened (limits.Shelves (length shelves)) sheets vetoes old new campaign → UpdateGoes told doubted faults shelves now (work_of words started) tag campaign status keeper left before after → RunDone told left.keeper Complete status
-      went started campaign a o (inl n) = subst (RunDone told left.keeper Complete) (sym n.status_is) (load-held told doubted faults (RunDone told left.keeper Complete) n.stop keeper left tt held n.only.loaded)
-      went started campaign a o (inr (inl n)) = subst (RunDone told left.keeper Complete) (sym n.status_is) tt
-      went started campaign a o (inr (inr p)) =
-          let same : o.site ≡ site = site-same (length shelves) sheets old new site given o.bytes o.site o.came o.states.read o.states.stated in
-          played started campaign a (subst (λ (x : Site). IsCampaignOf x sheets (vetoes x.machine) campaign) same o.settled) p
+      went : (started : List Q) (campaign : Campaign) (site : Site) → AreStarted words sheets campaign.facts started → IsCampaignOf site sheets (vetoes site.machine) campaign → UpdateGoes told doubted faults shelves now (work_of words started) tag campaign status keeper left before after → Done status site
+      went started campaign site a settled (inl n) =
+          subst (λ (s : Status). Done s site) (sym n.status_is) (load-held told doubted faults (λ (s : Status). Done s site) n.stop keeper left tt held n.only.loaded)
+      went started campaign site a settled (inr (inl n)) = subst (λ (s : Status). Done s site) (sym n.status_is) tt
+      went started campaign site a settled (inr (inr p)) = played started campaign site a settled p
 
-      at : UpdateEnds told doubted faults shelves now sheets vetoes words tag status keeper left old new before after → RunDone told left.keeper Complete status
-      at (inl s) = subst (RunDone told left.keeper Complete) (sym s.status_is) (stopped told Complete (length shelves) sheets left.keeper old new site s.stop s.stopped given can)
-      at (inr w) = went w.started w.campaign w.started_are w.opened w.goes
+      at : UpdateEnds told doubted faults shelves now sheets vetoes words tag status keeper left old new before after → Gave status
+      at (inl s) = subst Gave (sym s.status_is) (none-gave (limits.Shelves (length shelves)) sheets s.stop old new (Done (stop_status s.stop)) s.stopped can)
+      at (inr w) =
+          site-gave (limits.Shelves (length shelves)) sheets vetoes status old new w.campaign (Done status) w.opened
+          (went w.started w.campaign w.opened.site w.started_are w.opened.settled w.goes)

@@ -63,6 +63,10 @@ marks-same (Some (commands.Ids texts)) old new e = e
 marks-same (Some (commands.Make boards clients)) old new e = e
 marks-same (Some (commands.Report max)) old new e = tt
 
+-- Words that are no command say none.
+pub says-none : (command : Option Command) (read : Result Command WordsFault) → Reads command read → read ≡ Err WordsFault.Usage → command ≡ None
+says-none command read reads is = subst (Reads command) is reads
+
 -- Where there was no memory for the words nothing was marked or written.
 pub marks-untold : {K : Type 0} (told : K → List Row → Type 0) (command : Option Command) (status : Status) (keeper : K) (left : Left K) (before after : Told) → status ≡ statuses.NoMemory → after ≡ before → MarksTold told command status keeper left before after
 marks-untold told None status keeper left before after e same = tt
@@ -76,10 +80,10 @@ marks-untold told (Some (commands.Ids texts)) status keeper left before after e 
 marks-untold told (Some (commands.Make boards clients)) status keeper left before after e same = tt
 marks-untold told (Some (commands.Report max)) status keeper left before after e same = inr (e, same)
 
--- A status that tells no fault of a keeper tells none under `report`.
-pub no-fault-told : (command : Option Command) (status : Status) (rows rows' marks marks' : ℕ) → (status ≡ statuses.KeeperFault → ⊥) → FaultTold command status rows rows' marks marks'
-no-fault-told (Some (commands.Report max)) status rows rows' marks marks' none = λ e. absurd (none e)
-no-fault-told _ status rows rows' marks marks' none = tt
+-- A status that tells no fault of a keeper tells none under `report`, where no count rose.
+pub no-fault-told : (command : Option Command) (status : Status) (rows rows' marks marks' : ℕ) → (status ≡ statuses.KeeperFault → ⊥) → rows' ≡ rows → marks' ≡ marks → FaultTold command status rows rows' marks marks'
+no-fault-told (Some (commands.Report max)) status rows rows' marks marks' none same also = record { cause = λ e. absurd (none e); quiet = inr (same, also) }
+no-fault-told _ status rows rows' marks marks' none same also = tt
 
 -- Where there was no memory for the words of a command nothing was done.
 pub words-wanted : {K Q : Type 0} (told : K → List Row → Type 0) (doubted : K → Option Change) (faults : K → ℕ) (shelves now : List ShelfTold) (sheets : List PluginSheet) (vetoes : MachineFacts → List PluginVetoes) (words : PluginWords Q)

@@ -1,5 +1,4 @@
--- When `run`, `make`, `plan` and `update` do all that they are for: nothing but what is named here keeps them from
--- it.
+-- When the commands do all that they are for: nothing but what is named here keeps them from it.
 use Rattle.std.specs.Prelude.{◌≡◌, ◌⊎◌, ◌≤◌, ◌<◌, ◌+◌, ◌-◌, ◌^◌, ℕ, false, List, ◌∷◌, ◌++◌, length, map, Option, Some, None, Ok}
 use Rattle.fw_facts.specs.declared.machine.MachineFacts.{MachineFacts}
 use Rattle.history_keeper.specs.declared.change.Change.{Change}
@@ -8,6 +7,7 @@ use Rattle.history_keeper.specs.Histories.{IsHistory}
 use Rattle.plugin_order.specs.declared.sheet.PluginSheet.{PluginSheet}
 use Rattle.plugin_order.specs.Arranged.{CanBeArranged}
 use Rattle.outer_traits.specs.Sinks.{Took}
+use Rattle.outer_traits.specs.Sources.{AtEnd, Came}
 use Rattle.release_catalogue.specs.Lookup.{Chosen}
 use Rattle.update_log.specs.declared.answer.AskAnswer.{AskAnswer}
 use Rattle.update_log.specs.declared.event.Event.{Event}
@@ -25,29 +25,68 @@ use Rattle.campaign_runs.specs.Planned.{with_plans}
 use Rattle.site_types.specs.declared.campaign.Campaign.{Campaign}
 use Rattle.site_types.specs.declared.site.Site.{Site}
 use Rattle.site_making.specs.Made.{made_site}
-use Rattle.campaign_inputs.specs.Inputs.{document_max, stated}
-use Rattle.campaign_inputs.specs.Opened.{asked_for}
+use Rattle.campaign_inputs.specs.declared.opening.ClientLimit.{ClientLimit}
+use Rattle.campaign_inputs.specs.declared.opening.ClientLimit.TheVariants as limits
+use Rattle.campaign_inputs.specs.Inputs.{WasRead, document_max, stated}
+use Rattle.campaign_inputs.specs.Opened.{Allows, AsksTooMany, IsNoDocument, asked_for}
 use Rattle.campaign_inputs.specs.Settled.{IsCampaignOf}
+use Rattle.command_outputs.specs.Printed.{ids_output}
+use Rattle.document_commands.specs.Ends.{checked, remotes_told}
+use Rattle.document_commands.specs.Explains.{first_of, printed_of}
 use Rattle.campaign_plans.specs.FirstPlans.{first_log, first_steps}
 use Rattle.campaign_plans.specs.Updating.{Plays}
 use Rattle.made_outputs.specs.Summed.{summary}
 use Rattle.report_text.specs.Report.{report}
 use Rattle.run_status.specs.declared.status.Status.{Status}
 use Rattle.run_status.specs.declared.status.Status.TheVariants as statuses
+use Rattle.fwupd_service.specs.Commands.{Checked, Explained, Identified, RemotesTold}
 use Rattle.fwupd_service.specs.Ends.{WentWhole}
 use Rattle.fwupd_service.specs.Makes.{MakeEnds, own_shelves}
 use Rattle.fwupd_service.specs.Plugged.{AreStarted, PluginWords, work_of}
 use Rattle.fwupd_service.specs.Tops.{Left, RunEnds}
 use Rattle.fwupd_service.specs.Updates.{PlanEnds, UpdateEnds, planned_items, printed_plan}
 
--- The whole input is no longer than a document may be and states this site, whose clients are no more than
--- the shelves.
-pub record GivesSite (shelves : ℕ) (input : Option (List ℕ)) (site : Site) : Type 0 where
-  pub bytes : List ℕ
-  pub input_is : input ≡ Some bytes
-  pub within : length bytes ≤ document_max
+-- ---- the input
+
+-- These bytes are all of the input and no longer than a document may be; they state a site, whose clients the limit
+-- allows; and of that site this is so.
+pub record GaveSite (limit : ClientLimit) (bytes : List ℕ) (left : Option (List ℕ)) (Done : Site → Type 0) : Type 0 where
+  pub site : Site
+  pub read : WasRead bytes left
   pub states : stated bytes ≡ Ok site
-  pub clients : asked_for site ≤ shelves
+  pub allowed : Allows limit (asked_for site)
+  pub done : Done site
+
+-- These bytes gave no such site, and the status says why: they are longer than a document may be, or all of the input
+-- and no document, or their site has more clients than the limit allows. Or the input failed, or memory was wanting.
+abbrev pub GaveNone : ClientLimit → Status → List ℕ → Option (List ℕ) → Type 0
+GaveNone limit statuses.TooLong bytes left = document_max < length bytes
+GaveNone limit (statuses.Document place reason) bytes left = IsNoDocument bytes left place reason
+GaveNone limit (statuses.TooManyClients asked shelves) bytes left = AsksTooMany limit asked shelves bytes left
+GaveNone limit statuses.SourceFault bytes left = Unit {0}
+GaveNone limit statuses.NoMemory bytes left = Unit {0}
+GaveNone limit _ bytes left = ⊥
+
+-- These bytes came from the input: they gave a site, of which this is so; or they gave none.
+pub record InputGave (limit : ClientLimit) (status : Status) (old new : Option (List ℕ)) (Done : Site → Type 0) : Type 0 where
+  pub bytes : List ℕ
+  pub came : Came bytes old new
+  pub gave : GaveSite limit bytes new Done ⊎ GaveNone limit status bytes new
+
+-- Of a source that tells what it has left, no more came than it had, and all of that where it came to its end.
+abbrev pub InputIsTold : Type 0
+InputIsTold =
+    (bytes all : List ℕ) (old new : Option (List ℕ)) → Came bytes old new → old ≡ Some all
+    → (length bytes ≤ length all) × (AtEnd new → bytes ≡ all)
+
+-- All was done, or else memory was wanting, or the output failed.
+abbrev pub WorkDone : Type 0 → Status → Type 0
+WorkDone Complete statuses.Done = Complete
+WorkDone Complete statuses.NoMemory = Unit {0}
+WorkDone Complete statuses.SinkFault = Unit {0}
+WorkDone Complete _ = ⊥
+
+-- ---- `run`
 
 -- The history held: the rows that the keeper told as it came are a valid one, and it tells rows still, or else
 -- those before the log are; and it failed at nothing: its count of faults, which isn't at its end, is as it was.
@@ -65,24 +104,26 @@ pub record SiteWentWhole {K Q : Type 0} (shelves : List ShelfTold) (sheets : Lis
   pub started_are : AreStarted words sheets campaign.facts started
   pub whole : WentWhole (means_for (work_of words started) shelves) (with_plans campaign.facts (map shown_by campaign.boards.items) campaign.boots) left.opening campaign.scripts left.log (text campaign) before after
 
--- All was done, or else memory was wanting, or the input or the output failed; or, where the keeper tells
--- no rows, a later boot read others than the log's.
+-- All was done, or else memory was wanting, or the output failed; or, where the keeper tells no rows, a later boot read
+-- others than the log's.
 abbrev pub RunDone : {K : Type 0} → (K → List Row → Type 0) → K → Type 0 → Status → Type 0
 RunDone told keeper Complete statuses.Done = Complete
 RunDone told keeper Complete statuses.NoMemory = Unit {0}
-RunDone told keeper Complete statuses.SourceFault = Unit {0}
 RunDone told keeper Complete statuses.SinkFault = Unit {0}
 RunDone told keeper Complete (statuses.BadHistory entry) = (all : List Row) → told keeper all → ⊥
 RunDone told keeper Complete _ = ⊥
 
--- `run` is complete: whatever it came to, where the input gives a site, the plugins can be arranged and the
--- history held, the campaign of that site was played whole and its report was written, but for those causes.
+-- `run` is complete: whatever it came to, where the plugins can be arranged and the history held, its input gave no
+-- site, or the campaign of that site was played whole and its report was written, but for those causes.
 abbrev pub RunCompletes : {K Q : Type 0} → (K → List Row → Type 0) → (K → Option Change) → (K → ℕ) → PluginWords Q → Type 0
 RunCompletes {K = K} told doubted faults words =
-    (shelves now : List ShelfTold) (sheets : List PluginSheet) (vetoes : MachineFacts → List PluginVetoes) (status : Status) (keeper : K) (left : Left K) (old new before after : Option (List ℕ)) (site : Site)
+    (shelves now : List ShelfTold) (sheets : List PluginSheet) (vetoes : MachineFacts → List PluginVetoes) (status : Status) (keeper : K) (left : Left K) (old new before after : Option (List ℕ))
     → RunEnds told doubted faults shelves now sheets vetoes words status keeper left old new before after
-    → GivesSite (length shelves) old site → CanBeArranged sheets → HistoryHeld told faults keeper left
-    → RunDone told left.keeper (SiteWentWhole shelves sheets vetoes words site left (λ campaign. report campaign.facts left.opening left.log) before after) status
+    → CanBeArranged sheets → HistoryHeld told faults keeper left
+    → InputGave (limits.Shelves (length shelves)) status old new
+    (λ site. RunDone told left.keeper (SiteWentWhole shelves sheets vetoes words site left (λ campaign. report campaign.facts left.opening left.log) before after) status)
+
+-- ---- `plan`
 
 -- The plan of that site's first boot was printed whole.
 pub record SitePlanned {K : Type 0} (sheets : List PluginSheet) (vetoes : MachineFacts → List PluginVetoes) (tag : List ℕ) (site : Site) (left : Left K) (before after : Option (List ℕ)) : Type 0 where
@@ -90,22 +131,16 @@ pub record SitePlanned {K : Type 0} (sheets : List PluginSheet) (vetoes : Machin
   pub settled : IsCampaignOf site sheets (vetoes site.machine) campaign
   pub printed : Took (printed_plan campaign left.opening tag) before after
 
--- All was done, or else memory was wanting, or the input or the output failed.
-abbrev pub PlanDone : Type 0 → Status → Type 0
-PlanDone Complete statuses.Done = Complete
-PlanDone Complete statuses.NoMemory = Unit {0}
-PlanDone Complete statuses.SourceFault = Unit {0}
-PlanDone Complete statuses.SinkFault = Unit {0}
-PlanDone Complete _ = ⊥
-
--- `plan` is complete: where the input gives a site, the plugins can be arranged and the history held, the plan of
+-- `plan` is complete: where the plugins can be arranged and the history held, its input gave no site, or the plan of
 -- that site's first boot was printed, but for those causes.
 abbrev pub PlanCompletes : {K : Type 0} → (K → List Row → Type 0) → (K → Option Change) → (K → ℕ) → Type 0
 PlanCompletes {K = K} told doubted faults =
-    (shelves : ℕ) (sheets : List PluginSheet) (vetoes : MachineFacts → List PluginVetoes) (tag : List ℕ) (status : Status) (keeper : K) (left : Left K) (old new before after : Option (List ℕ)) (site : Site)
+    (shelves : ℕ) (sheets : List PluginSheet) (vetoes : MachineFacts → List PluginVetoes) (tag : List ℕ) (status : Status) (keeper : K) (left : Left K) (old new before after : Option (List ℕ))
     → PlanEnds told doubted faults shelves sheets vetoes tag status keeper left old new before after
-    → GivesSite shelves old site → CanBeArranged sheets → HistoryHeld told faults keeper left
-    → PlanDone (SitePlanned sheets vetoes tag site left before after) status
+    → CanBeArranged sheets → HistoryHeld told faults keeper left
+    → InputGave (limits.Shelves shelves) status old new (λ site. WorkDone (SitePlanned sheets vetoes tag site left before after) status)
+
+-- ---- `update`
 
 -- The plan of that site's first boot, over the rows that the keeper told, was played whole: the boot was run, the
 -- script of the planned installs was played, as far as the boot didn't go off, and the report was written whole.
@@ -120,14 +155,15 @@ pub record SiteUpdated {K Q : Type 0} (told : K → List Row → Type 0) (shelve
   pub plays : Plays (planned_items campaign rows tag) campaign made
   pub whole : WentWhole (means_for (work_of words started) shelves) (with_plans made.facts (map shown_by made.boards.items) made.boots) left.opening made.scripts left.log (report made.facts left.opening left.log) before after
 
--- `update` is complete: where the input gives a site, the plugins can be arranged and the history held, the plan of
+-- `update` is complete: where the plugins can be arranged and the history held, its input gave no site, or the plan of
 -- that site's first boot was played whole and its report was written, but for the causes of `run`.
 abbrev pub UpdateCompletes : {K Q : Type 0} → (K → List Row → Type 0) → (K → Option Change) → (K → ℕ) → PluginWords Q → Type 0
 UpdateCompletes {K = K} told doubted faults words =
-    (shelves now : List ShelfTold) (sheets : List PluginSheet) (vetoes : MachineFacts → List PluginVetoes) (tag : List ℕ) (status : Status) (keeper : K) (left : Left K) (old new before after : Option (List ℕ)) (site : Site)
+    (shelves now : List ShelfTold) (sheets : List PluginSheet) (vetoes : MachineFacts → List PluginVetoes) (tag : List ℕ) (status : Status) (keeper : K) (left : Left K) (old new before after : Option (List ℕ))
     → UpdateEnds told doubted faults shelves now sheets vetoes words tag status keeper left old new before after
-    → GivesSite (length shelves) old site → CanBeArranged sheets → HistoryHeld told faults keeper left
-    → RunDone told left.keeper (SiteUpdated told shelves sheets vetoes words tag site keeper left before after) status
+    → CanBeArranged sheets → HistoryHeld told faults keeper left
+    → InputGave (limits.Shelves (length shelves)) status old new
+    (λ site. RunDone told left.keeper (SiteUpdated told shelves sheets vetoes words tag site keeper left before after) status)
 
 -- The answer to an ask is that it holds blocks.
 abbrev pub IsHeld : AskAnswer → Type 0
@@ -150,12 +186,7 @@ UpdateAccepts =
     (first_log campaign.boots (map shown_by campaign.boards.items)) (first_log campaign.boots (map shown_by campaign.boards.items)) now
     → off now ≡ false → BelowLimit now → IsHeld answer
 
--- All was done, or else memory was wanting, or the output failed.
-abbrev pub MakeDone : Type 0 → Status → Type 0
-MakeDone Complete statuses.Done = Complete
-MakeDone Complete statuses.NoMemory = Unit {0}
-MakeDone Complete statuses.SinkFault = Unit {0}
-MakeDone Complete _ = ⊥
+-- ---- `make`
 
 -- `make` is complete: where the plugins can be arranged, the campaign of the generated site was played whole
 -- and its summary was written, but for those causes. Its history is in its own memory, and holds.
@@ -163,4 +194,41 @@ abbrev pub MakeCompletes : {Q : Type 0} → Type 0 → PluginWords Q → Type 0
 MakeCompletes K words =
     (boards clients : ℕ) (sheets : List PluginSheet) (vetoes : MachineFacts → List PluginVetoes) (status : Status) (keeper : K) (left : Left K) (before after : Option (List ℕ))
     → MakeEnds boards clients sheets vetoes words status keeper left before after → CanBeArranged sheets
-    → MakeDone (SiteWentWhole (own_shelves clients) sheets vetoes words (made_site boards clients) left (λ campaign. summary boards clients left.log) before after) status
+    → WorkDone (SiteWentWhole (own_shelves clients) sheets vetoes words (made_site boards clients) left (λ campaign. summary boards clients left.log) before after) status
+
+-- ---- `check`, `remotes`, `explain` and `ids`
+
+-- `check` is complete: its input gave no site, or how many entries that site's sections have was printed, but for those
+-- causes.
+abbrev pub CheckCompletes : Type 0 → Type 0
+CheckCompletes K =
+    (status : Status) (keeper : K) (left : Left K) (old new before after : Option (List ℕ))
+    → Checked status keeper left old new before after
+    → InputGave limits.Any status old new (λ site. WorkDone (Took (checked site) before after) status)
+
+-- `remotes` is complete: its input gave no site, or what that site's remotes have was printed, but for those causes.
+abbrev pub RemotesCompletes : Type 0 → Type 0
+RemotesCompletes K =
+    (status : Status) (keeper : K) (left : Left K) (old new before after : Option (List ℕ))
+    → RemotesTold status keeper left old new before after
+    → InputGave limits.Any status old new (λ site. WorkDone (Took (remotes_told site) before after) status)
+
+-- What is explained of an install of this version at this port of that site was printed whole.
+pub record SiteExplained (sheets : List PluginSheet) (vetoes : MachineFacts → List PluginVetoes) (port version : List ℕ) (site : Site) (before after : Option (List ℕ)) : Type 0 where
+  pub campaign : Campaign
+  pub settled : IsCampaignOf site sheets (vetoes site.machine) campaign
+  pub printed : Took (printed_of campaign.facts (map first_of site.boards) port version) before after
+
+-- `explain` is complete: where the plugins can be arranged, its input gave no site, or that was printed of it, but for
+-- those causes.
+abbrev pub ExplainCompletes : Type 0 → Type 0
+ExplainCompletes K =
+    (sheets : List PluginSheet) (vetoes : MachineFacts → List PluginVetoes) (port version : List ℕ) (status : Status) (keeper : K) (left : Left K) (old new before after : Option (List ℕ))
+    → Explained sheets vetoes port version status keeper left old new before after → CanBeArranged sheets
+    → InputGave limits.Any status old new (λ site. WorkDone (SiteExplained sheets vetoes port version site before after) status)
+
+-- `ids` is complete: a line for each text was printed, but for those causes.
+abbrev pub IdsCompletes : Type 0 → Type 0
+IdsCompletes K =
+    (texts : List (List ℕ)) (status : Status) (keeper : K) (left : Left K) (old new before after : Option (List ℕ))
+    → Identified texts status keeper left old new before after → WorkDone (Took (ids_output texts) before after) status

@@ -25,6 +25,7 @@ pub use Rattle.update_log.specs.Once
 pub use Rattle.update_log.specs.Pasts
 pub use Rattle.update_log.specs.Shows
 pub use Rattle.report_text.specs.Report
+pub use Rattle.report_queue.specs.Marking as ReportQueueMarking
 pub use Rattle.report_queue.specs.Reports
 pub use Rattle.report_queue.specs.Stops as ReportQueueStops
 pub use Rattle.site_making.specs.Made

@@ -57,7 +57,13 @@ KeepsMarks (Some (commands.Ids texts)) old new = new ≡ old
 KeepsMarks (Some (commands.Make boards clients)) old new = new ≡ old
 KeepsMarks (Some (commands.Report max)) old new = Unit {0}
 
--- Under `report` a fault is told only where the count of the keeper of the history or of that of the marks rose.
+-- How a report tells what the keeper of the history and that of the marks counted: a fault of a keeper only where one
+-- count rose, and where it tells none, neither did.
+pub record KeepersTold (status : Status) (rows rows' marks marks' : ℕ) : Type 0 where
+  pub cause : status ≡ statuses.KeeperFault → Rose rows rows' ⊎ Rose marks marks'
+  pub quiet : (status ≡ statuses.KeeperFault) ⊎ ((rows' ≡ rows) × (marks' ≡ marks))
+
+-- So it is under `report`.
 abbrev pub FaultTold : Option Command → Status → ℕ → ℕ → ℕ → ℕ → Type 0
-FaultTold (Some (commands.Report max)) status rows rows' marks marks' = status ≡ statuses.KeeperFault → Rose rows rows' ⊎ Rose marks marks'
+FaultTold (Some (commands.Report max)) status rows rows' marks marks' = KeepersTold status rows rows' marks marks'
 FaultTold _ status rows rows' marks marks' = Unit {0}

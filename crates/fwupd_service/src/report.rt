@@ -3,6 +3,7 @@ ghost use Rattle.std.specs.Prelude.{◌≡◌, ◌≤◌, ◌⊎◌, [], None, S
 ghost use Rattle.outer_traits.specs.Faults.{Rose};
 ghost use Rattle.history_keeper.specs.Keepers.{StillTold};
 ghost use Rattle.command_words.specs.declared.command.Command.TheVariants as commands;
+ghost use Rattle.report_queue.specs.Marking.{OverTold};
 ghost use Rattle.fwupd_service.specs.Reported.{report_status, FaultTold, ReportTold};
 
 use crate::loading::place_told;
@@ -40,14 +41,15 @@ pub(crate) fn report<P: Shelf, K: Keeper, M: MarkKeeper, T: Sink>(
     out: &mut T,
 ) -> Ran<P, K, M>
     requires no_doubt { K.doubt keeper ≡ None }
-    ensures told { ReportTold K.tells max result.status keeper
+    ensures told { OverTold (M.tells marks) (M.tells result.marks) (λ before after. ReportTold K.tells max result.status keeper
         (record { log = result.log; opening = result.opening; boards = result.boards; keeper = result.keeper })
-        (record { marks = M.marks marks; doubt = M.doubt marks; taken = T.taken out.old })
-        (record { marks = M.marks result.marks; doubt = M.doubt result.marks; taken = T.taken out.new }) }
+        (record { marks = before; doubt = M.doubt marks; taken = T.taken out.old })
+        (record { marks = after; doubt = M.doubt result.marks; taken = T.taken out.new })) }
     ensures log { result.log ≡ [] }
     ensures boards { result.boards ≡ None }
     ensures rows_stay { StillTold (K.tells keeper) (K.tells result.keeper) }
     ensures fault_told { FaultTold (Some (commands.Report max)) result.status (K.faults keeper) (K.faults result.keeper) (M.faults marks) (M.faults result.marks) }
+    ensures no_source { result.status ≡ Status.SourceFault → ⊥ }
     ensures sink_fault { result.status ≡ Status.SinkFault → Rose (T.faults out.old) (T.faults out.new) }
     ensures sink_quiet { (result.status ≡ Status.SinkFault) ⊎ (T.faults out.new ≡ T.faults out.old) }
     ensures marks_counts { M.faults marks ≤ M.faults result.marks }

@@ -8,6 +8,7 @@ ghost use Rattle.command_words.specs.Commands.{command_of};
 ghost use Rattle.fwupd_service.specs.Commands.{CommandEnds, CommandFits, KeepsShelves, WordsEnd};
 ghost use Rattle.fwupd_service.specs.Plugged.{plugin_words};
 ghost use Rattle.fwupd_service.specs.Reported.{FaultTold, KeepsMarks, MarksTold};
+ghost use Rattle.report_queue.specs.Marking.{OverTold};
 
 use crate::make::make;
 use crate::others::{run_check, run_explain, run_ids, run_remotes};
@@ -76,10 +77,10 @@ pub fn run_campaign<
     ensures own_shelves { KeepsShelves (command_of (map (λ word. word.now) words.now)) shelves.items result.shelves.items }
     // The marks: those that came, but under `report`, of which it is told what was marked and written.
     ensures own_marks { KeepsMarks (command_of (map (λ word. word.now) words.now)) marks result.marks }
-    ensures marks_told { MarksTold K.tells (command_of (map (λ word. word.now) words.now)) result.status keeper
+    ensures marks_told { OverTold (M.tells marks) (M.tells result.marks) (λ before after. MarksTold K.tells (command_of (map (λ word. word.now) words.now)) result.status keeper
         (record { log = result.log; opening = result.opening; boards = result.boards; keeper = result.keeper })
-        (record { marks = M.marks marks; doubt = M.doubt marks; taken = T.taken out.old })
-        (record { marks = M.marks result.marks; doubt = M.doubt result.marks; taken = T.taken out.new }) }
+        (record { marks = before; doubt = M.doubt marks; taken = T.taken out.old })
+        (record { marks = after; doubt = M.doubt result.marks; taken = T.taken out.new })) }
     ensures fault_told { FaultTold (command_of (map (λ word. word.now) words.now)) result.status (K.faults keeper) (K.faults result.keeper) (M.faults marks) (M.faults result.marks) }
     ensures marks_counts { M.faults marks ≤ M.faults result.marks }
 {
@@ -135,10 +136,10 @@ fn obey<
     ensures shelves { ShelvesStay (shelves_told P.files P.faults shelves.items) (shelves_told P.files P.faults result.shelves.items) }
     ensures own_shelves { KeepsShelves (Some command.now) shelves.items result.shelves.items }
     ensures own_marks { KeepsMarks (Some command.now) marks result.marks }
-    ensures marks_told { MarksTold K.tells (Some command.now) result.status keeper
+    ensures marks_told { OverTold (M.tells marks) (M.tells result.marks) (λ before after. MarksTold K.tells (Some command.now) result.status keeper
         (record { log = result.log; opening = result.opening; boards = result.boards; keeper = result.keeper })
-        (record { marks = M.marks marks; doubt = M.doubt marks; taken = T.taken out.old })
-        (record { marks = M.marks result.marks; doubt = M.doubt result.marks; taken = T.taken out.new }) }
+        (record { marks = before; doubt = M.doubt marks; taken = T.taken out.old })
+        (record { marks = after; doubt = M.doubt result.marks; taken = T.taken out.new })) }
     ensures fault_told { FaultTold (Some command.now) result.status (K.faults keeper) (K.faults result.keeper) (M.faults marks) (M.faults result.marks) }
     ensures marks_counts { M.faults marks ≤ M.faults result.marks }
 {

@@ -2,7 +2,8 @@
 //! plugins and shelves, and ends with its status.
 #![tactic(auto)]
 
-ghost use Rattle.std.specs.Prelude.{◌≡◌, None, map};
+ghost use Rattle.std.specs.Prelude.{◌≡◌, [], None, map};
+ghost use Rattle.board_plugins.specs.Sheets.{capsule_sheet, flash_sheet, loader_sheet, power_sheet};
 ghost use Rattle.site_making.specs.Settled.{vetoes_of};
 ghost use Rattle.host_service.specs.Brought.{AreProgram};
 
@@ -11,9 +12,9 @@ use fw_base::NoMemory;
 use fwupd_service::{Kept, Ran, Status, kept_by};
 use history_file::HistoryFile;
 use history_keeper::{Keeper, KeeperRefusal, MemoryKeeper};
-use host_service::run_over_folder;
+use host_service::{FileHistory, run_over_file, run_over_folder};
 use marks_sqlite::FileMarks;
-use outer_traits::{ReadSource, Sink, Source, WriteSink};
+use outer_traits::{FolderShelf, ReadSource, Sink, Source, WriteSink};
 use plugin_trait::Plugin;
 use report_queue::{MarkKeeper, MemoryMarks};
 use std::io::{BufWriter, IsTerminal, Write};
@@ -65,11 +66,34 @@ fn run_words<R: Runtime + AllocGlobal + Threads + Wait + Sync>(
     words: &[&[u8]],
 ) -> Result<Status, NoMemory> {
     let alloc = rt.alloc();
+    let flash = Flash::new(alloc)?;
+    let loader = Loader::new(alloc)?;
+    let capsule = Capsule::new(alloc)?;
+    let power = Power::new(alloc)?;
+    run_over_plugins(rt, host, words, flash, loader, capsule, power)
+}
+
+/// Runs the command with these four plugins, in this order.
+fn run_over_plugins<R: Runtime + AllocGlobal + Threads + Wait + Sync>(
+    rt: &R,
+    host: &HostRuntime,
+    words: &[&[u8]],
+    flash: Flash,
+    loader: Loader,
+    capsule: Capsule,
+    power: Power,
+) -> Result<Status, NoMemory>
+    requires is_flash { flash ≡ flash_sheet }
+    requires is_loader { loader ≡ loader_sheet }
+    requires is_capsule { capsule ≡ capsule_sheet }
+    requires is_power { power ≡ record { sheet = power_sheet; vetoes = [] } }
+{
+    let alloc = rt.alloc();
     let mut plugins: Vec<Box<dyn Plugin>> = Vec::new(alloc);
-    plugins.push(Box::new(alloc, Flash::new(alloc)?)?)?;
-    plugins.push(Box::new(alloc, Loader::new(alloc)?)?)?;
-    plugins.push(Box::new(alloc, Capsule::new(alloc)?)?)?;
-    plugins.push(Box::new(alloc, Power::new(alloc)?)?)?;
+    plugins.push(Box::new(alloc, flash)?)?;
+    plugins.push(Box::new(alloc, loader)?)?;
+    plugins.push(Box::new(alloc, capsule)?)?;
+    plugins.push(Box::new(alloc, power)?)?;
     run_over_kept(rt, host, words, plugins)
 }
 
@@ -99,32 +123,68 @@ fn run_over_history<R: Runtime + AllocGlobal + Threads + Wait + Sync>(
 ) -> Result<Status, NoMemory>
     requires { AreProgram (map (λ p. own_sheet p) plugins.items) (λ machine. map (λ p. vetoes_of (own_sheet p) (vetoes_on p machine)) plugins.items) }
 {
-    let history = match HistoryFile::open(host, HISTORY) {
-        Ok(history) => history,
-        Err(KeeperRefusal::Fault) => return Ok(Status::KeeperFault),
-        Err(KeeperRefusal::NoMemory) => return Ok(Status::NoMemory),
-    };
     HistoryFile::crosses();
     let unused = MemoryMarks::new(Vec::new(rt.alloc()), Vec::new(rt.alloc()));
     let mut source = ReadSource::new(rt.reader());
-    let Ok(mut gathered) = BufWriter::with_capacity(rt.alloc(), GATHERED, io::writer(rt)) else {
+    let Ok(gathered) = BufWriter::with_capacity(rt.alloc(), GATHERED, io::writer(rt)) else {
         return Err(NoMemory);
     };
-    let mut sink = WriteSink::new(&mut gathered);
-    let status = status_over(
+    let mut sink = WriteSink::new(gathered);
+    let status = status_over_file::<R, _, HistoryFile, _, _>(
         rt,
         host,
         words,
         &mut source,
         plugins,
-        history,
         unused,
         &mut sink,
     )?;
-    match gathered.flush() {
+    match sink.into_inner().flush() {
         Ok(()) => Ok(status),
         Err(_) => Ok(Status::SinkFault),
     }
+}
+
+/// Opens the history in its file, runs over it and these streams, and says with which status that ended.
+fn status_over_file<
+    R: Runtime + AllocGlobal + Threads + Wait + Sync,
+    S: Source,
+    K: FileHistory + Send + Drop,
+    M: MarkKeeper + Drop,
+    T: Sink,
+>(
+    rt: &R,
+    host: &HostRuntime,
+    words: &[&[u8]],
+    source: &mut S,
+    plugins: Vec<Box<dyn Plugin>>,
+    marks: M,
+    out: &mut T,
+) -> Result<Status, NoMemory>
+    requires { AreProgram (map (λ p. own_sheet p) plugins.items) (λ machine. map (λ p. vetoes_of (own_sheet p) (vetoes_on p machine)) plugins.items) }
+{
+    let ran = run_over_file::<R, S, K, M, T>(
+        rt, host, words, source, SHELF, plugins, HISTORY, marks, out,
+    );
+    match ran {
+        Ok(ran) => Ok(status_of(ran)),
+        Err(KeeperRefusal::Fault) => Ok(Status::KeeperFault),
+        Err(KeeperRefusal::NoMemory) => Err(NoMemory),
+    }
+}
+
+/// The status of a run. All else that it left is let go of.
+fn status_of<K: Drop, M: Drop>(ran: Ran<FolderShelf<HostRuntime>, K, M>) -> Status {
+    let Ran {
+        status,
+        log: _,
+        opening: _,
+        boards: _,
+        keeper: _,
+        marks: _,
+        shelves: _,
+    } = ran;
+    status
 }
 
 /// Opens the history and the marks in their files, and reports the rows. Each line goes out by itself: a line that is
@@ -184,16 +244,7 @@ fn status_over<
     requires no_doubt { K.doubt keeper ≡ None }
 {
     let ran = run_over_folder(rt, host, words, source, SHELF, plugins, keeper, marks, out)?;
-    let Ran {
-        status,
-        log: _,
-        opening: _,
-        boards: _,
-        keeper: _,
-        marks: _,
-        shelves: _,
-    } = ran;
-    Ok(status)
+    Ok(status_of(ran))
 }
 
 /// Runs a command that keeps no history, over keepers that stay unused. The output is gathered as by
@@ -210,10 +261,10 @@ fn run_over_nothing<R: Runtime + AllocGlobal + Threads + Wait + Sync>(
     let unused = MemoryKeeper::new(Vec::new(alloc), Vec::new(alloc));
     let unused_marks = MemoryMarks::new(Vec::new(alloc), Vec::new(alloc));
     let mut source = ReadSource::new(rt.reader());
-    let Ok(mut gathered) = BufWriter::with_capacity(alloc, GATHERED, io::writer(rt)) else {
+    let Ok(gathered) = BufWriter::with_capacity(alloc, GATHERED, io::writer(rt)) else {
         return Err(NoMemory);
     };
-    let mut sink = WriteSink::new(&mut gathered);
+    let mut sink = WriteSink::new(gathered);
     let status = status_over(
         rt,
         host,
@@ -224,7 +275,7 @@ fn run_over_nothing<R: Runtime + AllocGlobal + Threads + Wait + Sync>(
         unused_marks,
         &mut sink,
     )?;
-    match gathered.flush() {
+    match sink.into_inner().flush() {
         Ok(()) => Ok(status),
         Err(_) => Ok(Status::SinkFault),
     }

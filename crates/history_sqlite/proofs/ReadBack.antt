@@ -1,4 +1,4 @@
--- A row that is read from the columns of a row is that row. One is read, where its texts are names and versions.
+-- A row that is read from the columns of a row is that row, and one is read.
 use Rattle.std.proofs.Common.{◌≡◌, ◌⊎◌, inl, inr, ℕ, ◌<◌, ◌^◌, pos, Bool, true, false, nat_lt, ◌==◌, if◌then◌else◌, List, [], ◌∷◌, ◌++◌, map, length, position, Option, Some, None, option_map, IfSome, Result, Ok, Err, refl, sym, ap, ◌∙◌, arith}
 use Rattle.std.specs.Result.{result_ok}
 use Rattle.fw_base.specs.Names.{name_read, name_unless, is_no_name_byte}
@@ -9,7 +9,7 @@ use Rattle.sqlite.specs.Values.{or_null}
 use Rattle.history_keeper.specs.declared.row.Row.{Row}
 use Rattle.history_keeper.specs.declared.row.RowState.{RowState}
 use Rattle.history_keeper.specs.declared.row.RowState.TheVariants.{Pending, Success, Failed, NeedsReboot, Begun}
-use Rattle.history_sqlite.specs.Columns.{◌>>=◌, columns_of, older_columns_of, row_read, older_row_read, taken_over, optional, HasTexts, number_in, bytes_in, name_in, version_in, state_in, state_number}
+use Rattle.history_sqlite.specs.Columns.{◌>>=◌, columns_of, older_columns_of, row_read, older_row_read, taken_over, optional, number_in, bytes_in, name_in, version_in, state_in, state_number}
 
 step : {A B : Type 0} (o : Option A) (a : A) (f : A → Option B) (b : B) → (o ≡ None) ⊎ (o ≡ Some a) → (o >>= f) ≡ Some b → f a ≡ Some b
 step o a f b (inl none) h = absurd (let e = rw none at h in cc)
@@ -158,6 +158,14 @@ pub record HasRanges (row : Row) : Type 0 where
   pub time_changed : row.time_changed < 2 ^ 64
   pub duration : row.duration < 2 ^ 32
   pub retry_of : IfSome row.retry_of (λ k. k < 2 ^ 32)
+
+-- A row's tag, component and protocol are names, and its versions are versions: each reader gives back what it reads.
+pub record HasTexts (row : Row) : Type 0 where
+  pub tag : name_read row.tag ≡ Ok row.tag
+  pub component : name_read row.component ≡ Ok row.component
+  pub version_old : version_read row.version_old ≡ Ok row.version_old
+  pub version_new : version_read row.version_new ≡ Ok row.version_new
+  pub protocol : IfSome row.protocol (λ name. name_read name ≡ Ok name)
 
 older_is_read_back : (row : Row) (more : List Value) → HasRanges row → HasTexts row → older_row_read (older_columns_of row ++ more) ≡ Some (taken_over row)
 older_is_read_back row more ranges texts =

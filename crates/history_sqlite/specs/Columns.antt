@@ -1,5 +1,5 @@
 -- A row as the columns of the table, and back.
-use Rattle.std.specs.Prelude.{◌≡◌, ℕ, pos, nat_lt, ◌==◌, ◌^◌, if◌then◌else◌, List, [], ◌∷◌, ◌++◌, length, Option, Some, None, option_map, Ok, IfSome}
+use Rattle.std.specs.Prelude.{ℕ, pos, nat_lt, ◌==◌, ◌^◌, if◌then◌else◌, List, [], ◌∷◌, ◌++◌, length, Option, Some, None, option_map}
 use Rattle.std.specs.Result.{result_ok}
 use Rattle.fw_base.specs.Names.{name_read}
 use Rattle.version_formats.specs.Versions.{version_read}
@@ -114,11 +114,3 @@ row_read columns = do
   protocol ← optional name_in (column columns 14)
   retry_of ← optional (number_in (2 ^ 32)) (column columns 15)
   Some (record row { duration = duration; protocol = protocol; retry_of = retry_of })
-
--- A row's tag, component and protocol are names, and its versions are versions: each reader gives back what it reads.
-pub record HasTexts (row : Row) : Type 0 where
-  pub tag : name_read row.tag ≡ Ok row.tag
-  pub component : name_read row.component ≡ Ok row.component
-  pub version_old : version_read row.version_old ≡ Ok row.version_old
-  pub version_new : version_read row.version_new ≡ Ok row.version_new
-  pub protocol : IfSome row.protocol (λ name. name_read name ≡ Ok name)

@@ -106,8 +106,13 @@ fn line_of_the_first_install(rt: HostRuntime) -> Result<(), Fail> {
     Ok(())
 }
 
-const WORDS: [(&str, &str); 6] = [
+const WORDS: [(&str, &str); 8] = [
     ("component", "com.example.hub"),
+    ("device", "3a49404014b67758fd430a9d09ba0807820b5c47"),
+    (
+        "digest",
+        "abababababababababababababababababababababababababababababababab",
+    ),
     ("new", "1.1.0"),
     ("old", "1.0.0"),
     ("protocol", "org.usb.dfu"),
@@ -152,6 +157,17 @@ fn numbers_are_read_by_a_json_reader(rt: HostRuntime) -> Result<(), Fail> {
     let value = Value::from_slice(rt.alloc(), &line)?;
     for (key, want) in &NUMBERS {
         assert!(rt; value.get(*key).and_then(Value::as_u64) == Some(*want));
+    }
+    Ok(())
+}
+
+#[test]
+fn values_that_are_missing_are_null(rt: HostRuntime) -> Result<(), Fail> {
+    let rows = rows()?;
+    let line = line_of(rt.alloc(), &rows[0])?;
+    let value = Value::from_slice(rt.alloc(), &line)?;
+    for key in ["protocol", "retry-of"] {
+        assert!(rt; value.get(key).is_some_and(Value::is_null));
     }
     Ok(())
 }

@@ -1,1 +1,3 @@
 pub mod BringingLaws
+pub mod OpeningLaws
+pub mod OverLaws

@@ -6,6 +6,8 @@
 #![tactic(auto)]
 
 mod brought;
+pub mod over;
 pub mod running;
 
+pub use over::{FileHistory, run_over_file};
 pub use running::run_over_folder;

@@ -3,6 +3,7 @@ ghost use Rattle.std.specs.Prelude.{◌≡◌, ◌⊎◌, ◌≤◌, None, IfOk,
 ghost use Rattle.outer_traits.specs.Faults.{Rose};
 ghost use Rattle.client_plays.specs.Has.{shelves_told};
 ghost use Rattle.command_words.specs.Commands.{command_of};
+ghost use Rattle.report_queue.specs.Marking.{OverTold};
 ghost use Rattle.fwupd_service.specs.Commands.{WordsEnd};
 ghost use Rattle.fwupd_service.specs.Plugged.{plugin_words};
 ghost use Rattle.fwupd_service.specs.Reported.{FaultTold, KeepsMarks, MarksTold};
@@ -54,10 +55,10 @@ pub fn run_over_folder<
     ensures sink_fault { IfOk result (λ ran. ran.status ≡ Status.SinkFault → Rose (T.faults out.old) (T.faults out.new)) }
     ensures sink_quiet { IfOk result (λ ran. (ran.status ≡ Status.SinkFault) ⊎ (T.faults out.new ≡ T.faults out.old)) }
     ensures own_marks { IfOk result (λ ran. KeepsMarks (command_of (map (λ word. word.now) words.now)) marks ran.marks) }
-    ensures marks_told { IfOk result (λ ran. MarksTold K.tells (command_of (map (λ word. word.now) words.now)) ran.status keeper
+    ensures marks_told { IfOk result (λ ran. OverTold (M.tells marks) (M.tells ran.marks) (λ before after. MarksTold K.tells (command_of (map (λ word. word.now) words.now)) ran.status keeper
         (record { log = ran.log; opening = ran.opening; boards = ran.boards; keeper = ran.keeper })
-        (record { marks = M.marks marks; doubt = M.doubt marks; taken = T.taken out.old })
-        (record { marks = M.marks ran.marks; doubt = M.doubt ran.marks; taken = T.taken out.new })) }
+        (record { marks = before; doubt = M.doubt marks; taken = T.taken out.old })
+        (record { marks = after; doubt = M.doubt ran.marks; taken = T.taken out.new }))) }
     ensures fault_told { IfOk result (λ ran. FaultTold (command_of (map (λ word. word.now) words.now)) ran.status (K.faults keeper) (K.faults ran.keeper) (M.faults marks) (M.faults ran.marks)) }
     ensures marks_counts { IfOk result (λ ran. M.faults marks ≤ M.faults ran.marks) }
 {

@@ -20,29 +20,7 @@ fn number(decision: &Decision) -> u32 {
     match decision {
         Decision::Accept { .. } => 0,
         Decision::Kept { .. } => 100,
-        Decision::Refused(refusal) => refusal_number(refusal),
-    }
-}
-
-fn refusal_number(refusal: &Refusal) -> u32 {
-    match refusal {
-        Refusal::NoDevice => 1,
-        Refusal::NoRelease => 2,
-        Refusal::Busy { .. } => 3,
-        Refusal::Unsettled { .. } => 4,
-        Refusal::NotUpdatable => 5,
-        Refusal::Locked => 6,
-        Refusal::Problem(_) => 7,
-        Refusal::SameVersion => 8,
-        Refusal::Older => 9,
-        Refusal::Unmet(_) => 10,
-        Refusal::Veto { .. } => 11,
-        Refusal::Size { .. } => 12,
-        Refusal::NoRoom { .. } => 13,
-        Refusal::Payload(_) => 14,
-        Refusal::RowsFull => 15,
-        Refusal::KeeperFault => 16,
-        Refusal::Retry(_) => 17,
+        Decision::Refused(refusal) => u32::from(refusal.number()),
     }
 }
 
@@ -96,7 +74,7 @@ fn plugin(refusal: &Refusal) -> Option<Name> {
 
 /// Whether both are the same. The payload is no part of a verdict.
 fn is_same_refusal(one: &Refusal, other: &Refusal) -> bool {
-    refusal_number(one) == refusal_number(other)
+    one.number() == other.number()
         && numbers(one) == numbers(other)
         && unmet(one) == unmet(other)
         && problem(one) == problem(other)

@@ -1,2 +1,4 @@
+pub mod Found
 pub mod Marks
 pub mod MarksTold
+pub mod Refusals

@@ -1,6 +1,8 @@
 pub mod Causes
 pub mod Finding
 pub mod Keeping
+pub mod OneList
+pub mod Opened
 pub mod Tables
 pub mod Telling
 pub use Rattle.outer_traits.specs.Faults

@@ -1,5 +1,5 @@
 -- The table of marks, and what the database holds where it has marks.
-use Rattle.std.specs.Prelude.{◌≡◌, ℕ, ◌+◌, pos, true, false, List, [], ◌∷◌, ◌++◌, map, codes, Some, None, IsTrue}
+use Rattle.std.specs.Prelude.{◌≡◌, ◌⊎◌, ℕ, ◌+◌, pos, true, false, List, [], ◌∷◌, ◌++◌, map, codes, Some, None, IsTrue}
 use Rattle.sqlite.specs.declared.types.Value.{Value}
 use Rattle.sqlite.specs.declared.types.Value.TheVariants.{Null, Int}
 use Rattle.sqlite.specs.Kind.TheVariants.{Integer}
@@ -63,6 +63,10 @@ pub record IsBlank (s : State) : Type 0 where
   pub schema : s.now.schema ≡ no_schema
   pub autocommit : s.in_transaction ≡ false
   pub unlimited : s.step_limit ≡ None
+
+-- The database has marks, or no table.
+abbrev pub HasAny : State → Type 0
+HasAny s = ((marks : List ℕ) × HoldsMarks s marks) ⊎ IsBlank s
 
 -- What a crash may leave of a database without tables in which the table is made: it, without a mark.
 abbrev pub MakesTable : State → Trees → Type 0

@@ -1,21 +1,23 @@
 //! A keeper of marks over a file.
-ghost use Rattle.std.specs.Prelude.{◌≡◌, ◌≢◌, ◌≤◌, ◌⊎◌, Some, None, [], IsTrue, IsSome, IfSome, IfOk, OnOk, OnErr};
+ghost use Rattle.std.specs.Prelude.{◌≡◌, ◌≢◌, ◌≤◌, ◌⊎◌, ℕ, List, Some, None, [], true, false, IsTrue, IsSome, IfSome, IfOk, IfErr, OnOk, OnErr};
 ghost use denote.Param.Send.{IsSend};
 ghost use Rattle.sqlite.specs.Files.{over_files};
 ghost use Rattle.sqlite.specs.State.{HasCleanDisk};
 ghost use Rattle.outer_traits.specs.Faults.{Rose};
 ghost use Rattle.outer_traits.specs.Plans.{one_more};
-ghost use Rattle.report_queue.specs.Marking.{Marked, Reopened};
+ghost use Rattle.sqlite_wal.specs.Files.{image_at};
+ghost use Rattle.report_queue.specs.Marking.{Marked, MarksStay, Reopened};
 ghost use Rattle.marks_sqlite.specs.Causes.{FailsToLoad, FailsToMark, FailsToSettle};
 ghost use Rattle.marks_sqlite.specs.Keeping.{planned, doubtful, after_fault};
+ghost use Rattle.marks_sqlite.specs.Opened.{IsAdoptable, StartHolds};
 ghost use Rattle.marks_sqlite.specs.Tables.{Adds, Keeps, Loads};
-ghost use Rattle.marks_sqlite.specs.Telling.{database, told_by, Settles, IsUnused};
+ghost use Rattle.marks_sqlite.specs.Telling.{database, IsUnused, Settles, TellsHeld};
 ghost use Rattle.marks_sqlite.specs.contracts.file_marks.FileMarks.{the_row};
 
 use crate::sql_marks::SqlMarks;
 use history_keeper::KeeperRefusal;
 use report_queue::MarkKeeper;
-use sqlite::{File, FileStore};
+use sqlite::{File, FileStore, Start, Unknown};
 use std::alloc::Global;
 use std::rt::HostRuntime;
 
@@ -34,11 +36,14 @@ impl Drop for FileMarks {
 }
 
 impl FileMarks {
-    /// A keeper over the file at the path, as `SqlMarks::file` makes it.
+    /// A keeper over the file at the path, as `SqlMarks::file` makes it. Where the file held a table of marks, it tells
+    /// these marks, and none where it held no table, while the disk returns what was written.
     pub fn open(rt: &HostRuntime, path: &str) -> Result<FileMarks, KeeperRefusal>
-        ensures { IfOk result (λ new. IsUnused over_files None [] new.keeper) }
+        ensures unused { IfOk result (λ new. IsUnused true [] new.keeper) }
+        ensures tells { IfOk result (λ new. (marks : List ℕ) → StartHolds (⟦<Unknown as Start>⟧) marks → HasCleanDisk (database over_files new.keeper) → TellsHeld (⟦<Unknown as Start>⟧) over_files new.keeper marks) }
+        ensures adopted { IfOk result (λ new. HasCleanDisk (database over_files new.keeper) → IsAdoptable (image_at (⟦<Unknown as Start>⟧))) }
     {
-        let keeper = SqlMarks::file(rt, path)?;
+        let keeper = SqlMarks::file(rt, path, Unknown)?;
         Ok(FileMarks { keeper })
     }
 
@@ -59,9 +64,12 @@ fn part_crosses<T: Send>()
 impl MarkKeeper for FileMarks {
     ghost use Rattle.sqlite.specs.Files.{over_files};
     ghost use Rattle.marks_sqlite.specs.Keeping.{doubtful};
-    ghost use Rattle.marks_sqlite.specs.Telling.{told_by};
+    ghost use Rattle.marks_sqlite.specs.Telling.{TellsHeld};
+    ghost use Rattle.marks_sqlite.specs.OneList.{told_once};
 
-    ghost marks = { λ s. told_by over_files s.keeper };
+    ghost tells = { λ s. TellsHeld (⟦<Unknown as Start>⟧) over_files s.keeper };
+
+    ghost one_list = { λ s one other told also. told_once told also };
 
     ghost doubt = { λ s. doubtful s.keeper };
 
@@ -71,15 +79,17 @@ impl MarkKeeper for FileMarks {
         requires { doubtful self.old.keeper ≡ None }
         ensures loads { HasCleanDisk (database over_files self.new.keeper) → IfOk result (λ loaded. Loads (database over_files self.old.keeper) (database over_files self.new.keeper) loaded.items) }
         ensures refused { HasCleanDisk (database over_files self.new.keeper) → IsTrue (database over_files self.new.keeper).is_open → OnErr result (Keeps (database over_files self.old.keeper) (database over_files self.new.keeper)) }
-        ensures failed { HasCleanDisk (database over_files self.new.keeper) → result ≡ Err KeeperRefusal.Fault → IsSome (planned self.old.keeper) ⊎ FailsToLoad (database over_files self.old.keeper) (database over_files self.new.keeper) }
+        ensures failed { HasCleanDisk (database over_files self.new.keeper) → IfErr result (λ why. IsSome (planned self.old.keeper) ⊎ FailsToLoad why (database over_files self.old.keeper) (database over_files self.new.keeper)) }
         ensures planned { IsSome (planned self.old.keeper) → result ≡ Err KeeperRefusal.Fault }
         ensures idle { IsSome (planned self.old.keeper) → self.new.keeper ≡ after_fault self.old.keeper }
         ensures numbered { result ≢ Err KeeperRefusal.NoMemory → self.new.keeper.calls ≡ one_more self.old.keeper.calls }
+        ensures uncounted { result ≡ Err KeeperRefusal.NoMemory → self.new.keeper.calls ≡ self.old.keeper.calls }
         ensures plan { self.new.keeper.plan ≡ self.old.keeper.plan }
-        ensures answer { IfOk result (λ loaded. IfSome (told_by over_files self.old.keeper) (λ all. loaded.items ≡ all)) }
-        ensures unchanged { told_by over_files self.new.keeper ≡ told_by over_files self.old.keeper }
+        ensures answer { IfOk result (λ loaded. (all : List ℕ) → TellsHeld (⟦<Unknown as Start>⟧) over_files self.new.keeper all → loaded.items ≡ all) }
+        ensures unchanged { MarksStay (TellsHeld (⟦<Unknown as Start>⟧) over_files self.old.keeper) (TellsHeld (⟦<Unknown as Start>⟧) over_files self.new.keeper) }
         ensures no_doubt { doubtful self.new.keeper ≡ None }
         ensures cause { result ≡ Err KeeperRefusal.Fault → Rose self.old.keeper.faults self.new.keeper.faults }
+        ensures quiet { (result ≡ Err KeeperRefusal.Fault) ⊎ (self.new.keeper.faults ≡ self.old.keeper.faults) }
         ensures counts { self.old.keeper.faults ≤ self.new.keeper.faults }
     {
         self.keeper.load(alloc)
@@ -89,13 +99,16 @@ impl MarkKeeper for FileMarks {
         requires { doubtful self.old.keeper ≡ None }
         ensures adds { HasCleanDisk (database over_files self.new.keeper) → OnOk result (Adds (database over_files self.old.keeper) (database over_files self.new.keeper) entry) }
         ensures refused { HasCleanDisk (database over_files self.new.keeper) → IsTrue (database over_files self.new.keeper).is_open → OnErr result (Keeps (database over_files self.old.keeper) (database over_files self.new.keeper)) }
-        ensures failed { HasCleanDisk (database over_files self.new.keeper) → result ≡ Err KeeperRefusal.Fault → IsSome (planned self.old.keeper) ⊎ FailsToMark entry (database over_files self.old.keeper) (database over_files self.new.keeper) }
+        ensures failed { HasCleanDisk (database over_files self.new.keeper) → IfErr result (λ why. IsSome (planned self.old.keeper) ⊎ FailsToMark why entry (database over_files self.old.keeper) (database over_files self.new.keeper)) }
         ensures planned { IsSome (planned self.old.keeper) → result ≡ Err KeeperRefusal.Fault }
         ensures idle { IfSome (planned self.old.keeper) (λ plan. self.new.keeper ≡ record (after_fault self.old.keeper) { doubt = Some (record { entry = entry; keep = plan.keep }) }) }
+        ensures unplanned { result ≡ Err KeeperRefusal.Fault → planned self.old.keeper ≡ None → self.new.keeper.doubt ≡ Some (record { entry = entry; keep = false }) }
         ensures numbered { result ≢ Err KeeperRefusal.NoMemory → self.new.keeper.calls ≡ one_more self.old.keeper.calls }
+        ensures uncounted { result ≡ Err KeeperRefusal.NoMemory → self.new.keeper.calls ≡ self.old.keeper.calls }
         ensures plan { self.new.keeper.plan ≡ self.old.keeper.plan }
-        ensures marked { Marked entry result (told_by over_files self.old.keeper) (told_by over_files self.new.keeper) (doubtful self.new.keeper) }
+        ensures marked { Marked entry result (TellsHeld (⟦<Unknown as Start>⟧) over_files self.old.keeper) (TellsHeld (⟦<Unknown as Start>⟧) over_files self.new.keeper) (doubtful self.new.keeper) }
         ensures cause { result ≡ Err KeeperRefusal.Fault → Rose self.old.keeper.faults self.new.keeper.faults }
+        ensures quiet { (result ≡ Err KeeperRefusal.Fault) ⊎ (self.new.keeper.faults ≡ self.old.keeper.faults) }
         ensures counts { self.old.keeper.faults ≤ self.new.keeper.faults }
     {
         self.keeper.mark(entry)
@@ -104,13 +117,15 @@ impl MarkKeeper for FileMarks {
     fn reopen(&mut self) -> Result<(), KeeperRefusal>
         ensures settles { HasCleanDisk (database over_files self.new.keeper) → OnOk result (Settles (database over_files self.old.keeper) (database over_files self.new.keeper) self.old.keeper.doubt) }
         ensures refused { HasCleanDisk (database over_files self.new.keeper) → IsTrue (database over_files self.new.keeper).is_open → OnErr result (Keeps (database over_files self.old.keeper) (database over_files self.new.keeper)) }
-        ensures failed { HasCleanDisk (database over_files self.new.keeper) → result ≡ Err KeeperRefusal.Fault → IsSome (planned self.old.keeper) ⊎ FailsToSettle over_files self.old.keeper.connection self.new.keeper.connection self.old.keeper.doubt }
+        ensures failed { HasCleanDisk (database over_files self.new.keeper) → IfErr result (λ why. IsSome (planned self.old.keeper) ⊎ FailsToSettle over_files why self.old.keeper.connection self.new.keeper.connection self.old.keeper.doubt) }
         ensures planned { IsSome (planned self.old.keeper) → result ≡ Err KeeperRefusal.Fault }
         ensures idle { IsSome (planned self.old.keeper) → self.new.keeper ≡ after_fault self.old.keeper }
         ensures numbered { result ≢ Err KeeperRefusal.NoMemory → self.new.keeper.calls ≡ one_more self.old.keeper.calls }
+        ensures uncounted { result ≡ Err KeeperRefusal.NoMemory → self.new.keeper.calls ≡ self.old.keeper.calls }
         ensures plan { self.new.keeper.plan ≡ self.old.keeper.plan }
-        ensures reopened { Reopened result (told_by over_files self.old.keeper) (doubtful self.old.keeper) (told_by over_files self.new.keeper) (doubtful self.new.keeper) }
+        ensures reopened { Reopened result (TellsHeld (⟦<Unknown as Start>⟧) over_files self.old.keeper) (doubtful self.old.keeper) (TellsHeld (⟦<Unknown as Start>⟧) over_files self.new.keeper) (doubtful self.new.keeper) }
         ensures cause { result ≡ Err KeeperRefusal.Fault → Rose self.old.keeper.faults self.new.keeper.faults }
+        ensures quiet { (result ≡ Err KeeperRefusal.Fault) ⊎ (self.new.keeper.faults ≡ self.old.keeper.faults) }
         ensures counts { self.old.keeper.faults ≤ self.new.keeper.faults }
     {
         self.keeper.reopen()

@@ -1,41 +1,34 @@
-//! Stores whose marks a keeper may tell.
-ghost use Rattle.std.specs.Prelude.{Bool, IsTrue};
-ghost use Rattle.sqlite_trees.specs.View.{IsClean};
+//! What may be supposed of a store.
+ghost use Rattle.marks_sqlite.specs.Telling.{HeldSome};
 
-use sqlite::{Alter, FileStore, MemStore};
-use sqlite_disk::Disk;
+use sqlite::{Alter, FileFrom, FileStore, MemStore, Start};
+use sqlite_disk::{Disk, Fuse, Memory};
 
-/// A store that may be known to give back what was written, and to stay open. Memory is. Of a file
-/// nobody knows it.
+/// A disk of which it may be supposed what its files held as they were opened.
+pub trait Origin: Disk {
+    /// What is supposed. A disk that says nothing has files of which nothing is known.
+    ghost supposed: { Type 0 } = { ⊥ };
+}
+
+/// The files held marks, or no table, as `S` stands for what they held.
+impl<S: Start> Origin for FileFrom<S> {
+    ghost supposed = { HeldSome S.Start };
+}
+
+impl Origin for Memory {}
+
+impl<D: Disk> Origin for Fuse<D> {}
+
+/// A store with what is supposed of it by who trusts a keeper to tell its marks.
 pub trait Lasting: Alter {
-    /// Whether that is known.
-    ghost lasts: { Bool };
-
-    /// No wrong answer was taken as true.
-    ghost clean: { (s : Self) → IsTrue lasts → IsClean (Self.Store.view s) };
-
-    /// It stays open.
-    ghost open: { (s : Self) → IsTrue lasts → IsTrue (Self.Store.view s).is_open };
+    /// What is supposed: nothing of memory, and of files what they held as they were opened.
+    ghost supposed: { Type 0 };
 }
 
 impl Lasting for MemStore {
-    ghost use Rattle.std.specs.Prelude.{true, refl};
-    ghost use Rattle.sqlite_trees.proofs.Doubt.{no_doubt};
-
-    ghost lasts = { true };
-
-    ghost clean = { λ s _. no_doubt true refl };
-
-    ghost open = { λ s _. refl };
+    ghost supposed = { Unit {0} };
 }
 
-impl<D: Disk> Lasting for FileStore<D> {
-    ghost use Rattle.std.specs.Prelude.{false};
-    ghost use Rattle.std.proofs.Common.{true≢false, sym};
-
-    ghost lasts = { false };
-
-    ghost clean = { λ s known. absurd (true≢false (sym known)) };
-
-    ghost open = { λ s known. absurd (true≢false (sym known)) };
+impl<D: Origin> Lasting for FileStore<D> {
+    ghost supposed = { D.Origin.supposed };
 }

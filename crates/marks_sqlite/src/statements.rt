@@ -1,9 +1,10 @@
 //! The two statements on the table. Each is one call, outside any transaction.
-ghost use Rattle.std.specs.Prelude.{◌≡◌, None, Some, [], IsTrue, map, Any, IfOk, OnOk, OnErr};
+ghost use Rattle.std.specs.Prelude.{◌≡◌, None, Some, [], IsTrue, map, Any, IfOk, IfErr, OnOk, OnErr};
 ghost use Rattle.sqlite.specs.Held.{state};
 ghost use Rattle.sqlite.specs.State.{HasCleanDisk, Shown};
 ghost use Rattle.sqlite.specs.Values.{bound};
-ghost use Rattle.marks_sqlite.specs.Causes.{entry_read, select_text, FailsToLoad, FailsToMark, IsUnanswered};
+ghost use Rattle.history_sqlite.specs.Causes.{IsUnanswered};
+ghost use Rattle.marks_sqlite.specs.Causes.{entry_read, select_text, FailsToLoad, FailsToMark};
 ghost use Rattle.marks_sqlite.specs.Tables.{shown_of, Adds, Gives, Keeps, Loads};
 
 use history_keeper::KeeperRefusal;
@@ -18,8 +19,9 @@ use std::alloc::Global;
 pub fn insert<D: Alter>(connection: &mut Connection<D>, entry: u32) -> Result<(), KeeperRefusal>
     ensures adds { HasCleanDisk (state D.Store connection.new) → OnOk result (Adds (state D.Store connection.old) (state D.Store connection.new) entry) }
     ensures refused { HasCleanDisk (state D.Store connection.new) → IsTrue (state D.Store connection.new).is_open → OnErr result (Keeps (state D.Store connection.old) (state D.Store connection.new)) }
-    ensures cause { HasCleanDisk (state D.Store connection.new) → result ≡ Err KeeperRefusal.Fault → FailsToMark entry (state D.Store connection.old) (state D.Store connection.new) }
+    ensures cause { HasCleanDisk (state D.Store connection.new) → IfErr result (λ why. FailsToMark why entry (state D.Store connection.old) (state D.Store connection.new)) }
     ensures clean { HasCleanDisk (state D.Store connection.new) → HasCleanDisk (state D.Store connection.old) }
+    ensures was_open { HasCleanDisk (state D.Store connection.new) → IsTrue (state D.Store connection.new).is_open → IsTrue (state D.Store connection.old).is_open }
 {
     let values = values_of_entry(entry);
     match connection.execute("INSERT INTO reported (entry) VALUES (?1)", &values) {
@@ -40,9 +42,10 @@ pub fn values_of_entry(entry: u32) -> [ValueRef<'static>; 1]
 pub fn select<D: Alter>(connection: &mut Connection<D>) -> Result<Vec<sqlite::Row>, KeeperRefusal>
     ensures gives { HasCleanDisk (state D.Store connection.new) → IfOk result (λ shown. Gives (state D.Store connection.old) (state D.Store connection.new) shown.items) }
     ensures refused { HasCleanDisk (state D.Store connection.new) → IsTrue (state D.Store connection.new).is_open → OnErr result (Keeps (state D.Store connection.old) (state D.Store connection.new)) }
-    ensures cause { HasCleanDisk (state D.Store connection.new) → result ≡ Err KeeperRefusal.Fault → IsUnanswered (state D.Store connection.old) (state D.Store connection.new) }
+    ensures cause { HasCleanDisk (state D.Store connection.new) → IfErr result (λ why. IsUnanswered why select_text (state D.Store connection.old) (state D.Store connection.new)) }
     ensures shown { HasCleanDisk (state D.Store connection.new) → IfOk result (λ shown. Shown select_text [] (state D.Store connection.old) (state D.Store connection.new) shown.items) }
     ensures clean { HasCleanDisk (state D.Store connection.new) → HasCleanDisk (state D.Store connection.old) }
+    ensures was_open { HasCleanDisk (state D.Store connection.new) → IsTrue (state D.Store connection.new).is_open → IsTrue (state D.Store connection.old).is_open }
 {
     match connection.query_all("SELECT entry FROM reported ORDER BY place", &[]) {
         Ok(rows) => Ok(rows),
@@ -58,8 +61,9 @@ pub fn load_marks<D: Alter>(
 ) -> Result<Vec<u32>, KeeperRefusal>
     ensures loads { HasCleanDisk (state D.Store connection.new) → IfOk result (λ loaded. Loads (state D.Store connection.old) (state D.Store connection.new) loaded.items) }
     ensures refused { HasCleanDisk (state D.Store connection.new) → IsTrue (state D.Store connection.new).is_open → OnErr result (Keeps (state D.Store connection.old) (state D.Store connection.new)) }
-    ensures cause { HasCleanDisk (state D.Store connection.new) → result ≡ Err KeeperRefusal.Fault → FailsToLoad (state D.Store connection.old) (state D.Store connection.new) }
+    ensures cause { HasCleanDisk (state D.Store connection.new) → IfErr result (λ why. FailsToLoad why (state D.Store connection.old) (state D.Store connection.new)) }
     ensures clean { HasCleanDisk (state D.Store connection.new) → HasCleanDisk (state D.Store connection.old) }
+    ensures was_open { HasCleanDisk (state D.Store connection.new) → IsTrue (state D.Store connection.new).is_open → IsTrue (state D.Store connection.old).is_open }
 {
     let table = select(connection)?;
     read_entries(alloc, &table)

@@ -19,7 +19,7 @@ pub fn open_table<D: Alter>(connection: &mut Connection<D>) -> Result<(), Keeper
     ensures opens { HasCleanDisk (state D.Store connection.new) → OnOk result (Opens (state D.Store connection.old) (state D.Store connection.new)) }
     ensures adopted { OnOk result (HasNone connection.old.schema ⊎ HasTable connection.old.schema) }
     ensures refused { HasCleanDisk (state D.Store connection.new) → IsTrue (state D.Store connection.new).is_open → OnErr result (LeavesTable (state D.Store connection.old) (state D.Store connection.new)) }
-    ensures cause { HasCleanDisk (state D.Store connection.new) → result ≡ Err KeeperRefusal.Fault → FailsToOpen D.Store connection.old connection.new }
+    ensures cause { HasCleanDisk (state D.Store connection.new) → IfErr result (λ why. FailsToOpen D.Store why connection.old connection.new) }
     ensures clean { HasCleanDisk (state D.Store connection.new) → HasCleanDisk (state D.Store connection.old) }
 {
     if !connection.is_autocommit() {

@@ -3,3 +3,4 @@ pub mod Plans
 pub mod Shelves
 pub mod Sinks
 pub mod Sources
+pub mod Streams

@@ -1,7 +1,8 @@
 //! The outside as traits: where bytes come from, where they go, where payloads lie, and a gate.
 //!
 //! Each object counts its faults, and a call fails only where that count rose. What an object holds
-//! is told or not: the forms in memory tell it and fail by a plan, those over std tell nothing.
+//! is told or not: the forms in memory tell it and fail by a plan, those over a stream of std tell what
+//! std knows of it, and a folder tells nothing.
 #![tactic(auto)]
 
 mod copying;

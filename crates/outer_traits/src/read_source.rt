@@ -5,38 +5,45 @@ use crate::failed::Failed;
 use crate::source::Source;
 use std::io::Read;
 use std::marker::Model;
+use std::snapshot::Snapshot;
 
-/// Reads from any reader of std, and tells nothing of what it has left. Contracts see its count of
-/// faults.
+/// Reads from any reader of std, and tells what std knows of the bytes that the reader has left: nothing, if nothing
+/// was known of them as the reader was given. Contracts see that and the count of faults.
 #[derive(Drop)]
-pub struct ReadSource<R> {
+pub struct ReadSource<R: Read> {
     inner: R,
+    given: Snapshot<R>,
     faults: u64,
 }
 
-impl<R> Model for ReadSource<R> {
-    ghost use Rattle.std.specs.Prelude.{ℕ};
+impl<R: Read> Model for ReadSource<R> {
+    ghost use Rattle.outer_traits.specs.Streams.{StreamInput, known_since, StaysKnown};
 
-    ghost Value = { ℕ };
+    ghost Value = { StreamInput };
 
-    ghost view = { λ s. s.faults };
+    ghost view = { λ s. record { left = known_since (R.remaining s.given.value) (R.remaining s.inner); faults = s.faults } };
+
+    ghost invariant = { λ s. StaysKnown (R.remaining s.given.value) (R.remaining s.inner) };
 }
 
-impl<R> ReadSource<R> {
+impl<R: Read> ReadSource<R> {
     /// A source over a reader, without a fault so far.
     pub fn new(inner: R) -> ReadSource<R>
-        ensures { result ≡ 0 }
+        ensures { result ≡ record { left = R.remaining inner; faults = 0 } }
     {
-        ReadSource { inner, faults: 0 }
+        let given = Snapshot::of(&inner);
+        ReadSource {
+            inner,
+            given,
+            faults: 0,
+        }
     }
 }
 
 impl<R: Read> Source for ReadSource<R> {
-    ghost use Rattle.std.specs.Prelude.{None};
+    ghost left = { λ s. s.left };
 
-    ghost left = { λ _. None };
-
-    ghost faults = { λ s. s };
+    ghost faults = { λ s. s.faults };
 
     fn read(&mut self, into: &mut [u8]) -> Result<usize, Failed> {
         match self.inner.read(into) {

@@ -1,3 +1,5 @@
+pub mod Ends
+pub mod Following
 pub mod Loaded
 pub mod Marked
 pub mod Once
@@ -5,3 +7,4 @@ pub mod Pairs
 pub mod Rows
 pub mod Steps
 pub mod Texts
+pub mod Told

@@ -1,19 +1,24 @@
 -- Rows that are sent one after the other, over references to them.
 use Rattle.std.proofs.Common.{◌≡◌, ℕ, ◌+◌, ◌<◌, ◌≤◌, arith, List, [], ◌∷◌, ◌++◌, length, map, take, get_or, Bor, refl, sym, ap, subst, ◌∙◌, ◌⊎◌, inl, inr, append_assoc}
-use Rattle.std.specs.Prelude.{All, AllPairs, Contains, Option, Some, None, option_map}
+use Rattle.std.specs.Prelude.{All, AllPairs, Contains, Option, Some, None, option_map, IfSome, Err}
 use Rattle.std.specs.Option.{ForSome}
 use Rattle.std.proofs.lemmas.List.{append-nil, get_or-map, length-map, map-append, take-map, take_all, take_more}
 use Rattle.std.proofs.lemmas.List.Concat.{flat_map-append}
 use Rattle.std.proofs.lemmas.List.Elements.{Contains-append_cases}
-use Rattle.outer_traits.specs.Sinks.{Took}
+use Rattle.outer_traits.specs.Sinks.{Took, TookFront}
 use Rattle.outer_traits.proofs.Fronts.{took_more, took_none}
 use Rattle.history_keeper.specs.declared.row.Row.{Row}
+use Rattle.history_keeper.specs.declared.refusal.KeeperRefusal.{KeeperRefusal}
+use Rattle.history_keeper.specs.declared.refusal.KeeperRefusal.TheVariants as refusals
 use Rattle.report_queue.specs.declared.stop.SendStop.{SendStop}
+use Rattle.report_queue.specs.declared.stop.SendStop.TheVariants.{SinkFault, KeeperFault, NoMemory}
 use Rattle.report_queue.specs.Lines.{line}
+use Rattle.report_queue.specs.Marking.{Marked, MarksWith, OverTold}
 use Rattle.report_queue.specs.Sending.{entries_of, lines}
-use Rattle.report_queue.specs.Stops.{Told, HasSent, StopsAt, StopsIn}
+use Rattle.report_queue.specs.Stops.{Told, HasSent, StopsAt, StopsIn, stop_of}
 use Rattle.report_queue.proofs.Pairs.{pairs_map}
 use Rattle.report_queue.proofs.Rows.{not_before}
+use Rattle.report_queue.proofs.Told.{over_none, over_stay, over_then, over_weaker, over_with}
 
 -- what the references point to
 abbrev pub now_of : List (Bor Row) → List Row
@@ -88,7 +93,77 @@ unmarked_then (Some marks) n rows i x within is free rising e = λ all q there.
     by_part (inl old) = (let P : Bor Row → Type 0 = λ r. Contains marks r.now.entry → ⊥ in subst P (sym is) (free marks refl i x within)) old
     by_part (inr new) = not_earlier rows i x within is rising new
 
-pub unmarked_next : (a b : Told) (rows : List (Bor Row)) (i : ℕ) (x : Bor Row) → i < length rows → x ≡ get_or rows i x
-    → ForSome a.marks (λ all. All (λ row. Contains all row.now.entry → ⊥) rows) → AllPairs (λ one other. one.now.entry < other.now.entry) rows
-    → HasSent (now_of (take i rows)) a b → ForSome b.marks (λ all. Contains all x.now.entry → ⊥)
-unmarked_next a b rows i x within is free rising h = unmarked_then a.marks b.marks rows i x within is free rising h.marks
+-- What holds of each list that is told holds of one that may be told.
+for_told : (tells P : List ℕ → Type 0) → ((all : List ℕ) → tells all → P all) → (o : Option (List ℕ)) → IfSome o tells → ForSome o P
+for_told tells P each None told = λ all q. (let bad : None ≡ Some all = q in cc)
+for_told tells P each (Some marks) told = λ all q. (let same : marks ≡ all = cc in each all (subst tells same told))
+
+module _ (old new : List ℕ → Type 0) (d e : Option ℕ) (t u : Option (List ℕ)) (rows : List (Bor Row)) where
+  pub unmarked_next : (i : ℕ) (x : Bor Row) → i < length rows → x ≡ get_or rows i x
+      → ((all : List ℕ) → old all → All (λ row. Contains all row.now.entry → ⊥) rows) → AllPairs (λ one other. one.now.entry < other.now.entry) rows
+      → OverTold old new (λ before after. HasSent (now_of (take i rows)) (record { marks = before; doubt = d; taken = t }) (record { marks = after; doubt = e; taken = u }))
+      → (all : List ℕ) → new all → Contains all x.now.entry → ⊥
+  unmarked_next i x within is free rising h all told =
+      let r = h (Some all) told in
+      unmarked_then r.0 (Some all) rows i x within is
+      (for_told old (λ (marks : List ℕ). All (λ row. Contains marks row.now.entry → ⊥) rows) free r.0 r.1) rising r.2.marks all refl
+
+-- ---- the same, over what the keeper may tell
+
+-- Nothing was sent.
+pub none_over : (tells : List ℕ → Type 0) (d : Option ℕ) (t : Option (List ℕ)) → d ≡ None → OverTold tells tells (λ before after. HasSent [] (record { marks = before; doubt = d; taken = t }) (record { marks = after; doubt = d; taken = t }))
+none_over tells d t h =
+    over_none tells (λ before after. HasSent [] (record { marks = before; doubt = d; taken = t }) (record { marks = after; doubt = d; taken = t })) (λ o. sent_none (record { marks = o; doubt = d; taken = t }) h)
+
+module _ (old middle new : List ℕ → Type 0) (d e f : Option ℕ) (t u v : Option (List ℕ)) (rows : List (Bor Row)) (i : ℕ) (x : Bor Row) (within : i < length rows) (is : x ≡ get_or rows i x)
+    (h : OverTold old middle (λ before after. HasSent (now_of (take i rows)) (record { marks = before; doubt = d; taken = t }) (record { marks = after; doubt = e; taken = u }))) where
+  -- The next row was sent.
+  pub more_over : OverTold middle new (λ before after. HasSent (x.now ∷ []) (record { marks = before; doubt = e; taken = u }) (record { marks = after; doubt = f; taken = v }))
+      → OverTold old new (λ before after. HasSent (now_of (take (i + 1) rows)) (record { marks = before; doubt = d; taken = t }) (record { marks = after; doubt = f; taken = v }))
+  more_over k =
+      over_then old new (λ before after. HasSent (now_of (take (i + 1) rows)) (record { marks = before; doubt = d; taken = t }) (record { marks = after; doubt = f; taken = v })) middle
+      (λ before after. HasSent (now_of (take i rows)) (record { marks = before; doubt = d; taken = t }) (record { marks = after; doubt = e; taken = u }))
+      (λ before after. HasSent (x.now ∷ []) (record { marks = before; doubt = e; taken = u }) (record { marks = after; doubt = f; taken = v })) h k
+      (λ before between after told one two.
+      sent_more rows i x (record { marks = before; doubt = d; taken = t }) (record { marks = between; doubt = e; taken = u }) (record { marks = after; doubt = f; taken = v }) within is one two)
+
+  -- Its sending stopped.
+  pub stopped_over : (stop : SendStop) → OverTold middle new (λ before after. StopsAt x.now stop (record { marks = before; doubt = e; taken = u }) (record { marks = after; doubt = f; taken = v }))
+      → OverTold old new (λ before after. StopsIn (now_of rows) stop (record { marks = before; doubt = d; taken = t }) (record { marks = after; doubt = f; taken = v }))
+  stopped_over stop k =
+      over_then old new (λ before after. StopsIn (now_of rows) stop (record { marks = before; doubt = d; taken = t }) (record { marks = after; doubt = f; taken = v })) middle
+      (λ before after. HasSent (now_of (take i rows)) (record { marks = before; doubt = d; taken = t }) (record { marks = after; doubt = e; taken = u }))
+      (λ before after. StopsAt x.now stop (record { marks = before; doubt = e; taken = u }) (record { marks = after; doubt = f; taken = v })) h k
+      (λ before between after told one two.
+      stopped_at rows i x stop (record { marks = before; doubt = d; taken = t }) (record { marks = between; doubt = e; taken = u }) (record { marks = after; doubt = f; taken = v }) within is one two)
+
+-- All were sent.
+pub all_over : (old new : List ℕ → Type 0) (d e : Option ℕ) (t u : Option (List ℕ)) (rows : List (Bor Row)) (i : ℕ) → length rows ≤ i
+    → OverTold old new (λ before after. HasSent (now_of (take i rows)) (record { marks = before; doubt = d; taken = t }) (record { marks = after; doubt = e; taken = u }))
+    → OverTold old new (λ before after. HasSent (now_of rows) (record { marks = before; doubt = d; taken = t }) (record { marks = after; doubt = e; taken = u }))
+all_over old new d e t u rows i le h =
+    over_weaker old new (λ before after. HasSent (now_of rows) (record { marks = before; doubt = d; taken = t }) (record { marks = after; doubt = e; taken = u }))
+    (λ before after. HasSent (now_of (take i rows)) (record { marks = before; doubt = d; taken = t }) (record { marks = after; doubt = e; taken = u })) h
+    (λ before after s. sent_all rows i (record { marks = before; doubt = d; taken = t }) (record { marks = after; doubt = e; taken = u }) le s)
+
+-- ---- one row
+
+-- The keeper refused to mark it.
+pub refused_over : (old new : List ℕ → Type 0) (d e : Option ℕ) (t : Option (List ℕ)) (row : Row) (refusal : KeeperRefusal) → Marked {A = Unit {0}} row.entry (Err refusal) old new e
+    → OverTold old new (λ before after. StopsAt row (stop_of refusal) (record { marks = before; doubt = d; taken = t }) (record { marks = after; doubt = e; taken = t }))
+refused_over old new d e t row refusals.Fault m =
+    over_stay old new (λ before after. StopsAt row KeeperFault (record { marks = before; doubt = d; taken = t }) (record { marks = after; doubt = e; taken = t })) m.0 (λ o. (refl, m.1, refl))
+refused_over old new d e t row refusals.NoMemory m =
+    over_stay old new (λ before after. StopsAt row NoMemory (record { marks = before; doubt = d; taken = t }) (record { marks = after; doubt = e; taken = t })) m.0 (λ o. (refl, m.1, refl))
+
+module _ (old new : List ℕ → Type 0) (d e : Option ℕ) (t u : Option (List ℕ)) (row : Row) (made : MarksWith row.entry old new) (none : e ≡ None) where
+  -- It was marked, and its line was cut off.
+  pub cut_over : TookFront (line row) t u → OverTold old new (λ before after. StopsAt row SinkFault (record { marks = before; doubt = d; taken = t }) (record { marks = after; doubt = e; taken = u }))
+  cut_over took =
+      over_with old new (λ before after. StopsAt row SinkFault (record { marks = before; doubt = d; taken = t }) (record { marks = after; doubt = e; taken = u })) row.entry made (λ o. (refl, none, took))
+
+  -- It was marked, and its line was written.
+  pub written_over : Took (line row) t u → OverTold old new (λ before after. HasSent (row ∷ []) (record { marks = before; doubt = d; taken = t }) (record { marks = after; doubt = e; taken = u }))
+  written_over took =
+      over_with old new (λ before after. HasSent (row ∷ []) (record { marks = before; doubt = d; taken = t }) (record { marks = after; doubt = e; taken = u })) row.entry made
+      (λ o. record { marks = refl; doubt = none; taken = subst (λ (text : List ℕ). Took text t u) (sym (append-nil (line row))) took })

@@ -1,7 +1,6 @@
 -- From what the parts of a call did to what the call leaves.
 use Rattle.std.proofs.Common.{◌≡◌, ℕ, ◌+◌, ◌-◌, ◌<◌, arith, true, List, [], ◌∷◌, ◌++◌, length, take, drop, get_or, Bor, refl, sym, ap, subst, ◌∙◌, ◌⊎◌, inl, inr, append_assoc}
-use Rattle.std.specs.Prelude.{All, AllPairs, Contains, Option, Some, None, option_map, unwrap_or, Result, Ok, Err, IfSome}
-use Rattle.std.specs.Option.{ForSome}
+use Rattle.std.specs.Prelude.{All, AllPairs, Contains, Option, Some, None, option_map, Result, Ok, Err, IfSome}
 use Rattle.std.proofs.lemmas.List.{append-nil, get_or-map, length-append, length-map, map-append, take-append-drop, take_all, take_at, take_more}
 use Rattle.std.proofs.lemmas.List.Concat.{flat_map-append}
 use Rattle.std.proofs.lemmas.List.Elements.{All-take}
@@ -17,10 +16,11 @@ use Rattle.report_queue.specs.declared.stop.SendStop.TheVariants.{SinkFault, Kee
 use Rattle.report_queue.specs.Answers.{Answers, Sends}
 use Rattle.report_queue.specs.Calls.{Call, IsUnwritten, Marks}
 use Rattle.report_queue.specs.Lines.{line}
-use Rattle.report_queue.specs.Marking.{with_doubt, with_entry}
+use Rattle.report_queue.specs.Marking.{with_doubt, with_entry, MarksEither, MarksStay, OverTold}
 use Rattle.report_queue.specs.Sending.{due, entries_of, is_judged, lines, IsFront, Sent, UpToLast}
 use Rattle.report_queue.specs.Stops.{Told, HasSent, StopsIn, stop_of}
 use Rattle.report_queue.proofs.Marked.{more-marks, no-marks, now_of}
+use Rattle.report_queue.proofs.Told.{over_then, over_weaker}
 use Rattle.report_queue.proofs.Rows.{due-judged, due-of_rows, due-rise, due-unmarked, not_before}
 
 -- ---- texts up to the last line
@@ -72,9 +72,6 @@ pub record Opened (loaded : List ℕ) (old middle : Told) : Type 0 where
   pub found : (loaded ≡ before.entries) ⊎ (loaded ≡ with_doubt before.doubt before.entries)
   pub told : middle.marks ≡ option_map (λ (_ : List ℕ). loaded) old.marks
 
-some-same : (a b : List ℕ) → Some a ≡ Some b → a ≡ b
-some-same a b h = cc
-
 private_opened : (loaded : List ℕ) (o : Option (List ℕ)) (doubt : Option ℕ) (n : Option (List ℕ)) → (n ≡ o) ⊎ (n ≡ option_map (with_doubt doubt) o) → IfSome n (λ all. loaded ≡ all)
     → (before : Marks) × IfSome o (λ entries. before ≡ record { entries = entries; doubt = doubt }) × ((loaded ≡ before.entries) ⊎ (loaded ≡ with_doubt before.doubt before.entries)) × (n ≡ option_map (λ (_ : List ℕ). loaded) o)
 private_opened loaded None doubt n (inl e) h = (record { entries = loaded; doubt = None }, tt, inl refl, e)
@@ -91,15 +88,37 @@ opened loaded old middle e h =
     let all = private_opened loaded old.marks old.doubt middle.marks e h in
     record { before = all.0; is_before = all.1; found = all.2; told = all.3 }
 
--- The same, over a call that left the marks.
-pub opened_then : (loaded : List ℕ) (old middle : Told) (m : Option (List ℕ)) → (m ≡ old.marks) ⊎ (m ≡ option_map (with_doubt old.doubt) old.marks) → middle.marks ≡ m → IfSome m (λ all. loaded ≡ all) → Opened loaded old middle
-opened_then loaded old middle m e same h =
-    opened loaded old middle (subst (λ (n : Option (List ℕ)). (n ≡ old.marks) ⊎ (n ≡ option_map (with_doubt old.doubt) old.marks)) (sym same) e) (subst (λ (n : Option (List ℕ)). IfSome n (λ all. loaded ≡ all)) (sym same) h)
+-- The same of what the keeper told, if it told anything.
+abbrev OpenedWith : Option ℕ → Option ℕ → Option (List ℕ) → Option (List ℕ) → List ℕ → Option (List ℕ) → Option (List ℕ) → Type 0
+OpenedWith doubt later t u loaded before after = Opened loaded (record { marks = before; doubt = doubt; taken = t }) (record { marks = after; doubt = later; taken = u })
 
--- Where nothing was loaded any list serves that is told.
-pub some_told : (o : Option (List ℕ)) → IfSome o (λ all. unwrap_or o [] ≡ all)
-some_told None = tt
-some_told (Some marks) = refl
+-- It was reopened, and a call left the marks, which were loaded.
+module _ (old middle new : List ℕ → Type 0) (doubt later : Option ℕ) (t u : Option (List ℕ)) (either : MarksEither doubt old middle) (stay : MarksStay middle new) where
+  open_with : (loaded all before : List ℕ) → (all ≡ before) ⊎ (all ≡ with_doubt doubt before) → loaded ≡ all → OpenedWith doubt later t u loaded (Some before) (Some all)
+  open_with loaded all before (inl e) h = opened loaded (record { marks = Some before; doubt = doubt; taken = t }) (record { marks = Some all; doubt = later; taken = u }) (inl (ap Some e)) h
+  open_with loaded all before (inr e) h = opened loaded (record { marks = Some before; doubt = doubt; taken = t }) (record { marks = Some all; doubt = later; taken = u }) (inr (ap Some e)) h
+
+  open_none : (loaded : List ℕ) → OpenedWith doubt later t u loaded None None
+  open_none loaded = opened loaded (record { marks = None; doubt = doubt; taken = t }) (record { marks = None; doubt = later; taken = u }) (inl refl) tt
+
+  pub opened_over : (loaded : List ℕ) → ((all : List ℕ) → new all → loaded ≡ all) → OverTold old new (OpenedWith doubt later t u loaded)
+  opened_over loaded answer = go
+    where
+      go : (after : Option (List ℕ)) → IfSome after new → (before : Option (List ℕ)) × IfSome before old × OpenedWith doubt later t u loaded before after
+      go None told = (None, tt, open_none loaded)
+      go (Some all) told = let b = either all (stay all told) in (Some b.0, b.1, open_with loaded all b.0 b.2 (answer all told))
+
+  -- Where nothing was loaded a list serves that is told.
+  pub opened_some : OverTold old new (λ before after. (loaded : List ℕ) × OpenedWith doubt later t u loaded before after)
+  opened_some = go
+    where
+      go : (after : Option (List ℕ)) → IfSome after new → (before : Option (List ℕ)) × IfSome before old × ((loaded : List ℕ) × OpenedWith doubt later t u loaded before after)
+      go None told = (None, tt, ([], open_none []))
+      go (Some all) told = let b = either all (stay all told) in (Some b.0, b.1, (all, open_with all all b.0 b.2 refl))
+
+-- Marks that stay are there without the doubtful one.
+pub stay_either : (old new : List ℕ → Type 0) (doubt : Option ℕ) → MarksStay old new → MarksEither doubt old new
+stay_either old new doubt stay all told = (all, stay all told, inl refl)
 
 -- ---- the call
 
@@ -214,15 +233,27 @@ ends_at rows max NoMemory old middle new loaded h o quiet s =
     (rw s.stops.1 tt)
     refl
 
--- The keeper of marks refused before a row was sent.
-pub early_refused : (rows : List Row) (max : ℕ) (result : Result ℕ SendStop) (stop : SendStop) (refusal : KeeperRefusal) (old new : Told) (loaded : List ℕ) → result ≡ Err stop → stop ≡ stop_of refusal
-    → IsHistory rows → Opened loaded old new → new.taken ≡ old.taken → Sends rows max result old new
-early_refused rows max result stop refusal old new loaded e f h o quiet = rw (e, f) (ends_early rows max (stop_of refusal) old new loaded h o quiet (no_sink_fault refusal))
+-- ---- the ends of a call, over what the keeper may tell
 
--- There was no memory before a row was sent.
-pub early_no_memory : (rows : List Row) (max : ℕ) (result : Result ℕ SendStop) (stop : SendStop) (old new : Told) (loaded : List ℕ) → result ≡ Err stop → stop ≡ NoMemory
-    → IsHistory rows → Opened loaded old new → new.taken ≡ old.taken → Sends rows max result old new
-early_no_memory rows max result stop old new loaded e f h o quiet = rw (e, f) (ends_early rows max NoMemory old new loaded h o quiet (λ bad. cc))
+module _ (old middle new : List ℕ → Type 0) (doubt later : Option ℕ) (t : Option (List ℕ)) (either : MarksEither doubt old middle) (stay : MarksStay middle new)
+    (rows : List Row) (max : ℕ) (result : Result ℕ SendStop) (stop : SendStop) (is : result ≡ Err stop) (history : IsHistory rows) where
+  -- The keeper of marks refused before a row was sent.
+  pub early_refused : (refusal : KeeperRefusal) → stop ≡ stop_of refusal
+      → OverTold old new (λ before after. Sends rows max result (record { marks = before; doubt = doubt; taken = t }) (record { marks = after; doubt = later; taken = t }))
+  early_refused refusal f =
+      over_weaker old new (λ before after. Sends rows max result (record { marks = before; doubt = doubt; taken = t }) (record { marks = after; doubt = later; taken = t }))
+      (λ before after. (loaded : List ℕ) × OpenedWith doubt later t t loaded before after)
+      (opened_some old middle new doubt later t t either stay)
+      (λ before after o. rw (is, f) (ends_early rows max (stop_of refusal) (record { marks = before; doubt = doubt; taken = t }) (record { marks = after; doubt = later; taken = t }) o.0 history o.1 refl (no_sink_fault refusal)))
+
+  -- There was no memory before a row was sent.
+  pub early_no_memory : (loaded : List ℕ) → ((all : List ℕ) → new all → loaded ≡ all) → stop ≡ NoMemory
+      → OverTold old new (λ before after. Sends rows max result (record { marks = before; doubt = doubt; taken = t }) (record { marks = after; doubt = later; taken = t }))
+  early_no_memory loaded answer f =
+      over_weaker old new (λ before after. Sends rows max result (record { marks = before; doubt = doubt; taken = t }) (record { marks = after; doubt = later; taken = t }))
+      (OpenedWith doubt later t t loaded)
+      (opened_over old middle new doubt later t t either stay loaded answer)
+      (λ before after o. rw (is, f) (ends_early rows max NoMemory (record { marks = before; doubt = doubt; taken = t }) (record { marks = after; doubt = later; taken = t }) loaded history o refl (λ bad. cc)))
 
 -- ---- over references to the rows that are due
 
@@ -230,18 +261,12 @@ module _ (rows : List Row) (max : ℕ) (loaded slice : List ℕ) (refs items : L
   pub due_refs : refs ≡ items → now_of items ≡ take max (due slice rows) → slice ≡ loaded → now_of refs ≡ take max (due loaded rows)
   due_refs r d s = ap now_of r ∙ d ∙ ap (λ (marks : List ℕ). take max (due marks rows)) s
 
-  due_free_in : (all : List ℕ) → now_of refs ≡ take max (due loaded rows) → loaded ≡ all → All (λ (row : Bor Row). Contains all row.now.entry → ⊥) refs
-  due_free_in all e same k d within there =
+  pub due_free : (all : List ℕ) → now_of refs ≡ take max (due loaded rows) → loaded ≡ all → All (λ (row : Bor Row). Contains all row.now.entry → ⊥) refs
+  due_free all e same k d within there =
       let at : get_or (now_of refs) k d.now ≡ (get_or refs k d).now = get_or-map (λ (row : Bor Row). row.now) refs k d d.now within in
       let free : All (λ (row : Row). Contains all row.entry → ⊥) (now_of refs) =
       subst (λ (rs : List Row). All (λ (row : Row). Contains all row.entry → ⊥) rs) (sym e) (subst (λ (marks : List ℕ). All (λ (row : Row). Contains marks row.entry → ⊥) (take max (due loaded rows))) same (due-unmarked rows loaded max)) in
       subst (λ (row : Row). Contains all row.entry → ⊥) at (free k d.now (omega (arith, length-map refs (λ (row : Bor Row). row.now)))) there
-
-  pub due_free : (o m : Option (List ℕ)) → now_of refs ≡ take max (due loaded rows) → IfSome m (λ all. loaded ≡ all) → o ≡ m → ForSome o (λ all. All (λ (row : Bor Row). Contains all row.now.entry → ⊥) refs)
-  due_free o m e h same all q =
-      let told : m ≡ Some all = sym same ∙ q in
-      let there : loaded ≡ all = rw told at h in
-      due_free_in all e there
 
   pub due_rising : IsHistory rows → now_of refs ≡ take max (due loaded rows) → AllPairs (λ (one other : Bor Row). one.now.entry < other.now.entry) refs
   due_rising h e i j d before within =
@@ -252,14 +277,36 @@ module _ (rows : List Row) (max : ℕ) (loaded slice : List ℕ) (refs items : L
       subst (λ (row : Row). (get_or refs i d).now.entry < row.entry) two
       (subst (λ (row : Row). row.entry < (get_or (now_of refs) j d.now).entry) one (rise i j d.now before (omega arith)))
 
--- The sending of one of them stopped.
-pub ends_at_one : (rows : List Row) (max : ℕ) (result : Result ℕ SendStop) (stop : SendStop) (field : SendStop) (old middle new : Told) (loaded : List ℕ) (sent : List Row) → result ≡ Err stop → stop ≡ field
-    → IsHistory rows → Opened loaded old middle → middle.taken ≡ old.taken → sent ≡ take max (due loaded rows) → StopsIn sent field middle new → Sends rows max result old new
-ends_at_one rows max result stop field old middle new loaded sent e f h o quiet same s =
-    rw (e, f) (ends_at rows max field old middle new loaded h o quiet (subst (λ (rs : List Row). StopsIn rs field middle new) same s))
+-- ---- the sending of them, over what the keeper may tell
 
--- All of them were sent.
-pub ends_all : (rows : List Row) (max count : ℕ) (old middle new : Told) (loaded : List ℕ) (sent : List Row) → IsHistory rows → Opened loaded old middle → middle.taken ≡ old.taken → sent ≡ take max (due loaded rows)
-    → HasSent sent middle new → count ≡ length sent → Sends rows max (Ok count) old new
-ends_all rows max count old middle new loaded sent h o quiet same s c =
-    ends_whole rows max count old middle new loaded h o quiet (subst (λ (rs : List Row). HasSent rs middle new) same s) (c ∙ ap length same)
+module _ (old middle new last : List ℕ → Type 0) (doubt later left : Option ℕ) (t u : Option (List ℕ)) (either : MarksEither doubt old middle) (stay : MarksStay middle new)
+    (loaded : List ℕ) (answer : (all : List ℕ) → new all → loaded ≡ all) (rows : List Row) (max : ℕ) (history : IsHistory rows) (sent : List Row) (same : sent ≡ take max (due loaded rows)) where
+  -- It stopped at one of them.
+  pub ends_at_one : (result : Result ℕ SendStop) (stop field : SendStop) → result ≡ Err stop → stop ≡ field
+      → OverTold new last (λ before after. StopsIn sent field (record { marks = before; doubt = later; taken = t }) (record { marks = after; doubt = left; taken = u }))
+      → OverTold old last (λ before after. Sends rows max result (record { marks = before; doubt = doubt; taken = t }) (record { marks = after; doubt = left; taken = u }))
+  ends_at_one result stop field is f s =
+      over_then old last (λ before after. Sends rows max result (record { marks = before; doubt = doubt; taken = t }) (record { marks = after; doubt = left; taken = u })) new
+      (OpenedWith doubt later t t loaded)
+      (λ before after. StopsIn sent field (record { marks = before; doubt = later; taken = t }) (record { marks = after; doubt = left; taken = u }))
+      (opened_over old middle new doubt later t t either stay loaded answer) s
+      (λ before between after told o k.
+      let b : Told = record { marks = before; doubt = doubt; taken = t } in
+      let m : Told = record { marks = between; doubt = later; taken = t } in
+      let n : Told = record { marks = after; doubt = left; taken = u } in
+      rw (is, f) (ends_at rows max field b m n loaded history o refl (subst (λ (rs : List Row). StopsIn rs field m n) same k)))
+
+  -- All of them were sent.
+  pub ends_all : (count : ℕ) → count ≡ length sent
+      → OverTold new last (λ before after. HasSent sent (record { marks = before; doubt = later; taken = t }) (record { marks = after; doubt = left; taken = u }))
+      → OverTold old last (λ before after. Sends rows max (Ok count) (record { marks = before; doubt = doubt; taken = t }) (record { marks = after; doubt = left; taken = u }))
+  ends_all count is s =
+      over_then old last (λ before after. Sends rows max (Ok count) (record { marks = before; doubt = doubt; taken = t }) (record { marks = after; doubt = left; taken = u })) new
+      (OpenedWith doubt later t t loaded)
+      (λ before after. HasSent sent (record { marks = before; doubt = later; taken = t }) (record { marks = after; doubt = left; taken = u }))
+      (opened_over old middle new doubt later t t either stay loaded answer) s
+      (λ before between after told o k.
+      let b : Told = record { marks = before; doubt = doubt; taken = t } in
+      let m : Told = record { marks = between; doubt = later; taken = t } in
+      let n : Told = record { marks = after; doubt = left; taken = u } in
+      ends_whole rows max count b m n loaded history o refl (subst (λ (rs : List Row). HasSent rs m n) same k) (is ∙ ap length same))

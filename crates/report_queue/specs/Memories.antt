@@ -1,5 +1,5 @@
 -- A keeper of marks in memory.
-use Rattle.std.specs.Prelude.{◌==◌, ℕ, Bool, true, false, List, [], ◌∷◌, ◌++◌, Option, Some, None, find, option_map}
+use Rattle.std.specs.Prelude.{◌≡◌, ◌==◌, ℕ, Bool, true, false, List, [], ◌∷◌, ◌++◌, Option, Some, None, find, option_map}
 use Rattle.outer_traits.specs.Plans.{one_more}
 use Rattle.history_keeper.specs.declared.plan.KeeperPlan.{KeeperPlan}
 use Rattle.report_queue.specs.declared.memory_marks.DoubtfulMark.{DoubtfulMark}
@@ -40,3 +40,7 @@ after_call memory = record memory { calls = one_more memory.calls }
 -- After a call that failed.
 abbrev pub after_fault : MarkMemory → MarkMemory
 after_fault memory = record memory { calls = one_more memory.calls; faults = one_more memory.faults }
+
+-- It has these marks.
+abbrev pub has_marks : MarkMemory → List ℕ → Type 0
+has_marks memory all = memory.marks ≡ all

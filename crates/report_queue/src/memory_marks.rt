@@ -1,8 +1,8 @@
 //! A keeper of marks in memory.
-ghost use Rattle.std.specs.Prelude.{◌≡◌, ◌≤◌, ◌↔◌, ◌==◌, ◌++◌, ◌∷◌, [], find, IsSome, IfSome, OnOk, OnErr, IfOk};
+ghost use Rattle.std.specs.Prelude.{◌≡◌, ◌≤◌, ◌⊎◌, ◌↔◌, ◌==◌, ◌++◌, ◌∷◌, [], ℕ, List, find, IsSome, IfSome, OnOk, OnErr, IfOk};
 ghost use Rattle.std.specs.Option.{option_copied};
-ghost use Rattle.report_queue.specs.Marking.{Marked, Reopened};
-ghost use Rattle.report_queue.specs.Memories.{unused, planned, kept, doubtful, after_call, after_fault};
+ghost use Rattle.report_queue.specs.Marking.{Marked, MarksStay, Reopened};
+ghost use Rattle.report_queue.specs.Memories.{unused, planned, kept, doubtful, after_call, after_fault, has_marks};
 
 use crate::mark_keeper::MarkKeeper;
 use fw_base::NoMemory;
@@ -17,7 +17,7 @@ pub struct DoubtfulMark {
     pub keep: bool,
 }
 
-/// Marks in memory. It tells them, and it fails at the calls that were planned.
+/// Marks in memory. It always tells them, and it fails at the calls that were planned.
 #[derive(Drop)]
 pub struct MemoryMarks {
     marks: Vec<u32>,
@@ -88,10 +88,12 @@ impl MemoryMarks {
 }
 
 impl MarkKeeper for MemoryMarks {
-    ghost use Rattle.std.specs.Prelude.{Some};
-    ghost use Rattle.report_queue.specs.Memories.{doubtful};
+    ghost use Rattle.std.proofs.Common.{◌∙◌, sym};
+    ghost use Rattle.report_queue.specs.Memories.{doubtful, has_marks};
 
-    ghost marks = { λ s. Some s.marks };
+    ghost tells = { has_marks };
+
+    ghost one_list = { λ s one other told also. sym told ∙ also };
 
     ghost doubt = { doubtful };
 
@@ -104,8 +106,11 @@ impl MarkKeeper for MemoryMarks {
         ensures no_memory { result ≡ Err KeeperRefusal.NoMemory → self.new ≡ self.old }
         ensures loaded { IfOk result (λ marks. (marks.items ≡ self.old.marks) × (self.new ≡ after_call self.old)) }
 
+        ensures answer { IfOk result (λ loaded. (all : List ℕ) → has_marks self.new all → loaded.items ≡ all) }
         ensures unchanged { self.new.marks ≡ self.old.marks }
+        ensures told { MarksStay (has_marks self.old) (has_marks self.new) }
         ensures no_doubt { doubtful self.new ≡ None }
+        ensures quiet { (result ≡ Err KeeperRefusal.Fault) ⊎ (self.new.faults ≡ self.old.faults) }
         ensures counts { self.old.faults ≤ self.new.faults }
     {
         if self.planned().is_some() {
@@ -124,7 +129,8 @@ impl MarkKeeper for MemoryMarks {
         ensures no_memory { result ≡ Err KeeperRefusal.NoMemory → self.new ≡ self.old }
         ensures made { OnOk result (self.new ≡ record (after_call self.old) { marks = self.old.marks ++ entry ∷ [] }) }
 
-        ensures marked { Marked entry result (Some self.old.marks) (Some self.new.marks) (doubtful self.new) }
+        ensures marked { Marked entry result (has_marks self.old) (has_marks self.new) (doubtful self.new) }
+        ensures quiet { (result ≡ Err KeeperRefusal.Fault) ⊎ (self.new.faults ≡ self.old.faults) }
         ensures counts { self.old.faults ≤ self.new.faults }
     {
         if let Some(plan) = self.planned() {
@@ -146,7 +152,8 @@ impl MarkKeeper for MemoryMarks {
         ensures no_memory { result ≡ Err KeeperRefusal.NoMemory → self.new ≡ self.old }
         ensures settled { OnOk result (self.new ≡ record (after_call self.old) { marks = kept self.old.doubt self.old.marks; doubt = None }) }
 
-        ensures reopened { Reopened result (Some self.old.marks) (doubtful self.old) (Some self.new.marks) (doubtful self.new) }
+        ensures reopened { Reopened result (has_marks self.old) (doubtful self.old) (has_marks self.new) (doubtful self.new) }
+        ensures quiet { (result ≡ Err KeeperRefusal.Fault) ⊎ (self.new.faults ≡ self.old.faults) }
         ensures counts { self.old.faults ≤ self.new.faults }
     {
         if self.planned().is_some() {

@@ -2,6 +2,7 @@
 ghost use Rattle.std.specs.Prelude.{◌≡◌, ◌≤◌, ◌⊎◌, [], None};
 ghost use Rattle.outer_traits.specs.Faults.{Rose};
 ghost use Rattle.history_keeper.specs.Keepers.{StillTold};
+ghost use Rattle.report_queue.specs.Marking.{OverTold};
 ghost use Rattle.report_queue.specs.Reports.{end_of, IsBeforeMarks, IsRead, Reports};
 
 use crate::mark_keeper::MarkKeeper;
@@ -37,7 +38,8 @@ pub struct Reported {
 }
 
 /// Loads the history, which has to be a valid one, and writes the lines of its rows, as `send_reports` does. What the
-/// keeper tells it told before. Where the load is refused, no rows were read.
+/// keeper tells it told before. Where the load is refused, no rows were read. Each fault that a keeper or the output
+/// counts is told as one.
 #[tactic(auto, using(crate::proofs::Loaded::rows_read))]
 pub fn report_history<K: Keeper, M: MarkKeeper, T: Sink>(
     alloc: Global,
@@ -47,14 +49,16 @@ pub fn report_history<K: Keeper, M: MarkKeeper, T: Sink>(
     out: &mut T,
 ) -> Reported
     requires { K.doubt keeper.old ≡ None }
-    ensures reports { Reports result.opening max result.end (record { marks = M.marks marks.old; doubt = M.doubt marks.old; taken = T.taken out.old }) (record { marks = M.marks marks.new; doubt = M.doubt marks.new; taken = T.taken out.new }) }
+    ensures reports { OverTold (M.tells marks.old) (M.tells marks.new) (λ before after. Reports result.opening max result.end (record { marks = before; doubt = M.doubt marks.old; taken = T.taken out.old }) (record { marks = after; doubt = M.doubt marks.new; taken = T.taken out.new })) }
     ensures read { IsRead result.end (K.tells keeper.old) (K.tells keeper.new) result.opening }
     ensures rows_stay { StillTold (K.tells keeper.old) (K.tells keeper.new) }
     ensures no_doubt { K.doubt keeper.new ≡ None }
     ensures marks_stay { IsBeforeMarks result.end → marks.new ≡ marks.old }
     ensures out_stays { IsBeforeMarks result.end → out.new ≡ out.old }
     ensures history_fault { result.end ≡ ReportEnd.HistoryFault → Rose (K.faults keeper.old) (K.faults keeper.new) }
+    ensures history_quiet { (result.end ≡ ReportEnd.HistoryFault) ⊎ (K.faults keeper.new ≡ K.faults keeper.old) }
     ensures mark_fault { result.end ≡ ReportEnd.MarkFault → Rose (M.faults marks.old) (M.faults marks.new) }
+    ensures mark_quiet { (result.end ≡ ReportEnd.MarkFault) ⊎ (M.faults marks.new ≡ M.faults marks.old) }
     ensures sink_fault { result.end ≡ ReportEnd.SinkFault → Rose (T.faults out.old) (T.faults out.new) }
     ensures sink_quiet { (result.end ≡ ReportEnd.SinkFault) ⊎ (T.faults out.new ≡ T.faults out.old) }
     ensures counts_rows { K.faults keeper.old ≤ K.faults keeper.new }
@@ -94,11 +98,12 @@ fn report_rows<M: MarkKeeper, T: Sink>(
     max: u32,
     out: &mut T,
 ) -> ReportEnd
-    ensures reports { Reports rows.now max result (record { marks = M.marks marks.old; doubt = M.doubt marks.old; taken = T.taken out.old }) (record { marks = M.marks marks.new; doubt = M.doubt marks.new; taken = T.taken out.new }) }
+    ensures reports { OverTold (M.tells marks.old) (M.tells marks.new) (λ before after. Reports rows.now max result (record { marks = before; doubt = M.doubt marks.old; taken = T.taken out.old }) (record { marks = after; doubt = M.doubt marks.new; taken = T.taken out.new })) }
     ensures no_history_fault { result ≡ ReportEnd.HistoryFault → ⊥ }
     ensures marks_stay { IsBeforeMarks result → marks.new ≡ marks.old }
     ensures out_stays { IsBeforeMarks result → out.new ≡ out.old }
     ensures mark_fault { result ≡ ReportEnd.MarkFault → Rose (M.faults marks.old) (M.faults marks.new) }
+    ensures mark_quiet { (result ≡ ReportEnd.MarkFault) ⊎ (M.faults marks.new ≡ M.faults marks.old) }
     ensures sink_fault { result ≡ ReportEnd.SinkFault → Rose (T.faults out.old) (T.faults out.new) }
     ensures sink_quiet { (result ≡ ReportEnd.SinkFault) ⊎ (T.faults out.new ≡ T.faults out.old) }
     ensures counts_marks { M.faults marks.old ≤ M.faults marks.new }

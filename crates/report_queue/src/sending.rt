@@ -1,9 +1,9 @@
 //! The sending of reports.
-ghost use Rattle.std.specs.Prelude.{◌≡◌, ◌≤◌, ◌<◌, None, All, AllPairs, Contains, map, IsErrOf, OnOk};
-ghost use Rattle.std.specs.Option.{ForSome};
+ghost use Rattle.std.specs.Prelude.{◌≡◌, ◌≤◌, ◌<◌, ◌⊎◌, ℕ, List, None, All, AllPairs, Contains, map, IsErrOf, OnOk};
 ghost use Rattle.outer_traits.specs.Faults.{Rose};
 ghost use Rattle.history_keeper.specs.Histories.{IsHistory};
 ghost use Rattle.report_queue.specs.Answers.{Sends};
+ghost use Rattle.report_queue.specs.Marking.{OverTold};
 ghost use Rattle.report_queue.specs.Stops.{SendsEach, SendsRow};
 
 use crate::due::due_rows;
@@ -18,8 +18,8 @@ use std::alloc::Global;
 /// how many. It reopens the keeper of marks and loads the marks. Then each row is marked before its line is written, so
 /// that none is sent twice, wherever the call stops.
 ///
-/// It is `SinkFault` or `KeeperFault` only where the output or the keeper of marks failed in this call. What was marked
-/// until then was written, but perhaps for a part of the last line behind a fault of the output.
+/// It is `SinkFault` or `KeeperFault` where the output or the keeper of marks failed in this call, and only there. What
+/// was marked until then was written, but perhaps for a part of the last line behind a fault of the output.
 pub fn send_reports<M: MarkKeeper, T: Sink>(
     alloc: Global,
     rows: &[Row],
@@ -28,8 +28,9 @@ pub fn send_reports<M: MarkKeeper, T: Sink>(
     out: &mut T,
 ) -> Result<u32, SendStop>
     requires { IsHistory rows.now }
-    ensures sends { Sends rows.now max result (record { marks = M.marks marks.old; doubt = M.doubt marks.old; taken = T.taken out.old }) (record { marks = M.marks marks.new; doubt = M.doubt marks.new; taken = T.taken out.new }) }
+    ensures sends { OverTold (M.tells marks.old) (M.tells marks.new) (λ before after. Sends rows.now max result (record { marks = before; doubt = M.doubt marks.old; taken = T.taken out.old }) (record { marks = after; doubt = M.doubt marks.new; taken = T.taken out.new })) }
     ensures keeper_fault { IsErrOf result SendStop.KeeperFault → Rose (M.faults marks.old) (M.faults marks.new) }
+    ensures marks_quiet { IsErrOf result SendStop.KeeperFault ⊎ (M.faults marks.new ≡ M.faults marks.old) }
     ensures sink_fault { IsErrOf result SendStop.SinkFault → Rose (T.faults out.old) (T.faults out.new) }
     ensures quiet { OnOk result (T.faults out.new ≡ T.faults out.old) }
     ensures quiet_keeper { IsErrOf result SendStop.KeeperFault → T.faults out.new ≡ T.faults out.old }
@@ -52,10 +53,11 @@ fn send_each<M: MarkKeeper, T: Sink>(
     out: &mut T,
 ) -> Result<(), SendStop>
     requires no_doubt { M.doubt marks.old ≡ None }
-    requires unmarked { ForSome (M.marks marks.old) (λ all. All (λ row. Contains all row.now.entry → ⊥) rows.now) }
+    requires unmarked { (all : List ℕ) → M.tells marks.old all → All (λ row. Contains all row.now.entry → ⊥) rows.now }
     requires rising { AllPairs (λ one other. one.now.entry < other.now.entry) rows.now }
-    ensures sends { SendsEach (map (λ row. row.now) rows.now) result (record { marks = M.marks marks.old; doubt = M.doubt marks.old; taken = T.taken out.old }) (record { marks = M.marks marks.new; doubt = M.doubt marks.new; taken = T.taken out.new }) }
+    ensures sends { OverTold (M.tells marks.old) (M.tells marks.new) (λ before after. SendsEach (map (λ row. row.now) rows.now) result (record { marks = before; doubt = M.doubt marks.old; taken = T.taken out.old }) (record { marks = after; doubt = M.doubt marks.new; taken = T.taken out.new })) }
     ensures keeper_fault { IsErrOf result SendStop.KeeperFault → Rose (M.faults marks.old) (M.faults marks.new) }
+    ensures marks_quiet { IsErrOf result SendStop.KeeperFault ⊎ (M.faults marks.new ≡ M.faults marks.old) }
     ensures sink_fault { IsErrOf result SendStop.SinkFault → Rose (T.faults out.old) (T.faults out.new) }
     ensures quiet { OnOk result (T.faults out.new ≡ T.faults out.old) }
     ensures quiet_keeper { IsErrOf result SendStop.KeeperFault → T.faults out.new ≡ T.faults out.old }
@@ -77,9 +79,10 @@ fn send_row<M: MarkKeeper, T: Sink>(
     out: &mut T,
 ) -> Result<(), SendStop>
     requires no_doubt { M.doubt marks.old ≡ None }
-    requires unmarked { ForSome (M.marks marks.old) (λ all. Contains all row.now.entry → ⊥) }
-    ensures sends { SendsRow row.now result (record { marks = M.marks marks.old; doubt = M.doubt marks.old; taken = T.taken out.old }) (record { marks = M.marks marks.new; doubt = M.doubt marks.new; taken = T.taken out.new }) }
+    requires unmarked { (all : List ℕ) → M.tells marks.old all → Contains all row.now.entry → ⊥ }
+    ensures sends { OverTold (M.tells marks.old) (M.tells marks.new) (λ before after. SendsRow row.now result (record { marks = before; doubt = M.doubt marks.old; taken = T.taken out.old }) (record { marks = after; doubt = M.doubt marks.new; taken = T.taken out.new })) }
     ensures keeper_fault { IsErrOf result SendStop.KeeperFault → Rose (M.faults marks.old) (M.faults marks.new) }
+    ensures marks_quiet { IsErrOf result SendStop.KeeperFault ⊎ (M.faults marks.new ≡ M.faults marks.old) }
     ensures sink_fault { IsErrOf result SendStop.SinkFault → Rose (T.faults out.old) (T.faults out.new) }
     ensures quiet { OnOk result (T.faults out.new ≡ T.faults out.old) }
     ensures quiet_keeper { IsErrOf result SendStop.KeeperFault → T.faults out.new ≡ T.faults out.old }

@@ -10,6 +10,7 @@ use Rattle.update_log.specs.declared.refusal.RetryFault.{RetryFault}
 use Rattle.update_log.specs.declared.refusal.RetryFault.TheVariants as faults
 use Rattle.update_log.specs.declared.refusal.Refusal.{Refusal}
 use Rattle.update_log.specs.declared.refusal.Refusal.TheVariants as refusals
+use Rattle.client_scripts.specs.Parts.{refused_as}
 use Rattle.client_scripts.specs.Words.{problem_word, state_word}
 
 -- why a requirement doesn't hold: its number and its word
@@ -57,26 +58,6 @@ retry_details _ = []
 abbrev pub fault_text : RetryFault → List ℕ
 fault_text fault = retry_words fault ++ retry_details fault
 
--- the number and the word of a refusal
-abbrev pub refusal_words : Refusal → List ℕ
-refusal_words refusals.NoDevice = codes "1 no-device"
-refusal_words refusals.NoRelease = codes "2 no-release"
-refusal_words (refusals.Busy entry) = codes "3 busy"
-refusal_words (refusals.Unsettled entry) = codes "4 unsettled"
-refusal_words refusals.NotUpdatable = codes "5 not-updatable"
-refusal_words refusals.Locked = codes "6 locked"
-refusal_words (refusals.Problem problem) = codes "7 problem"
-refusal_words refusals.SameVersion = codes "8 same-version"
-refusal_words refusals.Older = codes "9 older"
-refusal_words (refusals.Unmet unmet) = codes "10 unmet"
-refusal_words (refusals.Veto plugin) = codes "11 veto"
-refusal_words (refusals.Size len min max) = codes "12 size"
-refusal_words (refusals.NoRoom need free) = codes "13 no-room"
-refusal_words (refusals.Payload note) = codes "14 payload"
-refusal_words refusals.RowsFull = codes "15 rows-full"
-refusal_words refusals.KeeperFault = codes "16 keeper-fault"
-refusal_words (refusals.Retry fault) = codes "17 retry"
-
 -- what a refusal says beside its word, each part behind a blank
 abbrev pub refusal_details : Refusal → List ℕ
 refusal_details (refusals.Busy entry) = codes " " ++ decimal entry
@@ -90,8 +71,6 @@ refusal_details (refusals.Payload note) = codes " " ++ note_text note
 refusal_details (refusals.Retry fault) = codes " " ++ fault_text fault
 refusal_details _ = []
 
-abbrev pub refusal_text : Refusal → List ℕ
-refusal_text refusal = refusal_words refusal ++ refusal_details refusal
-
+-- a refusal: its number and its word, and what it says beside them
 abbrev pub refused_text : Refusal → List ℕ
-refused_text refusal = codes "refused " ++ refusal_text refusal
+refused_text refusal = refused_as refusal ++ refusal_details refusal

@@ -1,13 +1,13 @@
 //! Answers and refusals, each put behind the bytes of a text.
 ghost use Rattle.std.specs.Prelude.{◌≡◌, ◌++◌, OnOk, codes};
 ghost use Rattle.std.specs.Fmt.{decimal};
-ghost use Rattle.report_text.specs.Refusals.{cause_text, fault_text, note_text, refusal_details, refusal_text, refused_text, retry_details};
+ghost use Rattle.report_text.specs.Refusals.{cause_text, fault_text, note_text, refusal_details, refused_text, retry_details};
 ghost use Rattle.client_scripts.specs.Parts.{selector_text};
 ghost use Rattle.report_text.specs.Lines.{ask_text, claim_text, resume_text, plug_text, back_text, query_text, kept_text};
 
 use crate::parts::put_digest;
-use crate::words::{cause_words, refusal_words, retry_words};
-use client_scripts::parts::{put_number, put_selector};
+use crate::words::{cause_words, retry_words};
+use client_scripts::parts::{put_number, put_refused_as, put_selector};
 use client_scripts::words::{problem_word, state_word};
 use device_list::Selector;
 use history_keeper::RowState;
@@ -124,19 +124,12 @@ fn put_details(out: &mut Vec<u8>, refusal: &Refusal) -> Result<(), AllocError>
     }
 }
 
-fn put_refusal(out: &mut Vec<u8>, refusal: &Refusal) -> Result<(), AllocError>
-    ensures { OnOk result (out.new.items ≡ out.old.items ++ refusal_text refusal.now) }
-{
-    out.extend_from_slice(refusal_words(refusal).as_bytes())?;
-    put_details(out, refusal)
-}
-
 /// Puts a refusal behind the text.
 pub fn put_refused(out: &mut Vec<u8>, refusal: &Refusal) -> Result<(), AllocError>
     ensures { OnOk result (out.new.items ≡ out.old.items ++ refused_text refusal.now) }
 {
-    out.extend_from_slice(b"refused ")?;
-    put_refusal(out, refusal)
+    put_refused_as(out, refusal)?;
+    put_details(out, refusal)
 }
 
 /// Puts behind the text that a tag was taken before, by this entry.

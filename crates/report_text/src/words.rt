@@ -1,11 +1,11 @@
 //! The words of the report.
 ghost use Rattle.std.specs.Prelude.{◌≡◌};
 ghost use Rattle.report_text.specs.Words.{op_word, outcome_word, mark_word};
-ghost use Rattle.report_text.specs.Refusals.{cause_words, refusal_words, retry_words};
+ghost use Rattle.report_text.specs.Refusals.{cause_words, retry_words};
 
 use emulated_boards::{BoardFault, Mark};
 use requirements::UnmetCause;
-use update_log::{Op, Refusal, RetryFault};
+use update_log::{Op, RetryFault};
 
 pub fn op_word(op: Op) -> &'static str
     ensures { result.now ≡ op_word op }
@@ -57,30 +57,6 @@ pub fn cause_words(cause: UnmetCause) -> &'static str
         UnmetCause::HardwareMissing => "8 hardware-missing",
         UnmetCause::HardwareForbidden => "9 hardware-forbidden",
         UnmetCause::ClientFeatureMissing => "10 client-feature-missing",
-    }
-}
-
-pub fn refusal_words(refusal: &Refusal) -> &'static str
-    ensures { result.now ≡ refusal_words refusal.now }
-{
-    match refusal {
-        Refusal::NoDevice => "1 no-device",
-        Refusal::NoRelease => "2 no-release",
-        Refusal::Busy { .. } => "3 busy",
-        Refusal::Unsettled { .. } => "4 unsettled",
-        Refusal::NotUpdatable => "5 not-updatable",
-        Refusal::Locked => "6 locked",
-        Refusal::Problem(_) => "7 problem",
-        Refusal::SameVersion => "8 same-version",
-        Refusal::Older => "9 older",
-        Refusal::Unmet(_) => "10 unmet",
-        Refusal::Veto { .. } => "11 veto",
-        Refusal::Size { .. } => "12 size",
-        Refusal::NoRoom { .. } => "13 no-room",
-        Refusal::Payload(_) => "14 payload",
-        Refusal::RowsFull => "15 rows-full",
-        Refusal::KeeperFault => "16 keeper-fault",
-        Refusal::Retry(_) => "17 retry",
     }
 }
 

@@ -1,4 +1,6 @@
 //! What no clause says: that calls succeed, which bytes come, and what the adapters do to real files.
+ghost use Rattle.std.specs.Prelude.{◌≡◌, IfOk};
+
 use fw_base::Digest;
 use outer_traits::{
     Failed, FolderShelf, Gate, MemoryShelf, MemorySink, MemorySource, NoGate, ReadSource, ReadStop,
@@ -205,6 +207,34 @@ fn a_writer_is_a_sink(rt: HostRuntime) {
     let mut sink = WriteSink::new(Flaky { calls: 0 });
     let answers = [sink.write(b"abc"), sink.write(b"bc"), sink.write(b"bc")];
     assert_eq!(rt; answers, [Ok(1), Err(Failed), Err(Failed)]);
+}
+
+/// Reads bytes in memory through the adapter. They tell what is left, so what comes is known.
+fn read_through(alloc: Global, bytes: &[u8]) -> Result<Vec<u8>, ReadStop>
+    ensures { IfOk result (λ read. read.items ≡ bytes.now) }
+{
+    let mut source = ReadSource::new(bytes);
+    read_whole(alloc, &mut source, 5)
+}
+
+/// Writes bytes through the adapter to a vector. It tells what it holds, so what it took is known.
+fn written_through(alloc: Global, bytes: &[u8]) -> Result<Vec<u8>, Failed>
+    ensures { IfOk result (λ written. written.items ≡ bytes.now) }
+{
+    let mut sink = WriteSink::new(Vec::new(alloc));
+    write_whole(&mut sink, bytes)?;
+    Ok(sink.into_inner())
+}
+
+#[test]
+fn the_adapters_carry_what_memory_tells(rt: HostRuntime) -> Result<(), Fail> {
+    let alloc = rt.alloc();
+    for text in ["", "a", "hello"] {
+        let bytes = text.as_bytes();
+        assert_eq!(rt; read_through(alloc, bytes)?.as_slice(), bytes);
+        assert_eq!(rt; written_through(alloc, bytes)?.as_slice(), bytes);
+    }
+    Ok(())
 }
 
 fn crosses_threads<T: Send + Drop>(_object: T) {}

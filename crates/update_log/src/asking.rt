@@ -12,7 +12,7 @@ use crate::event::Event;
 use crate::facts::Facts;
 use crate::refusal::Refusal;
 use crate::request::Request;
-use crate::taking::{new_row, refusal_number};
+use crate::taking::new_row;
 use crate::target::{Target, target_at};
 use device_list::Devices;
 use history_keeper::{Change, Row, RowState};
@@ -165,7 +165,7 @@ fn resumption_on(rows: &IndexedRows, time: u64, entry: u32, answer: ResumeAnswer
             Change::Advance {
                 entry,
                 state: RowState::Failed,
-                reason: refusal_number(refusal),
+                reason: refusal.number(),
                 time,
             }
         },

@@ -76,3 +76,33 @@ pub enum Refusal {
     /// The row that the request names can't be tried again.
     Retry(RetryFault),
 }
+
+impl Refusal {
+    ghost use Rattle.std.specs.Prelude.{◌≡◌};
+    ghost use Rattle.update_log.specs.Known.{refusal_number};
+
+    /// The refusal's number.
+    pub fn number(&self) -> u8
+        ensures { result ≡ refusal_number self.now }
+    {
+        match self {
+            Refusal::NoDevice => 1,
+            Refusal::NoRelease => 2,
+            Refusal::Busy { .. } => 3,
+            Refusal::Unsettled { .. } => 4,
+            Refusal::NotUpdatable => 5,
+            Refusal::Locked => 6,
+            Refusal::Problem(_) => 7,
+            Refusal::SameVersion => 8,
+            Refusal::Older => 9,
+            Refusal::Unmet(_) => 10,
+            Refusal::Veto { .. } => 11,
+            Refusal::Size { .. } => 12,
+            Refusal::NoRoom { .. } => 13,
+            Refusal::Payload(_) => 14,
+            Refusal::RowsFull => 15,
+            Refusal::KeeperFault => 16,
+            Refusal::Retry(_) => 17,
+        }
+    }
+}

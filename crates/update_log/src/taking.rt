@@ -4,10 +4,9 @@ ghost use Rattle.std.specs.List.{list_any};
 ghost use Rattle.std.specs.Str.{bytes_eq};
 ghost use Rattle.fw_facts.specs.Views.{is_home};
 ghost use Rattle.update_log.specs.CoreCase.{target_with};
-ghost use Rattle.update_log.specs.Known.{flags_number, new_row, refusal_number};
+ghost use Rattle.update_log.specs.Known.{flags_number, new_row};
 ghost use Rattle.update_log.specs.Steps.{first_trace, mode_of, side_fits};
 
-use crate::refusal::Refusal;
 use crate::request::{InstallFlags, Request};
 use crate::target::{Target, provides};
 use crate::trace::{Trace, TraceSteps};
@@ -55,31 +54,6 @@ fn flags_number(flags: InstallFlags) -> u8
     let reinstall = if flags.allow_reinstall { 2 } else { 0 };
     let older = if flags.allow_older { 4 } else { 0 };
     offline + reinstall + older
-}
-
-/// The number of a refusal.
-pub fn refusal_number(refusal: Refusal) -> u8
-    ensures { result ≡ refusal_number refusal }
-{
-    match refusal {
-        Refusal::NoDevice => 1,
-        Refusal::NoRelease => 2,
-        Refusal::Busy { .. } => 3,
-        Refusal::Unsettled { .. } => 4,
-        Refusal::NotUpdatable => 5,
-        Refusal::Locked => 6,
-        Refusal::Problem(_) => 7,
-        Refusal::SameVersion => 8,
-        Refusal::Older => 9,
-        Refusal::Unmet(_) => 10,
-        Refusal::Veto { .. } => 11,
-        Refusal::Size { .. } => 12,
-        Refusal::NoRoom { .. } => 13,
-        Refusal::Payload(_) => 14,
-        Refusal::RowsFull => 15,
-        Refusal::KeeperFault => 16,
-        Refusal::Retry(_) => 17,
-    }
 }
 
 /// The trace of an entry as it is taken for a target.

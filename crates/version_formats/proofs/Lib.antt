@@ -3,3 +3,4 @@ pub mod OrderLemmas
 pub mod DigitLemmas
 pub mod VersionLaws
 pub mod RenderLaws
+pub mod Accepted

@@ -65,7 +65,8 @@ fn bcd(raw: u32, low: u32) -> u32
 
 /// Decimal numbers with dots between them.
 fn dotted(numbers: &[u32]) -> Version
-    requires { length numbers.now ≤ 4 }
+    requires some { 0 < length numbers.now }
+    requires few { length numbers.now ≤ 4 }
     ensures { result ≡ dotted numbers.now }
 {
     let mut text = ArrayVec::new();

@@ -1,5 +1,5 @@
 //! Versions as texts.
-ghost use Rattle.std.specs.Prelude.{◌≡◌, ◌≤◌, length, position};
+ghost use Rattle.std.specs.Prelude.{◌≡◌, ◌≤◌, length, position, Ok};
 ghost use Rattle.version_formats.specs.Versions.{version_read, is_no_version_byte};
 
 use std::marker::Model;
@@ -18,20 +18,21 @@ pub struct Version {
 
 impl Model for Version {
     ghost use Rattle.std.specs.Prelude.{List, ℕ, length, take};
-    ghost use Rattle.fw_base.specs.Padded.{IsPadded, padded};
+    ghost use Rattle.fw_base.specs.Padded.{Keeps, padded};
     ghost use Rattle.fw_base.specs.Padded.{kept_again};
+    ghost use Rattle.version_formats.specs.Versions.{version_read};
 
     ghost Value = { List ℕ };
 
     ghost view = { λ s. take s.len s.bytes };
 
-    ghost invariant = { λ s. IsPadded 64 s.bytes s.len };
+    ghost invariant = { λ s. Keeps version_read 64 s.bytes s.len };
 
     ghost inverse = { λ xs. record { bytes = padded 64 xs; len = length xs } };
 
     ghost use Rattle.version_formats.specs.declared.version.Version.TheInside.{Inside};
 
-    ghost inverse_ok = { λ a h. kept_again {X = Inside} (λ b n. record { bytes = b; len = n }) 64 a.bytes a.len h };
+    ghost inverse_ok = { λ a h. kept_again {X = Inside} (λ b n. record { bytes = b; len = n }) 64 a.bytes a.len h.padded };
 }
 
 impl PartialEq for Version {
@@ -85,7 +86,8 @@ impl Version {
 
     /// Keeps bytes that are known to be a version's.
     pub(crate) fn keep(bytes: &[u8]) -> Version
-        requires { length bytes.now ≤ 64 }
+        requires short { length bytes.now ≤ 64 }
+        requires accepted { version_read bytes.now ≡ Ok bytes.now }
         ensures { result ≡ bytes.now }
     {
         let mut kept = [0; 64];
@@ -101,6 +103,13 @@ impl Version {
         ensures { result.now ≡ self.now }
     {
         &self.bytes[..self.len]
+    }
+
+    /// A law: its reader takes the bytes of a version, and gives them back.
+    pub fn reads_back(&self)
+        ensures { version_read self.now ≡ Ok self.now }
+    {
+        let _ = &self.bytes;
     }
 }
 

@@ -1,4 +1,4 @@
-use Rattle.std.proofs.Common.{Some, inl, refl, subst}
+use Rattle.std.proofs.Common.{None, Some, inl, refl, subst}
 use Rattle.fwupd_service.specs.Commands.{CommandFits}
 use Rattle.fwupd_service.proofs.TopLaws.{keeps-same, marks-same, stay-same}
 use Rattle.fwupd_service.proofs.top.obey.Goals as goal
@@ -94,55 +94,55 @@ pub returns-in-Run-clause-own_marks : goal.returns-in-Run-clause-own_marks
 returns-in-Run-clause-own_marks g c = rw c.with_marks.ensures (marks-same (Some c.args.command.now) _ _ refl)
 
 pub returns-in-Run-clause-marks_told : goal.returns-in-Run-clause-marks_told
-returns-in-Run-clause-marks_told g c = rw c.in-Run.is tt
+returns-in-Run-clause-marks_told g c = rw c.in-Run.is (λ after told. (None, tt, tt))
 
 pub returns-in-Make-clause-own_marks : goal.returns-in-Make-clause-own_marks
 returns-in-Make-clause-own_marks g c = rw c.with_marks-in-Make.ensures (marks-same (Some c.args.command.now) _ _ refl)
 
 pub returns-in-Make-clause-marks_told : goal.returns-in-Make-clause-marks_told
-returns-in-Make-clause-marks_told g c = rw c.in-Make.is tt
+returns-in-Make-clause-marks_told g c = rw c.in-Make.is (λ after told. (None, tt, tt))
 
 pub returns-in-Plan-clause-own_marks : goal.returns-in-Plan-clause-own_marks
 returns-in-Plan-clause-own_marks g c = rw c.with_marks-in-Plan.ensures (marks-same (Some c.args.command.now) _ _ refl)
 
 pub returns-in-Plan-clause-marks_told : goal.returns-in-Plan-clause-marks_told
-returns-in-Plan-clause-marks_told g c = rw c.in-Plan.is tt
+returns-in-Plan-clause-marks_told g c = rw c.in-Plan.is (λ after told. (None, tt, tt))
 
 pub returns-in-Update-clause-own_marks : goal.returns-in-Update-clause-own_marks
 returns-in-Update-clause-own_marks g c = rw c.with_marks-in-Update.ensures (marks-same (Some c.args.command.now) _ _ refl)
 
 pub returns-in-Update-clause-marks_told : goal.returns-in-Update-clause-marks_told
-returns-in-Update-clause-marks_told g c = rw c.in-Update.is tt
+returns-in-Update-clause-marks_told g c = rw c.in-Update.is (λ after told. (None, tt, tt))
 
 pub returns-in-Check-clause-own_marks : goal.returns-in-Check-clause-own_marks
 returns-in-Check-clause-own_marks g c = rw c.with_marks-in-Check.ensures (marks-same (Some c.args.command.now) _ _ refl)
 
 pub returns-in-Check-clause-marks_told : goal.returns-in-Check-clause-marks_told
-returns-in-Check-clause-marks_told g c = rw c.in-Check.is tt
+returns-in-Check-clause-marks_told g c = rw c.in-Check.is (λ after told. (None, tt, tt))
 
 pub returns-in-Remotes-clause-own_marks : goal.returns-in-Remotes-clause-own_marks
 returns-in-Remotes-clause-own_marks g c = rw c.with_marks-in-Remotes.ensures (marks-same (Some c.args.command.now) _ _ refl)
 
 pub returns-in-Remotes-clause-marks_told : goal.returns-in-Remotes-clause-marks_told
-returns-in-Remotes-clause-marks_told g c = rw c.in-Remotes.is tt
+returns-in-Remotes-clause-marks_told g c = rw c.in-Remotes.is (λ after told. (None, tt, tt))
 
 pub returns-in-Explain-clause-own_marks : goal.returns-in-Explain-clause-own_marks
 returns-in-Explain-clause-own_marks g c = rw c.with_marks-in-Explain.ensures (marks-same (Some c.args.command.now) _ _ refl)
 
 pub returns-in-Explain-clause-marks_told : goal.returns-in-Explain-clause-marks_told
-returns-in-Explain-clause-marks_told g c = rw c.in-Explain.is tt
+returns-in-Explain-clause-marks_told g c = rw c.in-Explain.is (λ after told. (None, tt, tt))
 
 pub returns-in-Ids-clause-own_marks : goal.returns-in-Ids-clause-own_marks
 returns-in-Ids-clause-own_marks g c = rw c.with_marks-in-Ids.ensures (marks-same (Some c.args.command.now) _ _ refl)
 
 pub returns-in-Ids-clause-marks_told : goal.returns-in-Ids-clause-marks_told
-returns-in-Ids-clause-marks_told g c = rw c.in-Ids.is tt
+returns-in-Ids-clause-marks_told g c = rw c.in-Ids.is (λ after told. (None, tt, tt))
 
 pub returns-in-Report-clause-own_marks : goal.returns-in-Report-clause-own_marks
 returns-in-Report-clause-own_marks g c = rw c.in-Report.is tt
 
 pub returns-in-Report-clause-marks_told : goal.returns-in-Report-clause-marks_told
-returns-in-Report-clause-marks_told g c = rw c.in-Report.is (inl c.report.ensures.told)
+returns-in-Report-clause-marks_told g c = rw c.in-Report.is (λ after told. let b = c.report.ensures.told after told in (b.0, b.1, inl b.2))
 
 -- ---- faults of the keepers under `report`
 
@@ -180,3 +180,8 @@ plan-requires-clause-tag g c = subst CommandFits c.in-Plan.is c.requires.fits
 
 pub update-requires-clause-tag : goal.update-requires-clause-tag
 update-requires-clause-tag g c = λ κs lives. subst CommandFits c.in-Update.is c.requires.fits
+
+-- ---- what `report` doesn't read
+
+pub returns-in-Report-clause-source_fault : goal.returns-in-Report-clause-source_fault
+returns-in-Report-clause-source_fault g c = λ e. absurd (c.report.ensures.no_source e)

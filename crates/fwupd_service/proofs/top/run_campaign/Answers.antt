@@ -1,7 +1,7 @@
-use Rattle.std.proofs.Common.{◌≡◌, ℕ, List, map, Bor, refl, sym, ◌∙◌}
+use Rattle.std.proofs.Common.{◌≡◌, ℕ, List, map, Bor, None, ap, refl, sym, ◌∙◌}
 use Rattle.run_status.specs.declared.status.Status.{Status}
 use Rattle.fwupd_service.proofs.MakeWords.{words-fit}
-use Rattle.fwupd_service.proofs.TopLaws.{keeps-same, marks-same, marks-untold, no-fault-told, stay-same, words-wanted}
+use Rattle.fwupd_service.proofs.TopLaws.{keeps-same, marks-same, marks-untold, no-fault-told, says-none, stay-same, words-wanted}
 use Rattle.fwupd_service.proofs.top.run_campaign.Goals as goal
 
 pub obey-requires-clause-fits : goal.obey-requires-clause-fits
@@ -32,11 +32,15 @@ returns-in-Err-Usage-clause-own_marks g c = rw c.with_marks.ensures (marks-same 
 pub returns-clause-own_marks : goal.returns-clause-own_marks
 returns-clause-own_marks g c = rw c.with_marks-in-Err-NoMemory.ensures (marks-same _ _ _ refl)
 
+pub returns-in-Err-Usage-clause-marks_told : goal.returns-in-Err-Usage-clause-marks_told
+returns-in-Err-Usage-clause-marks_told g c =
+    rw (says-none _ c.read_words.result c.read_words.ensures (rw c.in-Err-Usage.field-0-is at c.in-Err-Usage.is)) (λ after told. (None, tt, tt))
+
 pub returns-clause-marks_told : goal.returns-clause-marks_told
-returns-clause-marks_told g c = rw c.with_marks-in-Err-NoMemory.ensures (marks-untold _ _ _ _ _ _ _ c.nothing-in-Err-NoMemory.ensures.status refl)
+returns-clause-marks_told g c = rw c.with_marks-in-Err-NoMemory.ensures (λ after told. (after, told, marks-untold _ _ _ _ _ _ _ c.nothing-in-Err-NoMemory.ensures.status refl))
 
 pub returns-in-Err-Usage-clause-fault_told : goal.returns-in-Err-Usage-clause-fault_told
-returns-in-Err-Usage-clause-fault_told g c = rw c.with_marks.ensures (no-fault-told _ _ _ _ _ _ (λ e. let bad : Status.Usage ≡ Status.KeeperFault = sym c.nothing.ensures.status ∙ e in cc))
+returns-in-Err-Usage-clause-fault_told g c = rw c.with_marks.ensures (no-fault-told _ _ _ _ _ _ (λ e. let bad : Status.Usage ≡ Status.KeeperFault = sym c.nothing.ensures.status ∙ e in cc) (ap g.K.Keeper.faults c.nothing.ensures.keeper) refl)
 
 pub returns-clause-fault_told : goal.returns-clause-fault_told
-returns-clause-fault_told g c = rw c.with_marks-in-Err-NoMemory.ensures (no-fault-told _ _ _ _ _ _ (λ e. let bad : Status.NoMemory ≡ Status.KeeperFault = sym c.nothing-in-Err-NoMemory.ensures.status ∙ e in cc))
+returns-clause-fault_told g c = rw c.with_marks-in-Err-NoMemory.ensures (no-fault-told _ _ _ _ _ _ (λ e. let bad : Status.NoMemory ≡ Status.KeeperFault = sym c.nothing-in-Err-NoMemory.ensures.status ∙ e in cc) (ap g.K.Keeper.faults c.nothing-in-Err-NoMemory.ensures.keeper) refl)

@@ -1,7 +1,10 @@
-use Rattle.std.proofs.Common.{ap, ◌∙◌, map, inr}
-use Rattle.std.proofs.lemmas.Result.{IfOk-weaker}
+use Rattle.std.proofs.Common.{ap, ◌∙◌, map, Err}
+use Rattle.std.proofs.lemmas.Result.{IfOk-weaker, err_from_is_err_and}
+use Rattle.sqlite.specs.Held.{state}
+use Rattle.history_sqlite.proofs.Opening.{if_err}
 use Rattle.marks_sqlite.specs.Causes.{entry_read}
 use Rattle.marks_sqlite.proofs.MarksTold.{all_back}
+use Rattle.marks_sqlite.proofs.Refusals.{unanswered_fails, unread_fails}
 use Rattle.marks_sqlite.proofs.statements.load_marks.Goals as goal
 
 pub returns-clause-loads : goal.returns-clause-loads
@@ -11,4 +14,11 @@ returns-clause-loads g c clean =
     c.read_entries.ensures.read
 
 pub returns-clause-cause : goal.returns-clause-cause
-returns-clause-cause g c clean is = inr (c.in_ok-table.table.items, c.in_ok-table.ensures.shown clean, rw c.deref.ensures.value at (c.read_entries.ensures.cause is))
+returns-clause-cause g c clean =
+    if_err c.read_entries.result _ (λ why is. unread_fails why (state g.D.Store c.args.connection.now) (state g.D.Store c.select.new.connection) c.in_ok-table.table.items (c.in_ok-table.ensures.shown clean)
+    (λ fault. rw c.deref.ensures.value at (c.read_entries.ensures.cause (is ∙ ap Err fault))))
+
+pub returns-in_err-table-clause-cause : goal.returns-in_err-table-clause-cause
+returns-in_err-table-clause-cause g c clean =
+    let p = err_from_is_err_and c.from_residual.result c.from_residual.ensures.1 in
+    rw (p.1, p.2) (unanswered_fails c.in_err-table.field-0.0 (state g.D.Store c.args.connection.now) (state g.D.Store c.select.new.connection) (c.in_err-table.ensures.cause clean))

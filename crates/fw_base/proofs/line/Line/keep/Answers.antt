@@ -1,5 +1,7 @@
-use Rattle.fw_base.proofs.Keeping.{kept_is_padded}
+use Rattle.fw_base.proofs.Keeping.{keeps}
+use Rattle.fw_base.specs.Lines.{line_read}
 use Rattle.fw_base.proofs.line.Line.keep.Goals as goal
 
 pub invariant_of-result : goal.invariant_of-result
-invariant_of-result c = kept_is_padded 255 c.copy_from_slice.new.self c.args.bytes.now c.copy_from_slice.ensures.after c.requires
+invariant_of-result c =
+    keeps 255 c.copy_from_slice.new.self c.args.bytes.now c.copy_from_slice.ensures.after c.requires.short line_read c.requires.accepted
