@@ -104,7 +104,7 @@ fn add(
 /// A database with the rows of these entries.
 fn filled(alloc: Global, past: &[Past]) -> Result<Connection<MemStore>, Fail> {
     let mut connection = Connection::open_in_memory(alloc)?;
-    open_tables(&mut connection, alloc)?;
+    open_tables(&mut connection)?;
     for (entry, tag) in past {
         add(alloc, &mut connection, *entry, *tag)?;
     }

@@ -1,5 +1,5 @@
 -- A history that files held, as it is opened.
-use Rattle.std.proofs.Common.{◌≡◌, inl, inr, List, None, map, refl, sym, subst}
+use Rattle.std.proofs.Common.{◌≡◌, inl, inr, List, None, sym, subst}
 use Rattle.sqlite.specs.Effect.{Database}
 use Rattle.sqlite.specs.Files.{AreFoundIn}
 use Rattle.sqlite.specs.Start.{FindsIn}

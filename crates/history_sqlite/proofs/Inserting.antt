@@ -18,8 +18,6 @@ use Rattle.sqlite.specs.Edit.{edit_of, edited, put_all, without_all, numbered}
 use Rattle.sqlite.specs.Tree.{Trees, put_row}
 use Rattle.sqlite.specs.Cast.{cast, cast_row}
 use Rattle.sqlite.specs.Rowids.TheVariants.{Chosen}
-use Rattle.sqlite.specs.Table.{Table}
-use Rattle.sqlite.specs.Schema.{Schema}
 use Rattle.sqlite.specs.Does.{Tally, Does, OnRows}
 use Rattle.sqlite.specs.Rows.{Written}
 use Rattle.sqlite.specs.Listing.{understood}
@@ -72,7 +70,7 @@ cast_stored layout row =
 pub lower : (m n : ℕ) → m < n → value_cmp (Int (pos m)) (Int (pos n)) ≡ Less
 lower m n h = value_cmp-Int (pos m) (pos n) ∙ grind (arith, ints, nat_tests)
 
-put_last : (from : ℕ) (new : Row) (rows : List Row) → new.entry ≡ from + length rows → AreNumbered from rows → put_row (stored new) (map stored rows) ≡ map stored rows ++ stored new ∷ []
+pub put_last : (from : ℕ) (new : Row) (rows : List Row) → new.entry ≡ from + length rows → AreNumbered from rows → put_row (stored new) (map stored rows) ≡ map stored rows ++ stored new ∷ []
 put_last from new [] next low = refl
 put_last from new (row ∷ rows) next low =
     rw (lower row.entry new.entry (omega (arith, low.0, next))) (ap (λ all. stored row ∷ all) (put_last (from + 1) new rows (omega (arith, next)) low.1))

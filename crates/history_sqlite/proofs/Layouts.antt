@@ -5,14 +5,14 @@ use Rattle.std.specs.List.{AllByRecursion}
 use Rattle.sqlite.specs.declared.types.Value.TheVariants.{Null, Int}
 use Rattle.sqlite.specs.Order.{Row as Values}
 use Rattle.sqlite.specs.Term.{Term, lit, col, op2}
-use Rattle.sqlite.specs.Source.TheVariants.{Values as given}
+use Rattle.sqlite.specs.Source.TheVariants.{Values as given, Query as asked}
 use Rattle.sqlite.specs.Command.TheVariants.{Insert, Select, Update}
 use Rattle.sqlite.specs.Collation.TheVariants.{Binary}
 use Rattle.sqlite.specs.Query.{Query, inner, end}
 use Rattle.sqlite.specs.Program.{overlay}
 use Rattle.sqlite_value.specs.Keys.{ascending}
 use Rattle.sqlite_sql.specs.declared.ops.BinaryOp.TheVariants.{Compare}
-use Rattle.sqlite_sql.specs.declared.ops.CompareOp.TheVariants.{Eq}
+use Rattle.sqlite_sql.specs.declared.ops.CompareOp.TheVariants.{Eq, Gt}
 use Rattle.sqlite_schema.specs.declared.schema.Keys.{Keys}
 use Rattle.sqlite_rules.specs.Edit.{Edit, taken_by, Applies}
 use Rattle.sqlite_rules.specs.Action.{works, Writes}
@@ -21,7 +21,7 @@ use Rattle.sqlite.specs.Table.{Table}
 use Rattle.sqlite_tied.specs.Compute.{everything}
 use Rattle.sqlite.specs.Listing.{understood, reads_listing}
 use Rattle.sqlite.proofs.Callers.{IsPlain, command_of, one_step}
-use Rattle.history_sqlite.specs.Causes.{insert_text, select_text, older_select_text, update_text}
+use Rattle.history_sqlite.specs.Causes.{insert_text, select_text, older_select_text, update_text, copy_text}
 use Rattle.history_sqlite.specs.Tables.{Layout, schema_table, history_table, history_schema, older_schema, rows_tree}
 
 -- ---- the table of the rows
@@ -124,6 +124,23 @@ older_select_is = (refl, refl)
 pub older_select_plain : IsPlain (understood older_schema older_select_text)
 unfolding understood everything
 older_select_plain = (refl, refl)
+
+-- ---- the copying of a block of the rows of schema 1
+
+abbrev pub copy_project : List Term
+copy_project =
+    col 1 0 ∷ lit Null ∷ col 1 2 ∷ col 1 3 ∷ col 1 4 ∷ col 1 5 ∷ col 1 6 ∷ col 1 7 ∷ col 1 8 ∷ col 1 9 ∷ col 1 10 ∷ col 1 11 ∷ col 1 12 ∷ col 1 13 ∷ lit (Int (pos 0)) ∷ lit Null ∷ lit Null ∷ []
+
+abbrev pub copying : Query
+copying = record (query_of 1 copy_project) { collations = map (λ (t : Term). Binary) copy_project; filter = op2 (Compare Gt Binary) (col 1 0) (col 0 0) ∷ []; limit = lit (Int (pos 256)) }
+
+pub copy_is : command_of (understood (history_schema Layout.TakenOver) copy_text) ≡ Insert 2 (asked (record { lets = []; body = copying }))
+unfolding understood everything
+copy_is = refl
+
+pub copy_plain : IsPlain (understood (history_schema Layout.TakenOver) copy_text)
+unfolding understood everything
+copy_plain = (refl, refl)
 
 -- ---- the update
 

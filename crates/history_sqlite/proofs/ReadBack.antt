@@ -112,17 +112,6 @@ all_back (row ∷ rows) (r ∷ read) h =
     let b = all_back rows read rest in
     rw (a, b)
 
-pub older_all_back : (rows read : List Row) → map (λ (r : Row). Some r) read ≡ map older_row_read (map older_columns_of rows) → read ≡ map taken_over rows
-older_all_back [] [] h = refl
-older_all_back [] (r ∷ read) h = absurd cc
-older_all_back (row ∷ rows) [] h = absurd cc
-older_all_back (row ∷ rows) (r ∷ read) h =
-    let first : older_row_read (older_columns_of row) ≡ Some r = cc in
-    let rest : map (λ (r : Row). Some r) read ≡ map older_row_read (map older_columns_of rows) = cc in
-    let a = older_read_back row r [] first in
-    let b = older_all_back rows read rest in
-    rw (a, b)
-
 next : {A B : Type 0} (o : Option A) (a : A) (f : A → Option B) (b : Option B) → o ≡ Some a → f a ≡ b → (o >>= f) ≡ b
 next o a f b some then_b = rw some then_b
 

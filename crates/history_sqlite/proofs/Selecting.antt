@@ -1,5 +1,5 @@
 -- What the selects show.
-use Rattle.std.proofs.Common.{◌≡◌, ◌⊎◌, inl, inr, ℕ, pos, ◌+◌, ◌<◌, List, [], ◌∷◌, ◌++◌, length, map, drop, Ok, IsTrue, refl, sym, ap, subst, ◌∙◌, arith}
+use Rattle.std.proofs.Common.{◌≡◌, inl, ℕ, pos, ◌+◌, ◌<◌, List, [], ◌∷◌, map, drop, IsTrue, refl, ap, subst, ◌∙◌, arith}
 use Rattle.std.specs.declared.cmp.Ordering.TheVariants.{Less}
 use Rattle.sqlite.specs.declared.types.Value.TheVariants.{Null, Int}
 use Rattle.sqlite.specs.Order.{Row as Values}
@@ -21,7 +21,7 @@ use Rattle.sqlite.proofs.StateLemmas.{survives_weaker}
 use Rattle.history_keeper.specs.declared.row.Row.{Row}
 use Rattle.history_sqlite.specs.Causes.{select_text, older_select_text}
 use Rattle.history_sqlite.specs.Columns.{columns_of, older_columns_of}
-use Rattle.history_sqlite.specs.Tables.{Layout, history_schema, older_schema, rows_tree, stored, older_stored, AreNumbered, HoldsRows, HoldsOlderRows, TakesAll}
+use Rattle.history_sqlite.specs.Tables.{history_schema, older_schema, rows_tree, stored, older_stored, AreNumbered, HoldsRows, HoldsOlderRows, TakesAll}
 use Rattle.history_sqlite.proofs.Effects.{stays, older_stays, show_changes_nothing, query_stays, plain_at}
 use Rattle.history_sqlite.proofs.Layouts.{overlaid, query_of, project, older_project, select_is, select_plain, older_select_is, older_select_plain}
 use Rattle.history_sqlite.proofs.Inserting.{lower}
@@ -30,25 +30,25 @@ flat_one : {X Y : Type 0} (f : X → Y) (xs : List X) → flat_map (λ x. f x �
 flat_one f [] = refl
 flat_one f (x ∷ xs) = ap (λ l. f x ∷ l) (flat_one f xs)
 
-drop_none : {X : Type 0} (xs : List X) → drop 0 xs ≡ xs
+pub drop_none : {X : Type 0} (xs : List X) → drop 0 xs ≡ xs
 drop_none [] = refl
 drop_none (x ∷ xs) = refl
 
 -- A query that shows these columns of rows that are kept so, by their entries.
 module _ (tree : ℕ) (overlaid_is : (db : Trees) → overlay db [] tree ≡ db tree) (terms : List Term) (kept shown : Row → Values)
     (output_is : (row : Row) → output (query_of tree terms) ([] ∷ kept row ∷ []) ≡ (Int (pos row.entry) ∷ [], shown row)) where
-  abbrev query : Query
+  abbrev pub query : Query
   query = query_of tree terms
 
   -- what a row is sorted by, and what it shows
-  abbrev shown_as : Row → Output
+  abbrev pub shown_as : Row → Output
   shown_as row = (Int (pos row.entry) ∷ [], shown row)
 
   outputs : (rows : List Row) → map (output query) (map (λ (r : Values). [] ∷ r ∷ []) (map kept rows)) ≡ map shown_as rows
   outputs [] = refl
   outputs (row ∷ rows) = rw (output_is row, outputs rows)
 
-  parts : (rows : List Row) → map (λ (o : Output). o.1) (map shown_as rows) ≡ map shown rows
+  pub parts : (rows : List Row) → map (λ (o : Output). o.1) (map shown_as rows) ≡ map shown rows
   parts [] = refl
   parts (row ∷ rows) = ap (λ l. shown row ∷ l) (parts rows)
 
@@ -59,7 +59,7 @@ module _ (tree : ℕ) (overlaid_is : (db : Trees) → overlay db [] tree ≡ db 
     above_all a (from + 1) rows (omega arith) numbered.1,
   )
 
-  in_order : (from : ℕ) (rows : List Row) → AreNumbered from rows → IsAscending (λ a b. output_cmp query a b ≡ Less) (map shown_as rows)
+  pub in_order : (from : ℕ) (rows : List Row) → AreNumbered from rows → IsAscending (λ a b. output_cmp query a b ≡ Less) (map shown_as rows)
   in_order from [] numbered = tt
   in_order from (row ∷ rows) numbered = (above_all row (from + 1) rows (omega (arith, numbered.0)) numbered.1, in_order (from + 1) rows numbered.1)
 

@@ -1,5 +1,5 @@
 -- What the statements do by which the rows of schema 1 are taken over.
-use Rattle.std.proofs.Common.{◌≡◌, ℕ, ℤ, pos, negsuc, ◌+◌, List, [], ◌∷◌, ◌++◌, length, map, Bool, true, false, cond, None, Some, Result, Ok, Err, IsTrue, inl, inr, refl, sym, ap, subst, ◌∙◌, arith}
+use Rattle.std.proofs.Common.{◌≡◌, ℕ, ℤ, pos, negsuc, List, [], ◌∷◌, map, Bool, true, false, cond, None, Result, Ok, Err, IsTrue, inl, inr, refl, sym, ap, subst, ◌∙◌, arith}
 use Rattle.std.specs.Ordering.{is_eq}
 use Rattle.std.specs.List.Sorted.{IsPermutation}
 use Rattle.sqlite.specs.declared.types.Value.{Value}
@@ -30,13 +30,13 @@ use Rattle.sqlite.specs.declared.error.Error.{Error}
 use Rattle.sqlite.proofs.StateLemmas.{survives_then}
 use Rattle.sqlite.proofs.Callers.{IsPlain, command_of, statement_of, runs_as, one_permutation}
 use Rattle.history_keeper.specs.declared.row.Row.{Row}
-use Rattle.history_sqlite.specs.Causes.{insert_text, renumber_text}
-use Rattle.history_sqlite.specs.Columns.{columns_of, taken_over}
-use Rattle.history_sqlite.specs.Tables.{Layout, create_history_text, schema_table, history_table, older_schema, history_schema, rows_tree, stored, IsNumbered, schema_number, older_number, AreNumbered, HoldsRows, HoldsOlderRows, KeepsOlder, LoadsOlder, TakesAll, TakesOver}
-use Rattle.history_sqlite.specs.Taking.{HoldsCopies, Copies, CopiesAll, IsUntaken, AreTaken, MayWriteOver, WritesOver}
+use Rattle.history_sqlite.specs.Causes.{renumber_text}
+use Rattle.history_sqlite.specs.Columns.{taken_over}
+use Rattle.history_sqlite.specs.Tables.{Layout, create_history_text, schema_table, history_table, older_schema, history_schema, AreNumbered, HoldsRows, HoldsOlderRows, KeepsOlder, CountsOlder, TakesAll, TakesOver}
+use Rattle.history_sqlite.specs.Taking.{HoldsCopies, IsUntaken, AreTaken, MayWriteOver, WritesOver}
 use Rattle.history_sqlite.proofs.Effects.{went, same_value, history_made}
 use Rattle.history_sqlite.proofs.Layouts.{one_step_of}
-use Rattle.history_sqlite.proofs.Inserting.{puts}
+use Rattle.history_sqlite.proofs.Copying.{numbered_over}
 use Rattle.history_sqlite.proofs.Making.{creates}
 
 -- ---- the table is made
@@ -49,17 +49,10 @@ create_plain : IsPlain (understood older_schema create_history_text)
 unfolding understood everything
 create_plain = (refl, refl)
 
-pub made_over : (old new : State) (count : ℕ) → IsUntaken old → IsTrue new.in_transaction → Executes create_history_text [] old new (Ok count) → HoldsCopies new []
-made_over old new count untaken inside ran =
+pub made_over : (old new : State) (older : List Row) (count : ℕ) → IsUntaken old older → IsTrue new.in_transaction → Executes create_history_text [] old new (Ok count) → HoldsCopies new older []
+made_over old new older count untaken inside ran =
     let made = creates older_schema create_history_text history_table create_is.0 create_is.1 create_plain history_made refl old new count untaken.schema ran in
-    record { inside = inside; schema = made.0; number = (untaken.number.0, made.2.0 ∙ untaken.number.1); table = made.1; entries = tt }
-
--- ---- a row is copied
-
-pub copied : (old new : State) (row : Row) (count : ℕ) → IsTrue new.in_transaction → Executes insert_text (columns_of row) old new (Ok count) → Copies old new row
-copied old new row count inside ran rows h next =
-    let put = puts Layout.TakenOver old new rows row count h.schema h.table h.entries next ran in
-    record { inside = inside; schema = put.schema; number = (h.number.0, put.number ∙ h.number.1); table = put.table; entries = put.entries }
+    record { inside = inside; schema = made.0; number = (untaken.number.0, made.2.0 ∙ untaken.number.1); stays = made.2.1.0 ∙ untaken.stays; table = made.1; entries = untaken.entries }
 
 -- ---- the number is set
 
@@ -126,8 +119,8 @@ module _ (id : ℤ) where
       ∙ ap (λ (rest : List Values). put_all rest (numbered Given rest (cast_row schema_table after ∷ []))) (ap (without_rowid id) holds ∙ none_else)
       ∙ ap (λ (r : Values). put_all [] (numbered Given [] (r ∷ []))) cast_after
 
-pub renumbered : (old new : State) (rows : List Row) (count : ℕ) → HoldsCopies old rows → IsTrue new.in_transaction → Executes renumber_text [] old new (Ok count) → AreTaken new rows
-renumbered old new rows count h inside ran =
+pub renumbered : (old new : State) (older : List Row) (count : ℕ) → HoldsCopies old older older → IsTrue new.in_transaction → Executes renumber_text [] old new (Ok count) → AreTaken new older
+renumbered old new older count h inside ran =
     let db = old.now.trees in
     let command = Update 0 (record { lets = []; body = renumbering }) in
     let w = runs_as renumber_text [] old new taken_schema h.schema command renumber_is renumber_plain count ran in
@@ -146,24 +139,10 @@ renumbered old new rows count h inside ran =
       table = ap (λ (d : Database). d.trees 3) now ∙ ap (λ (t : Trees). t 3) trees ∙ other ∙ h.table;
     }
 
--- ---- the rows, one after the other
-
-number_at : (from : ℕ) (before : List Row) (row : Row) → AreNumbered from (before ++ row ∷ []) → row.entry ≡ from + length before
-number_at from [] row low = omega (arith, low.0)
-number_at from (first ∷ rest) row low = let e = number_at (from + 1) rest row low.1 in omega (arith, e)
-
-numbered_front : (from : ℕ) (before rest : List Row) → AreNumbered from (before ++ rest) → AreNumbered from before
-numbered_front from [] rest low = tt
-numbered_front from (row ∷ before) rest low = (low.0, numbered_front (from + 1) before rest low.1)
-
-pub numbered_over : (from : ℕ) (rows : List Row) → AreNumbered from rows → AreNumbered from (map taken_over rows)
-numbered_over from [] low = tt
-numbered_over from (row ∷ rows) low = (low.0, numbered_over (from + 1) rows low.1)
-
 -- ---- the commit
 
-pub committed : (last three : State) (rows : List Row) → AreTaken three rows → AreNumbered 1 rows → Shows three last three.now three.now false → last.step_limit ≡ None → HoldsRows last rows
-committed last three rows taken low ends limit = record {
+pub committed : (last three : State) (older : List Row) → AreTaken three older → AreNumbered 1 older → Shows three last three.now three.now false → last.step_limit ≡ None → HoldsRows last (map taken_over older)
+committed last three older taken low ends limit = record {
   layout = Layout.TakenOver;
   is_open = ends.is_open;
   schema = ap (λ (d : Database). d.schema) ends.now_is ∙ taken.schema;
@@ -172,10 +151,10 @@ committed last three rows taken low ends limit = record {
   unlimited = limit;
   number = (taken.number.0, ap (λ (d : Database). d.trees 0) ends.now_is ∙ taken.number.1);
   table = ap (λ (d : Database). d.trees 3) ends.now_is ∙ taken.table;
-  entries = low;
+  entries = numbered_over 1 older low;
 }
 
--- ---- copies, one after the other
+-- ---- one after the other
 
 pub survives_same : (s : State) → Survives s s (λ _. ⊥)
 survives_same s = record { clean = omega arith; shield = λ h. h; counts = omega arith; limit = refl; closes = λ clean h. inl h; crash = λ clean db h. inl h }
@@ -183,33 +162,17 @@ survives_same s = record { clean = omega arith; shield = λ h. h; counts = omega
 pub survives_both : (a b c : State) → Survives a b (λ _. ⊥) → Survives b c (λ _. ⊥) → Survives a c (λ _. ⊥)
 survives_both a b c = survives_then a b c (λ _. ⊥) (λ _. ⊥) (λ _. ⊥) (λ _ db none. none) (λ _ db none. none)
 
-pub copies_none : (start : State) → CopiesAll start start []
-copies_none start h low = h
-
-pub copies_more : (start now next : State) (before all : List Row) (row : Row) → all ≡ before ++ row ∷ [] → CopiesAll start now before → Copies now next row → CopiesAll start next all
-copies_more start now next before all row more done one h low =
-    let numbered : AreNumbered 1 (before ++ row ∷ []) = subst (AreNumbered 1) more low in
-    let here = done h (numbered_front 1 before (row ∷ []) numbered) in
-    let next_entry : row.entry ≡ length before + 1 = let e = number_at 1 before row numbered in omega (arith, e) in
-    subst (HoldsCopies next) (sym more) (one before here next_entry)
-
 -- what the transaction begins with
-pub untaken : (s : State) (rows : List Row) → HoldsOlderRows s rows → IsUntaken (record s { in_transaction = true })
-untaken s rows h = record { inside = refl; schema = h.schema; number = h.number }
+pub untaken : (s : State) (older : List Row) → HoldsOlderRows s older → IsUntaken (record s { in_transaction = true }) older
+untaken s older h = record { inside = refl; schema = h.schema; number = h.number; stays = h.table; entries = h.entries }
 
 -- ---- the whole
 
-pub takes : (old mid new : State) (loaded : List Row) → LoadsOlder old mid loaded → WritesOver mid new loaded → TakesOver old new
-takes old mid new loaded loads writes rows holds =
-    let given = loads rows holds in
-    let low = subst (AreNumbered 1) (sym given.0) (numbered_over 1 rows holds.entries) in
-    subst (HoldsRows new) given.0 (writes rows given.1 low)
+pub takes : (old mid new : State) (count : ℕ) → CountsOlder old mid count → WritesOver mid new count → TakesOver old new
+takes old mid new count counts writes rows holds = let given = counts rows holds in writes rows given.1 (sym given.0)
 
-pub may_take : (old mid : State) (loaded : List Row) (db : Trees) → LoadsOlder old mid loaded → MayWriteOver mid loaded db → TakesAll old db
-may_take old mid loaded db loads may rows holds =
-    let given = loads rows holds in
-    let low = subst (AreNumbered 1) (sym given.0) (numbered_over 1 rows holds.entries) in
-    let left = may rows given.1 low in (left.0, left.1 ∙ ap (map stored) given.0)
+pub may_take : (old mid : State) (count : ℕ) (db : Trees) → CountsOlder old mid count → MayWriteOver mid count db → TakesAll old db
+may_take old mid count db counts may rows holds = let given = counts rows holds in may rows given.1 (sym given.0)
 
 -- ---- nothing is committed within
 

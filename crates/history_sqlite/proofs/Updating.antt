@@ -1,5 +1,5 @@
 -- What the update does to the table.
-use Rattle.std.proofs.Common.{◌≡◌, ◌⊎◌, inl, inr, ℕ, pos, ◌+◌, ◌<◌, ◌≤◌, List, [], ◌∷◌, ◌++◌, length, map, filter, Bool, true, false, if◌then◌else◌, ◌==◌, ◌&&◌, ◌≢◌, ap₂, Some, None, Ok, refl, sym, ap, subst, ◌∙◌, arith}
+use Rattle.std.proofs.Common.{◌≡◌, ◌⊎◌, inl, inr, ℕ, pos, ◌+◌, ◌<◌, ◌≤◌, List, [], ◌∷◌, ◌++◌, map, filter, Bool, true, false, if◌then◌else◌, ◌==◌, ◌&&◌, ◌≢◌, ap₂, Some, None, Ok, refl, sym, ap, subst, ◌∙◌, arith}
 use Rattle.std.proofs.lemmas.Bool.{cases_Bool}
 use Rattle.std.proofs.lemmas.Int.{ints}
 use Rattle.std.proofs.lemmas.Bool.Decides.{nat_tests}
@@ -40,7 +40,7 @@ use Rattle.history_sqlite.proofs.Effects.{went, same_value, on_table}
 use Rattle.history_sqlite.proofs.Layouts.{rows_place, rows_table, rows_there, one_step_of, first_table, apart, overlaid, changing, update_is, update_plain}
 use Rattle.history_sqlite.proofs.Inserting.{lower, cast_stored}
 
-truth_of : (x : Bool) → is_true (from_truth (Some x)) ≡ x
+pub truth_of : (x : Bool) → is_true (from_truth (Some x)) ≡ x
 truth_of true = refl
 truth_of false = refl
 

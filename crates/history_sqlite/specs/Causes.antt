@@ -1,7 +1,8 @@
 -- The statements on the rows, and why a call that runs them is refused: what the database refused is told as it
 -- was, a fault as a fault and want of memory as that.
-use Rattle.std.specs.Prelude.{◌≡◌, ◌⊎◌, ℕ, List, [], codes, Option, Some, None, Err, map, Any, IsTrue}
+use Rattle.std.specs.Prelude.{◌≡◌, ◌⊎◌, ℕ, pos, List, [], ◌∷◌, codes, Option, Some, None, Err, map, All, Any, IsTrue, IsSome}
 use Rattle.sqlite.specs.declared.types.Value.{Value}
+use Rattle.sqlite.specs.declared.types.Value.TheVariants.{Int}
 use Rattle.sqlite.specs.declared.error.Error.{Error}
 use Rattle.sqlite.specs.Store.{Ghosts}
 use Rattle.sqlite.specs.Held.{Held, state}
@@ -32,6 +33,10 @@ select_text = codes "SELECT entry, tag, client, device, component, version_old, 
 abbrev pub older_select_text : List ℕ
 older_select_text = codes "SELECT entry, tag, client, device, component, version_old, version_new, digest, flags, state, reason, time_added, time_changed FROM history ORDER BY entry"
 
+-- A block of the rows of schema 1 is copied: those after this entry.
+abbrev pub copy_text : List ℕ
+copy_text = codes "INSERT INTO history2 SELECT entry, tag, client, device, component, version_old, version_new, digest, flags, state, reason, time_added, time_changed, 0, NULL, NULL FROM history WHERE entry > ?1 ORDER BY entry LIMIT 256"
+
 abbrev pub renumber_text : List ℕ
 renumber_text = codes "UPDATE schema SET number = 2"
 
@@ -54,6 +59,14 @@ IsStrange sql read old new = (shown : List (List Value)) × Shown sql [] old new
 -- The select was run, and these are the rows that it showed.
 abbrev pub IsRead : State → State → List Row → Type 0
 IsRead old new rows = (shown : List (List Value)) × Shown select_text [] old new shown × (map Some rows ≡ map row_read shown)
+
+-- The select of the rows of schema 1 was run, and each that it showed stands for a row.
+abbrev pub OlderStand : State → State → Type 0
+OlderStand old new = (shown : List (List Value)) × Shown older_select_text [] old new shown × All (λ columns. IsSome (older_row_read columns)) shown
+
+-- That was so from this connection on.
+abbrev pub OlderStood : {D : Type 0} → Ghosts D → Held D → Type 0
+OlderStood {D} store old = (mid : Held D) × OlderStand (state store old) (state store mid)
 
 -- The rows were read again from this connection on, each of which is one.
 abbrev pub IsReadAgain : {D : Type 0} → Ghosts D → Held D → Type 0
@@ -84,10 +97,10 @@ abbrev pub FailsToSettle : {D : Type 0} → Ghosts D → KeeperRefusal → Held 
 FailsToSettle {D} store why old new doubt =
     FailsToLoad why (state store old) (state store new) ⊎ ((it : Doubt) × (doubt ≡ Some it) × (mid : Held D) × FailsToMake why it.change (state store mid) (state store new))
 
--- A statement by which rows are taken over, with its values: the making of the table, the insert of a row, or the new number.
+-- A statement by which rows are taken over, with its values: the making of the table, the insert of a block of rows, or the new number.
 abbrev pub IsTakingStatement : List ℕ → List Value → Type 0
 IsTakingStatement sql values =
-    ((sql ≡ create_history_text) × (values ≡ [])) ⊎ (((row : Row) × (sql ≡ insert_text) × (values ≡ columns_of row)) ⊎ ((sql ≡ renumber_text) × (values ≡ [])))
+    ((sql ≡ create_history_text) × (values ≡ [])) ⊎ (((from : ℕ) × (sql ≡ copy_text) × (values ≡ Int (pos from) ∷ [])) ⊎ ((sql ≡ renumber_text) × (values ≡ [])))
 
 module _ {D : Type 0} (store : Ghosts D) where
   -- A statement by which rows are taken over was refused.

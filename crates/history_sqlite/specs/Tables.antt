@@ -194,9 +194,9 @@ Loads old new loaded = (rows : List Row) → HoldsRows old rows → (loaded ≡ 
 abbrev pub GivesOlder : State → State → List (List Value) → Type 0
 GivesOlder old new shown = (rows : List Row) → HoldsOlderRows old rows → (shown ≡ map older_columns_of rows) × HoldsOlderRows new rows
 
--- A statement that gave the rows of schema 1 as they are taken over, and left them.
-abbrev pub LoadsOlder : State → State → List Row → Type 0
-LoadsOlder old new loaded = (rows : List Row) → HoldsOlderRows old rows → (loaded ≡ map taken_over rows) × HoldsOlderRows new rows
+-- A statement that counted the rows of schema 1, and left them.
+abbrev pub CountsOlder : State → State → ℕ → Type 0
+CountsOlder old new count = (rows : List Row) → HoldsOlderRows old rows → (count ≡ length rows) × HoldsOlderRows new rows
 
 -- A statement that gave the row with this entry another state.
 abbrev pub Advances : State → State → ℕ → RowState → ℕ → ℕ → Type 0

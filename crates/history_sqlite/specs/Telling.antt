@@ -1,5 +1,5 @@
 -- What a keeper over a database tells.
-use Rattle.std.specs.Prelude.{◌≡◌, ℕ, Bool, true, false, List, Option, Some, None, IsTrue}
+use Rattle.std.specs.Prelude.{◌≡◌, Bool, true, false, List, Option, Some, None, IsTrue}
 use Rattle.sqlite_disk.specs.declared.start.Start as start
 use Rattle.sqlite.specs.Store.{Ghosts}
 use Rattle.sqlite.specs.Held.{state}

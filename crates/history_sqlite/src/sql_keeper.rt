@@ -169,7 +169,7 @@ impl<D: Lasting + Drop> SqlKeeper<D> {
     {
         let mut connection = connection;
         connection.set_step_limit(None);
-        open_tables(&mut connection, alloc)?;
+        open_tables(&mut connection)?;
         let _rows = load_rows(&mut connection, alloc)?;
         Ok(SqlKeeper {
             connection,

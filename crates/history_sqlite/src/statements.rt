@@ -203,7 +203,7 @@ fn read_rows(alloc: Global, table: &[sqlite::Row]) -> Result<Vec<Row>, KeeperRef
 }
 
 // Puts a row behind the others.
-pub(crate) fn put_row(rows: &mut Vec<Row>, row: &Row) -> Result<(), KeeperRefusal>
+fn put_row(rows: &mut Vec<Row>, row: &Row) -> Result<(), KeeperRefusal>
     ensures put { OnOk result (rows.new.items ≡ rows.old.items ++ row.now ∷ []) }
     ensures wants { result ≢ Err KeeperRefusal.Fault }
 {

@@ -11,17 +11,13 @@ use crate::refusal::refusal_of_error;
 use crate::taking_over::take_over;
 use history_keeper::KeeperRefusal;
 use sqlite::{Alter, Connection, Error, ErrorCode};
-use std::alloc::Global;
 
 /// Makes both tables where the history has none, and takes over the rows of schema 1. Else the tables have
 /// to be ours, and it is a fault where they aren't. The connection must be in no transaction. Where it is
 /// told `Ok`, the rows are left, those of schema 1 are taken over, and an empty database has the tables,
 /// their number and no rows. Where it is refused, the rows are left, in their schema, and an empty database
 /// is left empty. All this holds while the disk returns what was written.
-pub fn open_tables<D: Alter>(
-    connection: &mut Connection<D>,
-    alloc: Global,
-) -> Result<(), KeeperRefusal>
+pub fn open_tables<D: Alter>(connection: &mut Connection<D>) -> Result<(), KeeperRefusal>
     ensures opens { HasCleanDisk (state D.Store connection.new) → OnOk result (Opens (state D.Store connection.old) (state D.Store connection.new)) }
     ensures adopted { HasCleanDisk (state D.Store connection.new) → OnOk result (IsAdopted D.Store connection.old) }
     ensures refused { HasCleanDisk (state D.Store connection.new) → IsTrue (state D.Store connection.new).is_open → OnErr result (LeavesTables (state D.Store connection.old) (state D.Store connection.new)) }
@@ -37,7 +33,7 @@ pub fn open_tables<D: Alter>(
             Err(error) => Err(refusal_of_error(error)),
         },
         Found::Ours => Ok(()),
-        Found::Older => take_over(connection, alloc),
+        Found::Older => take_over(connection),
         Found::Other => Err(KeeperRefusal::Fault),
     }
 }

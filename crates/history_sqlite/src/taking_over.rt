@@ -1,54 +1,51 @@
 //! How the rows of schema 1 are taken over into the table of the rows.
-ghost use Rattle.std.specs.Prelude.{◌≡◌, [], false, IsTrue, Any, map, Some, None, IfOk, IfErr, OnOk, OnErr};
-ghost use Rattle.std.specs.List.{AllByRecursion};
+ghost use Rattle.std.specs.Prelude.{◌≡◌, ◌≤◌, ◌-◌, ◌^◌, ◌∷◌, [], pos, IsTrue, IsSome, All, Any, None, IfOk, IfErr, OnOk, OnErr};
+ghost use Rattle.sqlite.specs.declared.types.Value.TheVariants.{Int};
 ghost use Rattle.sqlite.specs.Held.{state};
 ghost use Rattle.sqlite.specs.State.{HasCleanDisk, KeepsCommit, Shown, Survives};
-ghost use Rattle.history_sqlite.specs.Causes.{older_select_text, FailsToLoadOlder, FailsToTakeOver, IsNotCopied, IsNotWritten, IsUnanswered};
+ghost use Rattle.sqlite.specs.Values.{bound};
+ghost use Rattle.history_sqlite.specs.Causes.{older_select_text, OlderStand, OlderStood, FailsToLoadOlder, FailsToTakeOver, IsNotCopied, IsNotWritten, IsUnanswered};
 ghost use Rattle.history_sqlite.specs.Columns.{older_row_read};
-ghost use Rattle.history_sqlite.specs.Tables.{GivesOlder, KeepsOlder, LoadsOlder, TakesAll, TakesOver};
-ghost use Rattle.history_sqlite.specs.Taking.{Copies, CopiesAll, CopiesOver, IsTimelyRow, MayWriteOver, WritesOver};
+ghost use Rattle.history_sqlite.specs.Tables.{CountsOlder, GivesOlder, KeepsOlder, TakesAll, TakesOver};
+ghost use Rattle.history_sqlite.specs.Taking.{Copies, CopiesAll, CopiesOver, MayWriteOver, WritesOver};
 
 use crate::columns::read_older_row;
 use crate::refusal::refusal_of_error;
-use crate::statements::{columns_of_row, put_row};
-use history_keeper::{KeeperRefusal, Row};
+use history_keeper::KeeperRefusal;
+use sqlite::types::ValueRef;
 use sqlite::{Alter, Connection, Error, ErrorCode, Transaction};
-use std::alloc::Global;
 
 /// Takes over the rows of schema 1: makes the table of the rows, copies them to it, with the values for
 /// what schema 1 doesn't tell, and sets the number, in one transaction. The older table stays. It is a fault
 /// where a row of that table stands for none, and then nothing is written. Where it is refused, the database
 /// is one of schema 1 as before. A crash leaves what it could leave before, or the number and all rows. All
 /// this holds while the disk returns what was written.
-pub fn take_over<D: Alter>(
-    connection: &mut Connection<D>,
-    alloc: Global,
-) -> Result<(), KeeperRefusal>
+pub fn take_over<D: Alter>(connection: &mut Connection<D>) -> Result<(), KeeperRefusal>
     ensures takes { HasCleanDisk (state D.Store connection.new) → OnOk result (TakesOver (state D.Store connection.old) (state D.Store connection.new)) }
+    ensures stand { HasCleanDisk (state D.Store connection.new) → OnOk result (OlderStood D.Store connection.old) }
     ensures refused { HasCleanDisk (state D.Store connection.new) → IsTrue (state D.Store connection.new).is_open → OnErr result (KeepsOlder (state D.Store connection.old) (state D.Store connection.new)) }
     ensures whole { Survives (state D.Store connection.old) (state D.Store connection.new) (TakesAll (state D.Store connection.old)) }
     ensures cause { HasCleanDisk (state D.Store connection.new) → IfErr result (λ why. FailsToTakeOver D.Store why connection.old) }
 {
-    let rows = load_older_rows(connection, alloc)?;
-    match copy_over(connection, &rows) {
+    let count = count_older_rows(connection)?;
+    match copy_over(connection, count) {
         Ok(()) => Ok(()),
         Err(error) => Err(refusal_of_error(error)),
     }
 }
 
-// The rows of schema 1, by their entries, as they are taken over. They stay, whatever it answers.
-fn load_older_rows<D: Alter>(
-    connection: &mut Connection<D>,
-    alloc: Global,
-) -> Result<Vec<Row>, KeeperRefusal>
-    ensures loads { HasCleanDisk (state D.Store connection.new) → IfOk result (λ loaded. LoadsOlder (state D.Store connection.old) (state D.Store connection.new) loaded.items) }
-    ensures timely { IfOk result (λ loaded. AllByRecursion IsTimelyRow loaded.items) }
+// How many rows schema 1 has. It is a fault where one of them stands for none. They stay, whatever it answers.
+fn count_older_rows<D: Alter>(connection: &mut Connection<D>) -> Result<usize, KeeperRefusal>
+    ensures counts { HasCleanDisk (state D.Store connection.new) → IfOk result (λ count. CountsOlder (state D.Store connection.old) (state D.Store connection.new) count) }
+    ensures small { IfOk result (λ count. count ≤ 2 ^ 63 - 1) }
+    ensures stand { HasCleanDisk (state D.Store connection.new) → OnOk result (OlderStand (state D.Store connection.old) (state D.Store connection.new)) }
     ensures refused { HasCleanDisk (state D.Store connection.new) → IsTrue (state D.Store connection.new).is_open → OnErr result (KeepsOlder (state D.Store connection.old) (state D.Store connection.new)) }
     ensures cause { HasCleanDisk (state D.Store connection.new) → IfErr result (λ why. FailsToLoadOlder why (state D.Store connection.old) (state D.Store connection.new)) }
     ensures survives { Survives (state D.Store connection.old) (state D.Store connection.new) (TakesAll (state D.Store connection.old)) }
 {
     let table = select_older(connection)?;
-    read_older_rows(alloc, &table)
+    test_older_rows(&table)?;
+    Ok(table.len())
 }
 
 // The columns of all rows of schema 1, by their entries.
@@ -68,44 +65,41 @@ fn select_older<D: Alter>(connection: &mut Connection<D>) -> Result<Vec<sqlite::
     }
 }
 
-// Reads each row.
-fn read_older_rows(alloc: Global, table: &[sqlite::Row]) -> Result<Vec<Row>, KeeperRefusal>
-    ensures read { IfOk result (λ rows. map Some rows.items ≡ map older_row_read table.now) }
-    ensures timely { IfOk result (λ rows. AllByRecursion IsTimelyRow rows.items) }
-    ensures cause { result ≡ Err KeeperRefusal.Fault → Any (λ columns. older_row_read columns ≡ None) table.now }
+// Whether each of them stands for a row.
+fn test_older_rows(table: &[sqlite::Row]) -> Result<(), KeeperRefusal>
+    ensures stand { OnOk result (All (λ columns. IsSome (older_row_read columns)) table.now) }
+    ensures cause { IfErr result (λ why. (why ≡ KeeperRefusal.Fault) × Any (λ columns. older_row_read columns ≡ None) table.now) }
 {
-    let mut rows = Vec::new(alloc);
     for columns in table {
-        match read_older_row(columns) {
-            Some(row) => put_row(&mut rows, &row)?,
-            None => return Err(KeeperRefusal::Fault),
+        if read_older_row(columns).is_none() {
+            return Err(KeeperRefusal::Fault);
         }
     }
-    Ok(rows)
+    Ok(())
 }
 
-// Makes the table of the rows, copies these rows to it, and sets the number, in one transaction.
-fn copy_over<D: Alter>(connection: &mut Connection<D>, rows: &[Row]) -> Result<(), Error>
-    requires { AllByRecursion IsTimelyRow rows.now }
-    ensures writes { HasCleanDisk (state D.Store connection.new) → OnOk result (WritesOver (state D.Store connection.old) (state D.Store connection.new) rows.now) }
+// Makes the table of the rows, copies so many rows to it, and sets the number, in one transaction.
+fn copy_over<D: Alter>(connection: &mut Connection<D>, count: usize) -> Result<(), Error>
+    requires { count ≤ 2 ^ 63 - 1 }
+    ensures writes { HasCleanDisk (state D.Store connection.new) → OnOk result (WritesOver (state D.Store connection.old) (state D.Store connection.new) count) }
     ensures refused { HasCleanDisk (state D.Store connection.new) → IsTrue (state D.Store connection.new).is_open → OnErr result (KeepsOlder (state D.Store connection.old) (state D.Store connection.new)) }
-    ensures whole { Survives (state D.Store connection.old) (state D.Store connection.new) (MayWriteOver (state D.Store connection.old) rows.now) }
+    ensures whole { Survives (state D.Store connection.old) (state D.Store connection.new) (MayWriteOver (state D.Store connection.old) count) }
     ensures cause { HasCleanDisk (state D.Store connection.new) → IfErr result (IsNotCopied D.Store connection.old) }
 {
     if !connection.is_autocommit() {
         return Err(Error::SqliteFailure(ErrorCode::TransactionState));
     }
     let mut transaction = connection.transaction();
-    write_over(&mut transaction, rows)?;
+    write_over(&mut transaction, count)?;
     transaction.commit()?;
     Ok(())
 }
 
 // The statements of the transaction.
-fn write_over<D: Alter>(transaction: &mut Transaction<'_, D>, rows: &[Row]) -> Result<(), Error>
-    requires { AllByRecursion IsTimelyRow rows.now }
+fn write_over<D: Alter>(transaction: &mut Transaction<'_, D>, count: usize) -> Result<(), Error>
+    requires { count ≤ 2 ^ 63 - 1 }
     ensures same_reference { transaction.new.conn.ghost_name ≡ transaction.old.conn.ghost_name }
-    ensures copies { HasCleanDisk (state D.Store transaction.new.conn.now) → OnOk result (CopiesOver (state D.Store transaction.old.conn.now) (state D.Store transaction.new.conn.now) rows.now) }
+    ensures copies { HasCleanDisk (state D.Store transaction.new.conn.now) → OnOk result (CopiesOver (state D.Store transaction.old.conn.now) (state D.Store transaction.new.conn.now) count) }
     ensures cause { HasCleanDisk (state D.Store transaction.new.conn.now) → IsTrue transaction.old.conn.now.in_transaction → IfErr result (IsNotWritten D.Store) }
     ensures inside { HasCleanDisk (state D.Store transaction.new.conn.now) → IsTrue transaction.old.conn.now.in_transaction → OnOk result (IsTrue transaction.new.conn.now.in_transaction) }
     ensures kept { HasCleanDisk (state D.Store transaction.new.conn.now) → IsTrue transaction.old.conn.now.in_transaction → KeepsCommit (state D.Store transaction.old.conn.now) (state D.Store transaction.new.conn.now) }
@@ -115,41 +109,49 @@ fn write_over<D: Alter>(transaction: &mut Transaction<'_, D>, rows: &[Row]) -> R
         "CREATE TABLE history2 (entry INTEGER PRIMARY KEY, tag TEXT NOT NULL UNIQUE, client INTEGER NOT NULL, device BLOB NOT NULL, component TEXT NOT NULL, version_old TEXT NOT NULL, version_new TEXT NOT NULL, digest BLOB NOT NULL, flags INTEGER NOT NULL, state INTEGER NOT NULL, reason INTEGER NOT NULL, time_added INTEGER NOT NULL, time_changed INTEGER NOT NULL, duration INTEGER NOT NULL, protocol TEXT, retry_of INTEGER) STRICT",
         &[],
     )?;
-    insert_each(transaction, rows)?;
+    insert_each(transaction, count)?;
     transaction.execute("UPDATE schema SET number = 2", &[])?;
     Ok(())
 }
 
-// Puts these rows into the table of the rows, one insert in each turn.
-fn insert_each<D: Alter>(transaction: &mut Transaction<'_, D>, rows: &[Row]) -> Result<(), Error>
-    requires { AllByRecursion IsTimelyRow rows.now }
+// Copies so many rows to the table of the rows, a block of them by one insert in each turn.
+fn insert_each<D: Alter>(transaction: &mut Transaction<'_, D>, count: usize) -> Result<(), Error>
+    requires { count ≤ 2 ^ 63 - 1 }
     ensures same_reference { transaction.new.conn.ghost_name ≡ transaction.old.conn.ghost_name }
-    ensures copies { HasCleanDisk (state D.Store transaction.new.conn.now) → OnOk result (CopiesAll (state D.Store transaction.old.conn.now) (state D.Store transaction.new.conn.now) rows.now) }
+    ensures copies { HasCleanDisk (state D.Store transaction.new.conn.now) → OnOk result (CopiesAll (state D.Store transaction.old.conn.now) (state D.Store transaction.new.conn.now) count) }
     ensures inside { HasCleanDisk (state D.Store transaction.new.conn.now) → IsTrue transaction.old.conn.now.in_transaction → OnOk result (IsTrue transaction.new.conn.now.in_transaction) }
     ensures cause { HasCleanDisk (state D.Store transaction.new.conn.now) → IsTrue transaction.old.conn.now.in_transaction → IfErr result (IsNotWritten D.Store) }
     ensures kept { HasCleanDisk (state D.Store transaction.new.conn.now) → IsTrue transaction.old.conn.now.in_transaction → KeepsCommit (state D.Store transaction.old.conn.now) (state D.Store transaction.new.conn.now) }
     ensures survives { Survives (state D.Store transaction.old.conn.now) (state D.Store transaction.new.conn.now) (λ _. ⊥) }
 {
-    for row in rows {
-        insert_inside(transaction, row)?;
+    for turn in 0..count / 256 + 1 {
+        insert_block(transaction, turn * 256)?;
     }
     Ok(())
 }
 
-// Puts a row behind those of the table.
-fn insert_inside<D: Alter>(transaction: &mut Transaction<'_, D>, row: &Row) -> Result<(), Error>
-    requires { IsTimelyRow row.now }
+// Puts a block of rows behind those of the table, where so many were copied.
+fn insert_block<D: Alter>(transaction: &mut Transaction<'_, D>, from: usize) -> Result<(), Error>
+    requires { from ≤ 2 ^ 63 - 1 }
     ensures same_reference { transaction.new.conn.ghost_name ≡ transaction.old.conn.ghost_name }
-    ensures copies { HasCleanDisk (state D.Store transaction.new.conn.now) → OnOk result (Copies (state D.Store transaction.old.conn.now) (state D.Store transaction.new.conn.now) row.now) }
+    ensures copies { HasCleanDisk (state D.Store transaction.new.conn.now) → OnOk result (Copies (state D.Store transaction.old.conn.now) (state D.Store transaction.new.conn.now) from) }
     ensures inside { HasCleanDisk (state D.Store transaction.new.conn.now) → IsTrue transaction.old.conn.now.in_transaction → OnOk result (IsTrue transaction.new.conn.now.in_transaction) }
     ensures cause { HasCleanDisk (state D.Store transaction.new.conn.now) → IsTrue transaction.old.conn.now.in_transaction → IfErr result (IsNotWritten D.Store) }
     ensures kept { HasCleanDisk (state D.Store transaction.new.conn.now) → IsTrue transaction.old.conn.now.in_transaction → KeepsCommit (state D.Store transaction.old.conn.now) (state D.Store transaction.new.conn.now) }
     ensures survives { Survives (state D.Store transaction.old.conn.now) (state D.Store transaction.new.conn.now) (λ _. ⊥) }
 {
-    let columns = columns_of_row(row);
+    let values = values_after(from);
     transaction.execute(
-        "INSERT INTO history2 VALUES (?1, ?2, ?3, ?4, ?5, ?6, ?7, ?8, ?9, ?10, ?11, ?12, ?13, ?14, ?15, ?16)",
-        &columns,
+        "INSERT INTO history2 SELECT entry, tag, client, device, component, version_old, version_new, digest, flags, state, reason, time_added, time_changed, 0, NULL, NULL FROM history WHERE entry > ?1 ORDER BY entry LIMIT 256",
+        &values,
     )?;
     Ok(())
+}
+
+// What the insert of a block is given: the entry after which it begins.
+fn values_after(entry: usize) -> [ValueRef<'static>; 1]
+    requires { entry ≤ 2 ^ 63 - 1 }
+    ensures { bound result ≡ Int (pos entry) ∷ [] }
+{
+    [ValueRef::Int(entry as i64)]
 }

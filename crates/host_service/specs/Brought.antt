@@ -1,5 +1,5 @@
 -- What the program brings to the top call.
-use Rattle.std.specs.Prelude.{◌≡◌, ℕ, List, [], ◌∷◌, None, replicate}
+use Rattle.std.specs.Prelude.{◌≡◌, List, [], ◌∷◌, None, replicate}
 use Rattle.fw_facts.specs.declared.machine.MachineFacts.{MachineFacts}
 use Rattle.plugin_order.specs.declared.sheet.PluginSheet.{PluginSheet}
 use Rattle.update_log.specs.declared.facts.PluginVetoes.{PluginVetoes}

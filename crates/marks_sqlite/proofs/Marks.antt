@@ -1,12 +1,11 @@
 -- What the statements do to the table of marks.
-use Rattle.std.proofs.Common.{◌≡◌, ◌⊎◌, inl, inr, ℕ, pos, negsuc, ◌+◌, ◌<◌, List, [], ◌∷◌, ◌++◌, length, map, drop, codes, true, false, None, Some, Ok, IsTrue, refl, sym, ap, subst, subst₂, ◌∙◌, arith}
+use Rattle.std.proofs.Common.{◌≡◌, inl, inr, ℕ, pos, negsuc, ◌+◌, ◌<◌, List, [], ◌∷◌, ◌++◌, length, map, drop, codes, true, false, None, Ok, IsTrue, refl, sym, ap, subst, subst₂, ◌∙◌, arith}
 use Rattle.std.specs.Result.{is_ok}
 use Rattle.std.specs.Prelude.{flat_map, fold, ◌+ℤ◌}
 use Rattle.std.specs.List.{AllByRecursion}
 use Rattle.std.specs.List.Sorted.{IsPermutation}
 use Rattle.std.specs.declared.cmp.Ordering.TheVariants.{Less}
 use Rattle.std.proofs.lemmas.Cmp.{on_total}
-use Rattle.sqlite.specs.declared.types.Value.{Value}
 use Rattle.sqlite.specs.declared.types.Value.TheVariants.{Null, Int}
 use Rattle.sqlite.specs.declared.error.Error.{Error}
 use Rattle.sqlite.specs.Order.{Row as Values}
@@ -21,13 +20,12 @@ use Rattle.sqlite.specs.Edit.{edit_of, edited, next_rowid, put_all, without_all,
 use Rattle.sqlite.specs.Cast.{cast_row}
 use Rattle.sqlite.specs.Tree.{Trees, put_row, rowid, IsAscending}
 use Rattle.sqlite.specs.Rowids.TheVariants.{Chosen}
-use Rattle.sqlite.specs.Does.{Tally, Does, OnRows, lacks_sequence}
+use Rattle.sqlite.specs.Does.{Tally, Does, OnRows}
 use Rattle.sqlite.specs.Rows.{Written}
 use Rattle.sqlite.specs.Store.{Ghosts}
 use Rattle.sqlite.specs.Held.{Held, state}
 use Rattle.sqlite.specs.Listing.{understood, reads_listing, listing_schema}
 use Rattle.sqlite.specs.Effect.{Database}
-use Rattle.sqlite.specs.Change.{created}
 use Rattle.sqlite.specs.State.{State, mode_of, text_of, CommitsBy, Executes, ExecutesIn, MayCommit, Shown, FailsToQuery}
 use Rattle.sqlite.specs.Clock.{timed}
 use Rattle.sqlite_value.specs.Keys.{ascending}

@@ -1,8 +1,7 @@
 -- The two statements, and why a call that runs them is refused: what the database refused is told as it was, a fault
 -- as a fault and want of memory as that.
-use Rattle.std.specs.Prelude.{◌≡◌, ◌⊎◌, ℕ, ◌^◌, nat_lt, pos, List, [], ◌∷◌, codes, Option, Some, None, if◌then◌else◌, map, Any, IsTrue}
+use Rattle.std.specs.Prelude.{◌≡◌, ◌⊎◌, ℕ, ◌^◌, List, [], codes, Option, Some, None, Any, IsTrue}
 use Rattle.sqlite.specs.declared.types.Value.{Value}
-use Rattle.sqlite.specs.declared.types.Value.TheVariants.{Int}
 use Rattle.sqlite.specs.Order.{column}
 use Rattle.sqlite.specs.Store.{Ghosts}
 use Rattle.sqlite.specs.Held.{Held, state}

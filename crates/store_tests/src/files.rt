@@ -104,7 +104,7 @@ fn adopted(
     ensures { IfOk result (λ it. IfSome it.0 (λ keeper. doubtful keeper.keeper ≡ None)) }
 {
     let mut connection = connection;
-    if open_tables(&mut connection, alloc).is_err() || load_rows(&mut connection, alloc).is_err() {
+    if open_tables(&mut connection).is_err() || load_rows(&mut connection, alloc).is_err() {
         return Ok((None, Some(connection.into_store().close())));
     }
     match SqlKeeper::adopt_planned(alloc, connection, plan) {

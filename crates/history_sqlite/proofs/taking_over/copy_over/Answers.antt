@@ -5,6 +5,7 @@ use Rattle.sqlite.specs.Tree.{Trees}
 use Rattle.sqlite.specs.State.{HasCleanDisk, Survives}
 use Rattle.sqlite.proofs.StateLemmas.{survives_then}
 use Rattle.sqlite.proofs.Callers.{survives_begin}
+use Rattle.history_sqlite.specs.Columns.{taken_over}
 use Rattle.history_sqlite.specs.Tables.{Layout, HoldsRows, KeepsOlder, IsNumbered, schema_number, rows_tree, stored}
 use Rattle.history_sqlite.specs.Taking.{MayWriteOver}
 use Rattle.history_sqlite.proofs.Opening.{in_one}
@@ -12,7 +13,7 @@ use Rattle.history_sqlite.proofs.TakingOver.{committed, untaken, undone_over, re
 use Rattle.history_sqlite.proofs.taking_over.copy_over.Goals as goal
 
 pub returns-clause-writes : goal.returns-clause-writes
-returns-clause-writes g c clean older holds low =
+returns-clause-writes g c clean older holds many =
     let begun = c.transaction-transaction.ensures.begun in
     let start = c.transaction-transaction.result.conn.now in
     let three = c.write_over.new.transaction.conn.now in
@@ -21,10 +22,10 @@ returns-clause-writes g c clean older holds low =
     let late : HasCleanDisk (state g.D.Store end) = subst (λ h. HasCleanDisk (state g.D.Store h)) (sym same) clean in
     let clean3 : HasCleanDisk (state g.D.Store three) = omega (arith, late, c.commit.ensures.survives.clean) in
     let limit : start.step_limit ≡ None = rw begun holds.unlimited in
-    let taken = c.in_ok-write_over.ensures.copies clean3 (rw begun (untaken (state g.D.Store c.args.connection.now) older holds)) low in
+    let taken = c.in_ok-write_over.ensures.copies clean3 older (rw begun (untaken (state g.D.Store c.args.connection.now) older holds)) many in
     let last = c.in_ok-commit.ensures.ok late in
-    subst (λ h. HoldsRows (state g.D.Store h) c.args.rows.now) same
-    (committed (state g.D.Store end) (state g.D.Store three) c.args.rows.now taken low last.1 (c.commit.ensures.survives.limit ∙ c.write_over.ensures.survives.limit ∙ limit))
+    subst (λ h. HoldsRows (state g.D.Store h) (map taken_over older)) same
+    (committed (state g.D.Store end) (state g.D.Store three) older taken holds.entries last.1 (c.commit.ensures.survives.limit ∙ c.write_over.ensures.survives.limit ∙ limit))
 
 pub returns-then-not-is_autocommit-clause-cause : goal.returns-then-not-is_autocommit-clause-cause
 returns-then-not-is_autocommit-clause-cause g c clean = inl (in_one c.args.connection.now.in_transaction c.is_autocommit.result c.if-not-is_autocommit.true c.is_autocommit.ensures.value)
@@ -36,12 +37,12 @@ returns-clause-whole g c =
     let three = c.write_over.new.transaction.conn.now in
     let end = c.commit.new.self.0 in
     let begun = c.transaction-transaction.ensures.begun in
-    let P = MayWriteOver (state g.D.Store old) c.args.rows.now in
+    let P = MayWriteOver (state g.D.Store old) c.args.count in
     let whole = survives_then (state g.D.Store old) (state g.D.Store three) (state g.D.Store end) (λ _. ⊥) _ P (λ _ db none. absurd none)
-    (λ clean db is older holds low.
+    (λ clean db is older holds many.
     let clean3 : HasCleanDisk (state g.D.Store three) = omega (arith, clean, c.commit.ensures.survives.clean) in
-    let taken = c.in_ok-write_over.ensures.copies clean3 (rw begun (untaken (state g.D.Store old) older holds)) low in
-    subst (λ (trees : Trees). IsNumbered schema_number (trees 0) × (trees (rows_tree Layout.TakenOver) ≡ map stored c.args.rows.now)) (sym is) (taken.number, taken.table))
+    let taken = c.in_ok-write_over.ensures.copies clean3 older (rw begun (untaken (state g.D.Store old) older holds)) many in
+    subst (λ (trees : Trees). IsNumbered schema_number (trees 0) × (trees (rows_tree Layout.TakenOver) ≡ map stored (map taken_over older))) (sym is) (taken.number, taken.table))
     (survives_begin g.D.Store old (state g.D.Store three) (λ _. ⊥) (rw begun at c.write_over.ensures.survives)) c.commit.ensures.survives in
     let same : end ≡ c.connection-2-1.given.0 = search rules in
     subst (λ h. Survives (state g.D.Store old) (state g.D.Store h) P) same whole
@@ -53,12 +54,12 @@ returns-in_err-commit-clause-whole g c =
     let three = c.write_over.new.transaction.conn.now in
     let end = c.commit.new.self.0 in
     let begun = c.transaction-transaction.ensures.begun in
-    let P = MayWriteOver (state g.D.Store old) c.args.rows.now in
+    let P = MayWriteOver (state g.D.Store old) c.args.count in
     let whole = survives_then (state g.D.Store old) (state g.D.Store three) (state g.D.Store end) (λ _. ⊥) _ P (λ _ db none. absurd none)
-    (λ clean db is older holds low.
+    (λ clean db is older holds many.
     let clean3 : HasCleanDisk (state g.D.Store three) = omega (arith, clean, c.commit.ensures.survives.clean) in
-    let taken = c.in_ok-write_over.ensures.copies clean3 (rw begun (untaken (state g.D.Store old) older holds)) low in
-    subst (λ (trees : Trees). IsNumbered schema_number (trees 0) × (trees (rows_tree Layout.TakenOver) ≡ map stored c.args.rows.now)) (sym is) (taken.number, taken.table))
+    let taken = c.in_ok-write_over.ensures.copies clean3 older (rw begun (untaken (state g.D.Store old) older holds)) many in
+    subst (λ (trees : Trees). IsNumbered schema_number (trees 0) × (trees (rows_tree Layout.TakenOver) ≡ map stored (map taken_over older))) (sym is) (taken.number, taken.table))
     (survives_begin g.D.Store old (state g.D.Store three) (λ _. ⊥) (rw begun at c.write_over.ensures.survives)) c.commit.ensures.survives in
     let same : end ≡ c.connection-2-1.given.0 = search rules in
     subst (λ h. Survives (state g.D.Store old) (state g.D.Store h) P) same whole

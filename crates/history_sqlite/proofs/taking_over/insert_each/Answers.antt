@@ -1,44 +1,48 @@
-use Rattle.std.proofs.Common.{◌≡◌, ◌∙◌, ◌+◌, ◌∷◌, ◌++◌, [], List, take, arith, sym, refl}
-use Rattle.std.proofs.lemmas.List.{take_more}
-use Rattle.std.proofs.lemmas.Result.{err_from_is_err_and}
+use Rattle.std.proofs.Common.{◌∙◌, ◌*◌, ◌≤◌, arith, refl}
 use Rattle.sqlite.specs.Held.{state}
 use Rattle.sqlite.specs.State.{HasCleanDisk}
-use Rattle.history_keeper.specs.declared.row.Row.{Row}
-use Rattle.history_sqlite.proofs.TakingOver.{survives_same, survives_both, copies_none, copies_more, keeps_same, keeps_then}
+use Rattle.history_sqlite.proofs.Copying.{copies_next, copies_all}
+use Rattle.history_sqlite.proofs.TakingOver.{survives_same, survives_both, keeps_same, keeps_then}
 use Rattle.history_sqlite.proofs.taking_over.insert_each.Goals as goal
 
-pub loop-row-init : goal.loop-row-init
-loop-row-init g c =
+pub loop-turn-init : goal.loop-turn-init
+loop-turn-init g c =
     let start = state g.D.Store c.args.transaction.now.conn.now in
-    record { same_reference = refl; copies = λ clean. copies_none start; inside = λ clean inside. inside; kept = λ clean inside. keeps_same start; survives = survives_same start }
+    record { same_reference = refl; copies = λ clean older h. h; inside = λ clean inside. inside; kept = λ clean inside. keeps_same start; survives = survives_same start }
 
-pub loop-row-preserved : goal.loop-row-preserved
-loop-row-preserved g c =
+pub loop-turn-preserved : goal.loop-turn-preserved
+loop-turn-preserved g c =
     let start = state g.D.Store c.args.transaction.now.conn.now in
-    let now = state g.D.Store c.loop-row.transaction.conn.now in
-    let next = state g.D.Store c.insert_inside.new.transaction.conn.now in
-    let rows = c.args.rows.now in
-    let k = c.loop-row.row-index in
-    let invariant = c.loop-row.invariant in
-    let more : take (k + 1) rows ≡ take k rows ++ c.row-item.result ∷ [] = rw c.row-item.is (take_more rows k c.row-item.result (omega arith)) in
+    let now = state g.D.Store c.loop-turn.transaction.conn.now in
+    let next = state g.D.Store c.insert_block.new.transaction.conn.now in
+    let turn = c.loop-turn.turn in
+    let invariant = c.loop-turn.invariant in
     record {
-      same_reference = c.insert_inside.ensures.same_reference ∙ invariant.same_reference;
+      same_reference = c.insert_block.ensures.same_reference ∙ invariant.same_reference;
       copies = λ clean.
-          let before : HasCleanDisk now = omega (arith, clean, c.insert_inside.ensures.survives.clean) in
-          copies_more start now next (take k rows) (take (k + 1) rows) c.row-item.result more (invariant.copies before) (c.in_ok-insert_inside.ensures.copies clean);
+          let before : HasCleanDisk now = omega (arith, clean, c.insert_block.ensures.survives.clean) in
+          copies_next start now next turn (invariant.copies before) (c.in_ok-insert_block.ensures.copies clean);
       inside = λ clean inside.
-          let before : HasCleanDisk now = omega (arith, clean, c.insert_inside.ensures.survives.clean) in c.in_ok-insert_inside.ensures.inside clean (invariant.inside before inside);
+          let before : HasCleanDisk now = omega (arith, clean, c.insert_block.ensures.survives.clean) in c.in_ok-insert_block.ensures.inside clean (invariant.inside before inside);
       kept = λ clean inside.
-          let before : HasCleanDisk now = omega (arith, clean, c.insert_inside.ensures.survives.clean) in
-          keeps_then start now next (invariant.kept before inside) (c.insert_inside.ensures.kept clean (invariant.inside before inside));
-      survives = survives_both start now next invariant.survives c.insert_inside.ensures.survives;
+          let before : HasCleanDisk now = omega (arith, clean, c.insert_block.ensures.survives.clean) in
+          keeps_then start now next (invariant.kept before inside) (c.insert_block.ensures.kept clean (invariant.inside before inside));
+      survives = survives_both start now next invariant.survives c.insert_block.ensures.survives;
     }
 
-pub returns-in_err-insert_inside-clause-kept : goal.returns-in_err-insert_inside-clause-kept
-returns-in_err-insert_inside-clause-kept g c clean inside =
+pub returns-clause-copies : goal.returns-clause-copies
+returns-clause-copies g c clean =
     let start = state g.D.Store c.args.transaction.now.conn.now in
-    let now = state g.D.Store c.loop-row.transaction.conn.now in
-    let next = state g.D.Store c.insert_inside.new.transaction.conn.now in
-    let invariant = c.loop-row.invariant in
-    let before : HasCleanDisk now = omega (arith, clean, c.insert_inside.ensures.survives.clean) in
-    keeps_then start now next (invariant.kept before inside) (c.insert_inside.ensures.kept clean (invariant.inside before inside))
+    let now = state g.D.Store c.loop-turn.transaction.conn.now in
+    let count = c.args.count in
+    let turns = c.loop-turn.turn in
+    let enough : count ≤ turns * 256 = omega arith in copies_all start now count turns (c.loop-turn.invariant.copies clean) enough
+
+pub returns-in_err-insert_block-clause-kept : goal.returns-in_err-insert_block-clause-kept
+returns-in_err-insert_block-clause-kept g c clean inside =
+    let start = state g.D.Store c.args.transaction.now.conn.now in
+    let now = state g.D.Store c.loop-turn.transaction.conn.now in
+    let next = state g.D.Store c.insert_block.new.transaction.conn.now in
+    let invariant = c.loop-turn.invariant in
+    let before : HasCleanDisk now = omega (arith, clean, c.insert_block.ensures.survives.clean) in
+    keeps_then start now next (invariant.kept before inside) (c.insert_block.ensures.kept clean (invariant.inside before inside))

@@ -11,33 +11,39 @@ use Rattle.history_sqlite.proofs.taking_over.take_over.Goals as goal
 pub returns-in-Ok-clause-takes : goal.returns-in-Ok-clause-takes
 returns-in-Ok-clause-takes g c clean =
     let old = state g.D.Store c.args.connection.now in
-    let mid = state g.D.Store c.load_older_rows.new.connection in
+    let mid = state g.D.Store c.count_older_rows.new.connection in
     let new = state g.D.Store c.copy_over.new.connection in
     let before : HasCleanDisk mid = omega (arith, clean, c.copy_over.ensures.whole.clean) in
-    takes old mid new c.in_ok-rows.rows.items (c.in_ok-rows.ensures.loads before) (rw c.deref.ensures.value at (c.in-Ok.ensures.writes clean))
+    takes old mid new c.in_ok-count.count (c.in_ok-count.ensures.counts before) (c.in-Ok.ensures.writes clean)
 
-pub returns-in_err-rows-clause-cause : goal.returns-in_err-rows-clause-cause
-returns-in_err-rows-clause-cause g c clean =
+pub returns-in_err-count-clause-cause : goal.returns-in_err-count-clause-cause
+returns-in_err-count-clause-cause g c clean =
     let p = err_from_is_err_and c.from_residual.result c.from_residual.ensures.1 in
-    rw (p.1, p.2) (c.load_older_rows.new.connection, inl (c.in_err-rows.ensures.cause clean))
+    rw (p.1, p.2) (c.count_older_rows.new.connection, inl (c.in_err-count.ensures.cause clean))
 
-pub returns-clause-cause : goal.returns-clause-cause
-returns-clause-cause g c clean = (c.load_older_rows.new.connection, inr (c.in-Err.error, sym c.refusal_of_error.ensures, c.in-Err.ensures.cause clean))
+pub returns-in-Err-clause-cause : goal.returns-in-Err-clause-cause
+returns-in-Err-clause-cause g c clean = (c.count_older_rows.new.connection, inr (c.in-Err.error, sym c.refusal_of_error.ensures, c.in-Err.ensures.cause clean))
 
 pub returns-in-Ok-clause-whole : goal.returns-in-Ok-clause-whole
 returns-in-Ok-clause-whole g c =
     let old = state g.D.Store c.args.connection.now in
-    let mid = state g.D.Store c.load_older_rows.new.connection in
+    let mid = state g.D.Store c.count_older_rows.new.connection in
     let new = state g.D.Store c.copy_over.new.connection in
-    survives_then old mid new (TakesAll old) (MayWriteOver mid c.in_ok-rows.rows.items) (TakesAll old) (λ clean db may. may)
-    (λ clean db may. may_take old mid c.in_ok-rows.rows.items db (c.in_ok-rows.ensures.loads (omega (arith, clean, c.copy_over.ensures.whole.clean))) may)
-    c.load_older_rows.ensures.survives (rw c.deref.ensures.value at c.copy_over.ensures.whole)
+    survives_then old mid new (TakesAll old) (MayWriteOver mid c.in_ok-count.count) (TakesAll old) (λ clean db may. may)
+    (λ clean db may. may_take old mid c.in_ok-count.count db (c.in_ok-count.ensures.counts (omega (arith, clean, c.copy_over.ensures.whole.clean))) may)
+    c.count_older_rows.ensures.survives c.copy_over.ensures.whole
 
-pub returns-clause-whole : goal.returns-clause-whole
-returns-clause-whole g c =
+pub returns-in-Err-clause-whole : goal.returns-in-Err-clause-whole
+returns-in-Err-clause-whole g c =
     let old = state g.D.Store c.args.connection.now in
-    let mid = state g.D.Store c.load_older_rows.new.connection in
+    let mid = state g.D.Store c.count_older_rows.new.connection in
     let new = state g.D.Store c.copy_over.new.connection in
-    survives_then old mid new (TakesAll old) (MayWriteOver mid c.in_ok-rows.rows.items) (TakesAll old) (λ clean db may. may)
-    (λ clean db may. may_take old mid c.in_ok-rows.rows.items db (c.in_ok-rows.ensures.loads (omega (arith, clean, c.copy_over.ensures.whole.clean))) may)
-    c.load_older_rows.ensures.survives (rw c.deref.ensures.value at c.copy_over.ensures.whole)
+    survives_then old mid new (TakesAll old) (MayWriteOver mid c.in_ok-count.count) (TakesAll old) (λ clean db may. may)
+    (λ clean db may. may_take old mid c.in_ok-count.count db (c.in_ok-count.ensures.counts (omega (arith, clean, c.copy_over.ensures.whole.clean))) may)
+    c.count_older_rows.ensures.survives c.copy_over.ensures.whole
+
+pub returns-in-Ok-clause-stand : goal.returns-in-Ok-clause-stand
+returns-in-Ok-clause-stand g c clean =
+    let mid = state g.D.Store c.count_older_rows.new.connection in
+    let before : HasCleanDisk mid = omega (arith, clean, c.copy_over.ensures.whole.clean) in
+    (c.count_older_rows.new.connection, c.in_ok-count.ensures.stand before)

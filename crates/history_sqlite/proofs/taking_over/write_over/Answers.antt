@@ -8,7 +8,7 @@ use Rattle.history_sqlite.specs.Tables.{create_history_text}
 use Rattle.history_sqlite.proofs.taking_over.write_over.Goals as goal
 
 pub returns-clause-copies : goal.returns-clause-copies
-returns-clause-copies g c clean untaken low =
+returns-clause-copies g c clean older untaken many =
     let start = c.args.transaction.now.conn.now in
     let one = c.execute.new.self.conn.now in
     let two = c.insert_each.new.transaction.conn.now in
@@ -16,10 +16,10 @@ returns-clause-copies g c clean untaken low =
     let clean2 : HasCleanDisk (state g.D.Store two) = omega (arith, clean, c.execute-2.ensures.survives.clean) in
     let clean1 : HasCleanDisk (state g.D.Store one) = omega (arith, clean2, c.insert_each.ensures.survives.clean) in
     let first = c.in_ok-execute.ensures.runs clean1 untaken.inside in
-    let made = made_over (state g.D.Store start) (state g.D.Store one) c.in_ok-execute.field-0 untaken first.1.mode first.0 in
-    let all = c.in_ok-insert_each.ensures.copies clean2 made low in
+    let made = made_over (state g.D.Store start) (state g.D.Store one) older c.in_ok-execute.field-0 untaken first.1.mode first.0 in
+    let all = c.in_ok-insert_each.ensures.copies clean2 older made many in
     let last = c.in_ok-execute-2.ensures.runs clean all.inside in
-    renumbered (state g.D.Store two) (state g.D.Store three) c.args.rows.now c.in_ok-execute-2.field-0 all last.1.mode last.0
+    renumbered (state g.D.Store two) (state g.D.Store three) older c.in_ok-execute-2.field-0 all last.1.mode last.0
 
 pub returns-in_err-execute-clause-cause : goal.returns-in_err-execute-clause-cause
 returns-in_err-execute-clause-cause g c clean inside =

@@ -1,4 +1,4 @@
-use Rattle.std.proofs.Common.{◌≡◌, inl, inr, refl, sym}
+use Rattle.std.proofs.Common.{inl, inr, refl, sym}
 use Rattle.sqlite.specs.Held.{state}
 use Rattle.sqlite.proofs.StateLemmas.{survives_weaker}
 use Rattle.history_sqlite.proofs.Effects.{refused_stays}

@@ -1,5 +1,5 @@
 use Rattle.std.proofs.Common.{inl, inr, subst, sym}
-use Rattle.marks_sqlite.specs.Finding.{HasTable, IsFound}
+use Rattle.marks_sqlite.specs.Finding.{HasTable}
 use Rattle.marks_sqlite.proofs.Refusals.{in_none, unmade_fails}
 use Rattle.marks_sqlite.proofs.tables.open_table.Goals as goal
 

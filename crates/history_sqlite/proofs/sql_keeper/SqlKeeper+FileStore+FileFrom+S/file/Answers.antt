@@ -1,4 +1,4 @@
-use Rattle.std.proofs.Common.{List, None, refl}
+use Rattle.std.proofs.Common.{None, refl}
 use Rattle.sqlite.specs.Files.{over_files}
 use Rattle.sqlite.specs.Held.{state}
 use Rattle.sqlite_wal.specs.Files.{image_at}

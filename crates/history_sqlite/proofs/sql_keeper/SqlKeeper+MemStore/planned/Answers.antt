@@ -1,4 +1,4 @@
-use Rattle.std.proofs.Common.{[], List, refl}
+use Rattle.std.proofs.Common.{[], refl}
 use Rattle.sqlite.specs.Held.{Held, state}
 use Rattle.sqlite.specs.Steps.{over_memory, IsEmpty}
 use Rattle.sqlite.specs.Held.{IsNew}

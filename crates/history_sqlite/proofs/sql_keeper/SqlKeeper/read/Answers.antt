@@ -1,7 +1,5 @@
-use Rattle.std.proofs.Common.{List, refl, subst}
-use Rattle.std.specs.Prelude.{IfOk}
+use Rattle.std.proofs.Common.{refl, subst}
 use Rattle.sqlite.specs.Held.{state}
-use Rattle.history_keeper.specs.declared.row.Row.{Row}
 use Rattle.history_keeper.specs.Keepers.{StillSettled, StillTold}
 use Rattle.history_sqlite.specs.Keeping.{Keeping}
 use Rattle.history_sqlite.specs.Telling.{IsSettled, TellsRows, database}

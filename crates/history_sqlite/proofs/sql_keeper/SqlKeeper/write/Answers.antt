@@ -1,11 +1,9 @@
-use Rattle.std.proofs.Common.{◌≡◌, List, None, true, refl, sym, subst}
+use Rattle.std.proofs.Common.{List, None, refl, sym, subst}
 use Rattle.sqlite.specs.Held.{state}
-use Rattle.sqlite.specs.State.{HasCleanDisk}
 use Rattle.history_keeper.specs.declared.row.Row.{Row}
 use Rattle.history_keeper.specs.Changes.{Suits}
 use Rattle.history_keeper.specs.Keepers.{StillTold, ToldWith}
 use Rattle.history_sqlite.specs.Keeping.{Keeping}
-use Rattle.history_sqlite.specs.Tables.{HoldsRows}
 use Rattle.history_sqlite.specs.Telling.{TellsRows}
 use Rattle.history_sqlite.proofs.TellingLemmas.{knows_left, knows_made, still_told, told_made}
 use Rattle.history_sqlite.proofs.sql_keeper.SqlKeeper.write.Goals as goal

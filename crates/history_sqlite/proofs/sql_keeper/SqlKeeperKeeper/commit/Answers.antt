@@ -1,9 +1,9 @@
-use Rattle.std.proofs.Common.{◌≡◌, ◌∙◌, List, Some, refl, sym, ap, subst}
+use Rattle.std.proofs.Common.{◌∙◌, List, Some, refl, sym, ap, subst}
 use Rattle.sqlite.specs.Held.{state}
 use Rattle.history_keeper.specs.declared.row.Row.{Row}
 use Rattle.history_keeper.specs.declared.plan.Doubt.{Doubt}
 use Rattle.history_keeper.specs.Changes.{Suits}
-use Rattle.history_sqlite.specs.Keeping.{Keeping, after_fault, doubtful}
+use Rattle.history_sqlite.specs.Keeping.{Keeping, doubtful}
 use Rattle.history_sqlite.specs.Telling.{TellsRows}
 use Rattle.history_sqlite.proofs.TellingLemmas.{knows_doubted, told_alike}
 use Rattle.history_sqlite.proofs.sql_keeper.SqlKeeperKeeper.commit.Goals as goal
