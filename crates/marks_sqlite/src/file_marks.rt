@@ -85,6 +85,7 @@ impl MarkKeeper for FileMarks {
         ensures numbered { result ≢ Err KeeperRefusal.NoMemory → self.new.keeper.calls ≡ one_more self.old.keeper.calls }
         ensures uncounted { result ≡ Err KeeperRefusal.NoMemory → self.new.keeper.calls ≡ self.old.keeper.calls }
         ensures plan { self.new.keeper.plan ≡ self.old.keeper.plan }
+        ensures may { self.new.keeper.tells ≡ self.old.keeper.tells }
         ensures answer { IfOk result (λ loaded. (all : List ℕ) → TellsHeld (⟦<Unknown as Start>⟧) over_files self.new.keeper all → loaded.items ≡ all) }
         ensures unchanged { MarksStay (TellsHeld (⟦<Unknown as Start>⟧) over_files self.old.keeper) (TellsHeld (⟦<Unknown as Start>⟧) over_files self.new.keeper) }
         ensures no_doubt { doubtful self.new.keeper ≡ None }
@@ -106,6 +107,7 @@ impl MarkKeeper for FileMarks {
         ensures numbered { result ≢ Err KeeperRefusal.NoMemory → self.new.keeper.calls ≡ one_more self.old.keeper.calls }
         ensures uncounted { result ≡ Err KeeperRefusal.NoMemory → self.new.keeper.calls ≡ self.old.keeper.calls }
         ensures plan { self.new.keeper.plan ≡ self.old.keeper.plan }
+        ensures may { self.new.keeper.tells ≡ self.old.keeper.tells }
         ensures marked { Marked entry result (TellsHeld (⟦<Unknown as Start>⟧) over_files self.old.keeper) (TellsHeld (⟦<Unknown as Start>⟧) over_files self.new.keeper) (doubtful self.new.keeper) }
         ensures cause { result ≡ Err KeeperRefusal.Fault → Rose self.old.keeper.faults self.new.keeper.faults }
         ensures quiet { (result ≡ Err KeeperRefusal.Fault) ⊎ (self.new.keeper.faults ≡ self.old.keeper.faults) }
@@ -123,6 +125,7 @@ impl MarkKeeper for FileMarks {
         ensures numbered { result ≢ Err KeeperRefusal.NoMemory → self.new.keeper.calls ≡ one_more self.old.keeper.calls }
         ensures uncounted { result ≡ Err KeeperRefusal.NoMemory → self.new.keeper.calls ≡ self.old.keeper.calls }
         ensures plan { self.new.keeper.plan ≡ self.old.keeper.plan }
+        ensures may { self.new.keeper.tells ≡ self.old.keeper.tells }
         ensures reopened { Reopened result (TellsHeld (⟦<Unknown as Start>⟧) over_files self.old.keeper) (doubtful self.old.keeper) (TellsHeld (⟦<Unknown as Start>⟧) over_files self.new.keeper) (doubtful self.new.keeper) }
         ensures cause { result ≡ Err KeeperRefusal.Fault → Rose self.old.keeper.faults self.new.keeper.faults }
         ensures quiet { (result ≡ Err KeeperRefusal.Fault) ⊎ (self.new.keeper.faults ≡ self.old.keeper.faults) }

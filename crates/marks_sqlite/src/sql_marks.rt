@@ -318,6 +318,7 @@ impl<D: Lasting> MarkKeeper for SqlMarks<D> {
         ensures numbered { result ≢ Err KeeperRefusal.NoMemory → self.new.calls ≡ one_more self.old.calls }
         ensures uncounted { result ≡ Err KeeperRefusal.NoMemory → self.new.calls ≡ self.old.calls }
         ensures plan { self.new.plan ≡ self.old.plan }
+        ensures may { self.new.tells ≡ self.old.tells }
 
         ensures answer { IfOk result (λ loaded. (all : List ℕ) → TellsMarks D.Store D.Lasting.supposed self.new all → loaded.items ≡ all) }
         ensures unchanged { MarksStay (TellsMarks D.Store D.Lasting.supposed self.old) (TellsMarks D.Store D.Lasting.supposed self.new) }
@@ -353,6 +354,7 @@ impl<D: Lasting> MarkKeeper for SqlMarks<D> {
         ensures numbered { result ≢ Err KeeperRefusal.NoMemory → self.new.calls ≡ one_more self.old.calls }
         ensures uncounted { result ≡ Err KeeperRefusal.NoMemory → self.new.calls ≡ self.old.calls }
         ensures plan { self.new.plan ≡ self.old.plan }
+        ensures may { self.new.tells ≡ self.old.tells }
 
         ensures marked { Marked entry result (TellsMarks D.Store D.Lasting.supposed self.old) (TellsMarks D.Store D.Lasting.supposed self.new) (doubtful self.new) }
         ensures cause { result ≡ Err KeeperRefusal.Fault → Rose self.old.faults self.new.faults }
@@ -390,6 +392,7 @@ impl<D: Lasting> MarkKeeper for SqlMarks<D> {
         ensures numbered { result ≢ Err KeeperRefusal.NoMemory → self.new.calls ≡ one_more self.old.calls }
         ensures uncounted { result ≡ Err KeeperRefusal.NoMemory → self.new.calls ≡ self.old.calls }
         ensures plan { self.new.plan ≡ self.old.plan }
+        ensures may { self.new.tells ≡ self.old.tells }
 
         ensures reopened { Reopened result (TellsMarks D.Store D.Lasting.supposed self.old) (doubtful self.old) (TellsMarks D.Store D.Lasting.supposed self.new) (doubtful self.new) }
         ensures cause { result ≡ Err KeeperRefusal.Fault → Rose self.old.faults self.new.faults }
