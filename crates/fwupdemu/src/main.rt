@@ -10,7 +10,7 @@ ghost use Rattle.host_service.specs.Brought.{AreProgram};
 use board_plugins::{Capsule, Flash, Loader, Power};
 use fw_base::NoMemory;
 use fwupd_service::{Kept, Ran, Status, kept_by};
-use history_file::HistoryFile;
+use history_file::{HistoryFile, OnHeap};
 use history_keeper::{Keeper, KeeperRefusal, MemoryKeeper};
 use host_service::{FileHistory, run_over_file, run_over_folder};
 use marks_sqlite::FileMarks;
@@ -130,7 +130,7 @@ fn run_over_history<R: Runtime + AllocGlobal + Threads + Wait + Sync>(
         return Err(NoMemory);
     };
     let mut sink = WriteSink::new(gathered);
-    let status = status_over_file::<R, _, HistoryFile, _, _>(
+    let status = status_over_file::<R, _, OnHeap<HistoryFile>, _, _>(
         rt,
         host,
         words,
@@ -197,7 +197,7 @@ fn report_over_files<R: Runtime + AllocGlobal + Threads + Wait + Sync>(
 ) -> Result<Status, NoMemory>
     requires { AreProgram (map (λ p. own_sheet p) plugins.items) (λ machine. map (λ p. vetoes_of (own_sheet p) (vetoes_on p machine)) plugins.items) }
 {
-    let history = match HistoryFile::open(host, HISTORY) {
+    let history = match OnHeap::<HistoryFile>::open_file(host, HISTORY) {
         Ok(history) => history,
         Err(KeeperRefusal::Fault) => return Ok(Status::KeeperFault),
         Err(KeeperRefusal::NoMemory) => return Ok(Status::NoMemory),

@@ -13,8 +13,11 @@ ghost use Rattle.history_sqlite.specs.Opened.{StartHolds};
 ghost use Rattle.history_sqlite.specs.Telling.{database, TellsHeld};
 ghost use Rattle.history_file.specs.contracts.HistoryFile.{the_row};
 
+pub mod on_heap;
+
 use history_keeper::{Change, Keeper, KeeperRefusal, Row};
 use history_sqlite::SqlKeeper;
+pub use on_heap::OnHeap;
 use sqlite::{File, FileStore, Start, Unknown};
 use std::alloc::Global;
 use std::rt::HostRuntime;

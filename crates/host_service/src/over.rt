@@ -14,7 +14,7 @@ ghost use Rattle.host_service.specs.Over.{RanOver, WasOpened};
 
 use crate::running::run_over_folder;
 use fwupd_service::Ran;
-use history_file::HistoryFile;
+use history_file::{HistoryFile, OnHeap};
 use history_keeper::{Keeper, KeeperRefusal};
 use outer_traits::{FolderShelf, Shelf, Sink, Source};
 use plugin_trait::Plugin;
@@ -42,6 +42,15 @@ impl FileHistory for HistoryFile {
 
     fn open_file(rt: &HostRuntime, path: &str) -> Result<HistoryFile, KeeperRefusal> {
         HistoryFile::open(rt, path)
+    }
+}
+
+impl<K: FileHistory + Drop> FileHistory for OnHeap<K> {
+    ghost held = { K.held };
+
+    fn open_file(rt: &HostRuntime, path: &str) -> Result<OnHeap<K>, KeeperRefusal> {
+        let keeper = K::open_file(rt, path)?;
+        OnHeap::new(rt.alloc(), keeper)
     }
 }
 
