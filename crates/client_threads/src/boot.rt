@@ -84,8 +84,12 @@ fn play_behind<
     (house, wanting)
 }
 
-// How many of the clients can run at once: one at least.
-fn processors<R: Threads>(rt: &R) -> u32 {
+// How many of so many clients can run at once: one at least. For one client the system isn't asked, since it waits for
+// nobody.
+fn at_once<R: Threads>(rt: &R, clients: usize) -> u32 {
+    if clients < 2 {
+        return 1;
+    }
     match thread::available_parallelism(rt) {
         Ok(count) => u32::try_from(count.get()).unwrap_or(u32::MAX),
         Err(_) => 1,
@@ -125,7 +129,12 @@ fn play_named<
     let Ok(clients) = Vec::with_capacity(alloc, of_boot.len()) else {
         return (house, true);
     };
-    match Daemon::<K, N>::begin(alloc, house, of_boot.len() as u32, processors(rt)) {
+    match Daemon::<K, N>::begin(
+        alloc,
+        house,
+        of_boot.len() as u32,
+        at_once(rt, of_boot.len()),
+    ) {
         Ok((daemon, passes)) => play_behind(
             rt, daemon, passes, clients, shelves, of_boot, plugins, gate,
         ),
