@@ -125,7 +125,7 @@ fn run_over_history<R: Runtime + AllocGlobal + Threads + Wait + Sync>(
 {
     HistoryFile::crosses();
     let unused = MemoryMarks::new(Vec::new(rt.alloc()), Vec::new(rt.alloc()));
-    let mut source = ReadSource::new(rt.reader());
+    let mut source = ReadSource::new(host.stdin());
     let Ok(gathered) = BufWriter::with_capacity(rt.alloc(), GATHERED, io::writer(rt)) else {
         return Err(NoMemory);
     };
@@ -208,7 +208,7 @@ fn report_over_files<R: Runtime + AllocGlobal + Threads + Wait + Sync>(
         Err(KeeperRefusal::NoMemory) => return Ok(Status::NoMemory),
     };
     HistoryFile::crosses();
-    let mut source = ReadSource::new(rt.reader());
+    let mut source = ReadSource::new(host.stdin());
     let mut output = io::writer(rt);
     let mut sink = WriteSink::new(&mut output);
     status_over(
@@ -260,7 +260,7 @@ fn run_over_nothing<R: Runtime + AllocGlobal + Threads + Wait + Sync>(
     let alloc = rt.alloc();
     let unused = MemoryKeeper::new(Vec::new(alloc), Vec::new(alloc));
     let unused_marks = MemoryMarks::new(Vec::new(alloc), Vec::new(alloc));
-    let mut source = ReadSource::new(rt.reader());
+    let mut source = ReadSource::new(host.stdin());
     let Ok(gathered) = BufWriter::with_capacity(alloc, GATHERED, io::writer(rt)) else {
         return Err(NoMemory);
     };
