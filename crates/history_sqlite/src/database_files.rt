@@ -18,9 +18,15 @@ use std::hash::{BuildHasher, RandomState};
 use std::io;
 use std::rt::HostRuntime;
 
-/// How many pages of a file are kept in memory. All are taken as the file is opened, so they are few: a
-/// commit goes down two trees of at most four levels, and a load goes through each page once.
-pub const CACHED_PAGES: usize = 64;
+/// The fewest pages of a file that are kept in memory. All are taken and cleared as the file is opened, so for a small
+/// file they are few: a commit goes down two trees of at most four levels.
+pub const LEAST_CACHED_PAGES: usize = 12;
+
+/// The most of them. A load goes through each page of a large file once, and through those above it many times.
+const MOST_CACHED_PAGES: usize = 64;
+
+/// How many bytes a page has in a file that is made here.
+const PAGE_BYTES: usize = 4096;
 
 /// Opens the file at the path and its log, or makes them. It is a fault where they can't be opened, where
 /// another process has them, or where the file is no database. Such a file is left as it was. `S` stands for
@@ -76,34 +82,52 @@ pub fn connect<D: Disk + Drop>(
     ensures left { IfOk result (λ connection. HasCleanDisk (file_state connection) → ¬ IsLoneByte (D.Disk.seen files.db)) }
 {
     let mut files = files;
-    match has_lone_byte(&mut files.db) {
-        Ok(false) => {}
-        Ok(true) | Err(_) => return Err(KeeperRefusal::Fault),
+    let Ok(measured) = measure(&mut files.db) else {
+        return Err(KeeperRefusal::Fault);
+    };
+    if measured.is_lone_byte {
+        return Err(KeeperRefusal::Fault);
     }
-    match Connection::open_files(alloc, files, options(seed)) {
+    match Connection::open_files(alloc, files, options(seed, measured.len)) {
         Ok(connection) => Ok(connection),
         Err((error, _)) => Err(refusal_of_error(error)),
     }
 }
 
-fn options(seed: u64) -> Options {
+// The options of a connection whose cache fits a file of so many bytes.
+fn options(seed: u64, len: usize) -> Options {
     let mut options = Options::new(seed);
-    options.cache_pages = CACHED_PAGES;
+    options.cache_pages = (len / PAGE_BYTES)
+        .max(LEAST_CACHED_PAGES)
+        .min(MOST_CACHED_PAGES);
     options
 }
 
-// Whether the file is one byte that isn't zero.
-fn has_lone_byte<D: Disk>(db: &mut D) -> io::Result<bool>
+// How many bytes a file has, and whether it is one byte that isn't zero.
+#[derive(Clone, Copy)]
+struct Measured {
+    len: usize,
+    is_lone_byte: bool,
+}
+
+fn measure<D: Disk>(db: &mut D) -> io::Result<Measured>
     requires { IsTrue (D.Disk.is_usable db.old) }
-    ensures ok { IfOk result (λ lone. IsTrue (D.Disk.is_clean db.new) → (IsTrue lone ↔ IsLoneByte (D.Disk.seen db.old))) }
+    ensures ok { IfOk result (λ measured. IsTrue (D.Disk.is_clean db.new) → (IsTrue measured.is_lone_byte ↔ IsLoneByte (D.Disk.seen db.old))) }
     ensures seen { D.Disk.seen db.new ≡ D.Disk.seen db.old }
     ensures usable { IsTrue (D.Disk.is_usable db.new) }
     ensures clean { IsTrue (D.Disk.is_clean db.new) → IsTrue (D.Disk.is_clean db.old) }
 {
-    if db.len()? != 1 {
-        return Ok(false);
+    let len = db.len()?;
+    if len != 1 {
+        return Ok(Measured {
+            len,
+            is_lone_byte: false,
+        });
     }
     let mut byte = [0];
     db.read_at(0, &mut byte)?;
-    Ok(byte[0] != 0)
+    Ok(Measured {
+        len,
+        is_lone_byte: byte[0] != 0,
+    })
 }

@@ -5,7 +5,7 @@ ghost use Rattle.history_sqlite.specs.Keeping.{doubtful};
 use crate::stopping::{Stopping, StoppingKeeper};
 use history_keeper::{Keeper, KeeperPlan, Row};
 use history_sqlite::SqlKeeper;
-use history_sqlite::database_files::{CACHED_PAGES, connect};
+use history_sqlite::database_files::{LEAST_CACHED_PAGES, connect};
 use history_sqlite::statements::load_rows;
 use history_sqlite::tables::open_tables;
 use sqlite::{Connection, FileStore, Files, Options};
@@ -88,7 +88,7 @@ pub(crate) fn first(
         return Err(std::io::Error::other("a file may not be used").into());
     }
     let mut options = Options::new(7);
-    options.cache_pages = CACHED_PAGES;
+    options.cache_pages = LEAST_CACHED_PAGES;
     match Connection::open_files(alloc, files, options) {
         Err((_, left)) => Ok((None, Some(left.into_files()))),
         Ok(connection) => adopted(alloc, connection, plan(alloc, failing)?),

@@ -28,14 +28,14 @@ as_read {D} {g} log old new c seen clean f =
       reads = subst (λ image. AreFoundIn image (file_state c).committed.trees) same f.reads;
     }
 
-pub returns-in-Ok-clause-found : goal.returns-in-Ok-clause-found
-returns-in-Ok-clause-found g c clean =
-    as_read {g = g.D.Disk} c.args.files.log c.args.files.db c.has_lone_byte.new.db c.in-Ok.connection c.has_lone_byte.ensures.seen c.has_lone_byte.ensures.clean (c.in-Ok.ensures.found clean)
+pub returns-in-Ok-open_files-clause-found : goal.returns-in-Ok-open_files-clause-found
+returns-in-Ok-open_files-clause-found g c clean =
+    as_read {g = g.D.Disk} c.args.files.log c.args.files.db c.measure.new.db c.in-Ok-open_files.connection c.measure.ensures.seen c.measure.ensures.clean (c.in-Ok-open_files.ensures.found clean)
 
-pub returns-in-Ok-clause-left : goal.returns-in-Ok-clause-left
-returns-in-Ok-clause-left g c clean lone =
-    let honest = clean_parts (g.D.Disk.is_clean c.args.files.log) (g.D.Disk.is_clean c.has_lone_byte.new.db) (c.in-Ok.ensures.found clean).honest in
-    let yes = (c.in-Ok-false.ensures.ok honest.1).1 lone in
-    let no : c.in-Ok-false.field-0 ≡ false = c.in-Ok-false.field-0-test in
+pub returns-in-Ok-open_files-clause-left : goal.returns-in-Ok-open_files-clause-left
+returns-in-Ok-open_files-clause-left g c clean lone =
+    let honest = clean_parts (g.D.Disk.is_clean c.args.files.log) (g.D.Disk.is_clean c.measure.new.db) (c.in-Ok-open_files.ensures.found clean).honest in
+    let yes = (c.in-Ok.ensures.ok honest.1).1 lone in
+    let no : c.in-Ok.measured.is_lone_byte ≡ false = c.if-measured.false in
     let both : true ≡ false = sym yes ∙ no in
     cc
