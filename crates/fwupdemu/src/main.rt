@@ -17,6 +17,7 @@ use marks_sqlite::FileMarks;
 use outer_traits::{FolderShelf, ReadSource, Sink, Source, WriteSink};
 use plugin_trait::Plugin;
 use report_queue::{MarkKeeper, MemoryMarks};
+use std::alloc::{AllocError, Global};
 use std::io::{BufWriter, IsTerminal, Write};
 use std::process::ExitCode;
 use std::rt::{HostRuntime, Runtime};
@@ -36,6 +37,9 @@ const MARKS: &str = "reports.db";
 
 /// How many bytes of the output are gathered before they are handed on.
 const GATHERED: usize = 65_536;
+
+/// How many bytes a block has that is larger than those that the store takes as it makes a file.
+const LARGE_BLOCK: usize = 1_048_576;
 
 /// Runs the command of the command line. `host` is the same runtime, of which the history's file and the shelves are
 /// made. `NoMemory` comes only where the words, the shelves or the plugins couldn't be made.
@@ -113,6 +117,13 @@ fn run_over_kept<R: Runtime + AllocGlobal + Threads + Wait + Sync>(
     }
 }
 
+/// Takes a large block, which nobody touches, and gives it back: a hint to the C library, of which no clause speaks.
+/// The library maps a large block by itself, and unmaps it when it is given back; from then on smaller blocks come from
+/// the heap. So what the store takes as it opens a file serves the rest of the run.
+fn settle_heap(alloc: Global) {
+    let _unused: Result<Vec<u8>, AllocError> = Vec::with_capacity(alloc, LARGE_BLOCK);
+}
+
 /// Runs over the history in its file. The output is gathered, so that a long report takes few calls of the system; what
 /// can't be handed on at the end is a fault of writing, whatever came before.
 fn run_over_history<R: Runtime + AllocGlobal + Threads + Wait + Sync>(
@@ -124,6 +135,7 @@ fn run_over_history<R: Runtime + AllocGlobal + Threads + Wait + Sync>(
     requires { AreProgram (map (λ p. own_sheet p) plugins.items) (λ machine. map (λ p. vetoes_of (own_sheet p) (vetoes_on p machine)) plugins.items) }
 {
     HistoryFile::crosses();
+    settle_heap(rt.alloc());
     let unused = MemoryMarks::new(Vec::new(rt.alloc()), Vec::new(rt.alloc()));
     let mut source = ReadSource::new(host.stdin());
     let Ok(gathered) = BufWriter::with_capacity(rt.alloc(), GATHERED, io::writer(rt)) else {
