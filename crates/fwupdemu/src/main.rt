@@ -200,7 +200,9 @@ fn status_of<K: Drop, M: Drop>(ran: Ran<FolderShelf<HostRuntime>, K, M>) -> Stat
 }
 
 /// Opens the history and the marks in their files, and reports the rows. Each line goes out by itself: a line that is
-/// gathered would be lost by a stop, though its row is marked.
+/// gathered would be lost by a stop, though its row is marked. It isn't inlined, so that the frame of a run over the
+/// history hasn't its locals.
+#[inline(never)]
 fn report_over_files<R: Runtime + AllocGlobal + Threads + Wait + Sync>(
     rt: &R,
     host: &HostRuntime,
@@ -260,7 +262,8 @@ fn status_over<
 }
 
 /// Runs a command that keeps no history, over keepers that stay unused. The output is gathered as by
-/// `run_over_history`.
+/// `run_over_history`. It isn't inlined, as `report_over_files` isn't.
+#[inline(never)]
 fn run_over_nothing<R: Runtime + AllocGlobal + Threads + Wait + Sync>(
     rt: &R,
     host: &HostRuntime,
