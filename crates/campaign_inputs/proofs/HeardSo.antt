@@ -40,6 +40,4 @@ heard_no_memory old new some = record { bytes = some.bytes; came = some.came; he
 pub limits_so : (r : Result Site InputStop) (bytes : List ℕ) → TellsSite (stated bytes) r → IfOk r CanBeRun
 limits_so (Ok site) bytes told = can_be_run bytes site told
 limits_so (Err SourceFault) bytes told = tt
-limits_so (Err TooLong) bytes told = tt
-limits_so (Err (Document place reason)) bytes told = tt
-limits_so (Err NoMemory) bytes told = tt
+limits_so _ bytes told = tt

@@ -109,14 +109,9 @@ install_done spot d =
 verb_done : (verb : Verb) (spot : Spot) (d : Data) → Good IsDone (done_at verb spot d)
 unfolding done_at
 verb_done verbs.GetDevices spot d = tt
-verb_done verbs.GetReleases spot d = good_after IsDone (the spot words.Device selector_at d) _ (λ device. tt)
-verb_done verbs.GetUpgrades spot d = good_after IsDone (the spot words.Device selector_at d) _ (λ device. tt)
 verb_done verbs.Install spot d = install_done spot d
 verb_done verbs.GetHistory spot d = tt
-verb_done verbs.GetResults spot d = good_after IsDone (the spot words.Device selector_at d) _ (λ device. tt)
-verb_done verbs.Settle spot d = good_after IsDone (the spot words.Device selector_at d) _ (λ device. tt)
-verb_done verbs.Unplug spot d = good_after IsDone (the spot words.Device selector_at d) _ (λ device. tt)
-verb_done verbs.Plug spot d = good_after IsDone (the spot words.Device selector_at d) _ (λ device. tt)
+verb_done _ spot d = good_after IsDone (the spot words.Device selector_at d) _ (λ device. tt)
 
 item_done : (taken : ℕ) (spot : Spot) (d : Data) → Good IsDone (item_at taken spot d)
 unfolding item_at

@@ -19,19 +19,7 @@ use Rattle.client_plays.proofs.ScriptLaws.{until-nothing}
 -- Such a boot is off, and nobody did anything in it.
 fault-boot : (event : Event) (past : List Event) → is_fault_boot event ≡ true → (is_boot event ≡ true) × (off (event ∷ past) ≡ true)
 fault-boot (Event.Boot number time limit found boards) past e = (refl, e)
-fault-boot (Event.Query client query) past e = cc
-fault-boot (Event.Ask client request pending answer) past e = cc
-fault-boot (Event.Claim client request fetched answer) past e = cc
-fault-boot (Event.Schedule client request answer) past e = cc
-fault-boot (Event.Resume client entry fetched answer stored) past e = cc
-fault-boot (Event.Start client entry op) past e = cc
-fault-boot (Event.End client entry op outcome told seen) past e = cc
-fault-boot (Event.Finish client entry state stored) past e = cc
-fault-boot (Event.Judge client entry version state stored) past e = cc
-fault-boot (Event.Unplug client device answer) past e = cc
-fault-boot (Event.Plug client device answer) past e = cc
-fault-boot (Event.GiveBack client what) past e = cc
-fault-boot Event.Cut past e = cc
+fault-boot _ past e = cc
 
 nothing-mine : (event : Event) (past : List Event) (client : ℕ) → is_boot event ≡ true → mine client (event ∷ past) ≡ []
 nothing-mine event past client b = rw b refl

@@ -13,19 +13,7 @@ use Rattle.campaign_runs.specs.Planned.{BootsPlanned, with_plans}
 -- What a past says of its newest event.
 planned-rest : (plans : List BootPlan) (event : Event) (past : List Event) → BootsPlanned plans (event ∷ past) → BootsPlanned plans past
 planned-rest plans (Event.Boot number time limit found boards) past p = p.1
-planned-rest plans (Event.Query client query) past p = p
-planned-rest plans (Event.Ask client request pending answer) past p = p
-planned-rest plans (Event.Claim client request fetched answer) past p = p
-planned-rest plans (Event.Schedule client request answer) past p = p
-planned-rest plans (Event.Resume client entry fetched answer stored) past p = p
-planned-rest plans (Event.Start client entry op) past p = p
-planned-rest plans (Event.End client entry op outcome told seen) past p = p
-planned-rest plans (Event.Finish client entry state stored) past p = p
-planned-rest plans (Event.Judge client entry version state stored) past p = p
-planned-rest plans (Event.Unplug client device answer) past p = p
-planned-rest plans (Event.Plug client device answer) past p = p
-planned-rest plans (Event.GiveBack client what) past p = p
-planned-rest plans Event.Cut past p = p
+planned-rest plans _ past p = p
 
 -- Only a boot is allowed by a plan.
 allowed-planned : (c : Campaign) (plans : List BootPlan) (opening : List Row) (past : List Event) (event : Event) → BootsPlanned plans (event ∷ past) → Allowed c opening past event → Allowed (with_plans c.facts c.first plans) opening past event
@@ -46,19 +34,7 @@ allowed-planned c plans opening past (Event.Boot number time limit found boards)
         found_is = was.found_is;
       },
     )
-allowed-planned c plans opening past (Event.Query client query) p a = a
-allowed-planned c plans opening past (Event.Ask client request pending answer) p a = a
-allowed-planned c plans opening past (Event.Claim client request fetched answer) p a = a
-allowed-planned c plans opening past (Event.Schedule client request answer) p a = a
-allowed-planned c plans opening past (Event.Resume client entry fetched answer stored) p a = a
-allowed-planned c plans opening past (Event.Start client entry op) p a = a
-allowed-planned c plans opening past (Event.End client entry op outcome told seen) p a = a
-allowed-planned c plans opening past (Event.Finish client entry state stored) p a = a
-allowed-planned c plans opening past (Event.Judge client entry version state stored) p a = a
-allowed-planned c plans opening past (Event.Unplug client device answer) p a = a
-allowed-planned c plans opening past (Event.Plug client device answer) p a = a
-allowed-planned c plans opening past (Event.GiveBack client what) p a = a
-allowed-planned c plans opening past Event.Cut p a = a
+allowed-planned c plans opening past _ p a = a
 
 legal-planned : (c : Campaign) (plans : List BootPlan) (opening : List Row) (past : List Event) → BootsPlanned plans past → IsLegal c opening past → IsLegal (with_plans c.facts c.first plans) opening past
 legal-planned c plans opening [] p l = tt

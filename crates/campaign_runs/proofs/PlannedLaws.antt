@@ -18,19 +18,7 @@ or-parts false b e = (refl, e)
 
 planned-one : (plans : List BootPlan) (event : Event) (past : List Event) → is_boot event ≡ false → BootsPlanned plans past → BootsPlanned plans (event ∷ past)
 planned-one plans (Event.Boot number time limit found boards) past b p = cc
-planned-one plans (Event.Query client query) past b p = p
-planned-one plans (Event.Ask client request pending answer) past b p = p
-planned-one plans (Event.Claim client request fetched answer) past b p = p
-planned-one plans (Event.Schedule client request answer) past b p = p
-planned-one plans (Event.Resume client entry fetched answer stored) past b p = p
-planned-one plans (Event.Start client entry op) past b p = p
-planned-one plans (Event.End client entry op outcome told seen) past b p = p
-planned-one plans (Event.Finish client entry state stored) past b p = p
-planned-one plans (Event.Judge client entry version state stored) past b p = p
-planned-one plans (Event.Unplug client device answer) past b p = p
-planned-one plans (Event.Plug client device answer) past b p = p
-planned-one plans (Event.GiveBack client what) past b p = p
-planned-one plans Event.Cut past b p = p
+planned-one plans _ past b p = p
 
 planned-more : (plans : List BootPlan) (more past : List Event) → list_any is_boot more ≡ false → BootsPlanned plans past → BootsPlanned plans (more ++ past)
 planned-more plans [] past b p = p

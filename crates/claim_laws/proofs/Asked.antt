@@ -44,23 +44,13 @@ others other client all f =
 -- What another does leaves a client's hold.
 pub hold-kept : (event : Event) (past : List Event) (client : ℕ) → is_boot event ≡ false → is_of client event ≡ false → hold (event ∷ past) client ≡ hold past client
 hold-kept (Event.Boot number time limit found boards) past client b f = cc
-hold-kept (Event.Query other query) past client b f = refl
 hold-kept (Event.Ask other request pending (AskAnswer.Hold blocks release)) past client b f =
     find-push_other (λ (h : Held). h.client == client) (without_client other (holds past)) (asked_hold other request pending blocks release) f
     ∙ others other client (holds past) f
-hold-kept (Event.Ask other request pending (AskAnswer.Kept entry state)) past client b f = refl
-hold-kept (Event.Ask other request pending (AskAnswer.Refused refusal)) past client b f = refl
 hold-kept (Event.Claim other request fetched answer) past client b f = others other client (holds past) f
-hold-kept (Event.Schedule other request answer) past client b f = refl
 hold-kept (Event.Resume other entry fetched answer stored) past client b f = others other client (holds past) f
-hold-kept (Event.Start other entry op) past client b f = refl
-hold-kept (Event.End other entry op outcome told seen) past client b f = refl
-hold-kept (Event.Finish other entry state stored) past client b f = refl
-hold-kept (Event.Judge other entry version state stored) past client b f = refl
-hold-kept (Event.Unplug other device answer) past client b f = refl
-hold-kept (Event.Plug other device answer) past client b f = refl
 hold-kept (Event.GiveBack other what) past client b f = others other client (holds past) f
-hold-kept Event.Cut past client b f = refl
+hold-kept _ past client b f = refl
 
 -- So it holds what it asked for, as long as it does nothing else.
 pub asked-hold : (past : List Event) (client : ℕ) (request : Request) (pending : Option ℕ) (blocks : ℕ) (release : ReleaseRef)

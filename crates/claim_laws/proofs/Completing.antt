@@ -268,22 +268,12 @@ module _ (c : Campaign) (opening : List Row) (past : List Event) (files : Files)
   row-comes = on ends.event refl ends.lets
     where
       on : (event : Event) → ends.event ≡ event → lets_go 0 event ≡ true → IsResumed c.facts opening files (off past) entry request release waited later ⊎ IsGivenUp (off past) wanting 0 waited later
-      on (Event.Boot number time limit found boards) e t = cc
-      on (Event.Query other query) e t = cc
-      on (Event.Ask other wanted row answer) e t = cc
       on (Event.Claim other wanted note answer) e t =
           not-claimed wanted note answer _ (e ∙ ap (λ (n : ℕ). Event.Claim n wanted note answer) (eqb-true other 0 t))
-      on (Event.Schedule other wanted answer) e t = cc
       on (Event.Resume other row fetched answer stored) e t =
           inl (resumed-so row fetched answer stored (e ∙ ap (λ (n : ℕ). Event.Resume n row fetched answer stored) (eqb-true other 0 t)))
-      on (Event.Start other row op) e t = cc
-      on (Event.End other row op outcome marks shown) e t = cc
-      on (Event.Finish other row state stored) e t = cc
-      on (Event.Judge other row version state stored) e t = cc
-      on (Event.Unplug other device answer) e t = cc
-      on (Event.Plug other device answer) e t = cc
       on (Event.GiveBack other what) e t = inr (given-up c opening past files wanting 0 legal idle told request (Some entry) blocks release later before are in_boot what (e ∙ ap (λ (n : ℕ). Event.GiveBack n what) (eqb-true other 0 t)))
-      on Event.Cut e t = cc
+      on _ e t = cc
 
 -- ---- the three kinds of request
 

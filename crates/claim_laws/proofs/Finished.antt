@@ -117,23 +117,10 @@ pub record IsAsk (request : Request) (event : Event) : Type 0 where
   pub event_is : event ≡ Event.Ask client request None answer
 
 asks-now : (event : Event) (request : Request) → begun_by event ≡ Some (Now request) → IsAsk request event
-asks-now (Event.Boot number time limit found boards) request e = cc
-asks-now (Event.Query client query) request e = cc
 asks-now (Event.Ask client asked None answer) request e =
     let same : asked ≡ request = cc in
     record { client = client; answer = answer; event_is = ap (λ (x : Request). Event.Ask client x None answer) same }
-asks-now (Event.Ask client asked (Some entry) answer) request e = cc
-asks-now (Event.Claim client asked fetched answer) request e = cc
-asks-now (Event.Schedule client asked answer) request e = cc
-asks-now (Event.Resume client entry fetched answer stored) request e = cc
-asks-now (Event.Start client entry op) request e = cc
-asks-now (Event.End client entry op outcome told seen) request e = cc
-asks-now (Event.Finish client entry state stored) request e = cc
-asks-now (Event.Judge client entry version state stored) request e = cc
-asks-now (Event.Unplug client device answer) request e = cc
-asks-now (Event.Plug client device answer) request e = cc
-asks-now (Event.GiveBack client what) request e = cc
-asks-now Event.Cut request e = cc
+asks-now _ request e = cc
 
 -- Where the boot stayed on and memory was there.
 all-begun : (is_off : Bool) (begun wanted : List Wish) → is_off ≡ false → AreBegun is_off false begun wanted → begun ≡ wanted

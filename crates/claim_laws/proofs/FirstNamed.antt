@@ -94,21 +94,9 @@ tests-rise c t =
 test-numbered : (c : Case) (t : Target) (other : Refusal) → is_some (present c) ≡ true → target_in c ≡ Some t → is_that_release c t.chosen ≡ true → found_by c other ≡ look_up (test_place other) (tests c t)
 test-numbered c t Refusal.NoDevice p e s = rw p refl
 test-numbered c t Refusal.NoRelease p e s = rw e (rw s refl)
-test-numbered c t (Refusal.Busy entry) p e s = rw e refl
-test-numbered c t (Refusal.Unsettled entry) p e s = rw e refl
-test-numbered c t Refusal.NotUpdatable p e s = rw e refl
-test-numbered c t Refusal.Locked p e s = rw e refl
-test-numbered c t (Refusal.Problem problem) p e s = rw e refl
-test-numbered c t Refusal.SameVersion p e s = rw e refl
-test-numbered c t Refusal.Older p e s = rw e refl
-test-numbered c t (Refusal.Unmet requirement) p e s = rw e refl
-test-numbered c t (Refusal.Veto plugin) p e s = rw e refl
-test-numbered c t (Refusal.Size len min max) p e s = rw e refl
-test-numbered c t (Refusal.NoRoom blocks left) p e s = rw e refl
 test-numbered c t (Refusal.Payload note) p e s = refl
-test-numbered c t Refusal.RowsFull p e s = rw e refl
 test-numbered c t Refusal.KeeperFault p e s = refl
-test-numbered c t (Refusal.Retry fault) p e s = rw e refl
+test-numbered c t _ p e s = rw e refl
 
 -- Which refusals have the places 0 and 1.
 none-below-one : (c : Case) (other : Refusal) → test_place other < 1 → found_by c other ≡ None
@@ -139,22 +127,7 @@ none-of-it lt = omega (arith, lt)
 
 none-below-two : (c : Case) (other : Refusal) → is_some (present c) ≡ true → test_place other < 2 → found_by c other ≡ None
 none-below-two c Refusal.NoDevice p lt = rw p refl
-none-below-two c Refusal.NoRelease p lt = absurd (none-of-it lt)
-none-below-two c (Refusal.Busy entry) p lt = absurd (none-of-it lt)
-none-below-two c (Refusal.Unsettled entry) p lt = absurd (none-of-it lt)
-none-below-two c Refusal.NotUpdatable p lt = absurd (none-of-it lt)
-none-below-two c Refusal.Locked p lt = absurd (none-of-it lt)
-none-below-two c (Refusal.Problem problem) p lt = absurd (none-of-it lt)
-none-below-two c Refusal.SameVersion p lt = absurd (none-of-it lt)
-none-below-two c Refusal.Older p lt = absurd (none-of-it lt)
-none-below-two c (Refusal.Unmet requirement) p lt = absurd (none-of-it lt)
-none-below-two c (Refusal.Veto plugin) p lt = absurd (none-of-it lt)
-none-below-two c (Refusal.Size len min max) p lt = absurd (none-of-it lt)
-none-below-two c (Refusal.NoRoom blocks left) p lt = absurd (none-of-it lt)
-none-below-two c (Refusal.Payload note) p lt = absurd (none-of-it lt)
-none-below-two c Refusal.RowsFull p lt = absurd (none-of-it lt)
-none-below-two c Refusal.KeeperFault p lt = absurd (none-of-it lt)
-none-below-two c (Refusal.Retry fault) p lt = absurd (none-of-it lt)
+none-below-two c _ p lt = absurd (none-of-it lt)
 
 -- A decision that refuses gives the refusal that was found.
 refused-same : (a b : Refusal) → Decision.Refused a ≡ Decision.Refused b → a ≡ b

@@ -96,41 +96,21 @@ asks_for client _ = false
 
 -- Whoever holds something asks for nothing.
 asks-none : (c : Campaign) (opening : List Row) (past : List Event) (event : Event) (client : ℕ) (held : Held) → Allowed c opening past event → hold past client ≡ Some held → asks_for client event ≡ false
-asks-none c opening past (Event.Boot number time limit found boards) client held a h = refl
-asks-none c opening past (Event.Query other query) client held a h = refl
 asks-none c opening past (Event.Ask other request pending answer) client held a h =
     by_test (other == client) _
     (λ t. let none : hold past client ≡ None = ap (λ (n : ℕ). hold past n) (sym (eqb-true other client t)) ∙ a.free.hold in
     let bad : Some held ≡ None = sym h ∙ none in cc)
     (λ f. f)
-asks-none c opening past (Event.Claim other request fetched answer) client held a h = refl
-asks-none c opening past (Event.Schedule other request answer) client held a h = refl
-asks-none c opening past (Event.Resume other entry fetched answer stored) client held a h = refl
-asks-none c opening past (Event.Start other entry op) client held a h = refl
-asks-none c opening past (Event.End other entry op outcome told seen) client held a h = refl
-asks-none c opening past (Event.Finish other entry state stored) client held a h = refl
-asks-none c opening past (Event.Judge other entry version state stored) client held a h = refl
-asks-none c opening past (Event.Unplug other device answer) client held a h = refl
-asks-none c opening past (Event.Plug other device answer) client held a h = refl
-asks-none c opening past (Event.GiveBack other what) client held a h = refl
-asks-none c opening past Event.Cut client held a h = refl
+asks-none c opening past _ client held a h = refl
 
 -- An event that neither ends a hold of the client nor asks for one leaves it.
 hold-stays : (event : Event) (past : List Event) (client : ℕ) → is_boot event ≡ false → lets_go client event ≡ false → asks_for client event ≡ false → hold (event ∷ past) client ≡ hold past client
 hold-stays (Event.Boot number time limit found boards) past client b l a = cc
-hold-stays (Event.Query other query) past client b l a = refl
 hold-stays (Event.Ask other request pending answer) past client b l a = hold-kept (Event.Ask other request pending answer) past client refl a
 hold-stays (Event.Claim other request fetched answer) past client b l a = hold-kept (Event.Claim other request fetched answer) past client refl l
-hold-stays (Event.Schedule other request answer) past client b l a = refl
 hold-stays (Event.Resume other entry fetched answer stored) past client b l a = hold-kept (Event.Resume other entry fetched answer stored) past client refl l
-hold-stays (Event.Start other entry op) past client b l a = refl
-hold-stays (Event.End other entry op outcome told seen) past client b l a = refl
-hold-stays (Event.Finish other entry state stored) past client b l a = refl
-hold-stays (Event.Judge other entry version state stored) past client b l a = refl
-hold-stays (Event.Unplug other device answer) past client b l a = refl
-hold-stays (Event.Plug other device answer) past client b l a = refl
 hold-stays (Event.GiveBack other what) past client b l a = hold-kept (Event.GiveBack other what) past client refl l
-hold-stays Event.Cut past client b l a = refl
+hold-stays _ past client b l a = refl
 
 -- A hold still stands.
 record StillHeld (client : ℕ) (asked later : List Event) (held : Held) : Type 0 where

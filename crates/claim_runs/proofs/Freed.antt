@@ -72,31 +72,18 @@ resume-held facts opening past entry None r = absurd r.2
 
 each-step : (c : Campaign) (opening : List Row) (past : List Event) (event : Event) → IsHistory opening → IsLegal c opening past → Allowed c opening past event → OneEach past → OneEach (event ∷ past)
 each-step c opening past (Event.Boot number time limit found boards) v l a k = λ client. omega arith
-each-step c opening past (Event.Query client query) v l a k = k
-each-step c opening past (Event.Ask client request pending answer) v l a k = k
 each-step c opening past (Event.Claim client request fetched (ClaimAnswer.Entry entry)) v l a k =
     let o = out-once c opening past v l in
     pushed (live past) (record { client = client; entry = entry; blocks = blocks_fetched fetched }) k (held-none past client a.0 (live past) a.1.held_is o.apart)
-each-step c opening past (Event.Claim client request fetched (ClaimAnswer.Kept entry state)) v l a k = k
-each-step c opening past (Event.Claim client request fetched (ClaimAnswer.Refused refusal)) v l a k = k
-each-step c opening past (Event.Schedule client request answer) v l a k = k
 each-step c opening past (Event.Resume client entry fetched ResumeAnswer.Begun stored) v l a k =
     let o = out-once c opening past v l in
     let r = a.1 in
     let h = resume-held c.facts opening past entry fetched r.fetched_is in
     let none : of_client 0 (live past) ≡ 0 = held-none past 0 h.0 (live past) h.1 o.apart in
     pushed (live past) (record { client = client; entry = entry; blocks = blocks_fetched_if fetched }) k (subst (λ (n : ℕ). of_client n (live past) ≡ 0) (sym r.client_is) none)
-each-step c opening past (Event.Resume client entry fetched (ResumeAnswer.Refused refusal) stored) v l a k = k
-each-step c opening past (Event.Start client entry op) v l a k = k
-each-step c opening past (Event.End client entry op outcome told seen) v l a k = k
 each-step c opening past (Event.Finish client entry state stored) v l a k = fewer (live past) entry k
-each-step c opening past (Event.Judge client entry version state stored) v l a k = k
-each-step c opening past (Event.Unplug client device answer) v l a k = k
-each-step c opening past (Event.Plug client device answer) v l a k = k
-each-step c opening past (Event.GiveBack client (Back.Tag tag)) v l a k = k
-each-step c opening past (Event.GiveBack client (Back.Pending entry)) v l a k = k
 each-step c opening past (Event.GiveBack client (Back.Entry entry)) v l a k = fewer (live past) entry k
-each-step c opening past Event.Cut v l a k = k
+each-step c opening past _ v l a k = k
 
 one-each : (c : Campaign) (opening : List Row) (past : List Event) → IsHistory opening → IsLegal c opening past → OneEach past
 one-each c opening [] v l = λ client. omega arith

@@ -84,11 +84,8 @@ faults-event m fetched old new e t =
 
 -- The faults that a fetch tells are no more than the shelf's count rose.
 pub fetch-counted : (fetched : Fetched) (a b x y : ℕ) → b ≤ a + faults_noted (Some (note_of fetched)) → IfNone (told fetched) (Rose x y) → x ≤ y → Counted a b x y
-fetch-counted (Fetched.Whole payload) a b x y l r c = count-less a b x y (omega arith) c
-fetch-counted (Fetched.Missing blocks) a b x y l r c = count-less a b x y (omega arith) c
-fetch-counted (Fetched.Length found blocks) a b x y l r c = count-less a b x y (omega arith) c
-fetch-counted (Fetched.Mismatch found blocks) a b x y l r c = count-less a b x y (omega arith) c
 fetch-counted (Fetched.ShelfFault blocks) a b x y l r c = count-rose a b x y l r
+fetch-counted _ a b x y l r c = count-less a b x y (omega arith) c
 
 -- ---- one stretch after another
 
@@ -151,11 +148,8 @@ quiet-ends Played.NoMemory client Play new q moments e = quiet-leaves client Pla
 
 -- The item fetches: it is an install that isn't put off.
 abbrev pub fetches : Item → Bool
-fetches (Item.Ask query) = false
 fetches (Item.Install request) = not request.flags.offline
-fetches (Item.Settle selector) = false
-fetches (Item.Unplug selector) = false
-fetches (Item.Plug selector) = false
+fetches _ = false
 
 quiet-schedule : (facts : Facts) (opening : List Row) (means : Means) (client : ℕ) (request : Request) (offline : Bool) → not offline ≡ false → TellsNone (λ moments. MatchBool offline (Alone (SchedulePlays client request) moments) (InstallPlays facts opening means client request moments))
 quiet-schedule facts opening means client request true e moments p = quiet-alone (SchedulePlays client request) (λ m s. ap tells_shelf_fault s.1) moments p

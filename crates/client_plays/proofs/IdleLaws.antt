@@ -63,46 +63,19 @@ LiveStep event past entry =
 
 live-step : (c : Campaign) (opening : List Row) (past : List Event) (event : Event) (entry : ℕ) → Allowed c opening past event → is_boot event ≡ false → is_live (live past) entry ≡ true → LiveStep event past entry
 live-step c opening past (Event.Boot number time limit found boards) entry a b l = cc
-live-step c opening past (Event.Query client query) entry a b l = inl l
-live-step c opening past (Event.Ask client request pending answer) entry a b l = inl l
 live-step c opening past (Event.Claim client request fetched (ClaimAnswer.Entry taken)) entry a b l = inl (live-push (live past) _ entry l)
-live-step c opening past (Event.Claim client request fetched (ClaimAnswer.Kept kept state)) entry a b l = inl l
-live-step c opening past (Event.Claim client request fetched (ClaimAnswer.Refused refusal)) entry a b l = inl l
-live-step c opening past (Event.Schedule client request answer) entry a b l = inl l
 live-step c opening past (Event.Resume client taken fetched ResumeAnswer.Begun stored) entry a b l = inl (live-push (live past) _ entry l)
-live-step c opening past (Event.Resume client taken fetched (ResumeAnswer.Refused refusal) stored) entry a b l = inl l
-live-step c opening past (Event.Start client started op) entry a b l = inl l
-live-step c opening past (Event.End client ended op outcome told seen) entry a b l = inl l
 live-step c opening past (Event.Finish client done state stored) entry a b l =
     by_test (entry == done) _ (λ t. inr (inl (flip-eqb entry done t))) (λ f. inl (live-without done (live past) entry f l))
-live-step c opening past (Event.Judge client judged version state stored) entry a b l = inl l
-live-step c opening past (Event.Unplug client device answer) entry a b l = inl l
-live-step c opening past (Event.Plug client device answer) entry a b l = inl l
-live-step c opening past (Event.GiveBack client (Back.Tag tag)) entry a b l = inl l
-live-step c opening past (Event.GiveBack client (Back.Pending pending)) entry a b l = inl l
 live-step c opening past (Event.GiveBack client (Back.Entry given)) entry a b l =
     by_test (entry == given) _ (λ t. inr (inr (a.3, flip-eqb entry given t))) (λ f. inl (live-without given (live past) entry f l))
-live-step c opening past Event.Cut entry a b l = inl l
+live-step c opening past _ entry a b l = inl l
 
 -- An entry that was taken is live.
 taken-live : (event : Event) (past : List Event) (entry : ℕ) → takes entry event ≡ true → is_live (live (event ∷ past)) entry ≡ true
-taken-live (Event.Boot number time limit found boards) past entry e = cc
-taken-live (Event.Query client query) past entry e = cc
-taken-live (Event.Ask client request pending answer) past entry e = cc
 taken-live (Event.Claim client request fetched (ClaimAnswer.Entry taken)) past entry e = live-last (live past) _ entry e
-taken-live (Event.Claim client request fetched (ClaimAnswer.Kept kept state)) past entry e = cc
-taken-live (Event.Claim client request fetched (ClaimAnswer.Refused refusal)) past entry e = cc
-taken-live (Event.Schedule client request answer) past entry e = cc
 taken-live (Event.Resume client taken fetched ResumeAnswer.Begun stored) past entry e = live-last (live past) _ entry e
-taken-live (Event.Resume client taken fetched (ResumeAnswer.Refused refusal) stored) past entry e = cc
-taken-live (Event.Start client started op) past entry e = cc
-taken-live (Event.End client ended op outcome told seen) past entry e = cc
-taken-live (Event.Finish client done state stored) past entry e = cc
-taken-live (Event.Judge client judged version state stored) past entry e = cc
-taken-live (Event.Unplug client device answer) past entry e = cc
-taken-live (Event.Plug client device answer) past entry e = cc
-taken-live (Event.GiveBack client what) past entry e = cc
-taken-live Event.Cut past entry e = cc
+taken-live _ past entry e = cc
 
 -- ---- what a boot keeps
 
@@ -263,19 +236,7 @@ fresh-idle (Event.Boot number time limit found boards) before b =
       steps = tt;
       ended = λ entry t. fresh-taken (Event.Boot number time limit found boards) before entry t.later t.event t.before _ refl t.are t.in_boot t.takes_it;
     }
-fresh-idle (Event.Query client query) before b = cc
-fresh-idle (Event.Ask client request pending answer) before b = cc
-fresh-idle (Event.Claim client request fetched answer) before b = cc
-fresh-idle (Event.Schedule client request answer) before b = cc
-fresh-idle (Event.Resume client taken fetched answer stored) before b = cc
-fresh-idle (Event.Start client started op) before b = cc
-fresh-idle (Event.End client ended op outcome told seen) before b = cc
-fresh-idle (Event.Finish client done state stored) before b = cc
-fresh-idle (Event.Judge client judged version state stored) before b = cc
-fresh-idle (Event.Unplug client device answer) before b = cc
-fresh-idle (Event.Plug client device answer) before b = cc
-fresh-idle (Event.GiveBack client what) before b = cc
-fresh-idle Event.Cut before b = cc
+fresh-idle _ before b = cc
 
 -- Before the first boot there was nothing.
 pub none-idle : EndsIdle []

@@ -21,10 +21,8 @@ use Rattle.client_plays.specs.Tools.{Files, ShelfTold, ShelvesStay, shelf_of}
 note-found : (digest : List ℕ) (found : Finding) (fetched : Fetched) → IfSome (told fetched) (λ now. now ≡ found) → IfWhole fetched (λ payload. payload.digest ≡ digest) → (note_of fetched ≡ FetchNote.ShelfFault) ⊎ (note_of fetched ≡ note_found digest found)
 note-found digest found (Fetched.Whole payload) f d =
     inr (ap (λ (x : List ℕ). FetchNote.Whole x (length payload.bytes) (raw_number payload)) d ∙ ap (note_found digest) f)
-note-found digest found (Fetched.Missing blocks) f d = inr (ap (note_found digest) f)
-note-found digest found (Fetched.Length other blocks) f d = inr (ap (note_found digest) f)
-note-found digest found (Fetched.Mismatch other blocks) f d = inr (ap (note_found digest) f)
 note-found digest found (Fetched.ShelfFault blocks) f d = inl refl
+note-found digest found _ f d = inr (ap (note_found digest) f)
 
 -- It was looked for under the digest of the hold's release.
 found-same : (all : List (List ℕ × List ℕ)) (digest other : List ℕ) (size length : ℕ) → digest ≡ other → size ≡ length → found_of (file_of all digest) digest size ≡ found_of (file_of all other) other length

@@ -103,11 +103,7 @@ module _ {X : Type 0} (wanting : Bool) (client : ℕ) (Wide Play : X → List Mo
 -- No step was made, so it is one of any plugin.
 none-made : (op : Op) (entry : ℕ) (payload : SealedBytes) (was is : BoardState) (answer : Result ⊤ BoardFault) → StepGives no_steps op entry payload was answer is → ⊥
 none-made Op.Prepare entry payload was is answer s = s
-none-made Op.Detach entry payload was is answer s = s
-none-made Op.Write entry payload was is answer s = s
-none-made Op.Attach entry payload was is answer s = s
-none-made Op.Reload entry payload was is answer s = s
-none-made Op.Cleanup entry payload was is answer s = s
+none-made _ entry payload was is answer s = s
 
 steps-wider : (steps : PluginSteps) (client entry : ℕ) (payload : SealedBytes) (board : BoardState) → IsWider (StepsPlay steps client entry payload board) (StepsPlay no_steps client entry payload board)
 steps-wider steps client entry payload board [] p = p
@@ -152,11 +148,8 @@ module _ (facts : Facts) (opening : List Row) (means : Means) where
   put_off-wider client request false moments p = install-wider client request moments p
 
   pub item-wider : (client : ℕ) (item : Item) → IsWider (Plays facts opening means client item) (Plays facts opening (files_alone means.files) client item)
-  item-wider client (Item.Ask query) moments p = p
   item-wider client (Item.Install request) moments p = put_off-wider client request request.flags.offline moments p
-  item-wider client (Item.Settle selector) moments p = p
-  item-wider client (Item.Unplug selector) moments p = p
-  item-wider client (Item.Plug selector) moments p = p
+  item-wider client _ moments p = p
 
   after_resume-wider : (entry : ℕ) (past : List Event) (answer : ResumeAnswer) → IsWider (AfterResume facts opening means.plugins entry past answer) (AfterResume facts opening (λ place. no_steps) entry past answer)
   after_resume-wider entry past ResumeAnswer.Begun moments p = update-wider 0 entry past moments p

@@ -51,19 +51,7 @@ log-grew name log s l =
 -- A boot that couldn't read the history is off.
 fault-off : (event : Event) (past : List Event) → is_fault_boot event ≡ true → off (event ∷ past) ≡ true
 fault-off (Event.Boot number time limit found boards) past e = e
-fault-off (Event.Query client query) past e = cc
-fault-off (Event.Ask client request pending answer) past e = cc
-fault-off (Event.Claim client request fetched answer) past e = cc
-fault-off (Event.Schedule client request answer) past e = cc
-fault-off (Event.Resume client entry fetched answer stored) past e = cc
-fault-off (Event.Start client entry op) past e = cc
-fault-off (Event.End client entry op outcome told seen) past e = cc
-fault-off (Event.Finish client entry state stored) past e = cc
-fault-off (Event.Judge client entry version state stored) past e = cc
-fault-off (Event.Unplug client device answer) past e = cc
-fault-off (Event.Plug client device answer) past e = cc
-fault-off (Event.GiveBack client what) past e = cc
-fault-off Event.Cut past e = cc
+fault-off _ past e = cc
 
 faults-off : (past : List Event) → AllFaults past → 0 < boots past → off past ≡ true
 faults-off [] a b = absurd (omega arith)
@@ -81,19 +69,7 @@ on-unread loaded past h b o u = let bad : true ≡ false = sym (on-loaded loaded
 -- A boot that isn't off read the history.
 boot-met : (event : Event) → is_boot event ≡ true → puts_off event ≡ meets_fault event
 boot-met (Event.Boot number time limit found boards) b = refl
-boot-met (Event.Query client query) b = cc
-boot-met (Event.Ask client request pending answer) b = cc
-boot-met (Event.Claim client request fetched answer) b = cc
-boot-met (Event.Schedule client request answer) b = cc
-boot-met (Event.Resume client entry fetched answer stored) b = cc
-boot-met (Event.Start client entry op) b = cc
-boot-met (Event.End client entry op outcome told seen) b = cc
-boot-met (Event.Finish client entry state stored) b = cc
-boot-met (Event.Judge client entry version state stored) b = cc
-boot-met (Event.Unplug client device answer) b = cc
-boot-met (Event.Plug client device answer) b = cc
-boot-met (Event.GiveBack client what) b = cc
-boot-met Event.Cut b = cc
+boot-met _ b = cc
 
 or-left : (a b : Bool) → (a || b) ≡ false → b ≡ false
 or-left true b e = cc

@@ -24,10 +24,8 @@ use Rattle.update_log.specs.Once.{ShowsFirst}
 use Rattle.update_log.specs.Shows.{Campaign, HasRaw, IsPrefix, RawAllowed, began_since, digest_of, first_of_board, home_before, home_or, is_began, marks, tells_home, told, told_by}
 
 abbrev pub is_ended : Mark → Bool
-is_ended Mark.Entered = false
-is_ended (Mark.Began entry) = false
 is_ended (Mark.Ended entry digest) = true
-is_ended Mark.Left = false
+is_ended _ = false
 
 -- where the end of a write stands, so does a begin
 abbrev pub BeginsToo : List Mark → Type 0

@@ -45,11 +45,7 @@ prefix-shorter (x ∷ xs) (y ∷ ys) p = let h = prefix-shorter xs ys p.1 in ome
 
 marks-few : (op : Op) (entry : ℕ) (digest : List ℕ) → length (marks op entry digest) ≤ 2
 marks-few Op.Prepare entry digest = omega arith
-marks-few Op.Detach entry digest = omega arith
-marks-few Op.Write entry digest = omega arith
-marks-few Op.Attach entry digest = omega arith
-marks-few Op.Reload entry digest = omega arith
-marks-few Op.Cleanup entry digest = omega arith
+marks-few _ entry digest = omega arith
 
 open-few : (facts : Facts) (opening : List Row) (past : List Event) (number : ℕ) → length (open_marks facts opening past number) ≤ 2
 open-few facts opening past number = at (open_on facts opening past number)

@@ -29,22 +29,7 @@ pub record FaultBoot (event : Event) : Type 0 where
 
 pub fault-boot : (event : Event) → is_fault_boot event ≡ true → FaultBoot event
 fault-boot (Event.Boot number time limit Found.Fault boards) h = record { number = number; time = time; limit = limit; boards = boards; is = refl }
-fault-boot (Event.Boot number time limit Found.Plain boards) h = cc
-fault-boot (Event.Boot number time limit Found.Kept boards) h = cc
-fault-boot (Event.Boot number time limit Found.Lost boards) h = cc
-fault-boot (Event.Query a b) h = cc
-fault-boot (Event.Ask a b c d) h = cc
-fault-boot (Event.Claim a b c d) h = cc
-fault-boot (Event.Schedule a b c) h = cc
-fault-boot (Event.Resume a b c d e) h = cc
-fault-boot (Event.Start a b c) h = cc
-fault-boot (Event.End a b c d e f) h = cc
-fault-boot (Event.Finish a b c d) h = cc
-fault-boot (Event.Judge a b c d e) h = cc
-fault-boot (Event.Unplug a b c) h = cc
-fault-boot (Event.Plug a b c) h = cc
-fault-boot (Event.GiveBack a b) h = cc
-fault-boot Event.Cut h = cc
+fault-boot _ h = cc
 
 -- what is said over either rows
 pub record SaidOver (facts : Facts) (first : List Seen) (before opening : List Row) (past : List Event) (number : ℕ) : Type 0 where

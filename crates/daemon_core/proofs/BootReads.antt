@@ -28,10 +28,7 @@ use Rattle.daemon_core.specs.declared.reading.Loaded.{Loaded}
 -- the rows with what was found are those without or with the change in doubt
 found-cases : (found : Found) (change : Option Change) (rows : List Row) → (rows_found found change rows ≡ rows) ⊎ (rows_found found change rows ≡ with_doubt change rows)
 found-cases Found.Kept (Some change) rows = inr refl
-found-cases Found.Kept None rows = inl refl
-found-cases Found.Plain change rows = inl refl
-found-cases Found.Lost change rows = inl refl
-found-cases Found.Fault change rows = inl refl
+found-cases _ _ rows = inl refl
 
 told-cases : (told : List Row → Type 0) (found : Found) (change : Option Change) (rows : List Row) → ((all : List Row) → told all → all ≡ rows_found found change rows) → (all : List Row) → told all → (all ≡ rows) ⊎ (all ≡ with_doubt change rows)
 told-cases told found change rows h all t = at (found-cases found change rows)
@@ -42,11 +39,9 @@ told-cases told found change rows h all t = at (found-cases found change rows)
 
 -- a boot that went well leaves no doubt
 found-none : (found : Found) (change : Option Change) → FoundAllowed found change → is_found_fault found ≡ false → doubt_found found change ≡ None
-found-none Found.Kept change a w = refl
-found-none Found.Lost change a w = refl
-found-none Found.Plain None a w = refl
 found-none Found.Plain (Some change) a w = absurd a
 found-none Found.Fault change a w = cc
+found-none _ _ a w = refl
 
 -- it adds one row at most
 changed-one : (change : Change) (rows : List Row) → length (changed change rows) ≤ length rows + 1
@@ -55,10 +50,7 @@ changed-one (Change.Advance entry state reason time) rows = omega (arith, length
 
 found-one : (found : Found) (change : Option Change) (rows : List Row) → length (rows_found found change rows) ≤ length rows + 1
 found-one Found.Kept (Some change) rows = changed-one change rows
-found-one Found.Kept None rows = omega arith
-found-one Found.Plain change rows = omega arith
-found-one Found.Lost change rows = omega arith
-found-one Found.Fault change rows = omega arith
+found-one _ _ rows = omega arith
 
 module _ {K : Type 0} (tells : K → List Row → Type 0) (doubts : K → Option Change) (faults : K → ℕ) (settled : K → K → Type 0) (old : Housed K) (keeper : K) (h : IsHouse tells doubts old) (k : IsAnnals old.annals) where
   -- a house whose keeper has these rows still

@@ -105,9 +105,7 @@ module _ {K : Type 0} (tells : K → List Row → Type 0) (doubts : K → Option
     -- it left the room
     first-room : (r : Result Loaded NoMemory) → FirstRead tells doubts faults r room.annals mid.annals room.keeper mid.keeper → mid.annals.room ≡ room.annals.room
     first-room (Ok (Loaded.Found found)) f = ap (λ (a : Annalled). a.room) f.0.opened_so
-    first-room (Ok (Loaded.Bad entry)) f = ap (λ (a : Annalled). a.room) f.0.same
-    first-room (Ok Loaded.Fault) f = ap (λ (a : Annalled). a.room) f.0.same
-    first-room (Err refused) f = ap (λ (a : Annalled). a.room) f.0.same
+    first-room _ f = ap (λ (a : Annalled). a.room) f.0.same
 
     same-room : mid.annals.room ≡ room.annals.room
     same-room = by_test room.annals.loaded _ (λ t. ap (λ (a : Annalled). a.room) (later t).0) (λ l. first-room result (first l))

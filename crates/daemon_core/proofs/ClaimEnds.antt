@@ -110,11 +110,7 @@ end-place_own facts first opening past client entry op outcome ms shown number p
 -- The marks of a step are two at most.
 few-marks : (op : Op) (entry : ℕ) (digest : List ℕ) → length (marks op entry digest) ≤ 2
 few-marks Op.Prepare entry digest = omega arith
-few-marks Op.Detach entry digest = omega arith
-few-marks Op.Write entry digest = omega arith
-few-marks Op.Attach entry digest = omega arith
-few-marks Op.Reload entry digest = omega arith
-few-marks Op.Cleanup entry digest = omega arith
+few-marks _ entry digest = omega arith
 
 prefix-short : {X : Type 0} (xs ys : List X) → IsPrefix xs ys → length xs ≤ length ys
 prefix-short [] ys p = omega arith

@@ -67,17 +67,12 @@ close-suits told doubted client entry number l tail b blocks h k o s =
     all-told (told h.keeper) h.annals.core.rows entry k.rows_are (any-row h.annals.core.rows entry r.row found)
 
 stored-changed : {K : Type 0} (told : K → List Row → Type 0) (doubted : K → Option Change) (change : Change) (stored : Stored) (old new : K) → StoredAs change stored (told old) (told new) (doubted new) → stored ≢ Stored.Unchanged
-stored-changed told doubted change Stored.Yes old new s = λ e. cc
-stored-changed told doubted change Stored.Fault old new s = λ e. cc
-stored-changed told doubted change Stored.NoMemory old new s = λ e. cc
 stored-changed told doubted change Stored.Unchanged old new s = absurd s
+stored-changed told doubted change _ old new s = λ e. cc
 
 pub closed-unchanged : {K : Type 0} (told : K → List Row → Type 0) (doubted : K → Option Change) (closed : RowState) (change : Change) (stored : Stored) (old new : K) → ClosedAs told doubted closed change stored old new → UnchangedExactly closed stored
 closed-unchanged told doubted RowState.Begun change stored old new s = s.0
-closed-unchanged told doubted RowState.Pending change stored old new s = stored-changed told doubted change stored old new s
-closed-unchanged told doubted RowState.Success change stored old new s = stored-changed told doubted change stored old new s
-closed-unchanged told doubted RowState.Failed change stored old new s = stored-changed told doubted change stored old new s
-closed-unchanged told doubted RowState.NeedsReboot change stored old new s = stored-changed told doubted change stored old new s
+closed-unchanged told doubted _ change stored old new s = stored-changed told doubted change stored old new s
 
 -- The keeper's rows once the change was stored, or wasn't.
 after-stored : {K : Type 0} (told : K → List Row → Type 0) (doubted : K → Option Change) (old new : K) (all : List Row) (entry : ℕ) (closed : RowState) (reason time : ℕ) (stored : Stored) → HasRows told doubted old all None → StoredAs (Change.Advance entry closed reason time) stored (told old) (told new) (doubted new)
@@ -105,9 +100,7 @@ finish_event client entry closed stored = Event.Finish client entry (closing_sto
 
 advanced-length : (stored : Stored) (entry : ℕ) (state : RowState) (reason time : ℕ) (all : List Row) → length (rows_by (fate_stored stored) (Some (Change.Advance entry state reason time)) all) ≤ length all
 advanced-length Stored.Yes entry state reason time all = let e = length-map (with_state entry state reason time) all in omega (arith, e)
-advanced-length Stored.Fault entry state reason time all = omega arith
-advanced-length Stored.NoMemory entry state reason time all = omega arith
-advanced-length Stored.Unchanged entry state reason time all = omega arith
+advanced-length _ entry state reason time all = omega arith
 
 pub finish-ready : (a : Annalled) (client entry number : ℕ) (l : LiveEntry) (tail : List Mark) (b : BoardState) (blocks : ℕ) (closed : RowState) (stored : Stored) → IsAnnals a → Runs a → 0 < boots (past_in a) → HomeTo a client entry number l tail b blocks → DoneIn a entry closed → UnchangedExactly closed stored → IsReady a (finish_event client entry closed stored)
 finish-ready a client entry number l tail b blocks closed stored k r n s d u =
@@ -159,10 +152,7 @@ house-finished told doubted client entry number l tail b blocks closed stored ol
 
 closed-before : {K : Type 0} (told : K → List Row → Type 0) (doubted : K → Option Change) (closed : RowState) (change : Change) (stored : Stored) (old new : K) → ClosedAs told doubted closed change stored old new → ToldBefore told old new
 closed-before told doubted RowState.Begun change stored old new c = told-same told old new c.1
-closed-before told doubted RowState.Pending change stored old new c = stored-before told old new change stored (doubted new) c
-closed-before told doubted RowState.Success change stored old new c = stored-before told old new change stored (doubted new) c
-closed-before told doubted RowState.Failed change stored old new c = stored-before told old new change stored (doubted new) c
-closed-before told doubted RowState.NeedsReboot change stored old new c = stored-before told old new change stored (doubted new) c
+closed-before told doubted _ change stored old new c = stored-before told old new change stored (doubted new) c
 
 -- So the keeper fared as the log tells.
 pub finish-fared : {K : Type 0} (signs : Signs K) (doubted : K → Option Change) (client entry : ℕ) (closed state : RowState) (change : Change) (stored : Stored) (old new : Housed K) → past new ≡ Event.Finish client entry state stored ∷ past old → ClosedAs signs.tells doubted closed change stored old.keeper new.keeper

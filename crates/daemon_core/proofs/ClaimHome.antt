@@ -126,19 +126,7 @@ house-back told doubted client entry number l tail b blocks old new pool h o k a
 live-faults : (past : List Event) → AllFaults past → live past ≡ []
 live-faults [] a = refl
 live-faults (Event.Boot number time limit found boards ∷ past) a = refl
-live-faults (Event.Query client query ∷ past) a = let e : false ≡ true = a.0 in cc
-live-faults (Event.Ask client request pending answer ∷ past) a = let e : false ≡ true = a.0 in cc
-live-faults (Event.Claim client request fetched answer ∷ past) a = let e : false ≡ true = a.0 in cc
-live-faults (Event.Schedule client request answer ∷ past) a = let e : false ≡ true = a.0 in cc
-live-faults (Event.Resume client entry fetched answer stored ∷ past) a = let e : false ≡ true = a.0 in cc
-live-faults (Event.Start client entry op ∷ past) a = let e : false ≡ true = a.0 in cc
-live-faults (Event.End client entry op outcome told seen ∷ past) a = let e : false ≡ true = a.0 in cc
-live-faults (Event.Finish client entry state stored ∷ past) a = let e : false ≡ true = a.0 in cc
-live-faults (Event.Judge client entry version state stored ∷ past) a = let e : false ≡ true = a.0 in cc
-live-faults (Event.Unplug client device answer ∷ past) a = let e : false ≡ true = a.0 in cc
-live-faults (Event.Plug client device answer ∷ past) a = let e : false ≡ true = a.0 in cc
-live-faults (Event.GiveBack client what ∷ past) a = let e : false ≡ true = a.0 in cc
-live-faults (Event.Cut ∷ past) a = let e : false ≡ true = a.0 in cc
+live-faults _ a = let e : false ≡ true = a.0 in cc
 
 pub loaded-live : (loaded : Bool) (past : List Event) (entry : ℕ) (l : LiveEntry) → (loaded ≡ false → AllFaults past) → live_entry past entry ≡ Some l → loaded ≡ true
 loaded-live true past entry l u f = refl

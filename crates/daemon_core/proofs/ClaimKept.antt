@@ -66,25 +66,15 @@ fewer-sized facts client hs k = All-filter (IsSized facts) (IsSized facts) (λ (
 
 sized-step : (c : Campaign) (opening : List Row) (past : List Event) (event : Event) → Allowed c opening past event → AllByRecursion (IsSized c.facts) (holds past) → AllByRecursion (IsSized c.facts) (holds (event ∷ past))
 sized-step c opening past (Event.Boot number time limit found boards) a k = tt
-sized-step c opening past (Event.Query client query) a k = k
 sized-step c opening past (Event.Ask client request pending (AskAnswer.Hold blocks release)) a k =
     let h : Held = record { client = client; request = request; pending = pending; blocks = blocks; release = release } in
     let d = hold-accept _ blocks release a.answer_is in
     let f = ask-found c.facts opening past client request pending d.0 blocks release d.1 in
     All-push (IsSized c.facts) (without_client client (holds past)) h (fewer-sized c.facts client (holds past) k) (f.release, f.there, f.blocks_are)
-sized-step c opening past (Event.Ask client request pending (AskAnswer.Kept entry state)) a k = k
-sized-step c opening past (Event.Ask client request pending (AskAnswer.Refused refusal)) a k = k
 sized-step c opening past (Event.Claim client request fetched answer) a k = fewer-sized c.facts client (holds past) k
-sized-step c opening past (Event.Schedule client request answer) a k = k
 sized-step c opening past (Event.Resume client entry fetched answer stored) a k = fewer-sized c.facts client (holds past) k
-sized-step c opening past (Event.Start client entry op) a k = k
-sized-step c opening past (Event.End client entry op outcome told seen) a k = k
-sized-step c opening past (Event.Finish client entry state stored) a k = k
-sized-step c opening past (Event.Judge client entry version state stored) a k = k
-sized-step c opening past (Event.Unplug client device answer) a k = k
-sized-step c opening past (Event.Plug client device answer) a k = k
 sized-step c opening past (Event.GiveBack client what) a k = fewer-sized c.facts client (holds past) k
-sized-step c opening past Event.Cut a k = k
+sized-step c opening past _ a k = k
 
 pub holds-sized : (c : Campaign) (opening : List Row) (past : List Event) → IsLegal c opening past → AllByRecursion (IsSized c.facts) (holds past)
 holds-sized c opening [] l = tt
@@ -119,9 +109,7 @@ adds-few client ticket note (ClaimAnswer.Refused refusal) = omega arith
 
 made-few : {X : Type 0} (fate : Fate) (f : X → Row) (o : Option X) (all : List Row) → length (rows_by fate (option_map (λ x. Change.Add (f x)) o) all) ≤ length all + 1
 made-few Fate.Made f (Some x) all = let e = length_push all (f x) in omega (arith, e)
-made-few Fate.Made f None all = omega arith
-made-few Fate.Doubtful f o all = omega arith
-made-few Fate.Dropped f o all = omega arith
+made-few _ f _ all = omega arith
 
 pub claim-ready : (a : Annalled) (client blocks : ℕ) (ticket : Ticket) (note : FetchNote) (answer : ClaimAnswer) → IsAnnals a → MayClaim a client ticket blocks → MayAnswer a client ticket note answer → IsReady a (claims client ticket note answer)
 claim-ready a client blocks ticket note answer k m w =

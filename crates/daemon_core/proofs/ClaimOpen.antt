@@ -62,14 +62,9 @@ both-left entries gone (s ∷ ss) n a = (live-left entries gone s.entry n.0 a.0,
 
 open-step : (c : Campaign) (opening : List Row) (past : List Event) (event : Event) → Allowed c opening past event → OpenLive past → OpenLive (event ∷ past)
 open-step c opening past (Event.Boot number time limit found boards) a k o = tt
-open-step c opening past (Event.Query client query) a k o = k o
-open-step c opening past (Event.Ask client request pending answer) a k o = k o
 open-step c opening past (Event.Claim client request fetched (ClaimAnswer.Entry entry)) a k o =
     All-map _ _ (open_steps past) (k o) (λ s h. live-push (live past) _ s.entry h)
-open-step c opening past (Event.Claim client request fetched (ClaimAnswer.Kept entry state)) a k o = k o
 open-step c opening past (Event.Claim client request fetched (ClaimAnswer.Refused refusal)) a k o = k (or-false (is_keeper_fault refusal) (off past) o).1
-open-step c opening past (Event.Schedule client request (ClaimAnswer.Entry entry)) a k o = k o
-open-step c opening past (Event.Schedule client request (ClaimAnswer.Kept entry state)) a k o = k o
 open-step c opening past (Event.Schedule client request (ClaimAnswer.Refused refusal)) a k o = k (or-false (is_keeper_fault refusal) (off past) o).1
 open-step c opening past (Event.Resume client entry fetched ResumeAnswer.Begun stored) a k o =
     All-map _ _ (open_steps past) (k (or-false (is_fault stored) (off past) o).1) (λ s h. live-push (live past) _ s.entry h)
@@ -83,12 +78,9 @@ open-step c opening past (Event.Finish client entry state stored) a k o =
     let f = a.2 in
     both-left (live past) entry (open_steps past) (not-open (open_steps past) entry f.open_none) (k (or-false (is_fault stored) (off past) o).1)
 open-step c opening past (Event.Judge client entry version state stored) a k o = k (or-false (is_fault stored) (off past) o).1
-open-step c opening past (Event.Unplug client device answer) a k o = k o
-open-step c opening past (Event.Plug client device answer) a k o = k o
-open-step c opening past (Event.GiveBack client (Back.Tag tag)) a k o = k o
-open-step c opening past (Event.GiveBack client (Back.Pending entry)) a k o = k o
 open-step c opening past (Event.GiveBack client (Back.Entry entry)) a k o = let off-is : off past ≡ true = a.3 in cc
 open-step c opening past Event.Cut a k o = cc
+open-step c opening past _ a k o = k o
 
 pub open-live : (c : Campaign) (opening : List Row) (past : List Event) → IsLegal c opening past → OpenLive past
 open-live c opening [] l o = tt

@@ -12,30 +12,11 @@ use Rattle.daemon_core.specs.Comparing.{DifferFirstAt, number_of, same_optional,
 
 state-same : (a b : RowState) → (number_of a == number_of b) ≡ true → a ≡ b
 state-same RowState.Pending RowState.Pending h = refl
-state-same RowState.Pending RowState.Success h = cc
-state-same RowState.Pending RowState.Failed h = cc
-state-same RowState.Pending RowState.NeedsReboot h = cc
-state-same RowState.Pending RowState.Begun h = cc
-state-same RowState.Success RowState.Pending h = cc
 state-same RowState.Success RowState.Success h = refl
-state-same RowState.Success RowState.Failed h = cc
-state-same RowState.Success RowState.NeedsReboot h = cc
-state-same RowState.Success RowState.Begun h = cc
-state-same RowState.Failed RowState.Pending h = cc
-state-same RowState.Failed RowState.Success h = cc
 state-same RowState.Failed RowState.Failed h = refl
-state-same RowState.Failed RowState.NeedsReboot h = cc
-state-same RowState.Failed RowState.Begun h = cc
-state-same RowState.NeedsReboot RowState.Pending h = cc
-state-same RowState.NeedsReboot RowState.Success h = cc
-state-same RowState.NeedsReboot RowState.Failed h = cc
 state-same RowState.NeedsReboot RowState.NeedsReboot h = refl
-state-same RowState.NeedsReboot RowState.Begun h = cc
-state-same RowState.Begun RowState.Pending h = cc
-state-same RowState.Begun RowState.Success h = cc
-state-same RowState.Begun RowState.Failed h = cc
-state-same RowState.Begun RowState.NeedsReboot h = cc
 state-same RowState.Begun RowState.Begun h = refl
+state-same _ _ h = cc
 
 optional-same : {A : Type 0} (same : A → A → Bool) → ((x y : A) → same x y ≡ true → x ≡ y) → (a b : Option A) → same_optional same a b ≡ true → a ≡ b
 optional-same same is None None h = refl

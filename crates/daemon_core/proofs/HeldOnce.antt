@@ -113,7 +113,6 @@ fewer-apart past client ls a = All-map _ _ ls a (λ l h. none-found (λ (x : Hel
 
 once-step : (c : Campaign) (opening : List Row) (past : List Event) (event : Event) → IsHistory opening → IsLegal c opening past → Allowed c opening past event → OutOnce past → OutOnce (event ∷ past)
 once-step c opening past (Event.Boot number time limit found boards) v l a k = record { holds_once = λ _. omega arith; live_once = λ _. omega arith; apart = tt }
-once-step c opening past (Event.Query client query) v l a k = record { holds_once = k.holds_once; live_once = k.live_once; apart = k.apart }
 once-step c opening past (Event.Ask client request pending (AskAnswer.Hold blocks release)) v l a k =
     let h : Held = record { client = client; request = request; pending = pending; blocks = blocks; release = release } in
     record {
@@ -121,8 +120,6 @@ once-step c opening past (Event.Ask client request pending (AskAnswer.Hold block
       live_once = k.live_once;
       apart = both-apart past h (live past) (not-client (live past) client a.free.live) k.apart;
     }
-once-step c opening past (Event.Ask client request pending (AskAnswer.Kept entry state)) v l a k = record { holds_once = k.holds_once; live_once = k.live_once; apart = k.apart }
-once-step c opening past (Event.Ask client request pending (AskAnswer.Refused refusal)) v l a k = record { holds_once = k.holds_once; live_once = k.live_once; apart = k.apart }
 once-step c opening past (Event.Claim client request fetched (ClaimAnswer.Entry entry)) v l a k =
     let w = past-kept c opening past v l in
     let ca = a.1 in
@@ -138,7 +135,6 @@ once-step c opening past (Event.Claim client request fetched (ClaimAnswer.Kept e
     record { holds_once = fewer-holds (holds past) client k.holds_once; live_once = k.live_once; apart = fewer-apart past client (live past) k.apart }
 once-step c opening past (Event.Claim client request fetched (ClaimAnswer.Refused refusal)) v l a k =
     record { holds_once = fewer-holds (holds past) client k.holds_once; live_once = k.live_once; apart = fewer-apart past client (live past) k.apart }
-once-step c opening past (Event.Schedule client request answer) v l a k = record { holds_once = k.holds_once; live_once = k.live_once; apart = k.apart }
 once-step c opening past (Event.Resume client entry fetched ResumeAnswer.Begun stored) v l a k =
     let w = past-kept c opening past v l in
     let ra = a.1 in
@@ -151,20 +147,15 @@ once-step c opening past (Event.Resume client entry fetched ResumeAnswer.Begun s
     }
 once-step c opening past (Event.Resume client entry fetched (ResumeAnswer.Refused refusal) stored) v l a k =
     record { holds_once = fewer-holds (holds past) client k.holds_once; live_once = k.live_once; apart = fewer-apart past client (live past) k.apart }
-once-step c opening past (Event.Start client entry op) v l a k = record { holds_once = k.holds_once; live_once = k.live_once; apart = k.apart }
-once-step c opening past (Event.End client entry op outcome told seen) v l a k = record { holds_once = k.holds_once; live_once = k.live_once; apart = k.apart }
 once-step c opening past (Event.Finish client entry state stored) v l a k =
     record { holds_once = k.holds_once; live_once = fewer-live (live past) entry k.live_once; apart = All-filter _ _ (λ (x : LiveEntry). not (x.entry == entry)) (live past) k.apart (λ x h _. h) }
-once-step c opening past (Event.Judge client entry version state stored) v l a k = record { holds_once = k.holds_once; live_once = k.live_once; apart = k.apart }
-once-step c opening past (Event.Unplug client device answer) v l a k = record { holds_once = k.holds_once; live_once = k.live_once; apart = k.apart }
-once-step c opening past (Event.Plug client device answer) v l a k = record { holds_once = k.holds_once; live_once = k.live_once; apart = k.apart }
 once-step c opening past (Event.GiveBack client (Back.Tag tag)) v l a k =
     record { holds_once = fewer-holds (holds past) client k.holds_once; live_once = k.live_once; apart = fewer-apart past client (live past) k.apart }
 once-step c opening past (Event.GiveBack client (Back.Pending entry)) v l a k =
     record { holds_once = fewer-holds (holds past) client k.holds_once; live_once = k.live_once; apart = fewer-apart past client (live past) k.apart }
 once-step c opening past (Event.GiveBack client (Back.Entry entry)) v l a k =
     record { holds_once = fewer-holds (holds past) client k.holds_once; live_once = fewer-live (live past) entry k.live_once; apart = All-filter _ _ (λ (x : LiveEntry). not (x.entry == entry)) (live past) (fewer-apart past client (live past) k.apart) (λ x h _. h) }
-once-step c opening past Event.Cut v l a k = record { holds_once = k.holds_once; live_once = k.live_once; apart = k.apart }
+once-step c opening past _ v l a k = record { holds_once = k.holds_once; live_once = k.live_once; apart = k.apart }
 
 pub out-once : (c : Campaign) (opening : List Row) (past : List Event) → IsHistory opening → IsLegal c opening past → OutOnce past
 out-once c opening [] v l = record { holds_once = λ _. omega arith; live_once = λ _. omega arith; apart = tt }

@@ -49,7 +49,6 @@ pub record IsJudged (past : List Event) (views : List DeviceView) (rows : List R
   pub state_is : state ≡ judge version row
 
 may-judge : (past : List Event) (entry : ℕ) (state : RowState) → is_unsettled state ≡ true → must_wait past entry state ≡ false → may_judge past state entry ≡ true
-may-judge past entry RowState.Pending u w = cc
 may-judge past entry RowState.Begun u w = rw w refl
 may-judge past entry RowState.NeedsReboot u w = at (is_live (live past) entry) (finished entry past) w
   where
@@ -57,8 +56,7 @@ may-judge past entry RowState.NeedsReboot u w = at (is_live (live past) entry) (
     at true b h = cc
     at false true h = cc
     at false false h = refl
-may-judge past entry RowState.Success u w = cc
-may-judge past entry RowState.Failed u w = cc
+may-judge past entry _ u w = cc
 
 shown-home : (view : DeviceView) (version : List ℕ) → version_of view ≡ Some version → is_home view.seen ≡ true
 shown-home view version h = at view.seen h

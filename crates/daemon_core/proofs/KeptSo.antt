@@ -30,10 +30,8 @@ so-clear b told doubted keeper rows k = keeps-clear told doubted keeper rows (so
 
 -- Where it wasn't opened again before a boot, it isn't behind it.
 pub still-none : (found : Found) (b : Bool) → b ≡ false → still_reopened found b ≡ false
-still-none Found.Plain b e = refl
-still-none Found.Kept b e = refl
-still-none Found.Lost b e = refl
 still-none Found.Fault b e = e
+still-none _ b e = refl
 
 -- Behind a boot that read the history it doesn't count as opened again.
 pub still-read : (found : Found) (b : Bool) → is_found_fault found ≡ false → still_reopened found b ≡ false

@@ -13,35 +13,11 @@ use Rattle.update_log.specs.declared.event.Event.{Event}
 -- Only a boot has a time and a limit.
 pub limit-same : (event : Event) (o : Option ℕ) → is_boot event ≡ false → limit_after event o ≡ o
 limit-same (Event.Boot number time limit found boards) o h = cc
-limit-same (Event.Query client query) o h = refl
-limit-same (Event.Ask client request pending answer) o h = refl
-limit-same (Event.Claim client request fetched answer) o h = refl
-limit-same (Event.Schedule client request answer) o h = refl
-limit-same (Event.Resume client entry fetched answer stored) o h = refl
-limit-same (Event.Start client entry op) o h = refl
-limit-same (Event.End client entry op outcome told seen) o h = refl
-limit-same (Event.Finish client entry state stored) o h = refl
-limit-same (Event.Judge client entry version state stored) o h = refl
-limit-same (Event.Unplug client device answer) o h = refl
-limit-same (Event.Plug client device answer) o h = refl
-limit-same (Event.GiveBack client what) o h = refl
-limit-same Event.Cut o h = refl
+limit-same _ o h = refl
 
 pub time-same : (event : Event) (n : ℕ) → is_boot event ≡ false → time_after event n ≡ n
 time-same (Event.Boot number time limit found boards) o h = cc
-time-same (Event.Query client query) o h = refl
-time-same (Event.Ask client request pending answer) o h = refl
-time-same (Event.Claim client request fetched answer) o h = refl
-time-same (Event.Schedule client request answer) o h = refl
-time-same (Event.Resume client entry fetched answer stored) o h = refl
-time-same (Event.Start client entry op) o h = refl
-time-same (Event.End client entry op outcome told seen) o h = refl
-time-same (Event.Finish client entry state stored) o h = refl
-time-same (Event.Judge client entry version state stored) o h = refl
-time-same (Event.Unplug client device answer) o h = refl
-time-same (Event.Plug client device answer) o h = refl
-time-same (Event.GiveBack client what) o h = refl
-time-same Event.Cut o h = refl
+time-same _ o h = refl
 
 none-over : (o : Option ℕ) → IfSome o (λ m. 0 ≤ m)
 none-over None = tt
@@ -71,19 +47,7 @@ limit-met (Some m) n limit h e g = let s : m ≡ limit = cc in let t : m ≡ n =
 pub faults-off : (past : List Event) → AllFaults past → 0 < boots past → off past ≡ true
 faults-off [] a h = absurd (omega arith)
 faults-off (Event.Boot number time limit found boards ∷ past) a h = a.0
-faults-off (Event.Query client query ∷ past) a h = let e : false ≡ true = a.0 in cc
-faults-off (Event.Ask client request pending answer ∷ past) a h = let e : false ≡ true = a.0 in cc
-faults-off (Event.Claim client request fetched answer ∷ past) a h = let e : false ≡ true = a.0 in cc
-faults-off (Event.Schedule client request answer ∷ past) a h = let e : false ≡ true = a.0 in cc
-faults-off (Event.Resume client entry fetched answer stored ∷ past) a h = let e : false ≡ true = a.0 in cc
-faults-off (Event.Start client entry op ∷ past) a h = let e : false ≡ true = a.0 in cc
-faults-off (Event.End client entry op outcome told seen ∷ past) a h = let e : false ≡ true = a.0 in cc
-faults-off (Event.Finish client entry state stored ∷ past) a h = let e : false ≡ true = a.0 in cc
-faults-off (Event.Judge client entry version state stored ∷ past) a h = let e : false ≡ true = a.0 in cc
-faults-off (Event.Unplug client device answer ∷ past) a h = let e : false ≡ true = a.0 in cc
-faults-off (Event.Plug client device answer ∷ past) a h = let e : false ≡ true = a.0 in cc
-faults-off (Event.GiveBack client what ∷ past) a h = let e : false ≡ true = a.0 in cc
-faults-off (Event.Cut ∷ past) a h = let e : false ≡ true = a.0 in cc
+faults-off _ a h = let e : false ≡ true = a.0 in cc
 
 -- Whether the power is to be cut, by the limit.
 pub cut-met : (past : List Event) (limit : ℕ) → IfSome (limit_of past) (λ m. counted past ≤ m) → limit_of past ≡ Some limit → MatchBool (nat_le limit (counted past)) (limit_of past ≡ Some (counted past)) (BelowLimit past)

@@ -165,10 +165,7 @@ owed-adds c opening past (Event.Plug client device answer) b a s =
     owed-quiet past (Event.Plug client device answer) (b.on refl) (same-number (length (holds past))) refl (λ e. refl)
 owed-adds c opening past Event.Cut b a s =
     owed-quiet past Event.Cut a.on (same-number (length (holds past))) refl (λ e. refl)
-owed-adds c opening past (Event.Start client entry op) b a s = cc
-owed-adds c opening past (Event.End client entry op outcome told seen) b a s = cc
-owed-adds c opening past (Event.Finish client entry state stored) b a s = cc
-owed-adds c opening past (Event.GiveBack client what) b a s = cc
+owed-adds c opening past _ b a s = cc
 
 strokes-more : (past : List Event) (client entry : ℕ) (op : Op) (e : ℕ) → length (strokes e past) ≤ length (strokes e (Event.Start client entry op ∷ past))
 strokes-more past client entry op e = by_test (entry == e) _ (λ t. rw t (omega arith)) (λ t. rw t (omega arith))
@@ -245,16 +242,7 @@ owed-spends c opening past (Event.GiveBack client (Back.Entry entry)) g k b a s 
     back-less past (Event.GiveBack client (Back.Entry entry)) refl
     (gone-on past (Event.GiveBack client (Back.Entry entry)) entry a.0 a.1 (fewer client (holds past)) refl (λ e. refl))
     (gone-off past (Event.GiveBack client (Back.Entry entry)) entry a.0 a.1 (fewer client (holds past)) refl)
-owed-spends c opening past (Event.Boot number time limit found boards) g k b a s = cc
-owed-spends c opening past (Event.Query client query) g k b a s = cc
-owed-spends c opening past (Event.Ask client request pending answer) g k b a s = cc
-owed-spends c opening past (Event.Claim client request fetched answer) g k b a s = cc
-owed-spends c opening past (Event.Schedule client request answer) g k b a s = cc
-owed-spends c opening past (Event.Resume client entry fetched answer stored) g k b a s = cc
-owed-spends c opening past (Event.Judge client entry version state stored) g k b a s = cc
-owed-spends c opening past (Event.Unplug client device answer) g k b a s = cc
-owed-spends c opening past (Event.Plug client device answer) g k b a s = cc
-owed-spends c opening past Event.Cut g k b a s = cc
+owed-spends c opening past _ g k b a s = cc
 
 pub owed-cut_live : (past : List Event) (entry : ℕ) (l : LiveEntry) → off past ≡ false → live_entry past entry ≡ Some l → owed (Event.Cut ∷ past) + 1 ≤ owed past
 owed-cut_live past entry l o e = let less = off-less_live past entry l e in let q = owed-when_on past o in omega (arith, less, q)

@@ -18,11 +18,7 @@ Below (Stroke.Ended op ∷ rest) = length rest + 1 ≤ 2 * op_number op
 
 six : (op : Op) → op_number op ≤ 6
 six Op.Prepare = omega arith
-six Op.Detach = omega arith
-six Op.Write = omega arith
-six Op.Attach = omega arith
-six Op.Reload = omega arith
-six Op.Cleanup = omega arith
+six _ = omega arith
 
 below : (s : List Stroke) → InOrder s → Below s
 below [] i = tt
@@ -32,9 +28,7 @@ below (Stroke.Started op ∷ Stroke.Ended last ∷ rest) i =
 below (Stroke.Ended op ∷ Stroke.Started last ∷ rest) i =
     let b : length rest + 2 ≤ 2 * op_number last = below (Stroke.Started last ∷ rest) i.1 in
     let e : op ≡ last = i.0 in rw e (omega arith)
-below (Stroke.Ended op ∷ []) i = absurd i
-below (Stroke.Started op ∷ Stroke.Started last ∷ rest) i = absurd i
-below (Stroke.Ended op ∷ Stroke.Ended last ∷ rest) i = absurd i
+below _ i = absurd i
 
 twelve : (s : List Stroke) → Below s → length s ≤ 12
 twelve [] b = omega arith

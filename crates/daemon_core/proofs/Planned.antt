@@ -111,9 +111,7 @@ module _ (plans : List (List PlannedFault)) where
 
   pub claim-plans : {K : Type 0} (client : ℕ) (ticket : Ticket) (fetched : Fetched) (result : Result Claimed ClaimStop) (old new : Housed K) → ClaimGave client ticket fetched result old new → HavePlans plans old.places → HavePlans plans new.places
   claim-plans client ticket fetched (Ok (Claimed.Taken taken)) old new g h = plans-roomier (places_without old.places g.2.0) new.places g.2.2 (plans-without old.places g.2.0 h)
-  claim-plans client ticket fetched (Ok (Claimed.Kept entry state)) old new g h = plans-roomier old.places new.places g.1 h
-  claim-plans client ticket fetched (Ok (Claimed.Refused refusal)) old new g h = plans-roomier old.places new.places g.1 h
-  claim-plans client ticket fetched (Err stopped) old new g h = plans-roomier old.places new.places g.1 h
+  claim-plans client ticket fetched _ old new g h = plans-roomier old.places new.places g.1 h
 
   pub resume-plans : {K : Type 0} (entry : ℕ) (held : Option (Ticket × Fetched)) (result : Result Claimed ResumeStop) (old new : Housed K) → ResumeGave entry held result old new → HavePlans plans old.places → HavePlans plans new.places
   resume-plans entry held (Ok (Claimed.Taken taken)) old new g h = plans-roomier (places_without old.places g.3.0) new.places g.3.2 (plans-without old.places g.3.0 h)

@@ -105,11 +105,4 @@ quiet-still facts first opening past (Event.Unplug client device answer) q = sti
 quiet-still facts first opening past (Event.Plug client device answer) q = still-plug facts first opening past client device answer q
 quiet-still facts first opening past Event.Cut q =
     record { same_known = refl; same_live = refl; same_holds = refl; same_steps = refl; same_boots = refl; told = λ n. refl; same_tells = λ n. refl; same_raws = λ e. refl; faulty = λ n. refl; met = refl; owes = owed-cut past }
-quiet-still facts first opening past (Event.Boot number time limit found boards) q = cc
-quiet-still facts first opening past (Event.Claim client request fetched answer) q = cc
-quiet-still facts first opening past (Event.Resume client entry fetched answer stored) q = cc
-quiet-still facts first opening past (Event.Start client entry op) q = cc
-quiet-still facts first opening past (Event.End client entry op outcome told seen) q = cc
-quiet-still facts first opening past (Event.Finish client entry state stored) q = cc
-quiet-still facts first opening past (Event.Judge client entry version state stored) q = cc
-quiet-still facts first opening past (Event.GiveBack client what) q = cc
+quiet-still facts first opening past _ q = cc

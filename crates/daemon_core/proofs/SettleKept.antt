@@ -162,11 +162,9 @@ settle-open a selector entry found s h =
 -- Which questions may be asked.
 
 can-open : (past : List Event) (entry : ℕ) (state : RowState) → may_judge past state entry ≡ true → is_unsettled state ≡ true
-can-open past entry RowState.Pending h = refl
-can-open past entry RowState.Begun h = refl
-can-open past entry RowState.NeedsReboot h = refl
 can-open past entry RowState.Success h = cc
 can-open past entry RowState.Failed h = cc
+can-open past entry _ h = refl
 
 last-false : (a b : Bool) → b ≡ false → (a && b) ≡ false
 last-false true b h = h
@@ -220,13 +218,11 @@ one-waits past view (r ∷ rs) row d h m =
     let rest : list_any (can_judge past view) rs ≡ false = one-waits past view rs row (λ i j e l n. d (suc i) (suc j) e (omega (arith, l)) (omega (arith, n))) (rw f at h) m in rw (k, rest) refl)
 
 waits-not : (past : List Event) (entry : ℕ) (state : RowState) → must_wait past entry state ≡ true → (state ≡ RowState.NeedsReboot → is_live (live past) entry ≡ false) → may_judge past state entry ≡ false
-waits-not past entry RowState.Pending h n = refl
 waits-not past entry RowState.Begun h n = rw h refl
 waits-not past entry RowState.NeedsReboot h n =
     let l : is_live (live past) entry ≡ false = n refl in
     let f : finished entry past ≡ true = rw l at h in rw f refl
-waits-not past entry RowState.Success h n = refl
-waits-not past entry RowState.Failed h n = refl
+waits-not past entry _ h n = refl
 
 waits-so : (row : Row) (u w : Bool) (o : Option DeviceView) → (if u then (if w then Standing.Waits else judged_on row o) else Standing.Settled) ≡ Standing.Waits → w ≡ true
 waits-so row false w o h = cc

@@ -77,11 +77,9 @@ judge-append facts opening past xs ys =
 -- ---- whether another row can be judged stays the same
 
 may-same : (p q : List Event) (state : RowState) (entry : ℕ) → live p ≡ [] → live q ≡ [] → finished entry p ≡ finished entry q → may_judge p state entry ≡ may_judge q state entry
-may-same p q RowState.Pending entry l m f = refl
 may-same p q RowState.Begun entry l m f = rw (l, m) refl
 may-same p q RowState.NeedsReboot entry l m f = ap not f
-may-same p q RowState.Success entry l m f = refl
-may-same p q RowState.Failed entry l m f = refl
+may-same p q _ entry l m f = refl
 
 can-same : (entries : List ℕ) (old mid : Annalled) (entry : ℕ) → live (past_in old) ≡ [] → live (past_in mid) ≡ [] → JudgeStays entries old mid → list_any (λ e. e == entry) entries ≡ false → can_judge mid.facts (rows_before mid) (past_in mid) entry ≡ can_judge old.facts (rows_before old) (past_in old) entry
 can-same entries old mid entry l m s n =

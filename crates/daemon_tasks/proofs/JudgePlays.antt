@@ -48,11 +48,9 @@ and-false true b e = e
 and-false false b e = refl
 
 settled-not : (past : List Event) (entry : ℕ) (state : RowState) → is_unsettled state ≡ false → may_judge past state entry ≡ false
-settled-not past entry RowState.Pending u = cc
-settled-not past entry RowState.NeedsReboot u = cc
-settled-not past entry RowState.Begun u = cc
 settled-not past entry RowState.Success u = refl
 settled-not past entry RowState.Failed u = refl
+settled-not past entry _ u = cc
 
 waits-not : (past : List Event) (entry : ℕ) (state : RowState) → live past ≡ [] → must_wait past entry state ≡ true → may_judge past state entry ≡ false
 waits-not past entry RowState.Pending l w = refl
@@ -72,10 +70,8 @@ unshown view h = by view.seen h
 
 -- It stands otherwise than to be judged.
 abbrev pub IsUnjudged : Standing → Type 0
-IsUnjudged Standing.Settled = Unit {0}
-IsUnjudged Standing.Waits = Unit {0}
-IsUnjudged Standing.Absent = Unit {0}
 IsUnjudged (Standing.Judged version state) = ⊥
+IsUnjudged _ = Unit {0}
 
 absent-not : (row : Row) (o : Option DeviceView) (s : Standing) → judged_on row o ≡ s → IsUnjudged s → unwrap_or (option_map (λ v. is_home v.seen) o) false ≡ false
 absent-not row None s e n = refl

@@ -78,12 +78,7 @@ row-spared facts opening past entry (Event.Judge client named version state stor
     by-fate (fate_stored stored) named state _ (time_of past) (rows facts opening past) other (other-than entry named other s h)
 row-spared facts opening past entry (Event.GiveBack client what) other s h = refl
 row-spared facts opening past entry Event.Cut other s h = refl
-row-spared facts opening past entry (Event.Boot number time limit found boards) other s h = absurd s
-row-spared facts opening past entry (Event.Query client query) other s h = absurd s
-row-spared facts opening past entry (Event.Claim client request fetched answer) other s h = absurd s
-row-spared facts opening past entry (Event.Schedule client request answer) other s h = absurd s
-row-spared facts opening past entry (Event.Unplug client device answer) other s h = absurd s
-row-spared facts opening past entry (Event.Plug client device answer) other s h = absurd s
+row-spared facts opening past entry _ other s h = absurd s
 
 abbrev pub AllSpare : ℕ → List Event → Type 0
 AllSpare entry [] = Unit {0}

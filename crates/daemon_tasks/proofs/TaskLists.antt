@@ -94,10 +94,7 @@ where-none one other n (r ∷ all) x v =
 
 judged-excludes : Exclude is_to_judge is_pending
 judged-excludes RowState.Pending h = cc
-judged-excludes RowState.Success h = refl
-judged-excludes RowState.Failed h = refl
-judged-excludes RowState.NeedsReboot h = refl
-judged-excludes RowState.Begun h = refl
+judged-excludes _ h = refl
 
 -- ---- each has its row
 
@@ -109,10 +106,7 @@ where-known a fits (r ∷ all) f =
 
 pending-is : (state : RowState) → is_pending state ≡ true → state ≡ RowState.Pending
 pending-is RowState.Pending h = refl
-pending-is RowState.Success h = cc
-pending-is RowState.Failed h = cc
-pending-is RowState.NeedsReboot h = cc
-pending-is RowState.Begun h = cc
+pending-is _ h = cc
 
 where-waits : (a : Annalled) (all : List Row) → AllByRecursion (λ r. row_of (rows_at a) r.entry ≡ Some r) all → AllWait a (entries_where is_pending all)
 where-waits a [] f = tt
@@ -125,11 +119,9 @@ where-waits a (r ∷ all) f =
 -- ---- those that can be judged
 
 judge-only : (past : List Event) (entry : ℕ) (state : RowState) → is_to_judge state ≡ false → may_judge past state entry ≡ false
-judge-only past entry RowState.Pending h = refl
-judge-only past entry RowState.Success h = refl
-judge-only past entry RowState.Failed h = refl
 judge-only past entry RowState.NeedsReboot h = cc
 judge-only past entry RowState.Begun h = cc
+judge-only past entry _ h = refl
 
 module _ (facts : Facts) (opening : List Row) (p : List Event) where
   can : ℕ → Bool

@@ -78,10 +78,7 @@ fetched-whole : (facts : Facts) (client : ℕ) (request : Request) (pending : Op
     → IfWhole fetched (λ payload. payload.digest ≡ hold.digest) → IfWhole fetched (λ payload. length payload.bytes ≡ hold.size) → IsFetchOf facts hold.ticket.release fetched
 fetched-whole facts client request pending hold (Fetched.Whole payload) h d s =
     record { release = h.release; there = h.release_at; digest_is = d ∙ h.digest_is; size_is = s ∙ h.size_is }
-fetched-whole facts client request pending hold (Fetched.Missing blocks) h d s = tt
-fetched-whole facts client request pending hold (Fetched.Length found blocks) h d s = tt
-fetched-whole facts client request pending hold (Fetched.Mismatch found blocks) h d s = tt
-fetched-whole facts client request pending hold (Fetched.ShelfFault blocks) h d s = tt
+fetched-whole facts client request pending hold _ h d s = tt
 
 -- With what was fetched into a hold's blocks, its row may be resumed.
 pub may-resume : (name : Name) (entry : ℕ) (seen : List Entry) (request : Request) (given : Hold) (ticket : Ticket) (fetched : Fetched) → IsPutOff name entry seen → IsHoldFor name.facts 0 request (Some entry) given → hold (past_seen seen) 0 ≡ Some (held_by given.ticket given.blocks.count)
@@ -128,6 +125,4 @@ pub judged-free : (name : Name) (lock : LockId) (old new : PassView Entry) → I
 judged-free name lock old new p same entry (Judged.Done state stored) t f =
     let d = t.does in
     quiet-free name lock old new p same t (Event.Judge old.number entry d.0 state stored) (λ past. refl) (λ past. refl) f d.2
-judged-free name lock old new p same entry Judged.Absent t f = none-free name lock old new p same t f t.does.1
-judged-free name lock old new p same entry Judged.Waits t f = none-free name lock old new p same t f t.does.1
-judged-free name lock old new p same entry Judged.Settled t f = none-free name lock old new p same t f t.does.1
+judged-free name lock old new p same entry _ t f = none-free name lock old new p same t f t.does.1

@@ -35,12 +35,10 @@ last_seen-push steps step = ap (λ o. unwrap_or (option_map (λ (s : TraceStep).
 
 -- The first step whose number is above the last one's and which is wanted, by three tests.
 abbrev wanted_by : Bool → Bool → Bool → Op → Bool
-wanted_by detach write attach ops.Prepare = true
 wanted_by detach write attach ops.Detach = detach
 wanted_by detach write attach ops.Write = write
 wanted_by detach write attach ops.Attach = attach
-wanted_by detach write attach ops.Reload = true
-wanted_by detach write attach ops.Cleanup = true
+wanted_by detach write attach _ = true
 
 abbrev next_number : ℕ → Bool → Bool → Bool → ℕ
 next_number last detach write attach = number_or_end (find (λ op. nat_lt last (op_number op) && wanted_by detach write attach op) all_ops)
@@ -55,12 +53,9 @@ earliest_behind ops.Reload = 6
 earliest_behind ops.Cleanup = 7
 
 abbrev pub latest_behind : Op → ℕ
-latest_behind ops.Prepare = 5
-latest_behind ops.Detach = 5
-latest_behind ops.Write = 5
-latest_behind ops.Attach = 5
 latest_behind ops.Reload = 6
 latest_behind ops.Cleanup = 7
+latest_behind _ = 5
 
 abbrev Between : ℕ → ℕ → ℕ → Type 0
 Between low high n = (low ≤ n) × (n ≤ high)
@@ -87,31 +82,17 @@ next-behind step t =
     subst P (sym (last_number-push t.steps step)) (behind step.op (is_wanted after ops.Detach) (is_wanted after ops.Write) (is_wanted after ops.Attach))
 
 pub reload-of : (next : Option Op) → number_or_end next ≡ 5 → next ≡ Some ops.Reload
-reload-of None e = absurd (omega arith)
-reload-of (Some ops.Prepare) e = absurd (omega arith)
-reload-of (Some ops.Detach) e = absurd (omega arith)
-reload-of (Some ops.Write) e = absurd (omega arith)
-reload-of (Some ops.Attach) e = absurd (omega arith)
 reload-of (Some ops.Reload) e = refl
-reload-of (Some ops.Cleanup) e = absurd (omega arith)
+reload-of _ e = absurd (omega arith)
 
 pub cleanup-of : (next : Option Op) → number_or_end next ≡ 6 → next ≡ Some ops.Cleanup
-cleanup-of None e = absurd (omega arith)
-cleanup-of (Some ops.Prepare) e = absurd (omega arith)
-cleanup-of (Some ops.Detach) e = absurd (omega arith)
-cleanup-of (Some ops.Write) e = absurd (omega arith)
-cleanup-of (Some ops.Attach) e = absurd (omega arith)
-cleanup-of (Some ops.Reload) e = absurd (omega arith)
 cleanup-of (Some ops.Cleanup) e = refl
+cleanup-of _ e = absurd (omega arith)
 
 pub end-of : (next : Option Op) → number_or_end next ≡ 7 → next ≡ None
 end-of None e = refl
 end-of (Some ops.Prepare) e = absurd (omega arith)
-end-of (Some ops.Detach) e = absurd (omega arith)
-end-of (Some ops.Write) e = absurd (omega arith)
-end-of (Some ops.Attach) e = absurd (omega arith)
-end-of (Some ops.Reload) e = absurd (omega arith)
-end-of (Some ops.Cleanup) e = absurd (omega arith)
+end-of _ e = absurd (omega arith)
 
 -- ---- a write is wanted only where the board is at home
 

@@ -21,10 +21,7 @@ ends_printed text ended site old new before after heard printed =
       so ends.Done p = record { site = site; states = states; took = p }
       so ends.SinkFault p = record { site = site; states = states; took = p }
       so ends.NoMemory p = p
-      so ends.SourceFault p = absurd p
-      so ends.TooLong p = absurd p
-      so (ends.Document place reason) p = absurd p
-      so (ends.Plugins fault) p = absurd p
+      so _ p = absurd p
 
 -- no site was read, and nothing printed
 pub ends_told : (text : Site → List ℕ) (stop : InputStop) (old new before : Option (List ℕ)) → HeardInput (Err stop) old new → DocumentEnds text (told_input stop) old new before before
@@ -38,12 +35,8 @@ ends_told text stops.NoMemory old new before heard = record { bytes = heard.byte
 -- only a fault of the source is told as one, and none as a fault of the sink
 pub source_told : (stop : InputStop) → told_input stop ≡ ends.SourceFault → stop ≡ stops.SourceFault
 source_told stops.SourceFault e = refl
-source_told stops.TooLong e = cc
-source_told (stops.Document place reason) e = cc
-source_told stops.NoMemory e = cc
+source_told _ e = cc
 
 pub no_sink_told : (stop : InputStop) → told_input stop ≡ ends.SinkFault → ⊥
 no_sink_told stops.SourceFault e = cc
-no_sink_told stops.TooLong e = cc
-no_sink_told (stops.Document place reason) e = cc
-no_sink_told stops.NoMemory e = cc
+no_sink_told _ e = cc

@@ -63,10 +63,7 @@ ends_printed sheets vetoes port version ended campaign old new before after open
       so ends.Done p = record { text = whole; explains = explains; took = p }
       so ends.SinkFault p = record { text = whole; explains = explains; took = p }
       so ends.NoMemory p = p
-      so ends.SourceFault p = absurd p
-      so ends.TooLong p = absurd p
-      so (ends.Document place reason) p = absurd p
-      so (ends.Plugins fault) p = absurd p
+      so _ p = absurd p
 
 -- no campaign was opened
 pub ends_stopped : (sheets : List PluginSheet) (vetoes : MachineFacts → List PluginVetoes) (port version : List ℕ) (stop : OpenStop) (old new before : Option (List ℕ))
@@ -94,19 +91,11 @@ of_any sheets stop old new h = so stop h.stops where
 -- only a fault of the source is told as one, and none as a fault of the sink
 pub source_told : (stop : OpenStop) → told_stop stop ≡ ends.SourceFault → stop ≡ stops.SourceFault
 source_told stops.SourceFault e = refl
-source_told stops.TooLong e = cc
-source_told (stops.Document place reason) e = cc
-source_told (stops.TooManyClients asked shelves) e = cc
-source_told (stops.Plugins fault) e = cc
-source_told stops.NoMemory e = cc
+source_told _ e = cc
 
 pub no_sink_told : (stop : OpenStop) → told_stop stop ≡ ends.SinkFault → ⊥
 no_sink_told stops.SourceFault e = cc
-no_sink_told stops.TooLong e = cc
-no_sink_told (stops.Document place reason) e = cc
-no_sink_told (stops.TooManyClients asked shelves) e = cc
-no_sink_told (stops.Plugins fault) e = cc
-no_sink_told stops.NoMemory e = cc
+no_sink_told _ e = cc
 
 -- boards that are as made are so for the first boot, and the text is that of this boot
 pub as_made : (boards : List BoardState) → All IsAsMade boards → All IsFresh boards

@@ -281,9 +281,7 @@ module _ (at : ℕ) (first own : List Character) (items : List Placed) (next : B
 
   bar-next : (before : Before) → step before at BarMark ≡ Ok next → to BranchStart ≡ to next
   bar-next BranchStart h = h
-  bar-next Joint h = h
-  bar-next AnAtom h = h
-  bar-next (AnEnd end) h = h
+  bar-next _ h = h
 
   says-bar : (before : Before) → step before at BarMark ≡ Ok next → first ≡ by_itself 124 ∷ [] → Says next items own
       → Says before (placed at BarMark ∷ items) (first ++ own)
@@ -292,10 +290,8 @@ module _ (at : ℕ) (first own : List Character) (items : List Placed) (next : B
       (ends-bar at items own (follows BranchStart next items own (bar-next before h) says)))
 
   no_stray : {P : Type 0} (before : Before) → step before at StrayMark ≡ Ok next → P
-  no_stray BranchStart h = no_fault (OutOfProfile at) next h
-  no_stray Joint h = no_fault (OutOfProfile at) next h
-  no_stray AnAtom h = no_fault (OutOfProfile at) next h
   no_stray (AnEnd end) h = no_fault (OutOfProfile end) next h
+  no_stray _ h = no_fault (OutOfProfile at) next h
 
   says-mark : (before : Before) (mark : Mark) → step before at mark ≡ Ok next → MarkWritten mark first → Says next items own
       → Says before (placed at mark ∷ items) (first ++ own)
@@ -408,11 +404,9 @@ marks-say signs h = (signs-sound signs).here BranchStart h
 -- ---- a fault behind all marks is one
 
 last-none : (before : Before) (end : Option PatternFault) → last_fault before end ≡ None → end ≡ None
-last-none BranchStart end h = h
-last-none Joint end h = h
-last-none AnAtom end h = h
 last-none (AnEnd at) (Some fault) h = is_fault (OutOfProfile at) h
 last-none (AnEnd at) None h = refl
+last-none _ end h = h
 
 pub first-none : (before : Before) (end : Option PatternFault) (items : List Placed) → first_fault before end items ≡ None → end ≡ None
 unfolding first_fault

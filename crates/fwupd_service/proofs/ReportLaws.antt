@@ -27,11 +27,7 @@ keeper_quiet A B status end s (inr a) (inr b) = inr (a, b)
 -- A fault of the output is one.
 sink-of : (end : ReportEnd) → report_status end ≡ statuses.SinkFault → end ≡ ends.SinkFault
 sink-of ends.SinkFault e = refl
-sink-of ends.HistoryFault e = cc
-sink-of ends.MarkFault e = cc
-sink-of (ends.Done count) e = cc
-sink-of (ends.BadHistory at) e = cc
-sink-of ends.NoMemory e = cc
+sink-of _ e = cc
 
 pub sink_fault : (A : Type 0) (status : Status) (end : ReportEnd) → status ≡ report_status end → (end ≡ ends.SinkFault → A) → status ≡ statuses.SinkFault → A
 sink_fault A status end s a e = a (sink-of end (sym s ∙ e))
@@ -43,11 +39,7 @@ sink_quiet A status end s (inr a) = inr a
 -- No input is read.
 unread : (end : ReportEnd) → report_status end ≡ statuses.SourceFault → ⊥
 unread (ends.Done count) e = cc
-unread (ends.BadHistory at) e = cc
-unread ends.HistoryFault e = cc
-unread ends.MarkFault e = cc
-unread ends.SinkFault e = cc
-unread ends.NoMemory e = cc
+unread _ e = cc
 
 pub no_source : (status : Status) (end : ReportEnd) → status ≡ report_status end → status ≡ statuses.SourceFault → ⊥
 no_source status end s e = unread end (sym s ∙ e)

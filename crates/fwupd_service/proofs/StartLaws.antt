@@ -22,19 +22,12 @@ use Rattle.campaign_inputs.proofs.Beginnings.{made_at}
 use Rattle.fwupd_service.specs.Begins.{CanBePlayed, IsReadyFor}
 
 question_of : (query : Query) → IsAsked query → IsQuestion query
-question_of Query.Devices a = tt
-question_of (Query.Releases selector) a = tt
-question_of (Query.Upgrades selector) a = tt
-question_of Query.History a = tt
-question_of (Query.Results selector) a = tt
 question_of (Query.Settle selector) a = a
+question_of _ a = tt
 
 item_of : (item : Item) → IsDone item → IsScriptItem item
 item_of (Item.Ask query) a = question_of query a
-item_of (Item.Install request) a = tt
-item_of (Item.Settle selector) a = tt
-item_of (Item.Unplug selector) a = tt
-item_of (Item.Plug selector) a = tt
+item_of _ a = tt
 
 items_of : (scripts : List (List (List Item))) → All (All (All IsDone)) scripts → All (All (All IsScriptItem)) scripts
 items_of scripts h =

@@ -39,29 +39,14 @@ if-err {A = A} {E = E} P r x h e = subst (λ (r : Result A E). IfErr r P) e h
 
 -- Shelves that came back are kept by any command.
 pub keeps-same : {P : Type 0} (command : Option Command) (old new : List P) → new ≡ old → KeepsShelves command old new
-keeps-same None old new e = e
 keeps-same (Some commands.Run) old new e = tt
 keeps-same (Some (commands.Update tag)) old new e = tt
-keeps-same (Some (commands.Plan tag)) old new e = e
-keeps-same (Some commands.Check) old new e = e
-keeps-same (Some commands.Remotes) old new e = e
-keeps-same (Some (commands.Explain port version)) old new e = e
-keeps-same (Some (commands.Ids texts)) old new e = e
-keeps-same (Some (commands.Make boards clients)) old new e = e
-keeps-same (Some (commands.Report max)) old new e = e
+keeps-same _ old new e = e
 
 -- Marks that came back are kept by any command.
 pub marks-same : {M : Type 0} (command : Option Command) (old new : M) → new ≡ old → KeepsMarks command old new
-marks-same None old new e = e
-marks-same (Some commands.Run) old new e = e
-marks-same (Some (commands.Plan tag)) old new e = e
-marks-same (Some (commands.Update tag)) old new e = e
-marks-same (Some commands.Check) old new e = e
-marks-same (Some commands.Remotes) old new e = e
-marks-same (Some (commands.Explain port version)) old new e = e
-marks-same (Some (commands.Ids texts)) old new e = e
-marks-same (Some (commands.Make boards clients)) old new e = e
 marks-same (Some (commands.Report max)) old new e = tt
+marks-same _ old new e = e
 
 -- Words that are no command say none.
 pub says-none : (command : Option Command) (read : Result Command WordsFault) → Reads command read → read ≡ Err WordsFault.Usage → command ≡ None
@@ -69,16 +54,8 @@ says-none command read reads is = subst (Reads command) is reads
 
 -- Where there was no memory for the words nothing was marked or written.
 pub marks-untold : {K : Type 0} (told : K → List Row → Type 0) (command : Option Command) (status : Status) (keeper : K) (left : Left K) (before after : Told) → status ≡ statuses.NoMemory → after ≡ before → MarksTold told command status keeper left before after
-marks-untold told None status keeper left before after e same = tt
-marks-untold told (Some commands.Run) status keeper left before after e same = tt
-marks-untold told (Some (commands.Plan tag)) status keeper left before after e same = tt
-marks-untold told (Some (commands.Update tag)) status keeper left before after e same = tt
-marks-untold told (Some commands.Check) status keeper left before after e same = tt
-marks-untold told (Some commands.Remotes) status keeper left before after e same = tt
-marks-untold told (Some (commands.Explain port version)) status keeper left before after e same = tt
-marks-untold told (Some (commands.Ids texts)) status keeper left before after e same = tt
-marks-untold told (Some (commands.Make boards clients)) status keeper left before after e same = tt
 marks-untold told (Some (commands.Report max)) status keeper left before after e same = inr (e, same)
+marks-untold told _ status keeper left before after e same = tt
 
 -- A status that tells no fault of a keeper tells none under `report`, where no count rose.
 pub no-fault-told : (command : Option Command) (status : Status) (rows rows' marks marks' : ℕ) → (status ≡ statuses.KeeperFault → ⊥) → rows' ≡ rows → marks' ≡ marks → FaultTold command status rows rows' marks marks'

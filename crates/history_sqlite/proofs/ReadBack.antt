@@ -8,7 +8,7 @@ use Rattle.sqlite.specs.declared.types.Value.TheVariants.{Int, Text, Blob}
 use Rattle.sqlite.specs.Values.{or_null}
 use Rattle.history_keeper.specs.declared.row.Row.{Row}
 use Rattle.history_keeper.specs.declared.row.RowState.{RowState}
-use Rattle.history_keeper.specs.declared.row.RowState.TheVariants.{Pending, Success, Failed, NeedsReboot, Begun}
+use Rattle.history_keeper.specs.declared.row.RowState.TheVariants.{Pending}
 use Rattle.history_sqlite.specs.Columns.{◌>>=◌, columns_of, older_columns_of, row_read, older_row_read, taken_over, optional, number_in, bytes_in, name_in, version_in, state_in, state_number}
 
 step : {A B : Type 0} (o : Option A) (a : A) (f : A → Option B) (b : B) → (o ≡ None) ⊎ (o ≡ Some a) → (o >>= f) ≡ Some b → f a ≡ Some b
@@ -53,10 +53,7 @@ version_same t x h = unless_version (position is_no_version_byte t) t x (tested 
 
 state_given : (s : RowState) → state_in (Int (pos (state_number s))) ≡ Some s
 state_given Pending = refl
-state_given Success = refl
-state_given Failed = refl
-state_given NeedsReboot = refl
-state_given Begun = refl
+state_given _ = refl
 
 some_same : {A : Type 0} (a b : A) → Some a ≡ Some b → b ≡ a
 some_same a b h = cc

@@ -12,7 +12,7 @@ use Rattle.sqlite_schema.specs.Names.{same_name}
 use Rattle.sqlite_value.specs.Order.{bytes}
 use Rattle.history_keeper.specs.declared.row.Row.{Row}
 use Rattle.history_keeper.specs.declared.row.RowState.{RowState}
-use Rattle.history_keeper.specs.declared.row.RowState.TheVariants.{Pending, Success, Failed, NeedsReboot, Begun}
+use Rattle.history_keeper.specs.declared.row.RowState.TheVariants.{Pending, Begun}
 use Rattle.history_keeper.specs.declared.change.Change.{Change}
 use Rattle.history_keeper.specs.declared.plan.Doubt.{Doubt}
 use Rattle.history_keeper.specs.Changes.{Suits, changed}
@@ -59,10 +59,7 @@ rows_in s = map row_in (s.now.trees (tree_of_rows s.now.schema))
 
 state_again : (s : RowState) → unwrap_or (state_in (Int (pos (state_number s)))) Begun ≡ s
 state_again Pending = refl
-state_again Success = refl
-state_again Failed = refl
-state_again NeedsReboot = refl
-state_again Begun = refl
+state_again _ = refl
 
 text_again : (t : Option (List ℕ)) → text_in (or_null Text t) ≡ t
 text_again None = refl

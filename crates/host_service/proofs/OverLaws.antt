@@ -135,23 +135,15 @@ module _ {K : Type 0} (told : K → List Row → Type 0) (doubted : K → Option
   command-so shelves now sheets vetoes words commands.Run status old new before after e = run-so shelves now sheets vetoes words status old new before after e
   command-so shelves now sheets vetoes words (commands.Update tag) status old new before after e = update-so shelves now sheets vetoes words tag status old new before after e
   command-so shelves now sheets vetoes words (commands.Plan tag) status old new before after e = plan-so _ sheets vetoes tag status old new before after e
-  command-so shelves now sheets vetoes words commands.Check status old new before after e = happened-so told doubted faults keeper left held last only tells e.nothing
-  command-so shelves now sheets vetoes words commands.Remotes status old new before after e = happened-so told doubted faults keeper left held last only tells e.nothing
-  command-so shelves now sheets vetoes words (commands.Explain port version) status old new before after e = happened-so told doubted faults keeper left held last only tells e.nothing
-  command-so shelves now sheets vetoes words (commands.Ids texts) status old new before after e = happened-so told doubted faults keeper left held last only tells e.nothing
   command-so shelves now sheets vetoes words (commands.Make boards clients) status old new before after e = make-so boards clients sheets vetoes words status before after e.1
   command-so shelves now sheets vetoes words (commands.Report max) status old new before after e = same-so told doubted faults keeper left held last only tells e.log e.rows_stay
+  command-so shelves now sheets vetoes words _ status old new before after e = happened-so told doubted faults keeper left held last only tells e.nothing
 
   alone-so : (command : Command) → AreLeft held last left.log → RanOver (Some command) held last left.opening left.log
   alone-so commands.Run a = inl a
   alone-so (commands.Update tag) a = inl a
-  alone-so (commands.Plan tag) a = a
-  alone-so commands.Check a = a
-  alone-so commands.Remotes a = a
-  alone-so (commands.Explain port version) a = a
-  alone-so (commands.Ids texts) a = a
   alone-so (commands.Make boards clients) a = a.same
-  alone-so (commands.Report max) a = a
+  alone-so _ a = a
 
   pub words-so : {Q : Type 0} (shelves now : List ShelfTold) (sheets : List PluginSheet) (vetoes : MachineFacts → List PluginVetoes) (words : PluginWords Q) (command : Option Command) (status : Status) (old new before after : Option (List ℕ)) → WordsEnd told doubted faults shelves now sheets vetoes words command status keeper left old new before after → RanOver command held last left.opening left.log
   words-so shelves now sheets vetoes words None status old new before after e = began-so told doubted faults keeper left held last only tells e.1.nothing

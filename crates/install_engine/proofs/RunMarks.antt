@@ -160,8 +160,4 @@ step-gave Op.Cleanup entry payload old answer new s = unmarked-gave Op.Cleanup e
 -- The faults that are planned for a board stay, whatever a plugin's step does.
 pub same-plan : (op : Op) (entry : ℕ) (image : Image) (old : BoardState) (answer : Result ⊤ BoardFault) (new : BoardState) → StepLeft op entry image old answer new → new.plan ≡ old.plan
 same-plan Op.Prepare entry image old answer new s = s.rules.plan
-same-plan Op.Detach entry image old answer new s = s.rules.plan
-same-plan Op.Write entry image old answer new s = s.rules.plan
-same-plan Op.Attach entry image old answer new s = s.rules.plan
-same-plan Op.Reload entry image old answer new s = s.rules.plan
-same-plan Op.Cleanup entry image old answer new s = s.rules.plan
+same-plan _ entry image old answer new s = s.rules.plan

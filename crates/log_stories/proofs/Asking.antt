@@ -22,18 +22,12 @@ use Rattle.log_stories.specs.Stories.{IsStory, RunsOn, StoryTold, is_settle, pas
 
 other-allowed : (facts : Facts) (opening : List Row) (past : List Event) (query : Query) → is_settle query ≡ false → QueryAllowed facts opening past query
 other-allowed facts opening past (Query.Settle device) h = absurd (cc)
-other-allowed facts opening past Query.Devices h = tt
-other-allowed facts opening past (Query.Releases device) h = tt
-other-allowed facts opening past (Query.Upgrades device) h = tt
-other-allowed facts opening past Query.History h = tt
-other-allowed facts opening past (Query.Results device) h = tt
+other-allowed facts opening past _ h = tt
 
 not-judged : (past : List Event) (state : RowState) (entry : ℕ) → waits_in state ≡ false → may_judge past state entry ≡ false
 not-judged past RowState.Begun entry h = absurd (cc)
 not-judged past RowState.NeedsReboot entry h = absurd (cc)
-not-judged past RowState.Pending entry h = refl
-not-judged past RowState.Success entry h = refl
-not-judged past RowState.Failed entry h = refl
+not-judged past _ entry h = refl
 
 no-and : (a b c : Bool) → c ≡ false → (a && b && c) ≡ false
 no-and true true c h = h

@@ -36,25 +36,11 @@ any-without ended entry (y ∷ ys) =
     (λ u. rw (t, u) rest))
 
 pub live-said : (entry : ℕ) (event : Event) (before : List LiveEntry) → is_live (live_after event before) entry ≡ live_said entry event (is_live before entry)
-live-said entry (Event.Boot a b d e f) before = refl
 live-said entry (Event.Claim a b d (ClaimAnswer.Entry taken)) before = any-push entry before (record { client = a; entry = taken; blocks = blocks_fetched d })
-live-said entry (Event.Claim a b d (ClaimAnswer.Kept e f)) before = refl
-live-said entry (Event.Claim a b d (ClaimAnswer.Refused e)) before = refl
 live-said entry (Event.Resume a taken d ResumeAnswer.Begun f) before = any-push entry before (record { client = a; entry = taken; blocks = blocks_fetched_if d })
-live-said entry (Event.Resume a taken d (ResumeAnswer.Refused e) f) before = refl
 live-said entry (Event.Finish a ended d e) before = any-without ended entry before
 live-said entry (Event.GiveBack a (Back.Entry ended)) before = any-without ended entry before
-live-said entry (Event.GiveBack a (Back.Tag d)) before = refl
-live-said entry (Event.GiveBack a (Back.Pending d)) before = refl
-live-said entry (Event.Query a b) before = refl
-live-said entry (Event.Ask a b d e) before = refl
-live-said entry (Event.Schedule a b d) before = refl
-live-said entry (Event.Start a b d) before = refl
-live-said entry (Event.End a b d e f g) before = refl
-live-said entry (Event.Judge a b d e f) before = refl
-live-said entry (Event.Unplug a b d) before = refl
-live-said entry (Event.Plug a b d) before = refl
-live-said entry Event.Cut before = refl
+live-said entry _ before = refl
 
 -- ---- sums over what is kept
 
@@ -112,20 +98,10 @@ step-holds (Event.Boot a b d e f) later xs = let none = none-left held_blocks xs
 step-holds (Event.Ask client b d (AskAnswer.Hold blocks release)) later xs =
     sums-push held_blocks (λ h. lasts ends_hold later h.client) (filter (λ h. not (h.client == client)) xs) (record { client = client; request = b; pending = d; blocks = blocks; release = release })
     ∙ ap (λ n. n + held_since (Event.Ask client b d (AskAnswer.Hold blocks release)) later) (left-holds client later xs)
-step-holds (Event.Ask client b d (AskAnswer.Kept e f)) later xs = omega arith
-step-holds (Event.Ask client b d (AskAnswer.Refused e)) later xs = omega arith
 step-holds (Event.Claim client b d e) later xs = let same = left-holds client later xs in omega (arith, same)
 step-holds (Event.Resume client b d e f) later xs = let same = left-holds client later xs in omega (arith, same)
 step-holds (Event.GiveBack client b) later xs = let same = left-holds client later xs in omega (arith, same)
-step-holds (Event.Query a b) later xs = omega arith
-step-holds (Event.Schedule a b d) later xs = omega arith
-step-holds (Event.Start a b d) later xs = omega arith
-step-holds (Event.End a b d e f g) later xs = omega arith
-step-holds (Event.Finish a b d e) later xs = omega arith
-step-holds (Event.Judge a b d e f) later xs = omega arith
-step-holds (Event.Unplug a b d) later xs = omega arith
-step-holds (Event.Plug a b d) later xs = omega arith
-step-holds Event.Cut later xs = omega arith
+step-holds _ later xs = omega arith
 
 sum-holds : (log : List Event) (xs : List Held) → sum_by held_blocks (run_holds log xs) ≡ kept_holds log xs + held_in log
 unfolding run_holds
@@ -169,24 +145,11 @@ unfolding ends_live
 step-live (Event.Boot a b d e f) later xs = let none = none-left live_blocks xs in omega (arith, none)
 step-live (Event.Claim client b d (ClaimAnswer.Entry entry)) later xs =
     sums-push live_blocks (λ l. lasts ends_live later l.entry) xs (record { client = client; entry = entry; blocks = blocks_fetched d })
-step-live (Event.Claim client b d (ClaimAnswer.Kept e f)) later xs = omega arith
-step-live (Event.Claim client b d (ClaimAnswer.Refused e)) later xs = omega arith
 step-live (Event.Resume client entry d ResumeAnswer.Begun f) later xs =
     sums-push live_blocks (λ l. lasts ends_live later l.entry) xs (record { client = client; entry = entry; blocks = blocks_fetched_if d })
-step-live (Event.Resume client entry d (ResumeAnswer.Refused e) f) later xs = omega arith
 step-live (Event.Finish a entry d e) later xs = let same = left-live entry later xs in omega (arith, same)
 step-live (Event.GiveBack client (Back.Entry entry)) later xs = let same = left-live entry later xs in omega (arith, same)
-step-live (Event.GiveBack client (Back.Tag b)) later xs = omega arith
-step-live (Event.GiveBack client (Back.Pending b)) later xs = omega arith
-step-live (Event.Ask a b d e) later xs = omega arith
-step-live (Event.Query a b) later xs = omega arith
-step-live (Event.Schedule a b d) later xs = omega arith
-step-live (Event.Start a b d) later xs = omega arith
-step-live (Event.End a b d e f g) later xs = omega arith
-step-live (Event.Judge a b d e f) later xs = omega arith
-step-live (Event.Unplug a b d) later xs = omega arith
-step-live (Event.Plug a b d) later xs = omega arith
-step-live Event.Cut later xs = omega arith
+step-live _ later xs = omega arith
 
 sum-live : (log : List Event) (xs : List LiveEntry) → sum_by live_blocks (run_live log xs) ≡ kept_live log xs + live_in log
 unfolding run_live

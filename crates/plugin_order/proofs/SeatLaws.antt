@@ -1,7 +1,7 @@
 -- Seats are sorted as their plugins are.
 use Rattle.std.proofs.Common.{◌≡◌, ℕ, ◌+◌, ◌<◌, ◌≤◌, inl, inr, false, List, [], ◌∷◌, ◌++◌, length, map, get_or, slice_index, All, IsPermutation, refl, sym, ap, ◌∙◌, subst, arith}
 use Rattle.std.specs.declared.cmp.Ordering.{Ordering}
-use Rattle.std.specs.declared.cmp.Ordering.TheVariants.{Less, Equal, Greater}
+use Rattle.std.specs.declared.cmp.Ordering.TheVariants.{Less, Equal}
 use Rattle.std.specs.Ordering.{nat_cmp, ordering_then, is_lt}
 use Rattle.std.specs.Cmp.Lexicographic.{slice_cmp}
 use Rattle.std.specs.List.{range_with_len}
@@ -39,9 +39,7 @@ numbers_more seats s p h e =
 shorter : (a b c : Ordering) → is_lt (ordering_then a (ordering_then b c)) ≡ false → is_lt (ordering_then a b) ≡ false
 shorter Less b c h = h
 shorter Equal Less c h = h
-shorter Equal Equal c h = refl
-shorter Equal Greater c h = refl
-shorter Greater b c h = refl
+shorter _ _ c h = refl
 
 by_fits : (sheets : List PluginSheet) (places : List ℕ) (s t : Seat) → SeatFits sheets places s → SeatFits sheets places t
     → is_lt (ordering_then (nat_cmp s.place t.place) (ordering_then (slice_cmp nat_cmp s.name.now t.name.now) (nat_cmp s.plugin t.plugin))) ≡ false

@@ -35,30 +35,18 @@ keeps_presence false mode it = refl
 presence_by : (step : Step) (fault : Option BoardFault) (it : Condition)
     → ((left_by step fault it).presence ≡ it.presence) ⊎ (IsTrue (is_some fault) × IsAway (left_by step fault it).presence)
 presence_by enter_loader None it = inl (keeps_presence (can_enter it) Bootloader it)
-presence_by (program entry image) None it = inl refl
-presence_by (stage entry image) None it = inl refl
 presence_by leave_loader None it = inl (keeps_presence (can_leave it) Runtime it)
-presence_by look None it = inl refl
-presence_by enter_loader (Some faults.Failed) it = inl refl
-presence_by enter_loader (Some faults.Torn) it = inl refl
 presence_by enter_loader (Some faults.Gone) it = inr (refl, tt)
 presence_by enter_loader (Some faults.Stranger) it = inr (refl, tt)
-presence_by (program entry image) (Some faults.Failed) it = inl refl
-presence_by (program entry image) (Some faults.Torn) it = inl refl
 presence_by (program entry image) (Some faults.Gone) it = inr (refl, tt)
 presence_by (program entry image) (Some faults.Stranger) it = inr (refl, tt)
-presence_by (stage entry image) (Some faults.Failed) it = inl refl
-presence_by (stage entry image) (Some faults.Torn) it = inl refl
 presence_by (stage entry image) (Some faults.Gone) it = inr (refl, tt)
 presence_by (stage entry image) (Some faults.Stranger) it = inr (refl, tt)
-presence_by leave_loader (Some faults.Failed) it = inl refl
-presence_by leave_loader (Some faults.Torn) it = inl refl
 presence_by leave_loader (Some faults.Gone) it = inr (refl, tt)
 presence_by leave_loader (Some faults.Stranger) it = inr (refl, tt)
-presence_by look (Some faults.Failed) it = inl refl
-presence_by look (Some faults.Torn) it = inl refl
 presence_by look (Some faults.Gone) it = inr (refl, tt)
 presence_by look (Some faults.Stranger) it = inr (refl, tt)
+presence_by _ _ it = inl refl
 
 rose : (fault : Option BoardFault) (old new : ℕ) → new ≡ old + (if is_some fault then 1 else 0) → IsTrue (is_some fault) → old < new
 rose None old new e some = cc
@@ -104,9 +92,7 @@ no_mark old new after e journal room image staged mode = record {
 look_left : (old new : BoardState) (fault : Option BoardFault) (answer : Result ⊤ BoardFault) → Outcome old look fault answer new → Unmarked old new
 look_left old new None answer o = no_mark old new _ o.condition o.journal o.room refl refl refl
 look_left old new (Some faults.Failed) answer o = no_mark old new _ o.condition o.journal o.room refl refl refl
-look_left old new (Some faults.Torn) answer o = no_mark old new _ o.condition o.journal o.room refl refl refl
-look_left old new (Some faults.Gone) answer o = no_mark old new _ o.condition o.journal o.room refl refl refl
-look_left old new (Some faults.Stranger) answer o = no_mark old new _ o.condition o.journal o.room refl refl refl
+look_left old new _ answer o = no_mark old new _ o.condition o.journal o.room refl refl refl
 
 pub look_is_plain : (old : BoardState) (answer : Result ⊤ BoardFault) (new : BoardState) → BoardStep old look answer new → Plain old answer new
 look_is_plain old answer new h = record {
@@ -127,9 +113,7 @@ entered true old new e journal room = inr record {
 enter_left : (old new : BoardState) (fault : Option BoardFault) (answer : Result ⊤ BoardFault) → Outcome old enter_loader fault answer new → Unmarked old new ⊎ LoaderEntered old new
 enter_left old new None answer o = entered (can_enter old.condition) old new o.condition o.journal o.room
 enter_left old new (Some faults.Failed) answer o = inl (no_mark old new _ o.condition o.journal o.room refl refl refl)
-enter_left old new (Some faults.Torn) answer o = inl (no_mark old new _ o.condition o.journal o.room refl refl refl)
-enter_left old new (Some faults.Gone) answer o = inl (no_mark old new _ o.condition o.journal o.room refl refl refl)
-enter_left old new (Some faults.Stranger) answer o = inl (no_mark old new _ o.condition o.journal o.room refl refl refl)
+enter_left old new _ answer o = inl (no_mark old new _ o.condition o.journal o.room refl refl refl)
 
 pub enter_is_detached : (old : BoardState) (answer : Result ⊤ BoardFault) (new : BoardState) → BoardStep old enter_loader answer new → Detached old answer new
 enter_is_detached old answer new h = record {
@@ -150,9 +134,7 @@ left_loader true old new e journal room = inr record {
 leave_left : (old new : BoardState) (fault : Option BoardFault) (answer : Result ⊤ BoardFault) → Outcome old leave_loader fault answer new → Unmarked old new ⊎ LoaderLeft old new
 leave_left old new None answer o = left_loader (can_leave old.condition) old new o.condition o.journal o.room
 leave_left old new (Some faults.Failed) answer o = inl (no_mark old new _ o.condition o.journal o.room refl refl refl)
-leave_left old new (Some faults.Torn) answer o = inl (no_mark old new _ o.condition o.journal o.room refl refl refl)
-leave_left old new (Some faults.Gone) answer o = inl (no_mark old new _ o.condition o.journal o.room refl refl refl)
-leave_left old new (Some faults.Stranger) answer o = inl (no_mark old new _ o.condition o.journal o.room refl refl refl)
+leave_left old new _ answer o = inl (no_mark old new _ o.condition o.journal o.room refl refl refl)
 
 pub leave_is_attached : (old : BoardState) (answer : Result ⊤ BoardFault) (new : BoardState) → BoardStep old leave_loader answer new → Attached old answer new
 leave_is_attached old answer new h = record {
@@ -191,9 +173,7 @@ program_left entry image old new None answer o = inr (inr record {
   mode = rw o.condition (same_or_loader (is_some image.raw) old.condition.mode);
 })
 program_left entry image old new (Some faults.Failed) answer o = inl (no_mark old new _ o.condition o.journal o.room refl refl refl, is_err _ answer o.answers)
-program_left entry image old new (Some faults.Torn) answer o = inr (inl (broken entry old new _ o.condition o.journal o.room (inr refl) refl (inr refl), is_err _ answer o.answers))
-program_left entry image old new (Some faults.Gone) answer o = inr (inl (broken entry old new _ o.condition o.journal o.room (inr refl) refl (inr refl), is_err _ answer o.answers))
-program_left entry image old new (Some faults.Stranger) answer o = inr (inl (broken entry old new _ o.condition o.journal o.room (inr refl) refl (inr refl), is_err _ answer o.answers))
+program_left entry image old new _ answer o = inr (inl (broken entry old new _ o.condition o.journal o.room (inr refl) refl (inr refl), is_err _ answer o.answers))
 
 pub program_is_written : (entry : ℕ) (image : Image) (old : BoardState) (answer : Result ⊤ BoardFault) (new : BoardState) → BoardStep old (program entry image) answer new → Written entry image old answer new
 unfolding Left_by_write
@@ -210,9 +190,7 @@ stage_left entry image old new None answer o = inr (inr record {
   mode = inl (ap (λ c. c.mode) o.condition);
 })
 stage_left entry image old new (Some faults.Failed) answer o = inl (no_mark old new _ o.condition o.journal o.room refl refl refl, is_err _ answer o.answers)
-stage_left entry image old new (Some faults.Torn) answer o = inr (inl (broken entry old new _ o.condition o.journal o.room (inl refl) refl (inl refl), is_err _ answer o.answers))
-stage_left entry image old new (Some faults.Gone) answer o = inr (inl (broken entry old new _ o.condition o.journal o.room (inl refl) refl (inl refl), is_err _ answer o.answers))
-stage_left entry image old new (Some faults.Stranger) answer o = inr (inl (broken entry old new _ o.condition o.journal o.room (inl refl) refl (inl refl), is_err _ answer o.answers))
+stage_left entry image old new _ answer o = inr (inl (broken entry old new _ o.condition o.journal o.room (inl refl) refl (inl refl), is_err _ answer o.answers))
 
 pub stage_is_written : (entry : ℕ) (image : Image) (old : BoardState) (answer : Result ⊤ BoardFault) (new : BoardState) → BoardStep old (stage entry image) answer new → Written entry image old answer new
 unfolding Left_by_write

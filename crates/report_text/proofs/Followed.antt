@@ -28,32 +28,20 @@ changed-few (Change.Advance entry state reason time) rows = omega (arith, length
 
 made-few : (fate : Fate) (change : Option Change) (rows : List Row) → length (rows_by fate change rows) ≤ length rows + 1
 made-few Fate.Made (Some change) rows = changed-few change rows
-made-few Fate.Made None rows = omega arith
-made-few Fate.Doubtful change rows = omega arith
-made-few Fate.Dropped change rows = omega arith
+made-few _ _ rows = omega arith
 
 found-few : (found : Found) (doubt : Option Change) (rows : List Row) → length (rows_found found doubt rows) ≤ length rows + 1
 found-few Found.Kept (Some change) rows = changed-few change rows
-found-few Found.Kept None rows = omega arith
-found-few Found.Lost doubt rows = omega arith
-found-few Found.Plain doubt rows = omega arith
-found-few Found.Fault doubt rows = omega arith
+found-few _ _ rows = omega arith
 
 pub rows-few : (facts : Facts) (opening : List Row) (past : List Event) (event : Event) → length (rows facts opening (event ∷ past)) ≤ length (rows facts opening past) + 1
 rows-few facts opening past (Event.Boot number time limit found boards) = found-few found _ (rows facts opening past)
-rows-few facts opening past (Event.Query client query) = omega arith
-rows-few facts opening past (Event.Ask client request pending answer) = omega arith
 rows-few facts opening past (Event.Claim client request fetched answer) = made-few _ _ (rows facts opening past)
 rows-few facts opening past (Event.Schedule client request answer) = made-few _ _ (rows facts opening past)
 rows-few facts opening past (Event.Resume client entry fetched answer stored) = made-few _ _ (rows facts opening past)
-rows-few facts opening past (Event.Start client entry op) = omega arith
-rows-few facts opening past (Event.End client entry op outcome told seen) = omega arith
 rows-few facts opening past (Event.Finish client entry state stored) = made-few _ _ (rows facts opening past)
 rows-few facts opening past (Event.Judge client entry version state stored) = made-few _ _ (rows facts opening past)
-rows-few facts opening past (Event.Unplug client device answer) = omega arith
-rows-few facts opening past (Event.Plug client device answer) = omega arith
-rows-few facts opening past (Event.GiveBack client what) = omega arith
-rows-few facts opening past Event.Cut = omega arith
+rows-few facts opening past _ = omega arith
 
 -- A state with more room stands for the same log, and takes one row more.
 pub stands-roomy : (facts : Facts) (opening : List Row) (old new : Core) (room row_room : ℕ) → new ≡ (record old { room = room; row_room = row_room }) → Stands facts opening old → Stands facts opening new
@@ -114,19 +102,7 @@ follow-log log i event old new lt is before after =
 
 boot-lines : (facts : Facts) (opening : List Row) (past : List Event) (event : Event) → is_fault_boot event ≡ true → lines_in facts opening past event ≡ lines_alone facts.sheets past event
 boot-lines facts opening past (Event.Boot number time limit found boards) h = append-nil _
-boot-lines facts opening past (Event.Query client query) h = cc
-boot-lines facts opening past (Event.Ask client request pending answer) h = cc
-boot-lines facts opening past (Event.Claim client request fetched answer) h = cc
-boot-lines facts opening past (Event.Schedule client request answer) h = cc
-boot-lines facts opening past (Event.Resume client entry fetched answer stored) h = cc
-boot-lines facts opening past (Event.Start client entry op) h = cc
-boot-lines facts opening past (Event.End client entry op outcome told seen) h = cc
-boot-lines facts opening past (Event.Finish client entry state stored) h = cc
-boot-lines facts opening past (Event.Judge client entry version state stored) h = cc
-boot-lines facts opening past (Event.Unplug client device answer) h = cc
-boot-lines facts opening past (Event.Plug client device answer) h = cc
-boot-lines facts opening past (Event.GiveBack client what) h = cc
-boot-lines facts opening past Event.Cut h = cc
+boot-lines facts opening past _ h = cc
 
 faults-before : (later past : List Event) → AllFaults (later ++ past) → AllFaults past
 faults-before [] past h = h

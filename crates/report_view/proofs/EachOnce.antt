@@ -25,11 +25,7 @@ numbers_here : (line : Line) (at told : ℕ) (later : ℕ → List Event)
     → map (λ (event : Event). event.number) (event_here line at told ++ later (told + length (event_here line at told)))
     ≡ range_with_len (told + 1) (length (event_here line at told ++ later (told + length (event_here line at told))))
 numbers_here (lines.Event kind) at told later h = ap (λ (ns : List ℕ). (told + 1) ∷ ns) (h (told + 1))
-numbers_here lines.First at told later h = numbers_none told later h
-numbers_here (lines.Last last) at told later h = numbers_none told later h
-numbers_here lines.Board at told later h = numbers_none told later h
-numbers_here lines.Detail at told later h = numbers_none told later h
-numbers_here lines.Unread at told later h = numbers_none told later h
+numbers_here _ at told later h = numbers_none told later h
 
 pub numbers_from : (all : List (List ℕ)) (at told : ℕ) → map (λ (event : Event). event.number) (events_from at all told) ≡ range_with_len (told + 1) (length (events_from at all told))
 unfolding events_from
@@ -49,11 +45,7 @@ told_here : (whole : List (List ℕ)) (text : List ℕ) (line : Line) (at told :
     → ((n : ℕ) → map (λ (event : Event). line_at whole event.at) (later n) ≡ rest)
     → map (λ (event : Event). line_at whole event.at) (event_here line at told ++ later (told + length (event_here line at told))) ≡ cond (tells_event line) (text ∷ rest) rest
 told_here whole text (lines.Event kind) at told later rest is h = ap (λ (t : List ℕ). t ∷ map (λ (event : Event). line_at whole event.at) (later (told + 1))) is ∙ ap (λ (ls : List (List ℕ)). text ∷ ls) (h (told + 1))
-told_here whole text lines.First at told later rest is h = h (told + 0)
-told_here whole text (lines.Last last) at told later rest is h = h (told + 0)
-told_here whole text lines.Board at told later rest is h = h (told + 0)
-told_here whole text lines.Detail at told later rest is h = h (told + 0)
-told_here whole text lines.Unread at told later rest is h = h (told + 0)
+told_here whole text _ at told later rest is h = h (told + 0)
 
 pub told_from : (whole all : List (List ℕ)) (at told : ℕ) → drop at whole ≡ all → map (λ (event : Event). line_at whole event.at) (events_from at all told) ≡ filter is_event all
 unfolding events_from

@@ -32,12 +32,8 @@ use Rattle.script_runs.proofs.DidLaws.{IsQuiet, did-none, did-off, did-quiet}
 
 -- A question of a script may be asked at any time.
 pub may-ask : (query : Query) → IsQuestion query → MayAsk query
-may-ask Query.Devices h = tt
-may-ask (Query.Releases selector) h = tt
-may-ask (Query.Upgrades selector) h = tt
-may-ask Query.History h = tt
-may-ask (Query.Results selector) h = tt
 may-ask (Query.Settle selector) h = h
+may-ask _ h = tt
 
 -- The events of these items are quiet.
 pub quiet-query : (client : ℕ) (query : Query) → IsQuiet client (Event.Query client query)

@@ -80,19 +80,15 @@ judged-in signs name client entry (Err Stop.NoMemory) old new n k j = none-in ol
 
 pub judged-grew : (client entry : ℕ) (result : Result Judged Stop) (old new : Annalled) → JudgeTurned client entry result old new → Grew client old new
 judged-grew client entry (Ok (Judged.Done state stored)) old new j = inr (Event.Judge client entry j.1.0 state stored, refl, j.1.2)
-judged-grew client entry (Ok Judged.Absent) old new j = inl j.2
-judged-grew client entry (Ok Judged.Waits) old new j = inl j.2
-judged-grew client entry (Ok Judged.Settled) old new j = inl j.2
 judged-grew client entry (Err Stop.Off) old new j = calm-grew client old new (off-calm client old new j)
 judged-grew client entry (Err Stop.NoMemory) old new j = inl j.1
+judged-grew client entry _ old new j = inl j.2
 
 pub judged-adds : (name : Name) (client entry : ℕ) (result : Result Judged Stop) (met log : List Entry) → JudgedIn name client entry result met log → AddsAtMostOne maker_of client met log
 judged-adds name client entry (Ok (Judged.Done state stored)) met log j = adds-on client (Event.Judge client entry j.0 state stored) met log j.2
-judged-adds name client entry (Ok Judged.Absent) met log j = adds-none client met log j.1
-judged-adds name client entry (Ok Judged.Waits) met log j = adds-none client met log j.1
-judged-adds name client entry (Ok Judged.Settled) met log j = adds-none client met log j.1
 judged-adds name client entry (Err Stop.Off) met log j = adds-off client met log j
 judged-adds name client entry (Err Stop.NoMemory) met log j = adds-none client met log j
+judged-adds name client entry _ met log j = adds-none client met log j.1
 
 -- Devices that are settled.
 pub settled-in : {K : Type 0} (signs : Signs K) (name : Name) (client : ℕ) (device : Selector) (result : Result Settling Stop) (old new : Housed K) → KeepsName signs name old → IsAnnals old.annals → SettleTurned client device result old.annals new.annals

@@ -128,10 +128,6 @@ tells-none c opening past (Event.Unplug client device (PlugAnswer.Done shown)) e
       faulty = refl;
       opened = refl;
     }
-tells-none c opening past (Event.Unplug client device PlugAnswer.NoDevice) entry number l v legal b n f s bd = record { told = refl; same_tells = refl; faulty = refl; opened = refl }
-tells-none c opening past (Event.Unplug client device (PlugAnswer.Busy e)) entry number l v legal b n f s bd = record { told = refl; same_tells = refl; faulty = refl; opened = refl }
-tells-none c opening past (Event.Unplug client device PlugAnswer.NotThere) entry number l v legal b n f s bd = record { told = refl; same_tells = refl; faulty = refl; opened = refl }
-tells-none c opening past (Event.Unplug client device PlugAnswer.AlreadyThere) entry number l v legal b n f s bd = record { told = refl; same_tells = refl; faulty = refl; opened = refl }
 tells-none c opening past (Event.Plug client device (PlugAnswer.Done shown)) entry number l v legal b n f s bd =
     let w = plugged-free (found_view (views c.facts opening past) device) shown (PlugShows c.facts c.first opening past device) legal.2 in
     record {
@@ -140,14 +136,11 @@ tells-none c opening past (Event.Plug client device (PlugAnswer.Done shown)) ent
       faulty = refl;
       opened = refl;
     }
-tells-none c opening past (Event.Plug client device PlugAnswer.NoDevice) entry number l v legal b n f s bd = record { told = refl; same_tells = refl; faulty = refl; opened = refl }
-tells-none c opening past (Event.Plug client device (PlugAnswer.Busy e)) entry number l v legal b n f s bd = record { told = refl; same_tells = refl; faulty = refl; opened = refl }
-tells-none c opening past (Event.Plug client device PlugAnswer.NotThere) entry number l v legal b n f s bd = record { told = refl; same_tells = refl; faulty = refl; opened = refl }
-tells-none c opening past (Event.Plug client device PlugAnswer.AlreadyThere) entry number l v legal b n f s bd = record { told = refl; same_tells = refl; faulty = refl; opened = refl }
 tells-none c opening past (Event.GiveBack client what) entry number l v legal b n f s bd =
     record { told = refl; same_tells = refl; faulty = refl; opened = same-steps c opening past (Event.GiveBack client what) entry number l v legal b n f s bd refl }
 tells-none c opening past Event.Cut entry number l v legal b n f s bd =
     record { told = refl; same_tells = refl; faulty = refl; opened = same-steps c opening past Event.Cut entry number l v legal b n f s bd refl }
+tells-none c opening past _ entry number l v legal b n f s bd = record { told = refl; same_tells = refl; faulty = refl; opened = refl }
 
 -- So the log says the same of its board.
 pub own-board_same : (c : Campaign) (opening : List Row) (past : List Event) (event : Event) (entry number : ℕ) (l : LiveEntry)

@@ -72,8 +72,6 @@ owned-left entries entry s k l h =
 
 owned-step : (c : Campaign) (opening : List Row) (past : List Event) (event : Event) → PastKept c.facts opening past → Allowed c opening past event → StepsOwned past → StepsOwned (event ∷ past)
 owned-step c opening past (Event.Boot number time limit found boards) k a w = tt
-owned-step c opening past (Event.Query client query) k a w = w
-owned-step c opening past (Event.Ask client request pending answer) k a w = w
 owned-step c opening past (Event.Claim client request fetched (ClaimAnswer.Entry entry)) k a w =
     let ca = a.1 in
     let d = accepted-claim fetched (target c.facts (views c.facts opening past) request) (next_entry c.facts opening past) (verdict c.facts opening past client request (Stage.Claim a.0.release)) entry ca.answer_is in
@@ -81,9 +79,6 @@ owned-step c opening past (Event.Claim client request fetched (ClaimAnswer.Entry
     All-both (OpenKept past) (IsOwned (live past)) _ (open_steps past) k.steps.open_are w
     (λ s o h. owned-pushed (live past) (record { client = client; entry = entry; blocks = blocks_fetched fetched }) s
     (λ e. let le : s.entry ≤ length (rows c.facts opening past) = open-known c.facts opening past s k.taken o in omega arith) h)
-owned-step c opening past (Event.Claim client request fetched (ClaimAnswer.Kept entry state)) k a w = w
-owned-step c opening past (Event.Claim client request fetched (ClaimAnswer.Refused refusal)) k a w = w
-owned-step c opening past (Event.Schedule client request answer) k a w = w
 owned-step c opening past (Event.Resume client entry fetched ResumeAnswer.Begun stored) k a w =
     let ra = a.1 in
     let pending : is_pending a.0.state ≡ true = (let p : a.0.state ≡ RowState.Pending = ra.pending in rw p refl) in
@@ -92,7 +87,6 @@ owned-step c opening past (Event.Resume client entry fetched ResumeAnswer.Begun 
     All-both (OpenKept past) (IsOwned (live past)) _ (open_steps past) k.steps.open_are w
     (λ s o h. owned-pushed (live past) (record { client = client; entry = entry; blocks = blocks_fetched_if fetched }) s
     (λ e. not-fresh (strokes s.entry past) s.op o.rest o.started (subst (λ (n : ℕ). strokes n past ≡ []) e fresh)) h)
-owned-step c opening past (Event.Resume client entry fetched (ResumeAnswer.Refused refusal) stored) k a w = w
 owned-step c opening past (Event.Start client entry op) k a w =
     let s = a.1 in
     All-push (IsOwned (live past)) (open_steps past) (record { client = client; entry = entry; op = op }) w
@@ -101,14 +95,9 @@ owned-step c opening past (Event.End client entry op outcome told seen) k a w =
     All-filter (IsOwned (live past)) (IsOwned (live past)) (λ s. not (s.entry == entry)) (open_steps past) w (λ s h _. h)
 owned-step c opening past (Event.Finish client entry state stored) k a w =
     All-map (IsOwned (live past)) _ (open_steps past) w (λ s h. owned-left (live past) entry s h)
-owned-step c opening past (Event.Judge client entry version state stored) k a w = w
-owned-step c opening past (Event.Unplug client device answer) k a w = w
-owned-step c opening past (Event.Plug client device answer) k a w = w
-owned-step c opening past (Event.GiveBack client (Back.Tag tag)) k a w = w
-owned-step c opening past (Event.GiveBack client (Back.Pending entry)) k a w = w
 owned-step c opening past (Event.GiveBack client (Back.Entry entry)) k a w =
     All-map (IsOwned (live past)) _ (open_steps past) w (λ s h. owned-left (live past) entry s h)
-owned-step c opening past Event.Cut k a w = w
+owned-step c opening past _ k a w = w
 
 pub steps-owned : (c : Campaign) (opening : List Row) (past : List Event) → IsHistory opening → IsLegal c opening past → StepsOwned past
 steps-owned c opening [] v l = tt
@@ -153,18 +142,12 @@ untouched c opening past event client entry l v legal a o own = at event a o.not
         let bad : (other == client) ≡ true = ap (λ (x : ℕ). x == client) is ∙ eqb-self client in cc)
 
     at : (x : Event) → Allowed c opening past x → is_of client x ≡ false → concerns entry x ≡ false
-    at (Event.Boot number time limit found boards) b n = refl
-    at (Event.Query other query) b n = refl
-    at (Event.Ask other request pending answer) b n = refl
     at (Event.Claim other request fetched (ClaimAnswer.Entry e)) b n =
         let ca = b.1 in
         let d = accepted-claim fetched (target c.facts (views c.facts opening past) request) (next_entry c.facts opening past) (verdict c.facts opening past other request (Stage.Claim b.0.release)) e ca.answer_is in
         let next : e ≡ length (rows c.facts opening past) + 1 = d.4 in
         let le : entry ≤ length (rows c.facts opening past) = live-known c opening past entry l v legal own.live in
         eqb-other e entry (λ s. omega arith)
-    at (Event.Claim other request fetched (ClaimAnswer.Kept e state)) b n = refl
-    at (Event.Claim other request fetched (ClaimAnswer.Refused refusal)) b n = refl
-    at (Event.Schedule other request answer) b n = refl
     at (Event.Resume other e fetched answer stored) b n =
         eqb-other e entry (λ s. let ra = b.1 in
         let f : state_of (rows c.facts opening past) e ≡ Some b.0.state = ap (option_map (λ (r : Row). r.state)) ra.row_is in
@@ -188,12 +171,8 @@ untouched c opening past event client entry l v legal a o own = at event a o.not
         let st : b.0.state ≡ RowState.Begun = cc in
         let is : is_live (live past) e ≡ true = ap (is_live (live past)) s ∙ live-is (live past) entry l own.live in
         not-judged past b.0.state e st is j.waits)
-    at (Event.Unplug other device answer) b n = refl
-    at (Event.Plug other device answer) b n = refl
-    at (Event.GiveBack other (Back.Tag tag)) b n = refl
-    at (Event.GiveBack other (Back.Pending e)) b n = refl
     at (Event.GiveBack other (Back.Entry e)) b n = apart e other b.0 n b.1 b.2
-    at Event.Cut b n = refl
+    at _ b n = refl
 
 -- What an event that isn't about an entry leaves of it.
 
@@ -208,56 +187,20 @@ not-at e entry n x t =
 
 pub live-same : (past : List Event) (event : Event) (entry : ℕ) → is_boot event ≡ false → concerns entry event ≡ false → live_entry (event ∷ past) entry ≡ live_entry past entry
 live-same past (Event.Boot number time limit found boards) entry b n = cc
-live-same past (Event.Query client query) entry b n = refl
-live-same past (Event.Ask client request pending answer) entry b n = refl
 live-same past (Event.Claim client request fetched (ClaimAnswer.Entry e)) entry b n = find-push_other (λ l. l.entry == entry) (live past) (record { client = client; entry = e; blocks = blocks_fetched fetched }) n
-live-same past (Event.Claim client request fetched (ClaimAnswer.Kept e state)) entry b n = refl
-live-same past (Event.Claim client request fetched (ClaimAnswer.Refused refusal)) entry b n = refl
-live-same past (Event.Schedule client request answer) entry b n = refl
 live-same past (Event.Resume client e fetched ResumeAnswer.Begun stored) entry b n = find-push_other (λ l. l.entry == entry) (live past) (record { client = client; entry = e; blocks = blocks_fetched_if fetched }) n
-live-same past (Event.Resume client e fetched (ResumeAnswer.Refused refusal) stored) entry b n = refl
-live-same past (Event.Start client e op) entry b n = refl
-live-same past (Event.End client e op outcome told seen) entry b n = refl
 live-same past (Event.Finish client e state stored) entry b n = find-filter (λ l. l.entry == entry) (λ l. not (l.entry == e)) (live past) (λ l t. not-at e entry n l.entry t)
-live-same past (Event.Judge client e version state stored) entry b n = refl
-live-same past (Event.Unplug client device answer) entry b n = refl
-live-same past (Event.Plug client device answer) entry b n = refl
-live-same past (Event.GiveBack client (Back.Tag tag)) entry b n = refl
-live-same past (Event.GiveBack client (Back.Pending e)) entry b n = refl
 live-same past (Event.GiveBack client (Back.Entry e)) entry b n = find-filter (λ l. l.entry == entry) (λ l. not (l.entry == e)) (live past) (λ l t. not-at e entry n l.entry t)
-live-same past Event.Cut entry b n = refl
+live-same past _ entry b n = refl
 
 pub step-same : (past : List Event) (event : Event) (entry : ℕ) → is_boot event ≡ false → concerns entry event ≡ false → step_open (event ∷ past) entry ≡ step_open past entry
 step-same past (Event.Boot number time limit found boards) entry b n = cc
-step-same past (Event.Query client query) entry b n = refl
-step-same past (Event.Ask client request pending answer) entry b n = refl
-step-same past (Event.Claim client request fetched answer) entry b n = refl
-step-same past (Event.Schedule client request answer) entry b n = refl
-step-same past (Event.Resume client e fetched answer stored) entry b n = refl
 step-same past (Event.Start client e op) entry b n = find-push_other (λ s. s.entry == entry) (open_steps past) (record { client = client; entry = e; op = op }) n
 step-same past (Event.End client e op outcome told seen) entry b n = find-filter (λ s. s.entry == entry) (λ s. not (s.entry == e)) (open_steps past) (λ s t. not-at e entry n s.entry t)
-step-same past (Event.Finish client e state stored) entry b n = refl
-step-same past (Event.Judge client e version state stored) entry b n = refl
-step-same past (Event.Unplug client device answer) entry b n = refl
-step-same past (Event.Plug client device answer) entry b n = refl
-step-same past (Event.GiveBack client what) entry b n = refl
-step-same past Event.Cut entry b n = refl
+step-same past _ entry b n = refl
 
 pub trace-same : (facts : Facts) (opening : List Row) (past : List Event) (event : Event) (entry : ℕ) → concerns entry event ≡ false → trace facts opening entry (event ∷ past) ≡ trace facts opening entry past
-trace-same facts opening past (Event.Boot number time limit found boards) entry n = refl
-trace-same facts opening past (Event.Query client query) entry n = refl
-trace-same facts opening past (Event.Ask client request pending answer) entry n = refl
 trace-same facts opening past (Event.Claim client request fetched (ClaimAnswer.Entry e)) entry n = let f : (e == entry) ≡ false = n in rw f refl
-trace-same facts opening past (Event.Claim client request fetched (ClaimAnswer.Kept e state)) entry n = refl
-trace-same facts opening past (Event.Claim client request fetched (ClaimAnswer.Refused refusal)) entry n = refl
-trace-same facts opening past (Event.Schedule client request answer) entry n = refl
 trace-same facts opening past (Event.Resume client e fetched ResumeAnswer.Begun stored) entry n = let f : (e == entry) ≡ false = n in rw f refl
-trace-same facts opening past (Event.Resume client e fetched (ResumeAnswer.Refused refusal) stored) entry n = refl
-trace-same facts opening past (Event.Start client e op) entry n = refl
 trace-same facts opening past (Event.End client e op outcome told seen) entry n = let f : (e == entry) ≡ false = n in rw f refl
-trace-same facts opening past (Event.Finish client e state stored) entry n = refl
-trace-same facts opening past (Event.Judge client e version state stored) entry n = refl
-trace-same facts opening past (Event.Unplug client device answer) entry n = refl
-trace-same facts opening past (Event.Plug client device answer) entry n = refl
-trace-same facts opening past (Event.GiveBack client what) entry n = refl
-trace-same facts opening past Event.Cut entry n = refl
+trace-same facts opening past _ entry n = refl

@@ -53,48 +53,25 @@ hold-apart hs gone client n =
 
 pub hold-other : (past : List Event) (event : Event) (client : ℕ) → IsOther client event → hold (event ∷ past) client ≡ hold past client
 hold-other past (Event.Boot number time limit found boards) client o = let bad : true ≡ false = o.no_boot in cc
-hold-other past (Event.Query other query) client o = refl
 hold-other past (Event.Ask other request pending (AskAnswer.Hold blocks release)) client o =
     let n : (other == client) ≡ false = o.not_of in
     find-push_other (λ h. h.client == client) (without_client other (holds past)) (record { client = other; request = request; pending = pending; blocks = blocks; release = release }) n
     ∙ hold-apart (holds past) other client n
-hold-other past (Event.Ask other request pending (AskAnswer.Kept entry state)) client o = refl
-hold-other past (Event.Ask other request pending (AskAnswer.Refused refusal)) client o = refl
 hold-other past (Event.Claim other request fetched answer) client o = hold-apart (holds past) other client o.not_of
-hold-other past (Event.Schedule other request answer) client o = refl
 hold-other past (Event.Resume other entry fetched answer stored) client o = hold-apart (holds past) other client o.not_of
-hold-other past (Event.Start other entry op) client o = refl
-hold-other past (Event.End other entry op outcome told seen) client o = refl
-hold-other past (Event.Finish other entry state stored) client o = refl
-hold-other past (Event.Judge other entry version state stored) client o = refl
-hold-other past (Event.Unplug other device answer) client o = refl
-hold-other past (Event.Plug other device answer) client o = refl
 hold-other past (Event.GiveBack other what) client o = hold-apart (holds past) other client o.not_of
-hold-other past Event.Cut client o = refl
+hold-other past _ client o = refl
 
 -- a client without a live entry is still without one
 pub none-other : (past : List Event) (event : Event) (client : ℕ) → IsOther client event → list_any (λ l. l.client == client) (live past) ≡ false → list_any (λ l. l.client == client) (live (event ∷ past)) ≡ false
 none-other past (Event.Boot number time limit found boards) client o h = refl
-none-other past (Event.Query other query) client o h = h
-none-other past (Event.Ask other request pending answer) client o h = h
 none-other past (Event.Claim other request fetched (ClaimAnswer.Entry entry)) client o h =
     any-grown (λ l. l.client == client) (live past) (record { client = other; entry = entry; blocks = blocks_fetched fetched }) o.not_of ∙ h
-none-other past (Event.Claim other request fetched (ClaimAnswer.Kept entry state)) client o h = h
-none-other past (Event.Claim other request fetched (ClaimAnswer.Refused refusal)) client o h = h
-none-other past (Event.Schedule other request answer) client o h = h
 none-other past (Event.Resume other entry fetched ResumeAnswer.Begun stored) client o h =
     any-grown (λ l. l.client == client) (live past) (record { client = other; entry = entry; blocks = blocks_fetched_if fetched }) o.not_of ∙ h
-none-other past (Event.Resume other entry fetched (ResumeAnswer.Refused refusal) stored) client o h = h
-none-other past (Event.Start other entry op) client o h = h
-none-other past (Event.End other entry op outcome told seen) client o h = h
 none-other past (Event.Finish other entry state stored) client o h = any-fewer (λ l. l.client == client) (λ l. not (l.entry == entry)) (live past) h
-none-other past (Event.Judge other entry version state stored) client o h = h
-none-other past (Event.Unplug other device answer) client o h = h
-none-other past (Event.Plug other device answer) client o h = h
-none-other past (Event.GiveBack other (Back.Tag tag)) client o h = h
-none-other past (Event.GiveBack other (Back.Pending entry)) client o h = h
 none-other past (Event.GiveBack other (Back.Entry entry)) client o h = any-fewer (λ l. l.client == client) (λ l. not (l.entry == entry)) (live past) h
-none-other past Event.Cut client o h = h
+none-other past _ client o h = h
 
 pub free-other : (past : List Event) (event : Event) (client : ℕ) → IsOther client event → IsFree past client → IsFree (event ∷ past) client
 free-other past event client o f = record { hold = hold-other past event client o ∙ f.hold; live = none-other past event client o f.live }

@@ -40,9 +40,7 @@ row-apart e state reason time (r ∷ rest) entry n =
 row-by : (fate : Fate) (change : Option Change) (all : List Row) (entry : ℕ) (row : Row) → IfSome change (Spares entry) → row_of all entry ≡ Some row → row_of (rows_by fate change all) entry ≡ Some row
 row-by Fate.Made (Some (Change.Add new)) all entry row n h = find-grown (λ r. r.entry == entry) all (new ∷ []) row h
 row-by Fate.Made (Some (Change.Advance e state reason time)) all entry row n h = row-apart e state reason time all entry n ∙ h
-row-by Fate.Made None all entry row n h = h
-row-by Fate.Doubtful change all entry row n h = h
-row-by Fate.Dropped change all entry row n h = h
+row-by _ _ all entry row n h = h
 
 -- The event asks for another state of the entry's row.
 abbrev pub advances : ℕ → Event → Bool
@@ -60,37 +58,17 @@ resumed-spares entry time k e ResumeAnswer.Begun n = n
 resumed-spares entry time k e (ResumeAnswer.Refused refusal) n = by_test (is_keeper_fault refusal) _ (λ t. rw t n) (λ t. rw t n)
 
 asked-spares : (facts : Facts) (time : ℕ) (entries : List LiveEntry) (k : Known) (event : Event) (entry : ℕ) → advances entry event ≡ false → IfSome (asked facts time entries k event) (Spares entry)
-asked-spares facts time entries k (Event.Boot number t limit found boards) entry n = tt
-asked-spares facts time entries k (Event.Query client query) entry n = tt
-asked-spares facts time entries k (Event.Ask client request pending answer) entry n = tt
 asked-spares facts time entries k (Event.Claim client request fetched answer) entry n = added-spares entry (target facts (views_in facts entries k) request) _
 asked-spares facts time entries k (Event.Schedule client request answer) entry n = added-spares entry (target facts (views_in facts entries k) request) _
 asked-spares facts time entries k (Event.Resume client e fetched answer stored) entry n = resumed-spares entry time k e answer n
-asked-spares facts time entries k (Event.Start client e op) entry n = tt
-asked-spares facts time entries k (Event.End client e op outcome told seen) entry n = tt
 asked-spares facts time entries k (Event.Finish client e state stored) entry n = n
 asked-spares facts time entries k (Event.Judge client e version state stored) entry n = n
-asked-spares facts time entries k (Event.Unplug client device answer) entry n = tt
-asked-spares facts time entries k (Event.Plug client device answer) entry n = tt
-asked-spares facts time entries k (Event.GiveBack client what) entry n = tt
-asked-spares facts time entries k Event.Cut entry n = tt
+asked-spares facts time entries k _ entry n = tt
 
 rows-by-fate : (facts : Facts) (opening : List Row) (past : List Event) (event : Event) → is_boot event ≡ false
     → rows facts opening (event ∷ past) ≡ rows_by (fate event) (asked facts (time_of past) (live past) (known facts opening past) event) (rows facts opening past)
 rows-by-fate facts opening past (Event.Boot number t limit found boards) b = cc
-rows-by-fate facts opening past (Event.Query client query) b = refl
-rows-by-fate facts opening past (Event.Ask client request pending answer) b = refl
-rows-by-fate facts opening past (Event.Claim client request fetched answer) b = refl
-rows-by-fate facts opening past (Event.Schedule client request answer) b = refl
-rows-by-fate facts opening past (Event.Resume client e fetched answer stored) b = refl
-rows-by-fate facts opening past (Event.Start client e op) b = refl
-rows-by-fate facts opening past (Event.End client e op outcome told seen) b = refl
-rows-by-fate facts opening past (Event.Finish client e state stored) b = refl
-rows-by-fate facts opening past (Event.Judge client e version state stored) b = refl
-rows-by-fate facts opening past (Event.Unplug client device answer) b = refl
-rows-by-fate facts opening past (Event.Plug client device answer) b = refl
-rows-by-fate facts opening past (Event.GiveBack client what) b = refl
-rows-by-fate facts opening past Event.Cut b = refl
+rows-by-fate facts opening past _ b = refl
 
 -- Then the row stays.
 pub row-same : (facts : Facts) (opening : List Row) (past : List Event) (event : Event) (entry : ℕ) (row : Row) → is_boot event ≡ false → advances entry event ≡ false → row_of (rows facts opening past) entry ≡ Some row → row_of (rows facts opening (event ∷ past)) entry ≡ Some row
@@ -100,20 +78,10 @@ row-same facts opening past event entry row b n h =
     (asked-spares facts (time_of past) (live past) (known facts opening past) event entry n) h
 
 pub concerns-none : (event : Event) (entry : ℕ) → concerns entry event ≡ false → advances entry event ≡ false
-concerns-none (Event.Boot number t limit found boards) entry n = refl
-concerns-none (Event.Query client query) entry n = refl
-concerns-none (Event.Ask client request pending answer) entry n = refl
-concerns-none (Event.Claim client request fetched answer) entry n = refl
-concerns-none (Event.Schedule client request answer) entry n = refl
 concerns-none (Event.Resume client e fetched answer stored) entry n = n
-concerns-none (Event.Start client e op) entry n = refl
-concerns-none (Event.End client e op outcome told seen) entry n = refl
 concerns-none (Event.Finish client e state stored) entry n = n
 concerns-none (Event.Judge client e version state stored) entry n = n
-concerns-none (Event.Unplug client device answer) entry n = refl
-concerns-none (Event.Plug client device answer) entry n = refl
-concerns-none (Event.GiveBack client what) entry n = refl
-concerns-none Event.Cut entry n = refl
+concerns-none _ entry n = refl
 
 -- A row that was put off: only the daemon itself, client 0, resumes it.
 pub unadvanced : (c : Campaign) (opening : List Row) (past : List Event) (event : Event) (entry : ℕ) (row : Row) → IsHistory opening → IsLegal c opening past → Allowed c opening past event → IsOther 0 event

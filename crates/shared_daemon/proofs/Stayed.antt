@@ -34,11 +34,7 @@ use Rattle.shared_daemon.proofs.Seeing.{from-name, stays, to-name}
 
 pub may-ask : (facts : Facts) (opening : List Row) (past : List Event) (query : Query) → MayAsk query → QueryAllowed facts opening past query
 may-ask facts opening past (Query.Settle selector) m = absurd m
-may-ask facts opening past Query.Devices m = tt
-may-ask facts opening past (Query.Releases selector) m = tt
-may-ask facts opening past (Query.Upgrades selector) m = tt
-may-ask facts opening past Query.History m = tt
-may-ask facts opening past (Query.Results selector) m = tt
+may-ask facts opening past _ m = tt
 
 module _ {K : Type 0} (signs : Signs K) (name : Name) (client : ℕ) (h : Housed K) where
   -- What was seen stays, for the name's facts.

@@ -72,9 +72,6 @@ module _ {X E : Type 0} (by : E → ℕ) where
 
   -- a ticket that is out was drawn, and its turn has not ended
   pub ticket_in : (past : Past X E) (views : List (SeatView E)) (j k : ℕ) (u : SeatView E) → Fits by past views j u → ticket_of u ≡ Some k → (past.ended ≤ k) × (k < past.drawn)
-  ticket_in past views j k (Opening made start) f e = absurd (some_not_none k (sym e))
-  ticket_in past views j k (Idle h) f e = absurd (some_not_none k (sym e))
   ticket_in past views j k (Waiting n h) f e = let same : n ≡ k = some_is n k e in (omega (arith, f.2), omega (arith, f.3))
   ticket_in past views j k (Inside n h) f e = let same : n ≡ k = some_is n k e in (omega (arith, f.2), omega (arith, f.3))
-  ticket_in past views j k (Closing hs) f e = absurd (some_not_none k (sym e))
-  ticket_in past views j k Spent f e = absurd (some_not_none k (sym e))
+  ticket_in past views j k _ f e = absurd (some_not_none k (sym e))

@@ -8,7 +8,7 @@ use Rattle.atomic_table.specs.Table.{State, Splits, Joins}
 use Rattle.atomic_table.proofs.Lists.{at_set, set_here, set_else, at_longer}
 use Rattle.turn_lock.specs.declared.view.Knowledge.{Knowledge}
 use Rattle.turn_lock.specs.declared.view.SeatView.{SeatView}
-use Rattle.turn_lock.specs.declared.view.SeatView.TheVariants.{Opening, Idle, Waiting, Inside, Closing, Spent}
+use Rattle.turn_lock.specs.declared.view.SeatView.TheVariants.{Opening, Idle, Inside, Closing, Spent}
 use Rattle.turn_lock.specs.Views.{knows, accounts_of, account_count, ticket_of, one_more_made, next_pass, CanTakeIn, taken_in}
 use Rattle.turn_lock.specs.Rule.{Past, IsTrueOf, AnswersFor, Fits, TakesTurns}
 use Rattle.turn_lock.proofs.Counting.{at_within, at_end, sum_by-set_at, made_by-past}
@@ -18,21 +18,15 @@ use Rattle.turn_lock.proofs.Turns.{tickets}
 module _ {X E : Type 0} (by : E → ℕ) where
   -- a seat that can take in passes answers for each of its own
   pub answers : (past : Past X E) (views : List (SeatView E)) (seat : ℕ) (v : SeatView E) → CanTakeIn v → Fits by past views seat v → All (AnswersFor by past views seat) (accounts_of v)
-  answers past views seat (Opening made begin) can f = absurd can
   answers past views seat (Idle h) can f = All-cons (AnswersFor by past views seat) h [] (record { is_true = f.1; joined = inl f.0 }) (All-nil (AnswersFor by past views seat))
-  answers past views seat (Waiting k h) can f = absurd can
-  answers past views seat (Inside k h) can f = absurd can
   answers past views seat (Closing hs) can f = f
-  answers past views seat Spent can f = absurd can
+  answers past views seat _ can f = absurd can
 
 module _ {E : Type 0} where
   no_ticket : (v : SeatView E) → CanTakeIn v → tickets v ≡ 0
-  no_ticket (Opening made begin) can = absurd can
   no_ticket (Idle h) can = refl
-  no_ticket (Waiting k h) can = absurd can
-  no_ticket (Inside k h) can = absurd can
   no_ticket (Closing hs) can = refl
-  no_ticket Spent can = absurd can
+  no_ticket _ can = absurd can
 
 module _ {X E : Type 0} (entries : X → List E) (by : E → ℕ) (seats : ℕ) (start : List E) where
   abbrev St : Type 0

@@ -26,24 +26,11 @@ use Rattle.update_log.specs.declared.live.LiveEntry.{LiveEntry}
 -- Such an event leaves the live entries.
 pub live-stays : (event : Event) (entries : List LiveEntry) → changes_live event ≡ false → live_after event entries ≡ entries
 live-stays (Event.Boot number time limit found boards) entries h = cc
-live-stays (Event.Query client query) entries h = refl
-live-stays (Event.Ask client request pending answer) entries h = refl
 live-stays (Event.Claim client request fetched (ClaimAnswer.Entry entry)) entries h = cc
-live-stays (Event.Claim client request fetched (ClaimAnswer.Kept entry state)) entries h = refl
-live-stays (Event.Claim client request fetched (ClaimAnswer.Refused refusal)) entries h = refl
-live-stays (Event.Schedule client request answer) entries h = refl
 live-stays (Event.Resume client entry fetched ResumeAnswer.Begun stored) entries h = cc
-live-stays (Event.Resume client entry fetched (ResumeAnswer.Refused refusal) stored) entries h = refl
-live-stays (Event.Start client entry op) entries h = refl
-live-stays (Event.End client entry op outcome told seen) entries h = refl
 live-stays (Event.Finish client entry state stored) entries h = cc
-live-stays (Event.Judge client entry version state stored) entries h = refl
-live-stays (Event.Unplug client device answer) entries h = refl
-live-stays (Event.Plug client device answer) entries h = refl
-live-stays (Event.GiveBack client (Back.Tag tag)) entries h = refl
-live-stays (Event.GiveBack client (Back.Pending entry)) entries h = refl
 live-stays (Event.GiveBack client (Back.Entry entry)) entries h = cc
-live-stays Event.Cut entries h = refl
+live-stays _ entries h = refl
 
 -- The row is of that device, which what of a row never changes says.
 abbrev of-device : List ℕ → Option Row → Bool

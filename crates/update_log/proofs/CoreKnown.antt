@@ -18,16 +18,11 @@ use Rattle.update_log.specs.declared.refusal.Refusal.{Refusal}
 
 made-rows : (fate : Fate) (change : Option Change) (rows : List Row) → rows_by fate change rows ≡ changed_if (made_by fate change) rows
 made-rows Fate.Made None rows = refl
-made-rows Fate.Made (Some change) rows = refl
-made-rows Fate.Doubtful change rows = refl
-made-rows Fate.Dropped change rows = refl
+made-rows _ _ rows = refl
 
 found-rows : (found : Found) (change : Option Change) (rows : List Row) → rows_found found change rows ≡ changed_if (kept_by found change) rows
 found-rows Found.Kept None rows = refl
-found-rows Found.Kept (Some change) rows = refl
-found-rows Found.Plain change rows = refl
-found-rows Found.Lost change rows = refl
-found-rows Found.Fault change rows = refl
+found-rows _ _ rows = refl
 
 -- Refused, it isn't made.
 refused-rows : (b : Bool) (change other : Option Change) (rows : List Row)
@@ -47,52 +42,29 @@ resumed time known entry (ResumeAnswer.Refused refusal) = by_test (is_keeper_fau
 pub rows-made : (facts : Facts) (time : ℕ) (entries : List LiveEntry) (known : Known) (event : Event)
     → rows_after facts time entries known event ≡ changed_if (made_at event (change_on facts time (views_in facts entries known) known.rows event) known.doubt) known.rows
 rows-made facts time entries known (Event.Boot number new_time limit found boards) = found-rows found known.doubt known.rows
-rows-made facts time entries known (Event.Query client query) = refl
-rows-made facts time entries known (Event.Ask client request pending answer) = refl
 rows-made facts time entries known (Event.Claim client request fetched (ClaimAnswer.Entry entry)) =
     made-rows Fate.Made (addition facts time entries known client request RowState.Begun) known.rows
-rows-made facts time entries known (Event.Claim client request fetched (ClaimAnswer.Kept entry state)) = refl
 rows-made facts time entries known (Event.Claim client request fetched (ClaimAnswer.Refused refusal)) =
     refused-rows (is_keeper_fault refusal) (addition facts time entries known client request RowState.Begun)
     (change_on facts time (views_in facts entries known) known.rows (Event.Claim client request fetched (ClaimAnswer.Refused refusal))) known.rows
 rows-made facts time entries known (Event.Schedule client request (ClaimAnswer.Entry entry)) =
     made-rows Fate.Made (addition facts time entries known client request RowState.Pending) known.rows
-rows-made facts time entries known (Event.Schedule client request (ClaimAnswer.Kept entry state)) = refl
 rows-made facts time entries known (Event.Schedule client request (ClaimAnswer.Refused refusal)) =
     refused-rows (is_keeper_fault refusal) (addition facts time entries known client request RowState.Pending)
     (change_on facts time (views_in facts entries known) known.rows (Event.Schedule client request (ClaimAnswer.Refused refusal))) known.rows
 rows-made facts time entries known (Event.Resume client entry fetched answer stored) =
     ap (λ (o : Option Change). rows_by (fate_stored stored) o known.rows) (resumed time known entry answer)
     ∙ made-rows (fate_stored stored) (Some (resumption_on time known.rows entry answer)) known.rows
-rows-made facts time entries known (Event.Start client entry op) = refl
-rows-made facts time entries known (Event.End client entry op outcome told seen) = refl
 rows-made facts time entries known (Event.Finish client entry state stored) = made-rows (fate_stored stored) _ known.rows
 rows-made facts time entries known (Event.Judge client entry version state stored) = made-rows (fate_stored stored) _ known.rows
-rows-made facts time entries known (Event.Unplug client device answer) = refl
-rows-made facts time entries known (Event.Plug client device answer) = refl
-rows-made facts time entries known (Event.GiveBack client what) = refl
-rows-made facts time entries known Event.Cut = refl
+rows-made facts time entries known _ = refl
 
 pub doubt-made : (facts : Facts) (time : ℕ) (entries : List LiveEntry) (known : Known) (event : Event)
     → doubt_after facts time entries known event ≡ doubt_at event (change_on facts time (views_in facts entries known) known.rows event) known.doubt
-doubt-made facts time entries known (Event.Boot number new_time limit found boards) = refl
-doubt-made facts time entries known (Event.Query client query) = refl
-doubt-made facts time entries known (Event.Ask client request pending answer) = refl
-doubt-made facts time entries known (Event.Claim client request fetched (ClaimAnswer.Entry entry)) = refl
-doubt-made facts time entries known (Event.Claim client request fetched (ClaimAnswer.Kept entry state)) = refl
 doubt-made facts time entries known (Event.Claim client request fetched (ClaimAnswer.Refused refusal)) =
     refused-doubt (is_keeper_fault refusal) (addition facts time entries known client request RowState.Begun) known.doubt
-doubt-made facts time entries known (Event.Schedule client request (ClaimAnswer.Entry entry)) = refl
-doubt-made facts time entries known (Event.Schedule client request (ClaimAnswer.Kept entry state)) = refl
 doubt-made facts time entries known (Event.Schedule client request (ClaimAnswer.Refused refusal)) =
     refused-doubt (is_keeper_fault refusal) (addition facts time entries known client request RowState.Pending) known.doubt
 doubt-made facts time entries known (Event.Resume client entry fetched answer stored) =
     ap (λ (o : Option Change). doubt_by (fate_stored stored) o known.doubt) (resumed time known entry answer)
-doubt-made facts time entries known (Event.Start client entry op) = refl
-doubt-made facts time entries known (Event.End client entry op outcome told seen) = refl
-doubt-made facts time entries known (Event.Finish client entry state stored) = refl
-doubt-made facts time entries known (Event.Judge client entry version state stored) = refl
-doubt-made facts time entries known (Event.Unplug client device answer) = refl
-doubt-made facts time entries known (Event.Plug client device answer) = refl
-doubt-made facts time entries known (Event.GiveBack client what) = refl
-doubt-made facts time entries known Event.Cut = refl
+doubt-made facts time entries known _ = refl

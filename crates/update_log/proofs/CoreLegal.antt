@@ -101,9 +101,6 @@ few-rows c w d =
     leb-below n h = leb-false rows_max n h
 
 pub asks-few : (c : Campaign) (opening : List Row) (past : List Event) (event : Event) → Allowed c opening past event → asks_row event ≡ true → length (rows c.facts opening past) < 65536
-asks-few c opening past (Event.Boot number time limit found boards) a h = cc
-asks-few c opening past (Event.Query client query) a h = cc
-asks-few c opening past (Event.Ask client request pending answer) a h = cc
 asks-few c opening past (Event.Claim client request fetched answer) a h =
     let held = a.0 in
     let k : Case = case_of c.facts opening past client request (Stage.Claim held.release) in
@@ -112,12 +109,4 @@ asks-few c opening past (Event.Claim client request fetched answer) a h =
 asks-few c opening past (Event.Schedule client request answer) a h =
     let k : Case = case_of c.facts opening past client request Stage.Schedule in
     few-rows k refl (schedule-accepted (next_entry c.facts opening past) (decided k) answer h (decided-other k) a.answer_is)
-asks-few c opening past (Event.Resume client entry fetched answer stored) a h = cc
-asks-few c opening past (Event.Start client entry op) a h = cc
-asks-few c opening past (Event.End client entry op outcome told seen) a h = cc
-asks-few c opening past (Event.Finish client entry state stored) a h = cc
-asks-few c opening past (Event.Judge client entry version state stored) a h = cc
-asks-few c opening past (Event.Unplug client device answer) a h = cc
-asks-few c opening past (Event.Plug client device answer) a h = cc
-asks-few c opening past (Event.GiveBack client what) a h = cc
-asks-few c opening past Event.Cut a h = cc
+asks-few c opening past _ a h = cc

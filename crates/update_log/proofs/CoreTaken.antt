@@ -88,8 +88,6 @@ resume-traced facts opening past client entry fetched stored row made fresh a =
 pub tied-after : (c : Campaign) (opening : List Row) (past : List Event) (event : Event) (traces : List Traced)
     → IsHistory opening → IsLegalUnlimited c opening (event ∷ past) → TiedTo c.facts opening past traces → After c.facts opening past event traces
 tied-after c opening past (Event.Boot number time limit found boards) traces v l h = refl
-tied-after c opening past (Event.Query client query) traces v l h = h
-tied-after c opening past (Event.Ask client request pending answer) traces v l h = h
 tied-after c opening past (Event.Claim client request fetched (ClaimAnswer.Entry entry)) traces v l h =
     let k = past-kept-on c opening past v l.0 in
     let s = k.steps in
@@ -100,9 +98,6 @@ tied-after c opening past (Event.Claim client request fetched (ClaimAnswer.Entry
     let t = accepts-target (case_of c.facts opening past client request (Stage.Claim held.release)) d.0 d.1 d.2 d.3 in
     tied-claim c.facts opening past client request fetched entry traces t.0 h (let u = t.1 in u.found)
     (All-map _ (λ l. (entry == l.entry) ≡ false) (live past) s.live_is (λ m w. eqb-other entry m.entry (λ q. let le = w.known in omega arith)))
-tied-after c opening past (Event.Claim client request fetched (ClaimAnswer.Kept entry state)) traces v l h = h
-tied-after c opening past (Event.Claim client request fetched (ClaimAnswer.Refused refusal)) traces v l h = h
-tied-after c opening past (Event.Schedule client request answer) traces v l h = h
 tied-after c opening past (Event.Resume client entry fetched ResumeAnswer.Begun stored) traces v l h =
     let both = past-held-on c opening past v l.0 in
     let k = both.kept in
@@ -113,20 +108,13 @@ tied-after c opening past (Event.Resume client entry fetched ResumeAnswer.Begun 
     let t = resume-traced c.facts opening past client entry fetched stored row both.made (untaken-unstarted c.facts opening past entry none (k.taken.begun entry)) a in
     tied-resume c.facts opening past client entry fetched stored traces t.0 h t.1
     (resume-others c.facts opening past client entry fetched stored row k a)
-tied-after c opening past (Event.Resume client entry fetched (ResumeAnswer.Refused refusal) stored) traces v l h = h
-tied-after c opening past (Event.Start client entry op) traces v l h = h
 tied-after c opening past (Event.End client entry op outcome told seen) traces v l h =
     tied-stepped entry (record { op = op; outcome = outcome; seen = seen }) (λ e. trace c.facts opening e past) traces (live past) h
 tied-after c opening past (Event.Finish client entry state stored) traces v l h =
     tied-left entry (λ e. trace c.facts opening e past) traces (live past) h
-tied-after c opening past (Event.Judge client entry version state stored) traces v l h = h
-tied-after c opening past (Event.Unplug client device answer) traces v l h = h
-tied-after c opening past (Event.Plug client device answer) traces v l h = h
-tied-after c opening past (Event.GiveBack client (Back.Tag tag)) traces v l h = h
-tied-after c opening past (Event.GiveBack client (Back.Pending entry)) traces v l h = h
 tied-after c opening past (Event.GiveBack client (Back.Entry entry)) traces v l h =
     tied-left entry (λ e. trace c.facts opening e past) traces (live past) h
-tied-after c opening past Event.Cut traces v l h = h
+tied-after c opening past _ traces v l h = h
 
 -- What holds of each, in the form that a loop takes.
 all-at : {X : Type 0} (P : X → Type 0) (xs : List X) → AllByRecursion P xs → (k : ℕ) (d : X) → k < length xs → P (slice_index_or xs k d)
@@ -140,21 +128,9 @@ place-of f entry t few e q = let g : f entry ≡ Some t.trace = ap f (sym q) ∙
 -- An entry that ends a step has place for it.
 pub places : (c : Campaign) (opening : List Row) (past : List Event) (event : Event) (traces : List Traced)
     → IsHistory opening → IsLegalUnlimited c opening (event ∷ past) → TiedTo c.facts opening past traces → All (HasPlace event) traces
-places c opening past (Event.Boot number time limit found boards) traces v l h = λ k d lt. tt
-places c opening past (Event.Query client query) traces v l h = λ k d lt. tt
-places c opening past (Event.Ask client request pending answer) traces v l h = λ k d lt. tt
-places c opening past (Event.Claim client request fetched answer) traces v l h = λ k d lt. tt
-places c opening past (Event.Schedule client request answer) traces v l h = λ k d lt. tt
-places c opening past (Event.Resume client entry fetched answer stored) traces v l h = λ k d lt. tt
-places c opening past (Event.Start client entry op) traces v l h = λ k d lt. tt
 places c opening past (Event.End client entry op outcome told seen) traces v l h =
     let few : IfSome (trace c.facts opening entry past) (λ t. length t.steps < 6) = end-few c opening past client entry op outcome told seen v l in
     all-at (HasPlace (Event.End client entry op outcome told seen)) traces
     (All-map _ _ traces (each-tied (λ e. trace c.facts opening e past) traces (live past) h)
     (λ t e. place-of (λ e. trace c.facts opening e past) entry t few e))
-places c opening past (Event.Finish client entry state stored) traces v l h = λ k d lt. tt
-places c opening past (Event.Judge client entry version state stored) traces v l h = λ k d lt. tt
-places c opening past (Event.Unplug client device answer) traces v l h = λ k d lt. tt
-places c opening past (Event.Plug client device answer) traces v l h = λ k d lt. tt
-places c opening past (Event.GiveBack client what) traces v l h = λ k d lt. tt
-places c opening past Event.Cut traces v l h = λ k d lt. tt
+places c opening past _ traces v l h = λ k d lt. tt

@@ -79,28 +79,10 @@ entry-board facts entries known entry = at (row_of known.rows entry)
 
 pub tells-same : (facts : Facts) (entries : List LiveEntry) (known : Known) (event : Event) (board : ℕ)
     → tells_on (map (λ b. b.number) (devices facts)) (views_in facts entries known) known.rows event board ≡ tells facts entries known event board
-tells-same facts entries known (Event.Boot number new_time limit found boards) board = refl
-tells-same facts entries known (Event.Query client query) board = refl
-tells-same facts entries known (Event.Ask client request pending answer) board = refl
-tells-same facts entries known (Event.Claim client request fetched answer) board = refl
-tells-same facts entries known (Event.Schedule client request answer) board = refl
-tells-same facts entries known (Event.Resume client entry fetched answer stored) board = refl
-tells-same facts entries known (Event.Start client entry op) board = refl
 tells-same facts entries known (Event.End client entry op outcome told seen) board =
     ap (λ (o : Option ℕ). for_board o board seen) (entry-board facts entries known entry)
-tells-same facts entries known (Event.Finish client entry state stored) board = refl
-tells-same facts entries known (Event.Judge client entry version state stored) board = refl
 tells-same facts entries known (Event.Unplug client device (PlugAnswer.Done seen)) board =
     ap (λ (o : Option ℕ). for_board o board seen) (found-board facts entries known device)
-tells-same facts entries known (Event.Unplug client device PlugAnswer.NoDevice) board = refl
-tells-same facts entries known (Event.Unplug client device (PlugAnswer.Busy entry)) board = refl
-tells-same facts entries known (Event.Unplug client device PlugAnswer.NotThere) board = refl
-tells-same facts entries known (Event.Unplug client device PlugAnswer.AlreadyThere) board = refl
 tells-same facts entries known (Event.Plug client device (PlugAnswer.Done seen)) board =
     ap (λ (o : Option ℕ). for_board o board seen) (found-board facts entries known device)
-tells-same facts entries known (Event.Plug client device PlugAnswer.NoDevice) board = refl
-tells-same facts entries known (Event.Plug client device (PlugAnswer.Busy entry)) board = refl
-tells-same facts entries known (Event.Plug client device PlugAnswer.NotThere) board = refl
-tells-same facts entries known (Event.Plug client device PlugAnswer.AlreadyThere) board = refl
-tells-same facts entries known (Event.GiveBack client what) board = refl
-tells-same facts entries known Event.Cut board = refl
+tells-same facts entries known _ board = refl

@@ -13,7 +13,7 @@ use Rattle.update_log.proofs.LegalOnce.{JournalsFit, past-kept, past-once}
 use Rattle.update_log.proofs.Pasts.{past-push}
 use Rattle.update_log.proofs.StepsKept.{get-last}
 use Rattle.update_log.specs.Crashes.{CrashOf, IsNextBoot, LeftOf, NextCampaign, faulted, next_boot}
-use Rattle.update_log.specs.Known.{Target, seen}
+use Rattle.update_log.specs.Known.{Target}
 use Rattle.update_log.specs.Laws.{IsSafeCrash}
 use Rattle.update_log.specs.Legal.{Allowed, BoardListed, BootTakes, ClaimAnswered, IsLegal, Legal, ResumeAnswered, ResumeFetched, ResumeStored, ScheduleAnswered, UnchangedExactly, is_fetched}
 use Rattle.update_log.specs.Once.{BoardState, FitsPast, OncePast}
@@ -65,10 +65,7 @@ stored-faulted _ h = inr refl
 
 pub unchanged-faulted : (closed : RowState) → UnchangedExactly closed Stored.Yes → UnchangedExactly closed Stored.Fault
 unchanged-faulted RowState.Begun h = cc
-unchanged-faulted RowState.Pending h = λ e. cc
-unchanged-faulted RowState.Success h = λ e. cc
-unchanged-faulted RowState.Failed h = λ e. cc
-unchanged-faulted RowState.NeedsReboot h = λ e. cc
+unchanged-faulted _ h = λ e. cc
 
 pub takes-alike : (past : List Event) (event f : Event) → BootTakes past event → is_boot event ≡ false → is_counted event ≡ true → BootTakes past f
 takes-alike past event f b n c = record { booted = λ _. b.booted n; on = λ _. b.on c; below = λ _. b.below c }
@@ -184,19 +181,7 @@ pub allowed-on : (c : Campaign) (plan : BootPlan) (opening : List Row) (past : L
 allowed-on c plan opening past (Event.Boot number time limit found boards) a =
     let w = a.1 in
     (a.0, record { number_is = w.number_is; planned = get-before c.plans plan a.0 (boots past) w.planned; time_is = w.time_is; limit_is = w.limit_is; count = w.count; listed = w.listed; found_is = w.found_is })
-allowed-on c plan opening past (Event.Query client query) a = a
-allowed-on c plan opening past (Event.Ask client request pending answer) a = a
-allowed-on c plan opening past (Event.Claim client request fetched answer) a = a
-allowed-on c plan opening past (Event.Schedule client request answer) a = a
-allowed-on c plan opening past (Event.Resume client entry fetched answer stored) a = a
-allowed-on c plan opening past (Event.Start client entry op) a = a
-allowed-on c plan opening past (Event.End client entry op outcome told seen) a = a
-allowed-on c plan opening past (Event.Finish client entry state stored) a = a
-allowed-on c plan opening past (Event.Judge client entry version state stored) a = a
-allowed-on c plan opening past (Event.Unplug client device answer) a = a
-allowed-on c plan opening past (Event.Plug client device answer) a = a
-allowed-on c plan opening past (Event.GiveBack client what) a = a
-allowed-on c plan opening past Event.Cut a = a
+allowed-on c plan opening past _ a = a
 
 pub legal-on : (c : Campaign) (plan : BootPlan) (opening : List Row) (past : List Event) → IsLegal c opening past → IsLegal (planned_on c plan) opening past
 legal-on c plan opening [] legal = tt

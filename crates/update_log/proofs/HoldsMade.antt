@@ -59,23 +59,13 @@ fewer-made all client hs k = All-filter (IsOfRow all) (IsOfRow all) (λ (h : Hel
 step : (c : Campaign) (opening : List Row) (past : List Event) (event : Event) → EntriesFrom 1 (rows c.facts opening past) → Allowed c opening past event → HoldsMade c.facts opening past → AllByRecursion (IsOfRow (rows c.facts opening (event ∷ past))) (holds past)
     → HoldsMade c.facts opening (event ∷ past)
 step c opening past (Event.Boot number time limit found boards) v a old k = tt
-step c opening past (Event.Query client query) v a old k = k
 step c opening past (Event.Ask client request pending (AskAnswer.Hold blocks release)) v a old k =
     let h : Held = record { client = client; request = request; pending = pending; blocks = blocks; release = release } in
     All-push (IsOfRow (rows c.facts opening past)) (without_client client (holds past)) h (fewer-made (rows c.facts opening past) client (holds past) old) (made-own c.facts opening past client request pending v a.pending_is)
-step c opening past (Event.Ask client request pending (AskAnswer.Kept entry state)) v a old k = k
-step c opening past (Event.Ask client request pending (AskAnswer.Refused refusal)) v a old k = k
 step c opening past (Event.Claim client request fetched answer) v a old k = fewer-made (rows c.facts opening (Event.Claim client request fetched answer ∷ past)) client (holds past) k
-step c opening past (Event.Schedule client request answer) v a old k = k
 step c opening past (Event.Resume client entry fetched answer stored) v a old k = fewer-made (rows c.facts opening (Event.Resume client entry fetched answer stored ∷ past)) client (holds past) k
-step c opening past (Event.Start client entry op) v a old k = k
-step c opening past (Event.End client entry op outcome told seen) v a old k = k
-step c opening past (Event.Finish client entry state stored) v a old k = k
-step c opening past (Event.Judge client entry version state stored) v a old k = k
-step c opening past (Event.Unplug client device answer) v a old k = k
-step c opening past (Event.Plug client device answer) v a old k = k
 step c opening past (Event.GiveBack client what) v a old k = fewer-made (rows c.facts opening (Event.GiveBack client what ∷ past)) client (holds past) k
-step c opening past Event.Cut v a old k = k
+step c opening past _ v a old k = k
 
 pub holds-step : (c : Campaign) (opening : List Row) (past : List Event) (event : Event) → EntriesFrom 1 (rows c.facts opening past) → GoesOn (rows c.facts opening past) (rows c.facts opening (event ∷ past)) → Allowed c opening past event → HoldsMade c.facts opening past → HoldsMade c.facts opening (event ∷ past)
 holds-step c opening past event v g a old =

@@ -256,14 +256,7 @@ like-self Mark.Left entry n = cc
 pub like-named : (a b : Mark) (entry : ℕ) → is_like a b ≡ true → entry_named a ≡ Some entry → entry_named b ≡ Some entry
 like-named (Mark.Began e) (Mark.Began f) entry h n = ap Some (sym (eqb-true e f h)) ∙ n
 like-named (Mark.Ended e digest) (Mark.Ended f digest') entry h n = ap Some (sym (eqb-true e f h)) ∙ n
-like-named Mark.Entered b entry h n = cc
-like-named Mark.Left b entry h n = cc
-like-named (Mark.Began e) Mark.Entered entry h n = cc
-like-named (Mark.Began e) (Mark.Ended f digest) entry h n = cc
-like-named (Mark.Began e) Mark.Left entry h n = cc
-like-named (Mark.Ended e digest) Mark.Entered entry h n = cc
-like-named (Mark.Ended e digest) (Mark.Began f) entry h n = cc
-like-named (Mark.Ended e digest) Mark.Left entry h n = cc
+like-named _ _ entry h n = cc
 
 -- Each mark of a write stands among those that it is like.
 abbrev pub IsAmong : List Mark → Mark → Type 0

@@ -239,11 +239,8 @@ link-finish facts opening past client entry state stored l closed k w r o a =
     (unfailed facts opening past entry RowState.Begun r is refl) refl refl
 
 judged-unfailed : (past : List Event) (entry : ℕ) (state : RowState) → may_judge past state entry ≡ true → is_failed state ≡ false
-judged-unfailed past entry RowState.Begun h = refl
-judged-unfailed past entry RowState.NeedsReboot h = refl
-judged-unfailed past entry RowState.Pending h = refl
-judged-unfailed past entry RowState.Success h = refl
 judged-unfailed past entry RowState.Failed h = cc
+judged-unfailed past entry _ h = refl
 
 link-judge : (facts : Facts) (opening : List Row) (past : List Event) (client entry : ℕ) (version : List ℕ) (state : RowState) (stored : Stored) (row : Row) → LinkKept facts opening past → RowsKept facts opening past → off past ≡ false → row_of (rows facts opening past) entry ≡ Some row → may_judge past row.state entry ≡ true → LinkStep facts opening past (Event.Judge client entry version state stored)
 link-judge facts opening past client entry version state stored row k r o is waits =

@@ -97,16 +97,11 @@ changed-failures (Change.Advance entry state reason time) rows k = λ e r is f. 
 
 pub by-failures : (fate : Fate) (change : Option Change) (rows : List Row) → IfSome change (λ c. KeepsLinks c rows) → KeepsFailures rows (rows_by fate change rows)
 by-failures Fate.Made (Some change) rows k = changed-failures change rows k
-by-failures Fate.Made None rows k = λ e r is f. is
-by-failures Fate.Doubtful change rows k = λ e r is f. is
-by-failures Fate.Dropped change rows k = λ e r is f. is
+by-failures _ _ rows k = λ e r is f. is
 
 pub found-failures : (found : Found) (change : Option Change) (rows : List Row) → IfSome change (λ c. KeepsLinks c rows) → KeepsFailures rows (rows_found found change rows)
 found-failures Found.Kept (Some change) rows k = changed-failures change rows k
-found-failures Found.Kept None rows k = λ e r is f. is
-found-failures Found.Plain change rows k = λ e r is f. is
-found-failures Found.Lost change rows k = λ e r is f. is
-found-failures Found.Fault change rows k = λ e r is f. is
+found-failures _ _ rows k = λ e r is f. is
 
 -- ---- links
 
@@ -143,16 +138,11 @@ changed-links (Change.Advance entry state reason time) rows k h =
 
 pub by-links : (fate : Fate) (change : Option Change) (rows : List Row) → IfSome change (λ c. KeepsLinks c rows) → AllLinked rows → AllLinked (rows_by fate change rows)
 by-links Fate.Made (Some change) rows k h = changed-links change rows k h
-by-links Fate.Made None rows k h = h
-by-links Fate.Doubtful change rows k h = h
-by-links Fate.Dropped change rows k h = h
+by-links _ _ rows k h = h
 
 pub found-links : (found : Found) (change : Option Change) (rows : List Row) → IfSome change (λ c. KeepsLinks c rows) → AllLinked rows → AllLinked (rows_found found change rows)
 found-links Found.Kept (Some change) rows k h = changed-links change rows k h
-found-links Found.Kept None rows k h = h
-found-links Found.Plain change rows k h = h
-found-links Found.Lost change rows k h = h
-found-links Found.Fault change rows k h = h
+found-links _ _ rows k h = h
 
 -- ---- no two rows try the same one again
 
@@ -194,16 +184,11 @@ changed-tried (Change.Advance entry state reason time) rows k w = λ e.
 
 pub by-tried : (fate : Fate) (change : Option Change) (rows : List Row) → IfSome change (λ c. KeepsLinks c rows) → TriedOnce rows → TriedOnce (rows_by fate change rows)
 by-tried Fate.Made (Some change) rows k w = changed-tried change rows k w
-by-tried Fate.Made None rows k w = w
-by-tried Fate.Doubtful change rows k w = w
-by-tried Fate.Dropped change rows k w = w
+by-tried _ _ rows k w = w
 
 pub found-tried : (found : Found) (change : Option Change) (rows : List Row) → IfSome change (λ c. KeepsLinks c rows) → TriedOnce rows → TriedOnce (rows_found found change rows)
 found-tried Found.Kept (Some change) rows k w = changed-tried change rows k w
-found-tried Found.Kept None rows k w = w
-found-tried Found.Plain change rows k w = w
-found-tried Found.Lost change rows k w = w
-found-tried Found.Fault change rows k w = w
+found-tried _ _ rows k w = w
 
 -- ---- valid histories, in this form
 

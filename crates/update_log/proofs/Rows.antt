@@ -1,7 +1,7 @@
 -- How the rows grow.
 use Rattle.std.proofs.Common.{◌≡◌, ℕ, suc, Bool, true, false, List, [], ◌∷◌, map, refl, ap, ◌≤◌, arith, ◌⊎◌, inl, inr, length}
 use Rattle.std.proofs.lemmas.List.{length_push}
-use Rattle.std.specs.Prelude.{Option, Some, None, if◌then◌else◌}
+use Rattle.std.specs.Prelude.{Option, Some, if◌then◌else◌}
 use Rattle.std.specs.Prelude.{MatchBool}
 use Rattle.history_keeper.specs.Changes.{changed, with_state}
 use Rattle.history_keeper.specs.declared.change.Change.{Change}
@@ -25,10 +25,7 @@ changed-grows (Change.Advance entry state reason time) rows = omega (arith, leng
 
 pub found-grows : (found : Found) (doubt : Option Change) (rows : List Row) → length rows ≤ length (rows_found found doubt rows)
 found-grows Found.Kept (Some change) rows = changed-grows change rows
-found-grows Found.Kept None rows = omega arith
-found-grows Found.Plain doubt rows = omega arith
-found-grows Found.Lost doubt rows = omega arith
-found-grows Found.Fault doubt rows = omega arith
+found-grows _ _ rows = omega arith
 
 -- a refused claim changes no row
 pub rows_by-refused : (b : Bool) (change : Option Change) (rows : List Row) → rows_by (if b then Fate.Doubtful else Fate.Dropped) change rows ≡ rows

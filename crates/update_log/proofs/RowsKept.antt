@@ -123,16 +123,11 @@ goes_on-fixed old new e (inr g) le = rw g.2 (changed-fixed g.0 old e g.1 le)
 
 pub rows_by-goes_on : (fate : Fate) (change : Option Change) (rows : List Row) → IfSome change (λ c. NextChange c rows) → GoesOn rows (rows_by fate change rows)
 rows_by-goes_on Fate.Made (Some change) rows h = inr (change, h, refl)
-rows_by-goes_on Fate.Made None rows h = inl refl
-rows_by-goes_on Fate.Doubtful change rows h = inl refl
-rows_by-goes_on Fate.Dropped change rows h = inl refl
+rows_by-goes_on _ _ rows h = inl refl
 
 pub found-goes_on : (found : Found) (change : Option Change) (rows : List Row) → IfSome change (λ c. NextChange c rows) → GoesOn rows (rows_found found change rows)
 found-goes_on Found.Kept (Some change) rows h = inr (change, h, refl)
-found-goes_on Found.Kept None rows h = inl refl
-found-goes_on Found.Plain change rows h = inl refl
-found-goes_on Found.Lost change rows h = inl refl
-found-goes_on Found.Fault change rows h = inl refl
+found-goes_on _ _ rows h = inl refl
 
 -- what is the same of the fixed rows is the same of the board and the digest
 pub board-fixed : (facts : Facts) (old new : List Row) (e : ℕ) → fixed_row new e ≡ fixed_row old e → board_of facts new e ≡ board_of facts old e
@@ -208,11 +203,9 @@ rows-boot c opening past number time limit found boards k a =
     next Found.Fault doubt rows h a = h
 
     none : (found : Found) (doubt : Option Change) → FoundAllowed found doubt → is_found_fault found ≡ false → doubt_found found doubt ≡ None
-    none Found.Kept doubt a o = refl
-    none Found.Lost doubt a o = refl
-    none Found.Plain None a o = refl
     none Found.Plain (Some change) a o = absurd a
     none Found.Fault doubt a o = cc
+    none _ _ a o = refl
 
 -- an event by which no change is made or doubted
 pub rows-same : (facts : Facts) (opening : List Row) (past : List Event) (event : Event) → RowsKept facts opening past → rows facts opening (event ∷ past) ≡ rows facts opening past → doubt facts opening (event ∷ past) ≡ doubt facts opening past → (off (event ∷ past) ≡ false → off past ≡ false) → RowsStep facts opening past event
@@ -256,10 +249,8 @@ or-false false true h = cc
 or-false true b h = cc
 
 pub fault-clear : (stored : Stored) → is_fault stored ≡ false → is_doubtful (fate_stored stored) ≡ false
-fault-clear Stored.Yes h = refl
 fault-clear Stored.Fault h = cc
-fault-clear Stored.NoMemory h = refl
-fault-clear Stored.Unchanged h = refl
+fault-clear _ h = refl
 
 pub rows-finish : (facts : Facts) (opening : List Row) (past : List Event) (client entry : ℕ) (state : RowState) (stored : Stored) → RowsKept facts opening past → off past ≡ false → is_pending state ≡ false → RowsStep facts opening past (Event.Finish client entry state stored)
 rows-finish facts opening past client entry state stored k o p =
@@ -314,10 +305,8 @@ closed-settled facts opening past entry closed stored h = store stored (at (trac
     at (Some t) g = at-row t (row_of (rows facts opening past) entry) g
 
     store : (stored : Stored) → is_pending closed ≡ false → is_pending (closing_stored closed stored) ≡ false
-    store Stored.Yes g = g
-    store Stored.Fault g = g
     store Stored.NoMemory g = refl
-    store Stored.Unchanged g = g
+    store _ g = g
 
 pub resumption-next : (time : ℕ) (k : Known) (entry : ℕ) (answer : ResumeAnswer) → IfSome (resumption time k entry answer) (λ c. NextChange c k.rows)
 resumption-next time k entry ResumeAnswer.Begun = refl

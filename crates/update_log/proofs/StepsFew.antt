@@ -46,19 +46,11 @@ pushed-few (Some t) step n m lt h = omega (arith, length_push t.steps step, h)
 
 op-positive : (op : Op) → 0 < op_number op
 op-positive Op.Prepare = omega arith
-op-positive Op.Detach = omega arith
-op-positive Op.Write = omega arith
-op-positive Op.Attach = omega arith
-op-positive Op.Reload = omega arith
-op-positive Op.Cleanup = omega arith
+op-positive _ = omega arith
 
 op-six : (op : Op) → op_number op ≤ 6
 op-six Op.Prepare = omega arith
-op-six Op.Detach = omega arith
-op-six Op.Write = omega arith
-op-six Op.Attach = omega arith
-op-six Op.Reload = omega arith
-op-six Op.Cleanup = omega arith
+op-six _ = omega arith
 
 above : (op : Op) (rest : List Stroke) → InOrder (Stroke.Started op ∷ rest) → last_ended rest < op_number op
 above op [] i = op-positive op
@@ -81,21 +73,14 @@ end-above c opening past client entry op outcome told seen k a =
 few-step : (c : Campaign) (opening : List Row) (past : List Event) (event : Event) → StepsKept c.facts opening past → Allowed c opening past event
     → (e : ℕ) → AtMost (last_ended (strokes e past)) (trace c.facts opening e past)
     → AtMost (last_ended (strokes e (event ∷ past))) (trace c.facts opening e (event ∷ past))
-few-step c opening past (Event.Boot number time limit found boards) k a e h = h
-few-step c opening past (Event.Query client query) k a e h = h
-few-step c opening past (Event.Ask client request pending answer) k a e h = h
 few-step c opening past (Event.Claim client request fetched (ClaimAnswer.Entry entry)) k a e h =
     by_test (entry == e) _
     (λ t. rw t (first-few (target c.facts (views c.facts opening past) request) (last_ended (strokes e past))))
     (λ f. rw f h)
-few-step c opening past (Event.Claim client request fetched (ClaimAnswer.Kept entry state)) k a e h = h
-few-step c opening past (Event.Claim client request fetched (ClaimAnswer.Refused refusal)) k a e h = h
-few-step c opening past (Event.Schedule client request answer) k a e h = h
 few-step c opening past (Event.Resume client entry fetched ResumeAnswer.Begun stored) k a e h =
     by_test (entry == e) _
     (λ t. rw t (resumed-few c.facts (views c.facts opening past) (request_held (holds past) client) (last_ended (strokes e past))))
     (λ f. rw f h)
-few-step c opening past (Event.Resume client entry fetched (ResumeAnswer.Refused refusal) stored) k a e h = h
 few-step c opening past (Event.Start client entry op) k a e h = by_test (entry == e) _ (λ t. rw t h) (λ f. rw f h)
 few-step c opening past (Event.End client entry op outcome told seen) k a e h =
     by_test (entry == e) _
@@ -104,12 +89,7 @@ few-step c opening past (Event.End client entry op outcome told seen) k a e h =
     let lt : last_ended (strokes e past) < op_number op = rw s at a' in
     rw t (pushed-few (trace c.facts opening e past) (record { op = op; outcome = outcome; seen = seen }) (last_ended (strokes e past)) (op_number op) lt h))
     (λ f. rw f h)
-few-step c opening past (Event.Finish client entry state stored) k a e h = h
-few-step c opening past (Event.Judge client entry version state stored) k a e h = h
-few-step c opening past (Event.Unplug client device answer) k a e h = h
-few-step c opening past (Event.Plug client device answer) k a e h = h
-few-step c opening past (Event.GiveBack client what) k a e h = h
-few-step c opening past Event.Cut k a e h = h
+few-step c opening past _ k a e h = h
 
 few-steps : (c : Campaign) (opening : List Row) (past : List Event) → IsHistory opening → IsLegalUnlimited c opening past
     → (e : ℕ) → AtMost (last_ended (strokes e past)) (trace c.facts opening e past)

@@ -68,6 +68,4 @@ few-writes (Stroke.Started op ∷ Stroke.Ended last ∷ rest) i =
 few-writes (Stroke.Ended op ∷ Stroke.Started last ∷ rest) i =
     let r = few-writes (Stroke.Started last ∷ rest) i.1 in
     record { none = λ k. r.none (let e : op ≡ last = i.0 in rw (← e) k); one = r.one }
-few-writes (Stroke.Ended op ∷ []) i = absurd i
-few-writes (Stroke.Ended op ∷ Stroke.Ended last ∷ rest) i = absurd i
-few-writes (Stroke.Started op ∷ Stroke.Started last ∷ rest) i = absurd i
+few-writes _ i = absurd i

@@ -110,11 +110,7 @@ boot-accepts number time limit Found.Kept boards (Some (Change.Add row)) rows e 
     at : (e ≤ length rows) ⊎ (length (rows ++ row ∷ []) < e) → row.entry ≡ length rows + 1 → row.entry ≡ e → ⊥
     at (inl h) q s = omega arith
     at (inr h) q s = omega (arith, length_push rows row)
-boot-accepts number time limit Found.Kept boards (Some (Change.Advance entry state reason t)) rows e n h = refl
-boot-accepts number time limit Found.Kept boards None rows e n h = refl
-boot-accepts number time limit Found.Plain boards change rows e n h = refl
-boot-accepts number time limit Found.Lost boards change rows e n h = refl
-boot-accepts number time limit Found.Fault boards change rows e n h = refl
+boot-accepts number time limit _ boards _ rows e n h = refl
 
 pub taken-boot : (facts : Facts) (opening : List Row) (past : List Event) (number time : ℕ) (limit : Option ℕ) (found : Found) (boards : List BoardSeen) → RowsKept facts opening past → TakenKept facts opening past → GoesOn (rows facts opening past) (rows facts opening (Event.Boot number time limit found boards ∷ past)) → TakenKept facts opening (Event.Boot number time limit found boards ∷ past)
 taken-boot facts opening past number time limit found boards r k g =

@@ -375,9 +375,7 @@ none-live entry (l ∷ ls) h =
 judged-apart : (past : List Event) (rs : List Row) (entry : ℕ) (state : RowState) → may_judge past state entry ≡ true → state_of rs entry ≡ Some state → AllBegun rs (live past) → AllByRecursion (λ l. (entry == l.entry) ≡ false) (live past)
 judged-apart past rs entry RowState.Begun w s b = none-live entry (live past) w
 judged-apart past rs entry RowState.NeedsReboot w s b = unlike rs entry RowState.NeedsReboot (live past) (λ e. cc) s b
-judged-apart past rs entry RowState.Pending w s b = cc
-judged-apart past rs entry RowState.Success w s b = cc
-judged-apart past rs entry RowState.Failed w s b = cc
+judged-apart past rs entry _ w s b = cc
 
 judged-done : (shown : List ℕ) (row : Row) → is_unsettled (judge shown row) ≡ false
 judged-done shown row = by_test (same_version shown row.version_new) _ (λ t. rw t refl) (λ t. rw t refl)

@@ -1,7 +1,7 @@
 -- Of each device at most one row waits for its end, and which changes keep that.
 use Rattle.std.proofs.Common.{◌≡◌, ℕ, zero, suc, Bool, true, false, ◌&&◌, List, [], ◌∷◌, ◌++◌, map, refl, ap, sym, ◌∙◌, ◌<◌, ◌≤◌, ◌+◌, arith, length, subst}
 use Rattle.std.proofs.lemmas.Bool.{eqb-true}
-use Rattle.std.specs.Prelude.{Option, Some, None, IfSome, AllPairs, EachIndex, ◌==◌, option_map, slice_index, slice_index_or}
+use Rattle.std.specs.Prelude.{Option, Some, IfSome, AllPairs, EachIndex, ◌==◌, option_map, slice_index, slice_index_or}
 use Rattle.std.specs.List.{AllByRecursion, list_any}
 use Rattle.std.specs.Str.{bytes_eq}
 use Rattle.history_keeper.specs.Changes.{changed, with_state}
@@ -89,16 +89,11 @@ changed-once (Change.Advance entry state reason time) rows k w = λ device.
 
 pub by-once : (fate : Fate) (change : Option Change) (rows : List Row) → IfSome change (λ c. KeepsOnce c rows) → WaitOnce rows → WaitOnce (rows_by fate change rows)
 by-once Fate.Made (Some change) rows k w = changed-once change rows k w
-by-once Fate.Made None rows k w = w
-by-once Fate.Doubtful change rows k w = w
-by-once Fate.Dropped change rows k w = w
+by-once _ _ rows k w = w
 
 pub found-once : (found : Found) (change : Option Change) (rows : List Row) → IfSome change (λ c. KeepsOnce c rows) → WaitOnce rows → WaitOnce (rows_found found change rows)
 found-once Found.Kept (Some change) rows k w = changed-once change rows k w
-found-once Found.Kept None rows k w = w
-found-once Found.Plain change rows k w = w
-found-once Found.Lost change rows k w = w
-found-once Found.Fault change rows k w = w
+found-once _ _ rows k w = w
 
 -- The state of an entry's row after a change.
 

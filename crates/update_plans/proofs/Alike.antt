@@ -161,7 +161,6 @@ of_found-like test otherwise (Some c) None m = absurd m
 of_found-like test otherwise (Some c) (Some d) m = of_device-like test c d m
 
 cause-like : (machine : MachineFacts) (features : List (List ℕ)) (xs ys : List DeviceView) → AllLike xs ys → (a b : DeviceView) → Like a b → (r : Requirement) → cause machine features xs a r ≡ cause machine features ys b r
-cause-like machine features xs ys l a b alike (Requirement.Id name test) = refl
 cause-like machine features xs ys l a b alike (Requirement.Firmware test) = ap (of_version test UnmetCause.VersionCompare) alike.version
 cause-like machine features xs ys l a b alike (Requirement.Bootloader test) = ap (λ (s : Sheet). of_version test UnmetCause.NoBootloaderVersion s.bootloader) alike.sheet
 cause-like machine features xs ys l a b alike (Requirement.VendorId test) = ap (λ (s : Sheet). unless (list_any (vendor_passes test) s.vendor_ids) UnmetCause.VendorMismatch) alike.sheet
@@ -169,9 +168,7 @@ cause-like machine features xs ys l a b alike (Requirement.Device guid test) =
     of_found-like test UnmetCause.NoSuchDevice (find (has_guid guid) xs) (find (has_guid guid) ys) (find-like (has_guid guid) xs ys (has_guid-like guid) l)
 cause-like machine features xs ys l a b alike (Requirement.Ancestor depth guid test) =
     of_found-like test UnmetCause.NoSuchAncestor (with_guid guid (ancestor xs depth a)) (with_guid guid (ancestor ys depth b)) (with_guid-like guid (ancestor xs depth a) (ancestor ys depth b) (ancestor-like xs ys l depth a b alike))
-cause-like machine features xs ys l a b alike (Requirement.Hardware any) = refl
-cause-like machine features xs ys l a b alike (Requirement.NotHardware any) = refl
-cause-like machine features xs ys l a b alike (Requirement.Client feature) = refl
+cause-like machine features xs ys l a b alike _ = refl
 
 unmet-like : (machine : MachineFacts) (features : List (List ℕ)) (xs ys : List DeviceView) → AllLike xs ys → (at : ℕ) (list : List Requirement) → first_unmet machine features xs at list ≡ first_unmet machine features ys at list
 unfolding first_unmet

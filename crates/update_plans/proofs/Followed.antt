@@ -78,13 +78,7 @@ same-shown sheet x = record { home = refl; guids = refl; version = refl; flags =
 -- one text and one mode are enough, of a board at home
 shown-like : (sheet : Sheet) (x y : Seen) → is_home y ≡ true → (is_version (version_shown sheet x) (version_shown sheet y) && is_mode (mode_of x) (mode_of y)) ≡ true → LikeSeen sheet x y
 shown-like sheet Seen.Gone Seen.Gone h a = cc
-shown-like sheet Seen.Gone Seen.Stranger h a = cc
-shown-like sheet Seen.Gone (Seen.Home raw mode) h a = cc
 shown-like sheet Seen.Stranger Seen.Gone h a = cc
-shown-like sheet Seen.Stranger Seen.Stranger h a = cc
-shown-like sheet Seen.Stranger (Seen.Home raw mode) h a = cc
-shown-like sheet (Seen.Home raw mode) Seen.Gone h a = cc
-shown-like sheet (Seen.Home raw mode) Seen.Stranger h a = cc
 shown-like sheet (Seen.Home raw mode) (Seen.Home raw' mode') h a =
     let parts = and-true (is_version (version_shown sheet (Seen.Home raw mode)) (version_shown sheet (Seen.Home raw' mode'))) (is_mode mode mode') a in
     of mode mode' (bytes-same (render sheet.format raw) (render sheet.format raw') parts.0) parts.1
@@ -94,6 +88,7 @@ shown-like sheet (Seen.Home raw mode) (Seen.Home raw' mode') h a =
     of Mode.Bootloader Mode.Bootloader text h = record { home = refl; guids = refl; version = ap (λ (v : List ℕ). Some v) text; flags = refl }
     of Mode.Runtime Mode.Bootloader text h = cc
     of Mode.Bootloader Mode.Runtime text h = cc
+shown-like sheet _ _ h a = cc
 
 -- ---- each device's sheet stands under its number
 
@@ -207,13 +202,11 @@ closes-settled t row view text shows h =
 -- The finish of an entry that ended well was stored.
 stored-yes : (closed : RowState) (stored : Stored) → UnchangedExactly closed stored → is_ended (closing_stored closed stored) ≡ true → is_fault stored ≡ false → stored ≡ Stored.Yes
 stored-yes closed Stored.Yes u h f = refl
-stored-yes closed Stored.Fault u h f = cc
-stored-yes closed Stored.NoMemory u h f = cc
-stored-yes RowState.Begun Stored.Unchanged u h f = cc
 stored-yes RowState.Pending Stored.Unchanged u h f = absurd (u refl)
 stored-yes RowState.Success Stored.Unchanged u h f = absurd (u refl)
 stored-yes RowState.Failed Stored.Unchanged u h f = absurd (u refl)
 stored-yes RowState.NeedsReboot Stored.Unchanged u h f = absurd (u refl)
+stored-yes _ _ u h f = cc
 
 -- ---- a log and the events behind it
 

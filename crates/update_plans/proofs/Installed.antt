@@ -330,9 +330,7 @@ module _ (s : Scene) (number : ℕ) (step : PlanStep) (chosen : Chosen) (past : 
   ended-changes : (state : RowState) → is_ended state ≡ true → UnchangedExactly state Stored.Yes
   ended-changes RowState.Success h = λ e. cc
   ended-changes RowState.NeedsReboot h = λ e. cc
-  ended-changes RowState.Failed h = cc
-  ended-changes RowState.Begun h = cc
-  ended-changes RowState.Pending h = cc
+  ended-changes _ h = cc
 
   finish-legal : G (done s number step chosen past) cleaned → is_ended (end_of s number step chosen past) ≡ true → IsLegalUnlimited here s.opening (installed_with s number step chosen past)
   finish-legal g h = (

@@ -41,12 +41,8 @@ prefix-self [] = tt
 prefix-self (x ∷ xs) = (refl, prefix-self xs)
 
 whole-self : (op : Op) (all : List Mark) → ToldWhole op (Ok tt) all all
-whole-self Op.Prepare all = tt
-whole-self Op.Detach all = tt
 whole-self Op.Write all = refl
-whole-self Op.Attach all = tt
-whole-self Op.Reload all = tt
-whole-self Op.Cleanup all = tt
+whole-self _ all = tt
 
 op-same : (a b : Op) → is_op a b ≡ true → a ≡ b
 op-same a b h = of a b (eqb-true (op_number a) (op_number b) h)
@@ -72,12 +68,9 @@ reboots v = get_or-set_other v.sheet.flags 5 6 _ false (λ e. cc)
 
 -- the mode that is shown at the end of a step: reload and cleanup leave it, where the board is in runtime mode
 abbrev pub Suits : Op → Mode → Type 0
-Suits Op.Prepare mode = Unit {0}
-Suits Op.Detach mode = Unit {0}
-Suits Op.Write mode = Unit {0}
-Suits Op.Attach mode = Unit {0}
 Suits Op.Reload mode = mode ≡ Mode.Runtime
 Suits Op.Cleanup mode = mode ≡ Mode.Runtime
+Suits _ mode = Unit {0}
 
 has-mode : (s : Seen) (raw : ℕ) (mode : Mode) → s ≡ Seen.Home raw mode → HasMode s mode
 has-mode s raw mode e = subst (λ (x : Seen). HasMode x mode) (sym e) refl
@@ -101,21 +94,14 @@ abbrev RawSo : Op → Bool → ℕ → ℕ → ℕ → Type 0
 RawSo op waits new raw raw' = (raw ≡ raw') ⊎ ((op ≡ Op.Write) × (new ≡ raw'))
 
 raw-so : (op : Op) (waits : Bool) (new raw : ℕ) (mode : Mode) (raw' : ℕ) (mode' : Mode) → board_after op waits new raw mode ≡ Seen.Home raw' mode' → RawSo op waits new raw raw'
-raw-so Op.Prepare waits new raw mode raw' mode' e = inl (ap raw_in e)
-raw-so Op.Detach waits new raw mode raw' mode' e = inl (ap raw_in e)
-raw-so Op.Write true new raw mode raw' mode' e = inl (ap raw_in e)
 raw-so Op.Write false new raw mode raw' mode' e = inr (refl, ap raw_in e)
-raw-so Op.Attach waits new raw mode raw' mode' e = inl (ap raw_in e)
-raw-so Op.Reload waits new raw mode raw' mode' e = inl (ap raw_in e)
-raw-so Op.Cleanup waits new raw mode raw' mode' e = inl (ap raw_in e)
+raw-so _ _ new raw mode raw' mode' e = inl (ap raw_in e)
 
 after-home : (op : Op) (waits : Bool) (new raw : ℕ) (mode : Mode) → (raw' : ℕ) × (mode' : Mode) × (board_after op waits new raw mode ≡ Seen.Home raw' mode')
 after-home Op.Prepare waits new raw mode = (raw, mode, refl)
 after-home Op.Detach waits new raw mode = (raw, Mode.Bootloader, refl)
 after-home Op.Write waits new raw mode = (if waits then raw else new, mode, refl)
-after-home Op.Attach waits new raw mode = (raw, Mode.Runtime, refl)
-after-home Op.Reload waits new raw mode = (raw, Mode.Runtime, refl)
-after-home Op.Cleanup waits new raw mode = (raw, Mode.Runtime, refl)
+after-home _ waits new raw mode = (raw, Mode.Runtime, refl)
 
 -- ---- the log and the course
 

@@ -92,19 +92,8 @@ are_numbers format raw version dotted h same =
 -- equal fields are written alike
 render-dotted : (format : Format) (raw : ℕ) → is_hex format ≡ false → render format raw ≡ dotted (fields format raw)
 unfolding render
-render-dotted Plain raw h = refl
-render-dotted Number raw h = refl
-render-dotted Pair raw h = refl
-render-dotted Triplet raw h = refl
-render-dotted Quad raw h = refl
-render-dotted Bcd raw h = refl
-render-dotted DellBios raw h = refl
-render-dotted DellBiosMsb raw h = refl
-render-dotted SurfaceLegacy raw h = refl
-render-dotted Surface raw h = refl
-render-dotted IntelMe raw h = refl
-render-dotted IntelMe2 raw h = refl
 render-dotted Hex raw h = cc
+render-dotted _ raw h = refl
 
 pub render-fields : (format : Format) (left right : ℕ) → is_hex format ≡ false → fields format left ≡ fields format right → render format left ≡ render format right
 render-fields format left right h e = render-dotted format left h ∙ ap dotted e ∙ sym (render-dotted format right h)

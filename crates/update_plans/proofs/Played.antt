@@ -91,18 +91,7 @@ others-left s entry (event ∷ steps) base a number board at other = of event a.
         ap (λ (n : ℕ). for_board (board_of s.facts (rows s.facts s.opening (steps ++ base)) n) board shown) same
         ∙ ap (λ (o : Option ℕ). for_board o board shown) here ∙ ap (λ (t : Bool). if t then Some shown else None) other in
         ap (λ (o : Option Seen). unwrap_or o (seen s.facts s.opening (steps ++ base) board)) none ∙ rest
-    of (Event.Boot number time limit found boards) h rest = cc
-    of (Event.Query client query) h rest = cc
-    of (Event.Ask client request pending answer) h rest = cc
-    of (Event.Claim client request fetched answer) h rest = cc
-    of (Event.Schedule client request answer) h rest = cc
-    of (Event.Resume client taken fetched answer stored) h rest = cc
-    of (Event.Finish client taken state stored) h rest = cc
-    of (Event.Judge client taken version state stored) h rest = cc
-    of (Event.Unplug client device answer) h rest = cc
-    of (Event.Plug client device answer) h rest = cc
-    of (Event.GiveBack client what) h rest = cc
-    of Event.Cut h rest = cc
+    of _ h rest = cc
 
 -- The entry's trace keeps the flags with which it was taken.
 pub record Traced (s : Scene) (entry : ℕ) (past : List Event) (flags : List Bool) : Type 0 where

@@ -205,11 +205,7 @@ ops_behind Op.Cleanup = []
 all-parts : (op : Op) → ops_before op ++ op ∷ ops_behind op ≡ all_ops
 unfolding ops_behind
 all-parts Op.Prepare = refl
-all-parts Op.Detach = refl
-all-parts Op.Write = refl
-all-parts Op.Attach = refl
-all-parts Op.Reload = refl
-all-parts Op.Cleanup = refl
+all-parts _ = refl
 
 -- what the device shows is what the log says of it
 shown-so : (op : Op) (raw : ℕ) (o : Option DeviceView)

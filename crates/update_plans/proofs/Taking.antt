@@ -123,14 +123,11 @@ module _ (s : Scene) (old new : Core) (at : ℕ) (before : Stands s.facts s.open
 
       same : (sheet : Sheet) (x y : Seen) → side_of x ≡ side_of y → guids_shown sheet x ≡ guids_shown sheet y
       same sheet (Seen.Home raw m) (Seen.Home raw' m') e = modes sheet m m' raw raw' (some-same e)
-      same sheet (Seen.Home raw m) Seen.Gone e = cc
-      same sheet (Seen.Home raw m) Seen.Stranger e = cc
-      same sheet Seen.Gone (Seen.Home raw m) e = cc
-      same sheet Seen.Stranger (Seen.Home raw m) e = cc
       same sheet Seen.Gone Seen.Gone e = refl
       same sheet Seen.Gone Seen.Stranger e = refl
       same sheet Seen.Stranger Seen.Gone e = refl
       same sheet Seen.Stranger Seen.Stranger e = refl
+      same sheet _ _ e = cc
 
 -- ---- the tries
 

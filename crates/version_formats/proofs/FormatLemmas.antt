@@ -21,18 +21,7 @@ all_formats =
 pub with_word-own : (format : Format) → with_word (format_word format) all_formats ≡ Some format
 unfolding format_word
 with_word-own Plain = refl
-with_word-own Number = refl
-with_word-own Pair = refl
-with_word-own Triplet = refl
-with_word-own Quad = refl
-with_word-own Bcd = refl
-with_word-own DellBios = refl
-with_word-own DellBiosMsb = refl
-with_word-own SurfaceLegacy = refl
-with_word-own Surface = refl
-with_word-own IntelMe = refl
-with_word-own IntelMe2 = refl
-with_word-own Hex = refl
+with_word-own _ = refl
 
 -- a format that is found has the word
 pub with_word-has_it : (word : List ℕ) (formats : List Format) → IfSome (with_word word formats) (λ format. word ≡ format_word format)
