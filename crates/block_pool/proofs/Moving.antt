@@ -1,7 +1,7 @@
 -- What a move of a block keeps.
-use Rattle.std.proofs.Common.{◌≡◌, ℕ, ◌+◌, ◌-◌, ◌<◌, List, [], ◌∷◌, length, refl, ap, ◌∙◌, arith}
+use Rattle.std.proofs.Common.{◌≡◌, ℕ, ◌+◌, ◌-◌, ◌<◌, List, [], ◌∷◌, length, ap, ◌∙◌, arith}
 use Rattle.std.proofs.lemmas.List.Elements.{All-cons, All-head, All-tail, All-same}
-use Rattle.block_pool.specs.Bytes.{AreBlocks, unwound}
+use Rattle.block_pool.specs.Bytes.{AreBlocks}
 use Rattle.block_pool.specs.Moves.{MovesFirst}
 
 -- this is a block
@@ -26,12 +26,3 @@ length-from (b ∷ rest) to from' to' m = ap length m.0 ∙ omega arith
 pub length-to : (from to from' to' : List (List ℕ)) → MovesFirst from to from' to' → 0 < length from → length to' ≡ length to + 1
 length-to [] to from' to' m h = absurd (omega arith)
 length-to (b ∷ rest) to from' to' m h = ap length m.1 ∙ omega arith
-
--- one wound up over the other is the same row, whichever is in front
-pub unwound-forth : (from to from' to' : List (List ℕ)) → MovesFirst from to from' to' → unwound to' from' ≡ unwound to from
-unwound-forth [] to from' to' m = cc
-unwound-forth (b ∷ rest) to from' to' m = rw (m.0, m.1) refl
-
-pub unwound-back : (from to from' to' : List (List ℕ)) → MovesFirst from to from' to' → unwound from' to' ≡ unwound from to
-unwound-back [] to from' to' m = cc
-unwound-back (b ∷ rest) to from' to' m = rw (m.0, m.1) refl

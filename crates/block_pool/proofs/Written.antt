@@ -1,6 +1,6 @@
 -- What a write leaves.
-use Rattle.std.proofs.Common.{◌≡◌, ℕ, ◌+◌, ◌*◌, ◌<◌, ◌≤◌, List, [], ◌∷◌, ◌++◌, length, take, drop, ap, refl, sym, ◌∙◌, arith, append_assoc, append-nil, add_assoc, add-zero, length-append, length-take, length-drop}
-use Rattle.std.proofs.lemmas.List.{take-append-le, drop-append-le, drop-drop, take-append-drop, take_at, length-take-le}
+use Rattle.std.proofs.Common.{◌≡◌, ℕ, ◌+◌, ◌*◌, ◌<◌, ◌≤◌, List, [], ◌∷◌, ◌++◌, length, take, drop, ap, refl, sym, ◌∙◌, arith, append_assoc, append-nil, add_assoc, length-append, length-take, length-drop}
+use Rattle.std.proofs.lemmas.List.{take-append-le, drop-append-le, drop-drop, take_at, length-take-le}
 use Rattle.std.proofs.lemmas.List.Elements.{All-nil, All-cons, All-head, All-tail}
 use Rattle.std.proofs.Math.Seq.{take-append-add, drop-append-add}
 use Rattle.std.specs.List.{concat}
@@ -94,7 +94,3 @@ overwritten-append bytes at first second h =
     let after = drop-two front first tail (at + length first + length second) (length second) (omega arith) ∙ drop-drop (length second) (at + length first) bytes in
     let end : at + length (first ++ second) ≡ at + length first + length second = rw (length-append first second) (omega arith) in
     rw (before, after, end, append_assoc, append_assoc) refl
-
--- nothing is left to write
-pub overwritten-nil : (bytes : List ℕ) (at : ℕ) → overwritten bytes at [] ≡ bytes
-overwritten-nil bytes at = rw add-zero (take-append-drop at bytes)

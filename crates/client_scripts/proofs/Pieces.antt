@@ -1,7 +1,7 @@
 -- Pieces of text that a loop puts one behind the other.
-use Rattle.std.proofs.Common.{◌≡◌, ℕ, ◌+◌, ◌<◌, ◌≤◌, List, [], ◌∷◌, ◌++◌, length, take, get_or, reverse, sym, ap, ◌∙◌, append_assoc}
+use Rattle.std.proofs.Common.{◌≡◌, ℕ, ◌+◌, ◌<◌, List, [], ◌∷◌, ◌++◌, length, take, get_or, reverse, sym, ap, ◌∙◌, append_assoc}
 use Rattle.std.specs.List.{flat_map}
-use Rattle.std.proofs.lemmas.List.{take_all, take_more, append-nil, reverse-append}
+use Rattle.std.proofs.lemmas.List.{take_more, append-nil, reverse-append}
 use Rattle.std.proofs.lemmas.Grind.{flat_map-append}
 
 -- what a loop has put behind a text, at its element i
@@ -20,10 +20,6 @@ put_one f xs i x old new more lt is so_far put = record {
   text = put ∙ ap (λ (t : List ℕ). t ++ f x) so_far.text ∙ append_assoc old (flat_map f (take i xs)) (f x)
       ∙ ap (λ (t : List ℕ). old ++ t) (sym (one_more f xs i x lt is));
 }
-
-pub put_all : {X : Type 0} (f : X → List ℕ) (xs : List X) (i : ℕ) (old new : List ℕ) → length xs ≤ i → PutUpTo f xs i old new
-    → new ≡ old ++ flat_map f xs
-put_all {X = X} f xs i old new le so_far = so_far.text ∙ ap (λ (t : List X). old ++ flat_map f t) (take_all i xs le)
 
 -- one more element, of which the newest stands first
 pub newest_first : {X : Type 0} (xs : List X) (i : ℕ) (x : X) → i < length xs → x ≡ get_or xs i x

@@ -148,9 +148,6 @@ module _ {P : Type 0} (files : P → Files) (plugins : ℕ → PluginSteps) (fau
   -- What they did.
   module _ (told : ℕ → Files) (log : List Entry) (a : AllPlayed) (l : IsLogOf name log) (seen : All (λ (p : PassView Entry). BeginsWith log p.seen) (passes new)) (mine_are : All (HasItsEntries maker_of name.start log) (passes new))
       (makers : All (λ (e : Entry). maker_of e < length of_boot + 1) (beyond name.start log)) (shelves : (i : ℕ) (d : Client P) → i < length old → told (i + 1) ≡ files (get_or old i d).shelf) where
-    wants : Client P → Bool
-    wants c = c.wanting
-
     one : (client i : ℕ) (d : Client P) → client ≡ i + 1 → i < length old → mine client (past_seen name.start) ≡ []
         → PlayedSo (off (past_seen log)) (list_any (λ (c : Client P). c.wanting) new) client (Plays name.facts name.opening (means_of (told client) plugins) client) (items_of of_boot client) (mine client (past_seen log))
     one client i d e low none =

@@ -96,12 +96,6 @@ module _ {K : Type 0} (tells : K → List Row → Type 0) (doubts : K → Option
     grounds : SameGrounds old mid
     grounds = record { facts = same-log.facts; first = same-log.first; pool = pool ∙ elsewhere.pool }
 
-    pub room-loaded : room.annals.loaded ≡ old.annals.loaded
-    room-loaded = ap (λ (a : Annalled). a.loaded) roomy
-
-    pub room-opening : room.annals.opening ≡ old.annals.opening
-    room-opening = ap (λ (a : Annalled). a.opening) roomy
-
     -- it left the room
     first-room : (r : Result Loaded NoMemory) → FirstRead tells doubts faults r room.annals mid.annals room.keeper mid.keeper → mid.annals.room ≡ room.annals.room
     first-room (Ok (Loaded.Found found)) f = ap (λ (a : Annalled). a.room) f.0.opened_so
@@ -175,12 +169,6 @@ module _ {K : Type 0} (tells : K → List Row → Type 0) (doubts : K → Option
               let n : faults new.keeper ≡ faults mid.keeper = ap faults keeper in
               inl (omega (arith, e, f, h, k, n))
           at (inr h) = inr (subst (λ (k : K). 2 ^ 64 - 1 ≤ faults k) (sym keeper) h)
-
-      pub loaded-new : new.annals.loaded ≡ mid.annals.loaded
-      loaded-new = b.appended.same.loaded
-
-      pub opening-new : new.annals.opening ≡ mid.annals.opening
-      opening-new = b.appended.same.opening
 
 -- no change was made of a keeper that stayed, or that reading alone was done to
 pub ungiven-same : {K : Type 0} (settled : K → K → Type 0) (old new : K) → new ≡ old → IsUngiven settled old new

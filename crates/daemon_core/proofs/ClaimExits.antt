@@ -165,9 +165,6 @@ pub turn-failed : (a b new : Annalled) (client : ℕ) (ticket : Ticket) (payload
 turn-failed a b new client ticket payload row number event same s e p =
     turned-over a b new client (claim_event client ticket.request (Fetched.Whole payload)) (Claimed.Refused Refusal.KeeperFault) same s.may.runs (subst (λ (x : Event). Appended client x a new) (sym e) p)
 
-pub turn-stopped : (b : Annalled) (client blocks : ℕ) (ticket : Ticket) (event : Claimed → Event) → MayClaim b client ticket blocks → Turned client event (Err Stop.NoMemory) b b
-turn-stopped b client blocks ticket event m = (m.runs.on, same-unchanged b b refl)
-
 -- ---- faults of the keeper
 
 pub faults-took : {K : Type 0} (signs : Signs K) (client : ℕ) (ticket : Ticket) (payload : SealedBytes) (row : Row) (event : Event) (old new : Housed K) → takes_event client ticket payload row ≡ event → Appended client event old.annals new.annals → signs.faults new.keeper ≡ signs.faults old.keeper → ToldBefore signs.tells old.keeper new.keeper → KeeperFared signs old new

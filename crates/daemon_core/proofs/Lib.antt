@@ -25,7 +25,6 @@ pub mod BootAnnals
 pub mod BootHouse
 pub mod Compared
 pub mod BootLoops
-pub mod ReadLaws
 pub mod BootReads
 pub mod Asking
 pub mod Beginnings

@@ -124,9 +124,6 @@ judge-only past entry RowState.Begun h = cc
 judge-only past entry _ h = refl
 
 module _ (facts : Facts) (opening : List Row) (p : List Event) where
-  can : ℕ → Bool
-  can entry = can_judge facts opening p entry
-
   judged-tasks : (all : List Row) → AllByRecursion (λ r. row_of (rows facts opening p) r.entry ≡ Some r) all
       → map ToJudge (filter (can_judge facts opening p) (entries_where is_to_judge all)) ≡ map (λ row. ToJudge row.entry) (filter (is_judgeable p (views facts opening p)) all)
   judged-tasks [] f = refl

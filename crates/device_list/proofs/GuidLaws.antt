@@ -1,6 +1,5 @@
 -- What changes at one GUID of the index, and the first place that shows a GUID.
-use Rattle.std.proofs.Common.{◌≡◌, ℕ, ◌+◌, ◌-◌, ◌<◌, Bool, true, false, ◌||◌, cond, List, [], ◌∷◌, ◌++◌, length, slice_get, Option, None, Some, refl, sym, ap, subst, ◌∙◌, true≢false, append_assoc, append-nil, map, All, get_or, if◌then◌else◌, length-append, arith, ◌==◌}
-use mathlib.Core.Logic.{inr}
+use Rattle.std.proofs.Common.{◌≡◌, ℕ, ◌+◌, ◌-◌, ◌<◌, Bool, true, false, ◌||◌, cond, List, [], ◌∷◌, ◌++◌, length, slice_get, Option, Some, refl, sym, ap, subst, ◌∙◌, true≢false, append_assoc, append-nil, map, All, get_or, if◌then◌else◌, length-append, arith, ◌==◌}
 use Rattle.std.proofs.lemmas.List.Elements.{All-nil, All-cons, All-weaker, All-get_or}
 use Rattle.std.proofs.lemmas.Iterator.Adapters.{position_from-zero}
 use Rattle.fw_facts.specs.declared.sheet.Sheet.{Sheet}
@@ -13,13 +12,13 @@ use Rattle.device_list.specs.Lists.{shows}
 use Rattle.std.proofs.lemmas.Bool.Decides.{Decides-eqb}
 use Rattle.std.proofs.lemmas.List.{get_or_push}
 use Rattle.std.proofs.lemmas.Option.{slice_get-get_or}
-use Rattle.std.specs.Prelude.{Vec, vec_len, vec_capacity, position}
+use Rattle.std.specs.Prelude.{Vec, position}
 use Rattle.std.specs.List.{list_any, position_from, find}
 use Rattle.std.specs.Option.{MatchOption, option_map_or}
 use Rattle.std.specs.Str.{bytes_eq}
 use Rattle.std.specs.declared.alloc.Global.{Global}
 use Rattle.std.proofs.lemmas.Slice.Eq.{bytes_eq-Decides}
-use Rattle.device_list.specs.Guids.{items_of, with_last, ends_in, has, places_from, places_of, sheets, shows_at, IsReadyFor}
+use Rattle.device_list.specs.Guids.{items_of, with_last, ends_in, has, places_from, places_of, sheets, shows_at}
 
 pub bytes_eq-symm : (a b : List ℕ) → bytes_eq a b ≡ bytes_eq b a
 bytes_eq-symm a b = by (bytes_eq a b) refl
@@ -87,11 +86,6 @@ with_last-twice true true at places = by (ends_in at places) refl
     by true e = ap (with_last true at) (ap (λ b. cond b places (places ++ at ∷ [])) e) ∙ refl
     by false e = ap (with_last true at) (ap (λ b. cond b places (places ++ at ∷ [])) e) ∙ ap (λ b. cond b (places ++ at ∷ []) ((places ++ at ∷ []) ++ at ∷ [])) (ends_in-push at places)
         ∙ sym (ap (λ b. cond b places (places ++ at ∷ [])) e)
-
--- a list with room for a place is ready for it
-pub ready_with_room : (at : ℕ) (o : Option (Vec ℕ Global)) → MatchOption o ⊥ (λ v. vec_len v < vec_capacity v) → MatchOption o ⊥ (IsReadyFor at)
-ready_with_room at None h = h
-ready_with_room at (Some v) h = inr h
 
 -- the devices of the sheets are those of the views
 pub devices_of-sheets : (views : List DeviceView) → map (λ (sheet : Sheet). sheet.device) (sheets views) ≡ map (λ (view : DeviceView). view.sheet.device) views

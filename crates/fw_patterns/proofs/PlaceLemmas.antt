@@ -2,7 +2,7 @@
 use Rattle.std.proofs.Common.{◌≡◌, ℕ, ◌+◌, ◌-◌, ◌<◌, ◌≤◌, Bool, false, ◌&&◌, ◌||◌, not, List, [], ◌∷◌, length, drop, get_or, set, refl, sym, ap, arith, ⊎_elim, ◌∙◌}
 use Rattle.std.proofs.lemmas.Bool.{cases_lt}
 use Rattle.std.proofs.lemmas.List.{drop_more, drop_all, get_or-set_same, get_or-set_other}
-use Rattle.fw_patterns.specs.Places.{Tell, at_byte, branch_at, may_be_none, pieces_at, some_branch}
+use Rattle.fw_patterns.specs.Places.{Tell, at_byte, branch_at, pieces_at, some_branch}
 use Rattle.fw_patterns.specs.Relation.{stands_for}
 use Rattle.fw_patterns.specs.declared.syntax.Branch.{Branch}
 use Rattle.fw_patterns.specs.declared.syntax.Piece.{Piece}
@@ -18,10 +18,6 @@ pub here-at_byte : (to_end : Bool) (pieces : List Piece) (at : ℕ) (d : Piece) 
     ≡ at_byte (get_or pieces at d).repeat (stands_for (get_or pieces at d).atom byte)
     (pieces_at to_end (drop at pieces) left) (pieces_at to_end (drop (at + 1) pieces) left) (pieces_at to_end (drop (at + 1) pieces) (byte ∷ left))
 here-at_byte to_end pieces at d byte left h = rw (drop_more pieces at d h) refl
-
-pub here-at_end : (to_end : Bool) (pieces : List Piece) (at : ℕ) (d : Piece) → at < length pieces
-    → pieces_at to_end (drop at pieces) [] ≡ (may_be_none (get_or pieces at d).repeat && pieces_at to_end (drop (at + 1) pieces) [])
-here-at_end to_end pieces at d h = rw (drop_more pieces at d h) refl
 
 -- the place in front of those that tell, where what it needs of the places behind the byte is still there
 module _ (to_end : Bool) (pieces : List Piece) (byte : ℕ) (old places : List Bool) (m : ℕ) (piece : Piece) (long : m < length places) (inside : m < length pieces) (is : piece ≡ get_or pieces m piece) where

@@ -2,4 +2,3 @@ pub mod Numbered
 pub mod Prefixes
 pub mod Following
 pub mod Failures
-pub mod Memories

@@ -1,5 +1,5 @@
 -- What a statement leaves that is refused or that only asks, and the tables as they are made.
-use Rattle.std.proofs.Common.{◌≡◌, ◌⊎◌, inl, inr, ℕ, List, [], codes, false, Option, Some, None, Ok, Err, Result, IsTrue, Any, refl, sym, ap, subst, ◌∙◌}
+use Rattle.std.proofs.Common.{◌≡◌, ◌⊎◌, inl, inr, ℕ, List, [], false, Option, Some, None, Ok, Err, Result, IsTrue, Any, refl, sym, ap, subst, ◌∙◌}
 use Rattle.std.specs.Prelude.{slice_get}
 use Rattle.std.proofs.lemmas.Bool.{cases_Bool}
 use Rattle.sqlite.specs.Order.{Row as Values}
@@ -21,7 +21,7 @@ use Rattle.sqlite.proofs.Callers.{IsPlain}
 use Rattle.history_keeper.specs.declared.refusal.KeeperRefusal.{KeeperRefusal}
 use Rattle.history_keeper.specs.declared.row.Row.{Row}
 use Rattle.history_sqlite.specs.Causes.{FailsToRead, IsUnanswered}
-use Rattle.history_sqlite.specs.Tables.{create_schema_text, create_history_text, schema_table, history_table, older_table, rows_tree, HoldsRows, HoldsOlderRows}
+use Rattle.history_sqlite.specs.Tables.{create_schema_text, create_history_text, schema_table, history_table, rows_tree, HoldsRows, HoldsOlderRows}
 
 -- ---- a statement that is refused
 
@@ -93,14 +93,6 @@ older_stays old new rows h limit is_open (inr back) = let undone = back.undone i
 pub schema_made : table_defined_by create_schema_text ≡ Ok schema_table
 unfolding everything
 schema_made = refl
-
--- the table of schema 1 is the one that its text made
-abbrev older_text : List ℕ
-older_text = codes "CREATE TABLE history (entry INTEGER PRIMARY KEY, tag TEXT NOT NULL UNIQUE, client INTEGER NOT NULL, device BLOB NOT NULL, component TEXT NOT NULL, version_old TEXT NOT NULL, version_new TEXT NOT NULL, digest BLOB NOT NULL, flags INTEGER NOT NULL, state INTEGER NOT NULL, reason INTEGER NOT NULL, time_added INTEGER NOT NULL, time_changed INTEGER NOT NULL) STRICT"
-
-older_made : table_defined_by older_text ≡ Ok older_table
-unfolding everything
-older_made = refl
 
 pub history_made : table_defined_by create_history_text ≡ Ok history_table
 unfolding everything

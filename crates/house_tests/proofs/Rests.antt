@@ -1,5 +1,5 @@
 -- What one event, or none, leaves: who has something out, and how many boots there were.
-use Rattle.std.proofs.Common.{◌≡◌, ℕ, ◌<◌, Bool, true, false, List, refl, ap, sym, ◌∙◌, subst}
+use Rattle.std.proofs.Common.{◌≡◌, ℕ, Bool, true, false, List, refl, ap, sym, ◌∙◌, subst}
 use Rattle.update_log.specs.declared.event.Event.{Event}
 use Rattle.update_log.specs.declared.live.Held.{Held}
 use Rattle.update_log.specs.declared.live.LiveEntry.{LiveEntry}
@@ -21,9 +21,6 @@ use Rattle.daemon_tasks.specs.Stays.{HoldsAlone, RunsAlone}
 use Rattle.daemon_tasks.proofs.Outs.{idle-back, no-hold}
 use Rattle.daemon_tasks.proofs.RunPlays.{ran-so}
 use Rattle.daemon_tasks.proofs.Turns.{Halted, cut_past, halted-holds, halted-live}
-
-pub still-booted : (old new : List Event) → boots new ≡ boots old → 0 < boots old → 0 < boots new
-still-booted old new e b = subst (λ (n : ℕ). 0 < n) (sym e) b
 
 -- No event but a boot changes how many there were.
 pub boots-after : (client : ℕ) (event : Event) (old new : Annalled) → is_boot event ≡ false → Appended client event old new → boots (past_in new) ≡ boots (past_in old)

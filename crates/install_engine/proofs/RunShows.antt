@@ -65,9 +65,6 @@ shows-itself c raw mode e = at (home-or_away c.presence)
 
 -- ---- what the rules of a step say
 
-grew : (a b : ℕ) → a ≡ b → b ≤ a
-grew a b e = omega arith
-
 faults-grow : (old new : BoardState) (answer : Result ⊤ BoardFault) → OnOk answer (new.faults ≡ old.faults) → OnErr answer (old.faults < new.faults) → old.faults ≤ new.faults
 faults-grow old new (Ok u) w f = let e : new.faults ≡ old.faults = w in omega arith
 faults-grow old new (Err fault) w f = let e : old.faults < new.faults = f in omega arith

@@ -1,7 +1,6 @@
 -- What a sink took, in pieces one behind the other; and counts of faults over several calls.
-use Rattle.std.proofs.Common.{◌≡◌, ℕ, ◌+◌, ◌≤◌, arith, List, [], ◌++◌, take, drop, Option, Some, None, refl, sym, ap, ◌∙◌, append_assoc}
+use Rattle.std.proofs.Common.{◌≡◌, ℕ, ◌+◌, List, [], ◌++◌, take, drop, Option, Some, None, refl, sym, ap, ◌∙◌, append_assoc}
 use Rattle.std.proofs.lemmas.List.{take-append-drop, append-nil}
-use Rattle.outer_traits.specs.Faults.{RoseBy}
 use Rattle.outer_traits.specs.Sinks.{Took, TookFront}
 
 -- One piece, and then another.
@@ -13,10 +12,6 @@ took_more one two None b c h k = rw (k, h) refl
 pub took_none : (a : Option (List ℕ)) → Took [] a a
 took_none (Some before) = ap Some (sym (append-nil before))
 took_none None = refl
-
--- All is a front.
-pub front_whole : (bytes : List ℕ) (a b : Option (List ℕ)) → Took bytes a b → TookFront bytes a b
-front_whole bytes a b h = record { front = bytes; rest = []; parts = sym (append-nil bytes); took = h }
 
 -- Nothing is a front of anything.
 pub front_none : (bytes : List ℕ) (a : Option (List ℕ)) → TookFront bytes a a
@@ -46,9 +41,6 @@ pub record StillToWrite (bytes rest : List ℕ) (a b : Option (List ℕ)) : Type
   pub parts : bytes ≡ front ++ rest
   pub took : Took front a b
 
-pub still_all : (bytes : List ℕ) (a : Option (List ℕ)) → StillToWrite bytes bytes a a
-still_all bytes a = record { front = []; parts = refl; took = took_none a }
-
 -- The next n bytes were taken too.
 pub still_less : (bytes rest : List ℕ) (n : ℕ) (a b c : Option (List ℕ)) → StillToWrite bytes rest a b → Took (take n rest) b c → StillToWrite bytes (drop n rest) a c
 still_less bytes rest n a b c s k = record {
@@ -57,21 +49,5 @@ still_less bytes rest n a b c s k = record {
   took = took_more s.front (take n rest) a b c s.took k;
 }
 
-pub still_none : (bytes rest : List ℕ) (a b : Option (List ℕ)) → rest ≡ [] → StillToWrite bytes rest a b → Took bytes a b
-still_none bytes rest a b e s =
-    let all : bytes ≡ s.front = s.parts ∙ ap (λ (x : List ℕ). s.front ++ x) e ∙ append-nil s.front in
-    rw all s.took
-
 pub still_front : (bytes rest : List ℕ) (a b c : Option (List ℕ)) → c ≡ b → StillToWrite bytes rest a b → TookFront bytes a c
 still_front bytes rest a b c e s = record { front = s.front; rest = rest; parts = s.parts; took = e ∙ s.took }
-
--- A count that rose by m and then by n rose by both.
-pub rose_by_both : (m n a b c : ℕ) → RoseBy m a b → RoseBy n b c → RoseBy (m + n) a c
-rose_by_both m n a b c h k = omega arith
-
--- A count that did not fall before or after still rose.
-pub rose_later : (m a b c : ℕ) → a ≤ b → RoseBy m b c → RoseBy m a c
-rose_later m a b c le h = omega arith
-
-pub rose_before : (m a b c : ℕ) → RoseBy m a b → b ≤ c → RoseBy m a c
-rose_before m a b c h le = omega arith

@@ -64,10 +64,6 @@ out-off client entry b old new (inr c) t =
 pub out-here : {K : Type 0} (entry : ℕ) (was now : Parts) (h : Housed K) → now ≡ was → KeepsOut entry was.board now.board h h
 out-here entry was now h e = subst (λ (n : Parts). KeepsOut entry was.board n.board h h) (sym e) (λ plans p. p)
 
--- The same claim, behind a call.
-pub out-same : {K : Type 0} (entry : ℕ) (was now : BoardState) (old new : Housed K) → now ≡ was → KeepsOut entry was was old new → KeepsOut entry was now old new
-out-same entry was now old new e k = subst (λ (b : BoardState). KeepsOut entry was b old new) (sym e) k
-
 -- A plugin's step of it.
 pub out-stepped : {K : Type 0} (op : Op) (entry : ℕ) (before : Parts) (image : Image) (answer : Result ⊤ BoardFault) (was now : BoardState) (old new : Housed K) → KeepsOut entry was before.board old new → StepLeft op before.entry image before.board answer now → KeepsOut entry was now old new
 out-stepped op entry before image answer was now old new k s plans p =

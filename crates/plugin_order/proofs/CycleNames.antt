@@ -54,7 +54,3 @@ pub cycle_within : (rule : ℕ → ℕ → Bool) (n : ℕ) → ((p q : ℕ) → 
     → (k : ℕ) → k < length c → slice_index c k < n
 cycle_within rule n within [] h k lt = absurd h
 cycle_within rule n within (x ∷ xs) h k lt = all_within rule n within (x ∷ xs) x h k lt
-
-pub cycle_some : (rule : ℕ → ℕ → Bool) (c : List ℕ) → IsCycle rule c → 0 < length c
-cycle_some rule [] h = absurd h
-cycle_some rule (x ∷ xs) h = omega arith

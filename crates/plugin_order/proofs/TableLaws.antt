@@ -49,17 +49,6 @@ filled_more rule n table p q b few pn qn is f = record {
   long = simp length-set f.long;
 }
 
-pub filled_row : (rule : ℕ → ℕ → Bool) (n : ℕ) (table : List Bool) (p : ℕ) → IsFilled rule n table p n → IsFilled rule n table (p + 1) 0
-filled_row rule n table p f = record {
-  above = λ i j ip jn. elim (eqb_tells i p) [
-    | inl y ↦ (let e : i ≡ p = y.1 in
-        ap (λ (k : ℕ). slice_index_or table (k * 64 + j) false) e ∙ f.row j jn ∙ ap (λ (k : ℕ). rule k j) (sym e))
-    | inr n ↦ (let lt : i < p = omega (arith, n.1) in f.above i j lt jn)
-  ];
-  row = λ j h. absurd (omega arith);
-  long = f.long;
-}
-
 related-none : (rule : PluginSheet → PluginSheet → Bool) (sheets : List PluginSheet) (p q : ℕ) → length sheets ≤ q → between rule sheets p q ≡ false
 related-none rule sheets p q h = rw (slice_get_past sheets q h) (to_none (slice_get sheets p))
   where

@@ -1,5 +1,5 @@
 -- Each of a board's own steps, and doing nothing, is what a plugin's step may do.
-use Rattle.std.proofs.Common.{◌≡◌, ℕ, ◌+◌, ◌≤◌, ◌<◌, ◌⊎◌, inl, inr, Bool, true, false, is_some, List, [], ◌∷◌, ◌++◌, length, Option, Some, None, Result, Ok, Err, IsTrue, OnOk, OnErr, IsErr, if◌then◌else◌, refl, sym, ap, ◌∙◌, append-nil, arith}
+use Rattle.std.proofs.Common.{◌≡◌, ℕ, ◌+◌, ◌≤◌, ◌<◌, ◌⊎◌, inl, inr, Bool, true, false, is_some, List, [], ◌∷◌, ◌++◌, length, Option, Some, None, Result, Ok, Err, IsTrue, OnOk, OnErr, IsErr, if◌then◌else◌, refl, ap, ◌∙◌, arith}
 use Rattle.std.specs.Prelude.{⊤}
 use Rattle.fw_facts.specs.declared.seen.Mode.{Mode}
 use Rattle.fw_facts.specs.declared.seen.Mode.TheVariants.{Runtime, Bootloader}
@@ -12,7 +12,7 @@ use Rattle.emulated_boards.specs.declared.condition.Condition.{Condition}
 use Rattle.emulated_boards.specs.Boards.{BoardState, BoardStep, Step, enter_loader, program, stage, leave_loader, look, left_by, marks_by, answer_by, can_enter, can_leave}
 use Rattle.emulated_boards.specs.Conditions.{mode_under}
 use Rattle.emulated_boards.specs.Plans.{planned}
-use Rattle.plugin_trait.specs.Steps.{Taken, ByBoardSteps, IsAway, KeepsRules, Adds, KeepsImages, Unmarked, LoaderEntered, LoaderLeft, SameOrLoader, WriteBroken, Programmed, Staged, WriteWhole, Plain, Detached, Attached, Written, Untouched}
+use Rattle.plugin_trait.specs.Steps.{Taken, ByBoardSteps, IsAway, KeepsRules, Adds, KeepsImages, Unmarked, LoaderEntered, LoaderLeft, SameOrLoader, WriteBroken, Programmed, Staged, WriteWhole, Plain, Detached, Attached, Written}
 
 -- ---- the rules that every step keeps
 
@@ -198,30 +198,3 @@ stage_is_written entry image old answer new h = record {
   rules = keeps_rules old (stage entry image) answer new h;
   left = stage_left entry image old new _ answer (outcome_of old (stage entry image) answer new h);
 }
-
--- ---- doing nothing
-
-untouched_rules : (old : BoardState) (answer : Result ⊤ BoardFault) (new : BoardState) → Untouched old answer new → KeepsRules old answer new
-untouched_rules old answer new h = record {
-  by_steps = record { steps = []; taken = h.board };
-  well = rw h.well (ap (λ (b : BoardState). b.faults) h.board);
-  failed = rw h.well tt;
-  plan = ap (λ (b : BoardState). b.plan) h.board;
-  presence = inl (ap (λ (b : BoardState). b.condition.presence) h.board);
-}
-
-pub untouched_is_unmarked : (old new : BoardState) → new ≡ old → Unmarked old new
-untouched_is_unmarked old new e = record {
-  adds = record { journal = ap (λ (b : BoardState). b.journal) e ∙ sym (append-nil old.journal); room = omega (arith, ap (λ (b : BoardState). b.room) e) };
-  images = record { image = ap (λ (b : BoardState). b.condition.image) e; staged = ap (λ (b : BoardState). b.condition.staged) e };
-  mode = ap (λ (b : BoardState). b.condition.mode) e;
-}
-
-pub untouched_is_plain : (old : BoardState) (answer : Result ⊤ BoardFault) (new : BoardState) → Untouched old answer new → Plain old answer new
-untouched_is_plain old answer new h = record { rules = untouched_rules old answer new h; left = untouched_is_unmarked old new h.board }
-
-pub untouched_is_detached : (old : BoardState) (answer : Result ⊤ BoardFault) (new : BoardState) → Untouched old answer new → Detached old answer new
-untouched_is_detached old answer new h = record { rules = untouched_rules old answer new h; left = inl (untouched_is_unmarked old new h.board) }
-
-pub untouched_is_attached : (old : BoardState) (answer : Result ⊤ BoardFault) (new : BoardState) → Untouched old answer new → Attached old answer new
-untouched_is_attached old answer new h = record { rules = untouched_rules old answer new h; left = inl (untouched_is_unmarked old new h.board) }

@@ -32,11 +32,6 @@ last_more groups group q i o here was = by_test (bytes_eq group q) refl where
   by_test true hit = (omega arith, (at_it ∙ hit, λ k after lt. absurd (omega arith)))
   by_test false missed = grown o missed was
 
--- what is last below n is last below m, where it stands there
-fewer : (groups : List (List ℕ)) (q : List ℕ) (n m : ℕ) (o : Option ℕ) → m ≤ n → LastBelow groups q n o → ((c : ℕ) → o ≡ Some c → c < m) → LastBelow groups q m o
-fewer groups q n m None le h small = λ k lt. h k (omega arith)
-fewer groups q n m (Some c) le h small = (small c refl, (h.1.0, λ k after lt. h.1.1 k after (omega arith)))
-
 -- the heads below the length
 pub heads_begin : (groups guids : List (List ℕ)) (n : ℕ) (last : List ℕ → Option ℕ) → ((q : List ℕ) → LastBelow groups q n (last q)) → HeadsAre groups n guids (map last guids)
 heads_begin groups [] n last h = tt
@@ -190,9 +185,6 @@ none_passes p xs n d le missed = quiet p xs 0 n n d (omega arith) le (λ k from 
 
 pub group_here : (quirks : List Quirk) (k : ℕ) (d : Quirk) → k < length quirks → get_or (map (λ (q : Quirk). q.group) quirks) k [] ≡ (get_or quirks k d).group
 group_here quirks k d lt = get_or-map (λ (q : Quirk). q.group) quirks k d [] lt
-
-groups_of : List Quirk → List (List ℕ)
-groups_of quirks = map (λ (q : Quirk). q.group) quirks
 
 passes : (guids : List (List ℕ)) (quirks : List Quirk) (k : ℕ) (d : Quirk) (b : Bool) → k < length quirks
     → list_any (λ g. bytes_eq (get_or (map (λ (q : Quirk). q.group) quirks) k []) g) guids ≡ b → is_for guids (get_or quirks k d) ≡ b

@@ -58,13 +58,6 @@ noted own guid at place old new here other = by (bytes_eq own guid) refl
         ∙ ap (λ (b : Bool). is_listed guid place old || b) (sym (and_false (eqb at place)))
         ∙ ap (λ (b : Bool). is_listed guid place old || (eqb at place && b)) (sym e)
 
-pub gather : (old at before here : Bool) → ((old || (at && before)) || (at && here)) ≡ (old || (at && (before || (here || false))))
-gather true at before here = refl
-gather false true true here = refl
-gather false true false true = refl
-gather false true false false = refl
-gather false false before here = refl
-
 -- ---- the components so far
 
 -- What is noted of one more component.

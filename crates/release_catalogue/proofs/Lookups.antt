@@ -20,17 +20,6 @@ drop_at {X} xs i x lt is = rw add-one (drop-cons xs i x lt ∙ ap (λ (w : X). w
 
 -- ---- the releases of one component
 
-pub step_equal : (version : List ℕ) (releases : List Release) (i : ℕ) (release : Release) → i < length releases → release ≡ get_or releases i release
-    → same_version release.version version ≡ false → first_equal version i (drop i releases) ≡ first_equal version (i + 1) (drop (i + 1) releases)
-step_equal version releases i release lt is h = rw (drop_at releases i release lt is, h) refl
-
-pub found_equal : (version : List ℕ) (releases : List Release) (i : ℕ) (release : Release) → i < length releases → release ≡ get_or releases i release
-    → same_version release.version version ≡ true → first_equal version i (drop i releases) ≡ Some i
-found_equal version releases i release lt is h = rw (drop_at releases i release lt is, h) refl
-
-pub none_equal : (version : List ℕ) (releases : List Release) (i : ℕ) → length releases ≤ i → first_equal version i (drop i releases) ≡ None
-none_equal version releases i le = rw (drop_of_length-le releases le) refl
-
 -- The releases of a component from a place on.
 abbrev part : ℕ → Component → ℕ → List Release → List Chosen
 part place component from releases =
@@ -152,9 +141,6 @@ places_taken guids components i component lt is hit =
     (ap (λ (l : List Chosen). map (λ (chosen : Chosen). chosen.at) l)
     (all_match guids i component 0 component.releases (flat_map (λ (entry : ℕ × Component). part entry.0 entry.1 0 entry.1.releases) (enumerate_from (i + 1) (drop (i + 1) components))) hit)
     ∙ places_of_part i component 0 component.releases (matching_from guids (i + 1) (drop (i + 1) components)))
-
-pub places_done : (guids : List (List ℕ)) (components : List Component) (i : ℕ) → length components ≤ i → places_from guids i (drop i components) ≡ []
-places_done guids components i le = rw (drop_of_length-le components le) refl
 
 -- A component has no more releases than all of them.
 pub few_each : (components : List Component) (i : ℕ) (component : Component) → i < length components → component ≡ get_or components i component

@@ -1,6 +1,5 @@
 -- Looking for a repeated name, one remote after the other.
-use Rattle.std.proofs.Common.{◌≡◌, ℕ, ◌+◌, ◌≤◌, ◌<◌, Bool, true, false, ◌||◌, cond, List, [], ◌∷◌, ◌++◌, length, take, drop, get_or, Option, Some, None, refl, sym, ap, ◌∙◌, append_assoc}
-use Rattle.std.proofs.Math.ListN.{drop_of_length-le}
+use Rattle.std.proofs.Common.{◌≡◌, ℕ, ◌+◌, ◌<◌, Bool, true, false, ◌||◌, cond, List, [], ◌∷◌, ◌++◌, length, take, drop, get_or, Option, Some, None, refl, sym, ap, ◌∙◌, append_assoc}
 use Rattle.std.proofs.lemmas.List.{take_more}
 use Rattle.std.specs.List.{list_any}
 use Rattle.std.specs.Str.{bytes_eq}
@@ -27,9 +26,6 @@ pub name_found : (remotes : List Remote) (i : ℕ) (remote : Remote) (total : Op
 name_found remotes i remote total lt is old so_far =
     sym (one_here remotes i remote lt is ∙ ap (λ (b : Bool). cond b (Some remote.name) (repeated_behind (take i remotes ++ remote ∷ []) (drop (i + 1) remotes))) old)
     ∙ so_far
-
-pub no_name : (remotes : List Remote) (i : ℕ) (total : Option (List ℕ)) → length remotes ≤ i → repeated_behind (take i remotes) (drop i remotes) ≡ total → None ≡ total
-no_name remotes i total le so_far = sym (ap (λ (rs : List Remote). repeated_behind (take i remotes) rs) (drop_of_length-le remotes le)) ∙ so_far
 
 -- ---- one more
 

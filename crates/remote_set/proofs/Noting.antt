@@ -1,6 +1,5 @@
 -- What an index says of some releases, one more at a time.
-use Rattle.std.proofs.Common.{◌≡◌, ℕ, suc, ◌+◌, ◌≤◌, ◌<◌, Bool, true, false, cond, ◌||◌, ◌&&◌, List, [], ◌∷◌, length, drop, take, get_or, Option, Some, None, Ordering, refl, sym, ap, ◌∙◌, arith}
-use Rattle.std.proofs.Math.ListN.{drop_of_length-le}
+use Rattle.std.proofs.Common.{◌≡◌, ℕ, suc, ◌+◌, ◌<◌, Bool, true, false, cond, ◌||◌, ◌&&◌, List, [], ◌∷◌, length, drop, take, get_or, Option, Some, None, Ordering, refl, sym, ap, ◌∙◌, arith}
 use Rattle.std.proofs.lemmas.List.Folds.{list_any_more}
 use Rattle.std.specs.BTreeMap.{is_at}
 use Rattle.std.specs.Cmp.{IsTotalOrder, Equal-is}
@@ -154,11 +153,4 @@ one_less remotes i remote rank id version old new total lt is step so_far =
     ap (λ (b : Bool). b || list_any (hides rank id version) (placed_from (i + 1) (drop (i + 1) remotes))) step
     ∙ or_assoc old (hides rank id version (placed i remote)) (list_any (hides rank id version) (placed_from (i + 1) (drop (i + 1) remotes)))
     ∙ ap (λ (ps : List Placed). old || list_any (hides rank id version) ps) (sym (placed_left remotes i remote lt is))
-    ∙ so_far
-
-pub none_left : (remotes : List Remote) (i : ℕ) (rank : Rank) (id version : List ℕ) (all total : Bool) → length remotes ≤ i
-    → (all || list_any (hides rank id version) (placed_from i (drop i remotes))) ≡ total → all ≡ total
-none_left remotes i rank id version all total le so_far =
-    sym (or_false all)
-    ∙ ap (λ (rs : List Remote). all || list_any (hides rank id version) (placed_from i rs)) (sym (drop_of_length-le remotes le))
     ∙ so_far

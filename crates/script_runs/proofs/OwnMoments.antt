@@ -29,10 +29,6 @@ filter-in p x xs h = rw h refl
 filter-out : {X : Type 0} (p : X → Bool) (x : X) (xs : List X) → p x ≡ false → filter p (x ∷ xs) ≡ filter p xs
 filter-out p x xs h = rw h refl
 
-pub filter-all : {X : Type 0} (p : X → Bool) (xs : List X) → AllByRecursion (λ x. p x ≡ true) xs → filter p xs ≡ xs
-filter-all p [] a = refl
-filter-all p (x ∷ xs) a = filter-in p x xs a.0 ∙ ap (λ (l : List _). x ∷ l) (filter-all p xs a.1)
-
 filter-cons : {X : Type 0} (p : X → Bool) (x : X) (xs ys : List X) → filter p xs ≡ filter p ys → filter p (x ∷ xs) ≡ filter p (x ∷ ys)
 filter-cons p x xs ys e =
     by_test (p x) _

@@ -13,10 +13,6 @@ settled_is quirks adds sheet copy after more copied applied made =
     ap (λ (n : ℕ). raised n after) made
     ∙ ap (λ (s : Sheet). raised (adds s.plugin) s) (applied ∙ ap (λ (s : Sheet). sheet_after s quirks) copied)
 
--- quirks leave the priority
-pub same_priority : (quirks : List Quirk) (sheet copy after : Sheet) → copy ≡ sheet → after ≡ sheet_after copy quirks → after.priority ≡ sheet.priority
-same_priority quirks sheet copy after copied applied = ap (λ (s : Sheet). s.priority) applied ∙ ap (λ (s : Sheet). s.priority) copied
-
 -- what names add, where they and the priorities are the same
 pub same_sheets : (site : Site) (names names' : List (List ℕ)) (priorities priorities' : List ℕ) (sheets : List Sheet) → names ≡ names' → priorities ≡ priorities'
     → sheets ≡ settled_sheets site (priority_of names priorities) → sheets ≡ settled_sheets site (priority_of names' priorities')

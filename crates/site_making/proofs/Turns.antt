@@ -62,7 +62,3 @@ chosen_turn p f n old new low so_far pushed =
     ∙ flat_map-append f (filter p (range_with_len 1 (n - 1))) (filter p (n ∷ []))
     ∙ ap (λ ys. flat_map f (filter p (range_with_len 1 (n - 1))) ++ ys) (only_that p f n) in
     rw (more, pushed, so_far) refl
-
--- the loop ends behind the last number
-pub at_end : {A : Type 0} (g : ℕ → A) (n count : ℕ) → n ≡ count + 1 → g (n - 1) ≡ g count
-at_end g n count e = ap g (let s : n - 1 ≡ count = omega arith in s)

@@ -1,5 +1,5 @@
 -- What is true of the remotes that were read, one more at a time.
-use Rattle.std.proofs.Common.{◌≡◌, ◌+◌, ◌≤◌, false, List, [], ◌∷◌, ◌++◌, length, None, refl, sym, ap, ◌∙◌, subst, arith}
+use Rattle.std.proofs.Common.{◌≡◌, ◌+◌, ◌≤◌, false, List, [], ◌∷◌, ◌++◌, length, None, sym, ap, ◌∙◌, subst, arith}
 use Rattle.std.proofs.lemmas.List.Sums.{sum_by-append, sum_by-cons}
 use Rattle.std.specs.List.{list_any}
 use Rattle.std.specs.Str.{bytes_eq}
@@ -21,6 +21,3 @@ within_more all before r is few few_releases =
 pub named_more : (all before : List Remote) (r : Remote) → all ≡ before ++ r ∷ [] → first_repeated before ≡ None
     → list_any (λ other. bytes_eq other.name r.name) before ≡ false → first_repeated all ≡ None
 named_more all before r is named new = ap first_repeated is ∙ still_named [] before r new named
-
-pub own_named : (own : Remote) → first_repeated (own ∷ []) ≡ None
-own_named own = refl

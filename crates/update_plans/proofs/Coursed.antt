@@ -1,5 +1,5 @@
 -- How a course goes: it takes each step at most once, in their order, and the reload always.
-use Rattle.std.proofs.Common.{◌≡◌, ℕ, suc, ◌+◌, ◌≤◌, ◌&&◌, ◌||◌, ◌⊎◌, Bool, true, false, nat_lt, not, List, [], ◌∷◌, ◌++◌, length, length-append, inl, inr, refl, sym, ap, ◌∙◌, subst, arith}
+use Rattle.std.proofs.Common.{◌≡◌, ℕ, suc, ◌+◌, ◌≤◌, ◌&&◌, ◌||◌, ◌⊎◌, Bool, true, false, nat_lt, not, List, [], ◌∷◌, ◌++◌, inl, inr, refl, sym, ap, ◌∙◌, subst, arith}
 use Rattle.std.specs.Prelude.{Ok, find, if◌then◌else◌}
 use Rattle.std.specs.List.{AllByRecursion, list_any}
 use Rattle.std.proofs.lemmas.Bool.{le-ltb, lt-ltb}
@@ -18,16 +18,6 @@ use Rattle.update_plans.specs.Courses.{course_of, course_step, course_with, show
 use Rattle.update_plans.specs.Plans.{board_after, is_next, shown_after}
 
 -- ---- how long it grows
-
-pub step_longer : (raw : ℕ) (course : Course) (op : Op) → length (course_step raw course op).trace.steps ≤ length course.trace.steps + 1
-step_longer raw course op = go (is_next (next_step course.trace) op)
-  where
-    step : TraceStep
-    step = record { op = op; outcome = Ok tt; seen = shows_next raw course op }
-
-    go : (b : Bool) → length (if b then course_with raw course op else course).trace.steps ≤ length course.trace.steps + 1
-    go true = let n : length (course.trace.steps ++ step ∷ []) ≡ length course.trace.steps + 1 = length-append course.trace.steps (step ∷ []) in omega (arith, n)
-    go false = omega arith
 
 -- ---- which step is the next
 

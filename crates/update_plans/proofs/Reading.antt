@@ -1,5 +1,5 @@
 -- The sections of a version, read as numbers one after the other.
-use Rattle.std.proofs.Common.{◌≡◌, ℕ, suc, ◌+◌, ◌-◌, ◌*◌, ◌^◌, ◌<◌, ◌≤◌, Bool, true, false, List, [], ◌∷◌, ◌++◌, length, map, drop, get_or, Option, Some, None, refl, sym, ap, ◌∙◌, subst, arith, length-append, length-drop, append_assoc, append-nil}
+use Rattle.std.proofs.Common.{◌≡◌, ℕ, suc, ◌+◌, ◌-◌, ◌*◌, ◌^◌, ◌<◌, ◌≤◌, Bool, true, false, List, [], ◌∷◌, ◌++◌, length, map, drop, get_or, Option, Some, None, sym, ap, ◌∙◌, subst, arith, length-append, length-drop, append_assoc, append-nil}
 use Rattle.std.proofs.Math.Seq.{get_or-append_seam}
 use Rattle.std.proofs.lemmas.Bool.Decides.{nat_tests}
 use Rattle.std.proofs.lemmas.List.{at_drop_more, take_all}
@@ -62,10 +62,6 @@ pub record IsLeft (given before text : List ℕ) : Type 0 where
   pub behind : List ℕ
   pub all : given ≡ before ++ behind
   pub alone : sections text ≡ map whole behind
-
--- before the first one
-pub left-first : (given version : List ℕ) → AreNumbers version given → IsLeft given [] version
-left-first given version h = record { behind = given; all = refl; alone = h.alone }
 
 -- What stands at the front of what is left: a number alone of 32 bits, for which there is a place.
 pub record IsNext (before : List ℕ) (section : Section) (number : ℕ) : Type 0 where

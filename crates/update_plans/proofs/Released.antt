@@ -1,5 +1,5 @@
 -- The release at a place of the catalogue.
-use Rattle.std.proofs.Common.{◌≡◌, ◌≢◌, ℕ, zero, suc, ◌+◌, ◌<◌, ◌&&◌, Bool, true, false, List, [], ◌∷◌, map, refl, sym, ap, ◌∙◌, arith}
+use Rattle.std.proofs.Common.{◌≡◌, ◌≢◌, ℕ, zero, suc, ◌+◌, ◌<◌, List, [], ◌∷◌, map, refl, sym, ap, ◌∙◌, arith}
 use Rattle.std.specs.Prelude.{Option, Some, None, find, flat_map, slice_get, option_map, option_and_then}
 use Rattle.std.specs.List.{enumerate_from}
 use Rattle.std.specs.Option.{option_or}
@@ -25,10 +25,6 @@ place_at n k = record { component = n; release = k }
 
 abbrev pub chosen_at : ℕ → ℕ → Component → Release → Chosen
 chosen_at n k c r = record { at = place_at n k; component = c; release = r }
-
-and-false : (a : Bool) → (a && false) ≡ false
-and-false true = refl
-and-false false = refl
 
 -- another component's releases aren't it
 other-component : (n m l : ℕ) (c : Component) (k : ℕ) (rs : List Release) → n ≢ m → find (λ chosen. is_release chosen.at (place_at m l)) (entries n c k rs) ≡ None
