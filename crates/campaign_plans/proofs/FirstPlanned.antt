@@ -1,5 +1,5 @@
 -- The log of a first boot, and that a plan may be made over it.
-use Rattle.std.proofs.Common.{◌≡◌, ℕ, ◌<◌, ◌≤◌, List, [], ◌∷◌, length, map, inl, inr, refl, ap, sym, ◌∙◌, subst, arith}
+use Rattle.std.proofs.Common.{◌≡◌, ℕ, ◌≤◌, List, [], ◌∷◌, length, map, inl, inr, refl, ap, sym, ◌∙◌, subst, arith}
 use Rattle.std.specs.Prelude.{All, None}
 use Rattle.std.proofs.lemmas.List.{length-map}
 use Rattle.std.proofs.lemmas.List.Elements.{All-weaker}
@@ -19,7 +19,7 @@ use Rattle.update_log.specs.Known.{rows as known_rows}
 use Rattle.update_log.specs.Pasts.{past_of}
 use Rattle.update_plans.specs.Plans.{Scene, first_bad, scene}
 use Rattle.campaign_plans.specs.declared.first_plan.FirstPlan.{FirstPlan}
-use Rattle.campaign_plans.specs.FirstPlans.{CanBePlanned, IsFirstPlan, first_log, first_steps, plan_after}
+use Rattle.campaign_plans.specs.FirstPlans.{CanBePlanned, IsFirstPlan, first_log, plan_after}
 
 -- It has one event at most, so its newest is its first.
 pub past_of_first : (boots : List BootPlan) (shown : List Seen) → past_of (first_log boots shown) ≡ first_log boots shown

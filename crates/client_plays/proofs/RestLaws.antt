@@ -1,11 +1,11 @@
 -- Going through a list of things, over a house.
-use Rattle.std.proofs.Common.{◌≡◌, ◌⊎◌, ℕ, ◌<◌, ◌≤◌, Bool, true, false, List, [], ◌∷◌, ◌++◌, refl, ap, sym, ◌∙◌, subst, inl, inr, arith}
+use Rattle.std.proofs.Common.{◌≡◌, ◌⊎◌, ℕ, ◌<◌, Bool, true, false, List, [], ◌∷◌, ◌++◌, refl, ap, sym, ◌∙◌, subst, inl, inr, arith}
 use Rattle.std.specs.Prelude.{Some, None}
 use Rattle.history_keeper.specs.declared.row.Row.{Row}
 use Rattle.update_log.specs.Pasts.{boots, off}
 use Rattle.daemon_core.specs.Annals.{SameFacts}
 use Rattle.daemon_core.specs.Housed.{Annalled, Housed, past, rows_before, rows_taken}
-use Rattle.daemon_core.specs.Turns.{KeeperFared, Signs}
+use Rattle.daemon_core.specs.Turns.{Signs}
 use Rattle.daemon_core.proofs.Fared.{fared-both, fared-here}
 use Rattle.daemon_core.proofs.Planned.{keeps-both, keeps-here}
 use Rattle.client_plays.specs.declared.played.Played.{Played}

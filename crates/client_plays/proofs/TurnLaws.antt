@@ -1,10 +1,9 @@
 -- A turn that changed neither the log nor the keeper.
-use Rattle.std.proofs.Common.{◌≡◌, ℕ, ◌≤◌, ap, inl, arith}
+use Rattle.std.proofs.Common.{◌≡◌, ◌≤◌, ap, arith}
 use Rattle.update_log.specs.Pasts.{past_of}
 use Rattle.daemon_core.specs.Annals.{Unchanged}
-use Rattle.daemon_core.specs.Housed.{Annalled, Housed, past, past_in}
-use Rattle.daemon_core.specs.Keeping.{keeper_faults}
-use Rattle.daemon_core.specs.Turns.{KeeperFared, Signs}
+use Rattle.daemon_core.specs.Housed.{Annalled, Housed, past_in}
+use Rattle.daemon_core.specs.Turns.{Signs}
 
 pub unmoved : (old new : Annalled) → Unchanged old new → past_in new ≡ past_in old
 unmoved old new u = ap past_of u.log

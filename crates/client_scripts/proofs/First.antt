@@ -1,5 +1,5 @@
 -- The first 64 of a list.
-use Rattle.std.proofs.Common.{◌≡◌, ℕ, ◌==◌, false, ◌-◌, ◌<◌, ◌≤◌, arith, if◌then◌else◌, List, ◌++◌, length, reverse, take, ◌⊎◌, inl, inr, refl, sym, ap, ◌∙◌, append_assoc}
+use Rattle.std.proofs.Common.{◌≡◌, ℕ, ◌==◌, false, ◌-◌, ◌<◌, ◌≤◌, arith, List, ◌++◌, length, reverse, take, ◌⊎◌, inl, inr, sym, ap, ◌∙◌, append_assoc}
 use Rattle.std.specs.Prelude.{min}
 use Rattle.std.specs.List.{flat_map}
 use Rattle.std.proofs.lemmas.List.{length-reverse, take_all}

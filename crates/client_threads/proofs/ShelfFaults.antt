@@ -1,7 +1,6 @@
 -- What the log tells of the faults of shelves, over a boot.
 use Rattle.std.proofs.Common.{◌≡◌, ℕ, ◌<◌, ◌≤◌, zero, suc, List, [], ◌∷◌, ◌++◌, map, length, get_or, set, refl, ap, ◌∙◌, subst, arith}
-use Rattle.std.specs.Prelude.{Option, Some, slice_get}
-use Rattle.history_keeper.specs.declared.row.Row.{Row}
+use Rattle.std.specs.Prelude.{Some, slice_get}
 use Rattle.update_log.specs.declared.event.Event.{Event}
 use Rattle.update_log.specs.declared.facts.BootPlan.{BootPlan}
 use Rattle.daemon_core.specs.Housed.{Housed, past}

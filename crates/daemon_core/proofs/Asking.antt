@@ -1,10 +1,9 @@
 -- An ask that is accepted.
 use Rattle.std.proofs.Common.{◌≡◌, ℕ, ◌≤◌, ◌+◌, ◌-◌, Bool, true, false, List, [], ◌∷◌, ◌++◌, length, refl, ap, sym, ◌∙◌, subst, arith}
-use Rattle.std.specs.Prelude.{Option, Some, None, slice_get, option_map, option_and_then, if◌then◌else◌, nat_lt, ◌==◌}
-use Rattle.std.specs.Prelude.{◌&&◌}
+use Rattle.std.specs.Prelude.{Option, Some, None, slice_get, option_map, option_and_then, if◌then◌else◌, nat_lt, ◌==◌, ◌&&◌, sum_by, ◌*◌}
 use Rattle.device_list.specs.Lists.{place}
 use Rattle.fw_facts.specs.declared.release.Release.{Release}
-use Rattle.std.proofs.lemmas.List.{append-nil}
+use Rattle.std.proofs.lemmas.List.{append-nil, length_push}
 use Rattle.std.proofs.lemmas.List.Sums.{sum_by_push}
 use Rattle.std.proofs.lemmas.Bool.{ltb-false}
 use Rattle.fw_facts.specs.Views.{guids_of}
@@ -17,7 +16,7 @@ use Rattle.update_log.proofs.Accepts.{none-refuses, some-same}
 use Rattle.update_log.proofs.Placed.{chosen-placed}
 use Rattle.update_log.proofs.Lists.{by_test}
 use Rattle.update_log.specs.Holding.{blocks_of, held, hold, hold_of, holds, without_client}
-use Rattle.update_log.specs.Known.{Target, target, target_at, target_of, views}
+use Rattle.update_log.specs.Known.{Target, target, target_at, target_of, views, doubt}
 use Rattle.update_log.specs.Legal.{ask_stage}
 use Rattle.update_log.specs.Verdicts.{Case, case_of, decided, first_refusal, is_that_release, kept, need, no_room, on_found, on_kept, on_present, on_target, present, refusals, refused_or, verdict, wants_room, where_so}
 use Rattle.update_log.specs.declared.answer.AskAnswer.{AskAnswer}
@@ -29,9 +28,6 @@ use Rattle.update_log.specs.declared.refusal.Refusal.{Refusal}
 use Rattle.update_log.specs.declared.request.Request.{Request}
 use Rattle.block_pool.specs.Views.{PoolCounts}
 use Rattle.history_keeper.specs.declared.change.Change.{Change}
-use Rattle.std.proofs.lemmas.List.{length_push}
-use Rattle.std.specs.Prelude.{sum_by, ◌*◌}
-use Rattle.update_log.specs.Known.{doubt}
 use Rattle.update_log.specs.Pasts.{off}
 use Rattle.daemon_core.specs.Annals.{Appended, IsAnnals}
 use Rattle.daemon_core.specs.House.{IsHouse}

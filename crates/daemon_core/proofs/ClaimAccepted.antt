@@ -1,7 +1,7 @@
 -- What a claim has whose request is accepted.
-use Rattle.std.proofs.Common.{◌≡◌, ◌≢◌, ℕ, zero, suc, ◌<◌, ◌≤◌, ◌+◌, Bool, true, false, List, [], ◌∷◌, ◌++◌, length, map, refl, ap, sym, ◌∙◌, subst, arith}
+use Rattle.std.proofs.Common.{◌≡◌, ℕ, zero, suc, ◌<◌, ◌+◌, true, false, List, [], ◌∷◌, length, map, refl, ap, sym, ◌∙◌}
 use Rattle.std.proofs.lemmas.Bool.{eq-eqb, eqb-true}
-use Rattle.std.specs.Prelude.{Option, Some, None, slice_get, option_map, option_and_then, unwrap_or, find, position, is_some, ◌==◌, ◌&&◌}
+use Rattle.std.specs.Prelude.{Option, Some, None, slice_get, option_map, option_and_then, unwrap_or, find, position, is_some, ◌==◌}
 use Rattle.std.specs.List.{AllByRecursion, list_any}
 use Rattle.std.specs.Str.{bytes_eq}
 use Rattle.block_pool.specs.Views.{SealedBytes}
@@ -24,7 +24,7 @@ use Rattle.update_log.proofs.RowsKept.{is_kept, no-tag, not_kept}
 use Rattle.update_log.proofs.StrokeFacts.{and-true}
 use Rattle.update_log.specs.Boards.{Board, all_boards, board_with, devices, is_device, is_served, plugin_place}
 use Rattle.update_log.specs.Holding.{live}
-use Rattle.update_log.specs.Known.{Known, Target, is_board_of, is_on, known, new_row, row_of, row_with_tag, rows, target, target_at, target_of, view_of, views}
+use Rattle.update_log.specs.Known.{Target, is_board_of, is_on, known, new_row, row_with_tag, rows, target, target_at, target_of, view_of, views}
 use Rattle.update_log.specs.Legal.{is_fetched}
 use Rattle.update_log.specs.Pasts.{time_of}
 use Rattle.update_log.specs.Verdicts.{Case, case_of, is_release, verdict}

@@ -1,6 +1,6 @@
 -- The exits of a claim, over what each of its steps ensures.
-use Rattle.std.proofs.Common.{◌≡◌, ℕ, ◌<◌, ◌≤◌, ◌+◌, Bool, true, false, List, [], ◌∷◌, length, refl, ap, sym, ◌∙◌, subst, arith, inl, inr}
-use Rattle.std.specs.Prelude.{Option, Some, None, IfSome, IsSome, OnOk, is_err, is_some, unwrap_or, Result, Ok, Err}
+use Rattle.std.proofs.Common.{◌≡◌, ℕ, ◌<◌, ◌≤◌, ◌+◌, false, List, ◌∷◌, length, refl, ap, sym, ◌∙◌, subst, arith, inl, inr}
+use Rattle.std.specs.Prelude.{Option, Some, None, IsSome, is_some, unwrap_or, Result, Ok, Err}
 use Rattle.history_keeper.specs.Keepers.{StillTold}
 use Rattle.block_pool.specs.Views.{PoolCounts, SealedBytes}
 use Rattle.history_keeper.specs.Changes.{IsTimely, Suits, changed}

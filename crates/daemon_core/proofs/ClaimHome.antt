@@ -1,5 +1,5 @@
 -- A house to which the board of a live entry comes home.
-use Rattle.std.proofs.Common.{◌≡◌, ◌≢◌, ℕ, ◌<◌, ◌≤◌, ◌+◌, ◌-◌, Bool, true, false, List, [], ◌∷◌, ◌++◌, length, refl, ap, sym, ◌∙◌, subst, arith, ◌⊎◌, inl, inr}
+use Rattle.std.proofs.Common.{◌≡◌, ◌≢◌, ℕ, ◌<◌, ◌≤◌, ◌+◌, ◌-◌, Bool, true, false, List, [], ◌∷◌, length, refl, ap, sym, ◌∙◌, subst, arith, ◌⊎◌, inl, inr}
 use Rattle.std.specs.Prelude.{Option, Some, None, slice_get, unwrap_or, find, ◌==◌}
 use Rattle.fw_facts.specs.declared.seen.Seen.{Seen}
 use Rattle.block_pool.specs.Views.{PoolCounts}
@@ -7,7 +7,6 @@ use Rattle.emulated_boards.specs.Boards.{BoardState}
 use Rattle.emulated_boards.specs.declared.mark.Mark.{Mark}
 use Rattle.history_keeper.specs.declared.row.Row.{Row}
 use Rattle.history_keeper.specs.declared.change.Change.{Change}
-use Rattle.history_keeper.specs.Histories.{IsHistory}
 use Rattle.update_log.specs.declared.event.Back.{Back}
 use Rattle.update_log.specs.declared.event.Event.{Event}
 use Rattle.update_log.specs.declared.facts.Facts.{Facts}
@@ -15,21 +14,21 @@ use Rattle.update_log.specs.declared.live.LiveEntry.{LiveEntry}
 use Rattle.update_log.specs.CoreFolds.{AllFaults}
 use Rattle.update_log.specs.Holding.{held, live, live_entry}
 use Rattle.update_log.specs.Known.{board_of, doubt, rows}
-use Rattle.update_log.specs.Legal.{BackAllowed, BootTakes, IsLegal}
+use Rattle.update_log.specs.Legal.{IsLegal}
 use Rattle.update_log.specs.Pasts.{boots, off}
 use Rattle.update_log.specs.Shows.{Campaign}
-use Rattle.daemon_core.specs.Annals.{Appended, IsAllowedSo, IsAnnals, Runs}
+use Rattle.daemon_core.specs.Annals.{Appended, IsAnnals}
 use Rattle.daemon_core.specs.Boards.{BoardStands, PlaceStands}
 use Rattle.daemon_core.specs.House.{IsHouse}
 use Rattle.daemon_core.specs.Housed.{Annalled, Housed, Place, past, past_in, rows_before}
 use Rattle.daemon_core.specs.Keeping.{KeepsSo}
-use Rattle.daemon_core.specs.Returns.{ComesHome, number_of, place_at, places_with}
+use Rattle.daemon_core.specs.Returns.{ComesHome, place_at, places_with}
 use Rattle.daemon_core.proofs.ClaimDone.{Ends, back-ends, ends-other, ends-own}
 use Rattle.daemon_core.proofs.ClaimEnds.{get-set, length-set, number-within, other-number, own-board, place-found}
 use Rattle.daemon_core.proofs.ClaimHouse.{IsReady, spent-ready}
 use Rattle.daemon_core.proofs.Held.{held-given_entry}
 use Rattle.daemon_core.proofs.HeldOnce.{out-once}
-use Rattle.daemon_core.proofs.HouseKept.{HouseNext, house-next}
+use Rattle.daemon_core.proofs.HouseKept.{house-next}
 
 -- What comes home to annals.
 abbrev pub HomeTo : Annalled → ℕ → ℕ → ℕ → LiveEntry → List Mark → BoardState → ℕ → Type 0

@@ -1,9 +1,9 @@
 -- A house after a claim.
-use Rattle.std.proofs.Common.{◌≡◌, ◌≢◌, ℕ, ◌<◌, ◌≤◌, ◌+◌, Bool, true, false, not, List, [], ◌∷◌, ◌++◌, length, refl, ap, sym, ◌∙◌, subst, arith}
+use Rattle.std.proofs.Common.{◌≡◌, ℕ, ◌<◌, ◌≤◌, ◌+◌, Bool, true, false, not, List, [], ◌∷◌, length, refl, ap, sym, ◌∙◌, subst, arith}
 use Rattle.std.proofs.lemmas.List.{length_push}
-use Rattle.std.specs.Prelude.{Option, Some, None, IfSome, MatchBool, find, slice_get, option_map, ◌==◌}
+use Rattle.std.specs.Prelude.{Option, Some, None, option_map, ◌==◌}
 use Rattle.std.specs.List.{AllByRecursion}
-use Rattle.block_pool.specs.Views.{PoolCounts, SealedBytes}
+use Rattle.block_pool.specs.Views.{PoolCounts}
 use Rattle.fw_facts.specs.declared.release.Release.{Release}
 use Rattle.fw_facts.specs.declared.seen.Seen.{Seen}
 use Rattle.history_keeper.specs.Changes.{changed}
@@ -13,10 +13,10 @@ use Rattle.history_keeper.specs.declared.row.RowState.{RowState}
 use Rattle.release_catalogue.specs.declared.reference.ReleaseRef.{ReleaseRef}
 use Rattle.update_log.proofs.Lists.{All-filter, All-find, All-push}
 use Rattle.update_log.specs.CoreSteps.{is_taken}
-use Rattle.update_log.specs.Holding.{blocks_of, held, hold, holds, live, open_steps, without_client}
+use Rattle.update_log.specs.Holding.{blocks_of, held, hold, holds, live, without_client}
 use Rattle.update_log.specs.Known.{Fate, Target, addition, doubt, fate, known, new_row, rows, rows_by, target, views}
-use Rattle.update_log.specs.Legal.{Allowed, BootTakes, ClaimAllowed, ClaimAnswered, IsLegal, ask_answer, ask_stage, is_fetched, next_entry}
-use Rattle.update_log.specs.Pasts.{boots, is_keeper_fault, off, time_of}
+use Rattle.update_log.specs.Legal.{Allowed, BootTakes, ClaimAllowed, IsLegal, ask_answer}
+use Rattle.update_log.specs.Pasts.{is_keeper_fault, off, time_of}
 use Rattle.update_log.specs.Shows.{Campaign}
 use Rattle.update_log.specs.declared.answer.AskAnswer.{AskAnswer}
 use Rattle.update_log.specs.declared.answer.ClaimAnswer.{ClaimAnswer}
@@ -32,9 +32,8 @@ use Rattle.daemon_core.specs.Annals.{Appended, IsAllowedSo, IsAnnals, IsLegalSo}
 use Rattle.daemon_core.specs.Claims.{MayAnswer, MayClaim, places_without}
 use Rattle.daemon_core.specs.Holds.{IsReleaseAt, held_by}
 use Rattle.daemon_core.specs.House.{IsHouse}
-use Rattle.daemon_core.specs.Housed.{Annalled, Housed, Place, past, past_in, rows_before}
+use Rattle.daemon_core.specs.Housed.{Annalled, Housed, past, past_in, rows_before}
 use Rattle.daemon_core.specs.Keeping.{HasRows, KeepsSo}
-use Rattle.daemon_core.specs.Owed.{owed}
 use Rattle.daemon_core.specs.Returns.{place_at}
 use Rattle.daemon_core.proofs.AnnalsKept.{legal-next}
 use Rattle.daemon_core.proofs.Asking.{ask-found}
@@ -42,7 +41,7 @@ use Rattle.daemon_core.proofs.BoardsQuiet.{quiet-board}
 use Rattle.daemon_core.proofs.ClaimEnds.{length-set}
 use Rattle.daemon_core.proofs.ClaimHouse.{IsReady, runs-takes}
 use Rattle.daemon_core.proofs.ClaimTaking.{Takes, takes-places}
-use Rattle.daemon_core.proofs.Held.{held-kept, held-refused, held-taken}
+use Rattle.daemon_core.proofs.Held.{held-kept, held-refused}
 use Rattle.daemon_core.proofs.HeldOnce.{out-once}
 use Rattle.daemon_core.proofs.HouseKept.{house-next}
 use Rattle.daemon_core.proofs.Owed.{adds, adds-legal}

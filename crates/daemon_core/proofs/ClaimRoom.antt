@@ -10,7 +10,6 @@ use Rattle.emulated_boards.specs.declared.mark.Mark.{Mark}
 use Rattle.fw_facts.specs.declared.seen.Seen.{Seen}
 use Rattle.history_keeper.specs.declared.change.Change.{Change}
 use Rattle.history_keeper.specs.declared.row.Row.{Row}
-use Rattle.update_log.specs.Legal.{open_on}
 use Rattle.update_log.specs.Once as once
 use Rattle.update_log.specs.Shows.{FreshShows, IsWritten}
 use Rattle.update_log.specs.declared.event.Event.{Event}

@@ -1,6 +1,6 @@
 -- What a claim reads of the log.
 use Rattle.std.proofs.Common.{◌≡◌, ◌<◌, ◌≤◌, ◌+◌, ℕ, suc, true, false, cond, List, [], ◌∷◌, map, length, refl, ap, sym, ◌∙◌, subst, arith}
-use Rattle.std.specs.Prelude.{Option, Some, None, find, nat_lt, option_map, option_and_then, slice_get}
+use Rattle.std.specs.Prelude.{Some, None, find, nat_lt, option_map, option_and_then, slice_get}
 use Rattle.std.specs.Str.{bytes_eq}
 use Rattle.std.specs.List.{position_or_len}
 use Rattle.std.proofs.lemmas.Option.{slice_get_past}
@@ -20,7 +20,7 @@ use Rattle.update_log.specs.Boards.{Board, board_with, devices}
 use Rattle.update_log.specs.Core.{Core, Stands}
 use Rattle.update_log.specs.CoreSteps.{addition_on, board_on}
 use Rattle.update_log.specs.Holding.{live}
-use Rattle.update_log.specs.Known.{Known, Target, addition, known, new_row, rows, target, view_of, views}
+use Rattle.update_log.specs.Known.{Known, Target, known, new_row, rows, target, view_of, views}
 use Rattle.update_log.specs.Pasts.{past_of, time_of}
 use Rattle.update_log.specs.Verdicts.{verdict}
 use Rattle.update_log.specs.declared.decision.Stage.{Stage}

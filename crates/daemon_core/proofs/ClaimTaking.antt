@@ -2,7 +2,7 @@
 use Rattle.std.proofs.Common.{◌≡◌, ◌≢◌, ℕ, ◌<◌, ◌≤◌, Bool, true, false, List, [], ◌∷◌, ◌++◌, length, refl, ap, sym, ◌∙◌, subst, ◌⊎◌, inl, inr}
 use Rattle.std.proofs.lemmas.List.{append-nil}
 use Rattle.std.proofs.lemmas.Bool.{eqb-true}
-use Rattle.std.specs.Prelude.{Option, Some, None, Contains, IsTrue, slice_get, option_map, unwrap_or, ◌==◌, ◌||◌}
+use Rattle.std.specs.Prelude.{Option, Some, None, Contains, slice_get, unwrap_or, ◌==◌}
 use Rattle.std.specs.List.{list_any}
 use Rattle.emulated_boards.specs.Boards.{BoardState}
 use Rattle.emulated_boards.specs.declared.mark.Mark.{Mark}
@@ -16,17 +16,17 @@ use Rattle.update_log.specs.Holding.{is_live, live, open_steps}
 use Rattle.update_log.specs.Known.{board_of, is_board_of, known, rows, seen, tells}
 use Rattle.update_log.specs.Legal.{open_marks, open_on}
 use Rattle.update_log.specs.Pasts.{boots, off}
-use Rattle.update_log.specs.Shows.{FreshShows, HasRaw, IsPrefix, RawAllowed, began_since, home_before, is_began, raw_of, told, told_by}
+use Rattle.update_log.specs.Shows.{FreshShows, IsPrefix, RawAllowed, told, told_by}
 use Rattle.update_log.specs.declared.event.Event.{Event}
 use Rattle.update_log.specs.declared.facts.Facts.{Facts}
 use Rattle.update_log.specs.declared.live.LiveEntry.{LiveEntry}
 use Rattle.update_log.specs.declared.live.OpenStep.{OpenStep}
 use Rattle.daemon_core.proofs.BoardsQuiet.{any-same, goes-so, is-board-kept, kept-so, legal-before, open-kept, open-marks-kept, raws-stay}
-use Rattle.daemon_core.proofs.ClaimEnds.{any-found, get-set, length-set, other-number, own-board, place-found}
+use Rattle.daemon_core.proofs.ClaimEnds.{any-found, get-set, other-number, own-board, place-found}
 use Rattle.daemon_core.proofs.ClaimOpen.{found-live, open-live}
 use Rattle.daemon_core.proofs.PlacesKept.{SameOfBoard, place-same}
 use Rattle.daemon_core.specs.Annals.{IsLegalSo}
-use Rattle.daemon_core.specs.Boards.{BoardIsHome, BoardStands, PlaceStands, faulty_ends, is_faulty_end, is_out}
+use Rattle.daemon_core.specs.Boards.{BoardStands, PlaceStands, faulty_ends, is_faulty_end, is_out}
 use Rattle.daemon_core.specs.Claims.{places_without}
 use Rattle.daemon_core.specs.Housed.{Place}
 use Rattle.daemon_core.specs.Returns.{place_at}

@@ -1,6 +1,6 @@
 -- The turn of a claim.
-use Rattle.std.proofs.Common.{◌≡◌, ◌≢◌, ℕ, ◌<◌, ◌≤◌, ◌+◌, Bool, true, false, List, [], ◌∷◌, ◌++◌, length, refl, ap, sym, ◌∙◌, subst, arith, ◌⊎◌, inl, inr}
-use Rattle.std.specs.Prelude.{Option, Some, None, IfSome, IsSome, MatchBool, find, option_and_then, option_map, unwrap_or, slice_get, ◌==◌, Result, Ok, Err}
+use Rattle.std.proofs.Common.{◌≡◌, ℕ, ◌<◌, ◌≤◌, ◌+◌, Bool, true, false, List, [], ◌∷◌, ◌++◌, length, refl, ap, sym, ◌∙◌, subst, arith, ◌⊎◌, inl}
+use Rattle.std.specs.Prelude.{Option, Some, None, find, option_and_then, unwrap_or, ◌==◌}
 use Rattle.std.specs.List.{AllByRecursion}
 use Rattle.std.proofs.lemmas.Option.{slice_get_within}
 use Rattle.block_pool.specs.Views.{SealedBytes}
@@ -8,7 +8,6 @@ use Rattle.emulated_boards.specs.Boards.{BoardState}
 use Rattle.fw_facts.specs.declared.release.Release.{Release}
 use Rattle.fw_facts.specs.declared.seen.Seen.{Seen}
 use Rattle.history_keeper.specs.Changes.{IsTimely, Suits}
-use Rattle.history_keeper.specs.Histories.{IsHistory}
 use Rattle.history_keeper.specs.declared.change.Change.{Change}
 use Rattle.history_keeper.specs.declared.row.Row.{Row}
 use Rattle.history_keeper.specs.declared.row.RowState.{RowState}
@@ -19,7 +18,7 @@ use Rattle.update_log.specs.Boards.{board_with}
 use Rattle.update_log.specs.Holding.{blocks_of, held, hold, live, live_entry, step_open}
 use Rattle.update_log.specs.Known.{Fate, Target, addition, board_of, known, new_row, row_of, rows, rows_by, target, views}
 use Rattle.update_log.specs.Legal.{ClaimAnswered, is_fetched, next_entry}
-use Rattle.update_log.specs.Pasts.{boots, off, time_of}
+use Rattle.update_log.specs.Pasts.{time_of}
 use Rattle.update_log.specs.Steps.{first_trace, trace}
 use Rattle.update_log.specs.declared.answer.ClaimAnswer.{ClaimAnswer}
 use Rattle.update_log.specs.declared.decision.Decision.{Decision}
@@ -33,13 +32,13 @@ use Rattle.update_log.specs.declared.trace.Trace.{Trace}
 use Rattle.daemon_core.specs.declared.claimed.Taken.{Taken}
 use Rattle.daemon_core.specs.declared.fetched.Fetched.{Fetched}
 use Rattle.daemon_core.specs.declared.hold.Ticket.{Ticket}
-use Rattle.daemon_core.specs.Annals.{Appended, IsAnnals, IsLegalSo}
-use Rattle.daemon_core.specs.Boards.{BoardStands, PlaceStands}
+use Rattle.daemon_core.specs.Annals.{Appended, IsAnnals}
+use Rattle.daemon_core.specs.Boards.{BoardStands}
 use Rattle.daemon_core.specs.Claims.{DeviceHome, IsServedBy, IsTaken, IsToStore, MayAnswer, MayClaim, claim_verdict, place_given, plugin_at}
 use Rattle.daemon_core.specs.Fetches.{IsPayloadOf, note_of, is_payload, whole_note}
-use Rattle.daemon_core.specs.Holds.{IsReleaseAt, held_by}
+use Rattle.daemon_core.specs.Holds.{held_by}
 use Rattle.daemon_core.specs.House.{IsHouse}
-use Rattle.daemon_core.specs.Housed.{Annalled, Housed, Place, past, past_in, rows_before}
+use Rattle.daemon_core.specs.Housed.{Annalled, Housed, past, past_in, rows_before}
 use Rattle.daemon_core.specs.PutOff.{IsAccept}
 use Rattle.daemon_core.specs.Returns.{ComesHome, place_at}
 use Rattle.daemon_core.proofs.AnnalsKept.{appended-before, appended-past}

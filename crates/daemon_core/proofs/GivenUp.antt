@@ -9,9 +9,8 @@ use Rattle.history_keeper.specs.declared.row.Row.{Row}
 use Rattle.update_log.specs.CoreFolds.{AllFaults}
 use Rattle.update_log.specs.Holding.{held, hold, hold_of, holds}
 use Rattle.update_log.specs.Known.{doubt, rows}
-use Rattle.update_log.specs.Legal.{BackAllowed, BootTakes}
+use Rattle.update_log.specs.Legal.{BackAllowed, BootTakes, IsLegal}
 use Rattle.update_log.specs.Pasts.{boots}
-use Rattle.update_log.specs.Legal.{IsLegal}
 use Rattle.update_log.specs.Shows.{Campaign}
 use Rattle.history_keeper.specs.Histories.{IsHistory}
 use Rattle.update_log.specs.declared.event.Event.{Event}

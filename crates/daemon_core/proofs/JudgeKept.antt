@@ -1,6 +1,6 @@
 -- Judgements.
-use Rattle.std.proofs.Common.{◌≡◌, ℕ, suc, ◌<◌, ◌≤◌, ◌+◌, ◌-◌, ◌^◌, Bool, true, false, List, [], ◌∷◌, length, refl, ap, sym, ◌∙◌, subst, arith, ◌⊎◌, inl, inr}
-use Rattle.std.specs.Prelude.{Option, Some, None, if◌then◌else◌, ◌||◌, min, not, ◌==◌, option_map, Any}
+use Rattle.std.proofs.Common.{◌≡◌, ℕ, suc, ◌<◌, ◌≤◌, ◌+◌, ◌-◌, Bool, true, false, List, [], ◌∷◌, length, refl, ap, sym, ◌∙◌, subst, arith, ◌⊎◌, inl, inr}
+use Rattle.std.specs.Prelude.{Option, Some, None, if◌then◌else◌, ◌||◌, not, ◌==◌, option_map, Any}
 use Rattle.fw_facts.specs.Views.{is_home, version_of, version_shown}
 use Rattle.fw_facts.specs.declared.seen.Seen.{Seen}
 use Rattle.fw_facts.specs.declared.view.DeviceView.{DeviceView}

@@ -1,5 +1,5 @@
 -- The exits of a resumption, over what each of its steps ensures.
-use Rattle.std.proofs.Common.{◌≡◌, ℕ, ◌<◌, ◌≤◌, ◌+◌, ◌||◌, false, List, [], ◌∷◌, length, refl, ap, sym, ◌∙◌, subst, ◌⊎◌, inl, inr}
+use Rattle.std.proofs.Common.{◌≡◌, ℕ, ◌<◌, ◌≤◌, ◌+◌, ◌||◌, false, List, [], ◌∷◌, length, refl, ap, sym, ◌∙◌, subst, ◌⊎◌}
 use Rattle.std.specs.Prelude.{Option, Some, None, IfSome, IsSome, is_some, unwrap_or, Result, Ok, Err}
 use Rattle.history_keeper.specs.Keepers.{StillTold}
 use Rattle.block_pool.specs.Views.{PoolCounts, SealedBytes}

@@ -1,21 +1,16 @@
 -- What a hold says of the row that made it, and why an ask was refused.
-use Rattle.std.proofs.Common.{◌≡◌, ℕ, ◌≤◌, ◌+◌, true, false, not, List, [], ◌∷◌, length, refl, ap, sym, ◌∙◌, subst, arith}
-use Rattle.std.specs.Prelude.{Option, Some, None, IfSome, ◌==◌, find, is_some, nat_le, option_and_then, option_map}
-use Rattle.std.specs.List.{AllByRecursion}
-use Rattle.std.proofs.lemmas.Bool.{leb-false, leb-true}
+use Rattle.std.proofs.Common.{◌≡◌, ℕ, true, false, List, [], ◌∷◌, ap, sym, ◌∙◌, subst}
+use Rattle.std.specs.Prelude.{Some, None, ◌==◌, find, is_some, option_and_then}
 use Rattle.device_list.specs.declared.selector.Selector.{Selector}
 use Rattle.fw_facts.specs.declared.seen.Seen.{Seen}
 use Rattle.history_keeper.specs.Histories.{IsHistory}
 use Rattle.history_keeper.specs.declared.row.Row.{Row}
 use Rattle.update_log.proofs.HoldsMade.{HoldsMade, IsOfRow, request-made}
 use Rattle.update_log.proofs.LegalOnce.{past-held}
-use Rattle.update_log.proofs.Lists.{All-filter, All-find, All-map, All-push, by_test}
-use Rattle.update_log.proofs.Openings.{EntriesFrom}
-use Rattle.update_log.proofs.RowsKept.{GoesOn, fixed, fixed_row, goes_on-fixed, row_of-past}
-use Rattle.update_log.proofs.TakenKept.{goes_on-grows}
-use Rattle.update_log.specs.Holding.{hold, holds, without_client}
+use Rattle.update_log.proofs.Lists.{All-find, by_test}
+use Rattle.update_log.specs.Holding.{hold, holds}
 use Rattle.update_log.specs.Known.{row_of, rows}
-use Rattle.update_log.specs.Legal.{Allowed, IsLegal, IsRefusedAsk, PendingAllowed, ask_answer, ask_stage, request_of_row}
+use Rattle.update_log.specs.Legal.{Allowed, IsLegal, IsRefusedAsk, ask_answer, ask_stage}
 use Rattle.update_log.specs.Pasts.{is_boot, is_keeper_fault, is_of, last_of}
 use Rattle.update_log.specs.Shows.{Campaign}
 use Rattle.update_log.specs.Verdicts.{case_of, verdict}
@@ -29,7 +24,6 @@ use Rattle.update_log.specs.declared.refusal.Refusal.{Refusal}
 use Rattle.update_log.specs.declared.request.Request.{Request}
 use Rattle.daemon_core.specs.Annals.{IsLegalSo}
 use Rattle.daemon_core.specs.Resumes.{is_refused, refused_by}
-use Rattle.daemon_core.proofs.BoardsQuiet.{goes-so}
 use Rattle.daemon_core.proofs.PuttingOff.{refusal-other}
 
 -- ---- the row of a hold

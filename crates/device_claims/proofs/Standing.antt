@@ -1,17 +1,17 @@
 -- A claim stands in its next state.
-use Rattle.std.proofs.Common.{◌≡◌, ℕ, ◌+◌, ◌≤◌, ◌<◌, ◌⊎◌, inl, inr, List, [], ◌∷◌, ◌++◌, length, Result, refl, sym, ap, ◌∙◌, length-append, arith}
+use Rattle.std.proofs.Common.{◌≡◌, ℕ, ◌+◌, ◌≤◌, inl, inr, [], ◌∷◌, length, Result, refl, ◌∙◌, length-append, arith}
 use Rattle.std.specs.Prelude.{⊤}
 use Rattle.emulated_boards.specs.Boards.{BoardState}
 use Rattle.emulated_boards.specs.Conditions.{view_of}
 use Rattle.emulated_boards.specs.declared.fault.BoardFault.{BoardFault}
 use Rattle.emulated_boards.specs.declared.image.Image.{Image}
-use Rattle.plugin_trait.specs.Steps.{Detached, Attached, Written, Plain}
+use Rattle.plugin_trait.specs.Steps.{Detached, Written}
 use Rattle.update_log.specs.declared.event.Op.{Op}
 use Rattle.device_claims.specs.declared.claim.Parts.{Parts}
 use Rattle.update_log.specs.declared.trace.TraceStep.{TraceStep}
-use Rattle.update_log.specs.Steps.{with_step, last_seen, next_step}
+use Rattle.update_log.specs.Steps.{with_step}
 use Rattle.device_claims.specs.Limits.{Limits}
-use Rattle.device_claims.specs.States.{Stands, number_or_end}
+use Rattle.device_claims.specs.States.{Stands}
 use Rattle.device_claims.proofs.NextStep.{earliest_behind, latest_behind, last_seen-push, next-behind}
 
 -- ---- the room that a step leaves

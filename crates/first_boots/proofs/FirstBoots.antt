@@ -24,7 +24,7 @@ use Rattle.update_log.specs.Known.{rows}
 use Rattle.update_log.specs.Legal.{BoardListed, is_absent, is_gone}
 use Rattle.update_log.specs.Pasts.{past_of}
 use Rattle.update_log.specs.Shows.{HasRaw}
-use Rattle.first_boots.specs.FirstBoot.{IsAsMade, IsFirstShown, first_boot, listed_from, seen_at, shown_by}
+use Rattle.first_boots.specs.FirstBoot.{IsAsMade, IsFirstShown, listed_from, seen_at, shown_by}
 
 -- ---- what is listed
 

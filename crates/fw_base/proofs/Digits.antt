@@ -1,5 +1,5 @@
 -- Lower-case hex digits are hex digits.
-use Rattle.std.proofs.Common.{◌≡◌, ℕ, ◌*◌, Bool, true, false, List, length, get_or, Option, Some, None, Result, Ok, Err, IsSome, IsOk, ◌↔◌, refl, sym, ap, ◌∙◌, arith}
+use Rattle.std.proofs.Common.{◌≡◌, ℕ, true, false, List, length, get_or, Result, Ok, Err, IsSome, IsOk, ◌↔◌, refl, arith}
 use Rattle.std.specs.Result.{result_ok}
 use Rattle.std.specs.List.{AllPass, list_all}
 use Rattle.std.proofs.lemmas.Bool.Decides.{nat_tests}

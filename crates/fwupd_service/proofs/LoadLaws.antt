@@ -1,9 +1,8 @@
 -- What `plan` and `update` come to, once the history was loaded.
-use Rattle.std.proofs.Common.{◌≡◌, ◌⊎◌, ℕ, ◌+◌, ◌<◌, ◌≤◌, List, [], ◌∷◌, ◌++◌, length, map, Option, Some, None, refl, sym, ap, ◌∙◌, subst, inl, inr, arith}
+use Rattle.std.proofs.Common.{◌≡◌, ◌⊎◌, ℕ, ◌+◌, ◌<◌, ◌≤◌, List, [], ◌∷◌, ◌++◌, length, map, Option, Some, None, sym, ap, ◌∙◌, subst, inl, inr, arith}
 use Rattle.std.specs.Prelude.{◌-◌, ◌^◌, All, Result, Ok, Err}
 use Rattle.std.specs.Option.{option_map_or}
 use Rattle.std.proofs.lemmas.List.Elements.{All-cons, All-head, All-nil}
-use Rattle.emulated_boards.specs.Boards.{BoardState}
 use Rattle.fw_facts.specs.declared.view.DeviceView.{DeviceView}
 use Rattle.history_keeper.specs.declared.change.Change.{Change}
 use Rattle.history_keeper.specs.declared.refusal.KeeperRefusal.{KeeperRefusal}
@@ -25,7 +24,7 @@ use Rattle.campaign_plans.specs.declared.first_plan.FirstPlan.{FirstPlan}
 use Rattle.campaign_plans.specs.FirstPlans.{IsFirstPlan, first_log, first_steps}
 use Rattle.campaign_plans.specs.Printed.{plan_text}
 use Rattle.campaign_plans.proofs.FirstPlanned.{past_of_first}
-use Rattle.campaign_plans.specs.Updating.{Plays, first_alone, install_of, installs_from, one_script}
+use Rattle.campaign_plans.specs.Updating.{Plays, first_alone, installs_from, one_script}
 use Rattle.fwupd_service.specs.declared.loading.LoadStop.{LoadStop}
 use Rattle.fwupd_service.specs.declared.loading.LoadStop.TheVariants as loads
 use Rattle.fwupd_service.specs.Begins.{CanBePlayed, IsReadyFor}

@@ -6,14 +6,13 @@ use Rattle.history_keeper.specs.declared.row.Row.{Row}
 use Rattle.history_keeper.specs.Histories.{IsHistory}
 use Rattle.release_catalogue.specs.Lookup.{Chosen}
 use Rattle.release_catalogue.specs.declared.reference.ReleaseRef.{ReleaseRef}
-use Rattle.update_log.specs.declared.answer.AskAnswer.{AskAnswer}
 use Rattle.update_log.specs.declared.decision.Decision.{Decision}
 use Rattle.update_log.specs.declared.decision.Stage.{Stage}
 use Rattle.update_log.specs.declared.event.Event.{Event}
 use Rattle.update_log.specs.declared.facts.BootPlan.{BootPlan}
 use Rattle.update_log.specs.declared.facts.Facts.{Facts}
 use Rattle.update_log.specs.Legal.{AskAllowed, BelowLimit, IsLegal, ask_answer}
-use Rattle.update_log.specs.Pasts.{off, past_of}
+use Rattle.update_log.specs.Pasts.{off}
 use Rattle.update_log.specs.Shows.{Campaign}
 use Rattle.update_log.specs.Verdicts.{verdict}
 use Rattle.update_log.proofs.Unlimited.{unlimited}

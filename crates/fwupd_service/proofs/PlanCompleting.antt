@@ -1,13 +1,12 @@
 -- That `plan` and `update` do all that they are for where nothing keeps them from it.
-use Rattle.std.proofs.Common.{◌≡◌, ◌⊎◌, ℕ, ◌<◌, ◌≤◌, ◌+◌, List, [], ◌∷◌, ◌++◌, length, map, refl, ap, sym, ◌∙◌, subst, inl, inr, arith}
-use Rattle.std.specs.Prelude.{◌-◌, ◌^◌, true, false, min, Option, Some, None}
+use Rattle.std.proofs.Common.{◌≡◌, ◌⊎◌, ℕ, ◌<◌, ◌≤◌, ◌+◌, List, length, map, sym, ◌∙◌, subst, inl, inr, arith}
+use Rattle.std.specs.Prelude.{◌-◌, ◌^◌, true, false, min, Option, Some}
 use Rattle.fw_facts.specs.declared.machine.MachineFacts.{MachineFacts}
 use Rattle.history_keeper.proofs.Prefixes.{history_front}
 use Rattle.history_keeper.specs.declared.change.Change.{Change}
 use Rattle.history_keeper.specs.declared.row.Row.{Row}
 use Rattle.history_keeper.specs.Histories.{IsHistory}
 use Rattle.history_keeper.specs.Keepers.{StillTold}
-use Rattle.outer_traits.specs.Faults.{Rose}
 use Rattle.plugin_order.specs.Arranged.{CanBeArranged}
 use Rattle.plugin_order.specs.declared.sheet.PluginSheet.{PluginSheet}
 use Rattle.update_log.specs.declared.event.Event.{Event}
@@ -34,10 +33,10 @@ use Rattle.fwupd_service.specs.Campaigns.{IsBadHistory, IsOpening}
 use Rattle.fwupd_service.specs.Complete.{HistoryHeld, InputGave, RunDone, SitePlanned, SiteUpdated, WorkDone}
 use Rattle.fwupd_service.specs.Ends.{CampaignEnds}
 use Rattle.fwupd_service.specs.Plugged.{AreStarted, PluginWords, work_of}
-use Rattle.fwupd_service.specs.Loads.{LoadSays, WasLoaded, load_status}
+use Rattle.fwupd_service.specs.Loads.{WasLoaded, load_status}
 use Rattle.fwupd_service.specs.Telling.{any_fault}
 use Rattle.fwupd_service.specs.Tops.{CampaignTold, Left, Went, stop_status}
-use Rattle.fwupd_service.specs.Updates.{NotPlanned, OnlyLoaded, PlanEnds, PlanGoes, PlanPlayed, UpdateEnds, UpdateGoes, WasPrinted, planned_items, printed_plan}
+use Rattle.fwupd_service.specs.Updates.{PlanEnds, PlanGoes, PlanPlayed, UpdateEnds, UpdateGoes, WasPrinted, planned_items, printed_plan}
 use Rattle.fwupd_service.proofs.Completing.{none-gave, site-gave, valid-opening}
 use Rattle.fwupd_service.proofs.FaultsTold.{counted-none, no-fault-told}
 

@@ -1,5 +1,5 @@
 -- What the end of a report says of the keepers and of the output.
-use Rattle.std.proofs.Common.{◌≡◌, ◌⊎◌, ℕ, refl, sym, ap, ◌∙◌, inl, inr}
+use Rattle.std.proofs.Common.{◌≡◌, ◌⊎◌, refl, sym, ap, ◌∙◌, inl, inr}
 use Rattle.report_queue.specs.declared.reporting.ReportEnd.{ReportEnd}
 use Rattle.report_queue.specs.declared.reporting.ReportEnd.TheVariants as ends
 use Rattle.run_status.specs.declared.status.Status.{Status}

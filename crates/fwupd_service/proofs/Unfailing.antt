@@ -1,5 +1,5 @@
 -- That the campaign of `make` meets no fault of a keeper: its own counts none, and begins without rows.
-use Rattle.std.proofs.Common.{◌≡◌, ℕ, ◌<◌, true, false, List, [], length, map, Option, Some, None, refl, sym, ap, ◌∙◌, inl, inr, arith, lit<}
+use Rattle.std.proofs.Common.{◌≡◌, ℕ, ◌<◌, true, false, List, [], length, map, Option, None, refl, sym, ap, ◌∙◌, inl, inr, arith, lit<}
 use Rattle.std.specs.Prelude.{◌-◌, ◌^◌}
 use Rattle.history_keeper.specs.declared.row.Row.{Row}
 use Rattle.update_log.specs.declared.event.Event.{Event}

@@ -1,5 +1,5 @@
 -- Each of a board's own steps, and doing nothing, is what a plugin's step may do.
-use Rattle.std.proofs.Common.{◌≡◌, ℕ, ◌+◌, ◌≤◌, ◌<◌, ◌⊎◌, inl, inr, Bool, true, false, is_some, List, [], ◌∷◌, ◌++◌, length, Option, Some, None, Result, Ok, Err, IsTrue, OnOk, OnErr, IsErr, if◌then◌else◌, refl, ap, ◌∙◌, arith}
+use Rattle.std.proofs.Common.{◌≡◌, ℕ, ◌+◌, ◌≤◌, ◌<◌, ◌⊎◌, inl, inr, Bool, true, false, is_some, [], ◌∷◌, ◌++◌, length, Option, Some, None, Result, Err, IsTrue, OnOk, OnErr, IsErr, if◌then◌else◌, refl, ap, ◌∙◌, arith}
 use Rattle.std.specs.Prelude.{⊤}
 use Rattle.fw_facts.specs.declared.seen.Mode.{Mode}
 use Rattle.fw_facts.specs.declared.seen.Mode.TheVariants.{Runtime, Bootloader}
@@ -7,12 +7,11 @@ use Rattle.emulated_boards.specs.declared.fault.BoardFault.{BoardFault}
 use Rattle.emulated_boards.specs.declared.fault.BoardFault.TheVariants as faults
 use Rattle.emulated_boards.specs.declared.image.Image.{Image}
 use Rattle.emulated_boards.specs.declared.mark.Mark.{Mark}
-use Rattle.emulated_boards.specs.declared.mark.Mark.TheVariants.{Entered, Began, Ended, Left}
+use Rattle.emulated_boards.specs.declared.mark.Mark.TheVariants.{Entered, Began, Left}
 use Rattle.emulated_boards.specs.declared.condition.Condition.{Condition}
 use Rattle.emulated_boards.specs.Boards.{BoardState, BoardStep, Step, enter_loader, program, stage, leave_loader, look, left_by, marks_by, answer_by, can_enter, can_leave}
-use Rattle.emulated_boards.specs.Conditions.{mode_under}
 use Rattle.emulated_boards.specs.Plans.{planned}
-use Rattle.plugin_trait.specs.Steps.{Taken, ByBoardSteps, IsAway, KeepsRules, Adds, KeepsImages, Unmarked, LoaderEntered, LoaderLeft, SameOrLoader, WriteBroken, Programmed, Staged, WriteWhole, Plain, Detached, Attached, Written}
+use Rattle.plugin_trait.specs.Steps.{IsAway, KeepsRules, Unmarked, LoaderEntered, LoaderLeft, SameOrLoader, WriteBroken, WriteWhole, Plain, Detached, Attached, Written}
 
 -- ---- the rules that every step keeps
 

@@ -1,15 +1,14 @@
 -- What is left of components.
-use Rattle.std.proofs.Common.{◌≡◌, ℕ, suc, ◌+◌, ◌≤◌, Bool, true, false, cond, not, List, [], ◌∷◌, ◌++◌, All, length, map, refl, sym, ap, ◌∙◌, arith}
+use Rattle.std.proofs.Common.{◌≡◌, ℕ, suc, ◌+◌, ◌≤◌, Bool, true, false, not, List, [], ◌∷◌, All, length, map, refl, ap, ◌∙◌, arith}
 use mathlib.Core.Path.{fun_ext}
 use Rattle.std.specs.Prelude.{filter, flat_map}
-use Rattle.std.specs.List.{sum_by}
 use Rattle.std.proofs.lemmas.List.Elements.{All-map}
 use Rattle.std.proofs.lemmas.List.Folds.{flat_map-map}
 use Rattle.std.proofs.lemmas.List.Sums.{sum_by-cons}
 use Rattle.fw_facts.specs.declared.release.Component.{Component}
 use Rattle.release_catalogue.specs.Components.{releases_in}
 use Rattle.remote_set.specs.declared.remote.Remote.{Remote}
-use Rattle.remote_set.specs.Merged.{Placed, enabled_in_order, left_of, merged, placed_from, without}
+use Rattle.remote_set.specs.Merged.{enabled_in_order, merged, placed_from, without}
 use Rattle.remote_set.specs.Orders.{in_order}
 use Rattle.remote_set.specs.Pieces.{Piece, piece_of}
 use Rattle.remote_set.proofs.Orders.{in_order-map}

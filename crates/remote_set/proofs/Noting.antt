@@ -1,8 +1,8 @@
 -- What an index says of some releases, one more at a time.
-use Rattle.std.proofs.Common.{◌≡◌, ℕ, suc, ◌+◌, ◌<◌, Bool, true, false, cond, ◌||◌, ◌&&◌, List, [], ◌∷◌, length, drop, take, get_or, Option, Some, None, Ordering, refl, sym, ap, ◌∙◌, arith}
+use Rattle.std.proofs.Common.{◌≡◌, ℕ, ◌+◌, ◌<◌, Bool, true, false, cond, ◌||◌, ◌&&◌, List, [], ◌∷◌, length, drop, take, get_or, Option, Some, Ordering, refl, sym, ap, ◌∙◌}
 use Rattle.std.proofs.lemmas.List.Folds.{list_any_more}
 use Rattle.std.specs.BTreeMap.{is_at}
-use Rattle.std.specs.Cmp.{IsTotalOrder, Equal-is}
+use Rattle.std.specs.Cmp.{Equal-is}
 use Rattle.std.specs.Cmp.Lexicographic.{slice_cmp, texts_ties}
 use Rattle.std.specs.List.{list_any}
 use Rattle.std.specs.Map.{lookup}
@@ -16,9 +16,9 @@ use Rattle.fw_facts.specs.declared.release.Release.{Release}
 use Rattle.remote_set.specs.declared.key.ReleaseKey.{ReleaseKey}
 use Rattle.remote_set.specs.declared.rank.Rank.{Rank}
 use Rattle.remote_set.specs.declared.remote.Remote.{Remote}
-use Rattle.remote_set.specs.Indexes.{first_rank, is_offered_before}
+use Rattle.remote_set.specs.Indexes.{is_offered_before}
 use Rattle.remote_set.specs.Keys.{key_cmp, key_cmp_total}
-use Rattle.remote_set.specs.Merged.{Placed, comes_before, is_hidden, offers, placed_from, rank_of}
+use Rattle.remote_set.specs.Merged.{Placed, comes_before, offers, placed_from, rank_of}
 use Rattle.remote_set.proofs.Placing.{placed, placed_left}
 
 -- ---- tests

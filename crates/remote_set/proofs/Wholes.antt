@@ -1,5 +1,5 @@
 -- What comes of merging, put together.
-use Rattle.std.proofs.Common.{◌≡◌, ℕ, List, Option, Some, None, Result, Ok, Err, map, refl, sym, ap, ◌∙◌}
+use Rattle.std.proofs.Common.{◌≡◌, ℕ, List, Option, None, Result, Ok, map, sym, ap, ◌∙◌}
 use Rattle.std.specs.Prelude.{flat_map}
 use Rattle.fw_facts.specs.declared.release.Component.{Component}
 use Rattle.remote_set.specs.declared.merging.MergeFault.{MergeFault}

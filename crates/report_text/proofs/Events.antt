@@ -1,7 +1,6 @@
 -- The lines of the events, written one event after the other.
-use Rattle.std.proofs.Common.{◌≡◌, ℕ, suc, ◌+◌, ◌<◌, ◌≤◌, List, ◌∷◌, ◌++◌, length, take, drop, get_or, reverse, Option, sym, ap, subst, ◌∙◌, append_assoc, add-one}
+use Rattle.std.proofs.Common.{◌≡◌, ℕ, suc, ◌+◌, ◌<◌, List, ◌∷◌, ◌++◌, length, take, drop, get_or, reverse, Option, sym, ap, subst, ◌∙◌, append_assoc, add-one}
 use Rattle.std.proofs.Math.Seq.{drop-cons}
-use Rattle.std.proofs.Math.ListN.{drop_of_length-le}
 use Rattle.outer_traits.specs.Sinks.{Took, TookFront}
 use Rattle.outer_traits.proofs.Fronts.{StillToWrite, took_more, front_first, front_later}
 use Rattle.update_log.specs.declared.event.Event.{Event}

@@ -5,7 +5,7 @@ use Rattle.outer_traits.specs.Sources.{Came, AtEnd, SomeCame}
 use Rattle.outer_traits.specs.Sinks.{Took, TookFront}
 use Rattle.report_view.specs.declared.drawn.Drawn.{Drawn}
 use Rattle.report_view.specs.Pages.{drawn_of, page}
-use Rattle.report_view.specs.Views.{Shown, ShownFront, PageFront}
+use Rattle.report_view.specs.Views.{Shown, ShownFront}
 use Rattle.report_view.proofs.EachOnce.{each_once}
 
 -- a page that was put behind nothing

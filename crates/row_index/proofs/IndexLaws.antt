@@ -1,5 +1,5 @@
 -- An index with one row more, and with another state of a row.
-use Rattle.std.proofs.Common.{◌≡◌, ℕ, suc, Bool, true, false, ◌&&◌, List, [], ◌∷◌, ◌++◌, length, map, refl, ap, sym, ◌∙◌, ◌+◌, arith, ◌⊎◌, inl, inr, subst}
+use Rattle.std.proofs.Common.{◌≡◌, ℕ, suc, Bool, true, false, ◌&&◌, List, [], ◌∷◌, ◌++◌, length, map, refl, ap, sym, ◌∙◌, ◌+◌, ◌⊎◌, inl, inr, subst}
 use Rattle.std.proofs.lemmas.Option.{slice_get-map}
 use Rattle.std.specs.Prelude.{Result, Ok, Err, IsOk, OnOk, IfSome, Option, Some, None, ◌==◌, if◌then◌else◌, option_map, slice_get}
 use Rattle.std.specs.Cmp.Lexicographic.{bytes_decides}

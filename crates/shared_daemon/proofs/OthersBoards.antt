@@ -13,7 +13,7 @@ use Rattle.update_log.proofs.Lists.{by_test, find-push_other}
 use Rattle.update_log.specs.Holding.{live, live_entry, open_steps}
 use Rattle.update_log.specs.Known.{board_found, board_of, for_board, is_board_of, known, rows, tells, views}
 use Rattle.update_log.specs.Legal.{IsLegal, PlugAnswered, PlugShows, found_view, open_on, plug_refused, unplug_refused}
-use Rattle.update_log.specs.Pasts.{off}
+use Rattle.update_log.specs.Pasts.{off, is_boot}
 use Rattle.update_log.specs.Shows.{Campaign, told_by}
 use Rattle.update_log.specs.declared.answer.PlugAnswer.{PlugAnswer}
 use Rattle.update_log.specs.declared.event.Event.{Event}
@@ -30,7 +30,6 @@ use Rattle.daemon_core.specs.Annals.{IsLegalSo}
 use Rattle.daemon_core.specs.Boards.{is_faulty_end, is_out}
 use Rattle.shared_daemon.proofs.OthersEntries.{concerns, live-is}
 use Rattle.shared_daemon.proofs.OthersLists.{boots-other}
-use Rattle.update_log.specs.Pasts.{is_boot}
 
 -- Of a board nothing is told, and the same step is open on it.
 record TellsNone (facts : Facts) (opening : List Row) (past : List Event) (event : Event) (number : ℕ) : Type 0 where

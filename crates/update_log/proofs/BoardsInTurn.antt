@@ -1,9 +1,8 @@
 -- The boards one by one, as a loop over the sheets meets them.
 use Rattle.std.proofs.Common.{◌≡◌, ◌≢◌, ℕ, zero, suc, Bool, true, false, List, [], ◌∷◌, ◌++◌, refl, ap, sym, ◌∙◌, ◌<◌, ◌≤◌, ◌+◌, arith, length, take, get_or, map, add-one, not}
-use Rattle.std.specs.Prelude.{Option, Some, None, ◌==◌, nat_lt, filter, cond}
+use Rattle.std.specs.Prelude.{Some, None, ◌==◌, nat_lt, filter, cond}
 use Rattle.std.specs.List.{AllByRecursion, list_any, position_or_len}
 use Rattle.std.proofs.lemmas.Bool.{ltb-true}
-use Rattle.std.specs.Str.{bytes_eq}
 use Rattle.std.proofs.lemmas.List.Elements.{filter_more}
 use Rattle.fw_facts.specs.declared.sheet.Sheet.{Sheet}
 use Rattle.fw_facts.specs.declared.view.DeviceView.{DeviceView}

@@ -1,11 +1,11 @@
 -- What one event makes of the rows and of the change in doubt, over what is kept.
-use Rattle.std.proofs.Common.{◌≡◌, ℕ, Bool, true, false, List, [], ◌∷◌, refl, ap, sym, ◌∙◌}
+use Rattle.std.proofs.Common.{◌≡◌, ℕ, Bool, true, false, List, refl, ap, ◌∙◌}
 use Rattle.std.specs.Prelude.{Option, Some, None, if◌then◌else◌}
 use Rattle.history_keeper.specs.declared.change.Change.{Change}
 use Rattle.history_keeper.specs.declared.row.Row.{Row}
 use Rattle.history_keeper.specs.declared.row.RowState.{RowState}
 use Rattle.update_log.proofs.Lists.{by_test}
-use Rattle.update_log.specs.CoreSteps.{addition_on, change_on, changed_if, doubt_at, kept_by, made_at, made_by, resumption_on}
+use Rattle.update_log.specs.CoreSteps.{change_on, changed_if, doubt_at, kept_by, made_at, made_by, resumption_on}
 use Rattle.update_log.specs.Known.{Fate, Known, addition, doubt_after, doubt_by, fate_stored, resumption, rows_after, rows_by, rows_found, views_in}
 use Rattle.update_log.specs.Pasts.{is_keeper_fault}
 use Rattle.update_log.specs.declared.answer.ClaimAnswer.{ClaimAnswer}
@@ -14,7 +14,6 @@ use Rattle.update_log.specs.declared.event.Event.{Event}
 use Rattle.update_log.specs.declared.event.Found.{Found}
 use Rattle.update_log.specs.declared.facts.Facts.{Facts}
 use Rattle.update_log.specs.declared.live.LiveEntry.{LiveEntry}
-use Rattle.update_log.specs.declared.refusal.Refusal.{Refusal}
 
 made-rows : (fate : Fate) (change : Option Change) (rows : List Row) → rows_by fate change rows ≡ changed_if (made_by fate change) rows
 made-rows Fate.Made None rows = refl

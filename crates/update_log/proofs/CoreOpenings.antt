@@ -1,9 +1,8 @@
 -- A log of boots that couldn't read the history says the same over any rows before it.
-use Rattle.std.proofs.Common.{◌≡◌, ℕ, Bool, true, false, List, [], ◌∷◌, map, refl, ap, sym, ◌∙◌, subst}
-use Rattle.std.specs.Prelude.{Option, Some, None, option_map, slice_get, unwrap_or, find}
+use Rattle.std.proofs.Common.{◌≡◌, ℕ, true, List, [], ◌∷◌, map, refl, ap, sym, ◌∙◌, subst}
+use Rattle.std.specs.Prelude.{Option, None, option_map, slice_get, unwrap_or}
 use Rattle.fw_facts.specs.declared.seen.Seen.{Seen}
 use Rattle.fw_facts.specs.declared.view.DeviceView.{DeviceView}
-use Rattle.history_keeper.specs.declared.change.Change.{Change}
 use Rattle.history_keeper.specs.declared.row.Row.{Row}
 use Rattle.history_keeper.specs.Histories.{IsHistory}
 use Rattle.update_log.specs.declared.event.BoardSeen.{BoardSeen}
@@ -11,14 +10,12 @@ use Rattle.update_log.specs.declared.event.Event.{Event}
 use Rattle.update_log.specs.declared.event.Found.{Found}
 use Rattle.update_log.specs.declared.facts.Facts.{Facts}
 use Rattle.update_log.specs.declared.live.LiveEntry.{LiveEntry}
-use Rattle.update_log.specs.declared.trace.Trace.{Trace}
 use Rattle.update_log.specs.Boards.{Board, devices}
 use Rattle.update_log.specs.Core.{Core, Stands, trace_of_live}
 use Rattle.update_log.specs.CoreFolds.{AllFaults, is_fault_boot}
 use Rattle.update_log.specs.Holding.{live}
-use Rattle.update_log.specs.Known.{Known, doubt, is_on, known, rows, seen, view_of, views, views_in}
-use Rattle.update_log.specs.Pasts.{is_found_fault, past_of}
-use Rattle.update_log.specs.Steps.{trace}
+use Rattle.update_log.specs.Known.{Known, doubt, known, rows, seen, view_of, views, views_in}
+use Rattle.update_log.specs.Pasts.{past_of}
 
 -- The boot that an event is.
 record FaultBoot (event : Event) : Type 0 where

@@ -1,10 +1,10 @@
 -- What follows where a state stands for its log.
-use Rattle.std.proofs.Common.{◌≡◌, ℕ, zero, suc, List, [], ◌∷◌, map, refl, ap, sym, ◌∙◌}
-use Rattle.std.specs.Prelude.{Option, Some, None, IsSome, IfSome, Bool, true, false, ◌==◌, find}
+use Rattle.std.proofs.Common.{◌≡◌, ℕ, List, [], ◌∷◌, map, refl, ap, sym, ◌∙◌}
+use Rattle.std.specs.Prelude.{Option, Some, None, IsSome, IfSome, false, ◌==◌, find}
 use Rattle.std.proofs.lemmas.Bool.{eqb-true}
 use Rattle.fw_facts.specs.declared.view.DeviceView.{DeviceView}
 use Rattle.history_keeper.specs.declared.row.Row.{Row}
-use Rattle.update_log.specs.Core.{Core, Stands}
+use Rattle.update_log.specs.Core.{Core, Stands, trace_kept}
 use Rattle.update_log.specs.CoreCase.{case_with}
 use Rattle.update_log.specs.Holding.{holds, live}
 use Rattle.update_log.specs.Known.{rows, views}
@@ -15,7 +15,6 @@ use Rattle.update_log.specs.declared.facts.Facts.{Facts}
 use Rattle.update_log.specs.declared.live.LiveEntry.{LiveEntry}
 use Rattle.update_log.specs.declared.request.Request.{Request}
 use Rattle.update_log.specs.declared.trace.Trace.{Trace}
-use Rattle.update_log.specs.Core.{trace_kept}
 use Rattle.update_log.specs.Steps.{trace}
 use Rattle.update_log.specs.declared.trace.Traced.{Traced}
 use Rattle.update_log.proofs.Lists.{by_test}

@@ -1,14 +1,14 @@
 -- The traces of the live entries after a legal event.
-use Rattle.std.proofs.Common.{◌≡◌, ℕ, zero, suc, Bool, true, false, List, [], ◌∷◌, ◌++◌, map, refl, ap, sym, ◌∙◌, ◌<◌, ◌≤◌, ◌+◌, arith, length}
-use Rattle.std.specs.Prelude.{Option, Some, None, IfSome, All, ◌==◌, option_map, slice_index_or, if◌then◌else◌}
+use Rattle.std.proofs.Common.{◌≡◌, ℕ, zero, suc, true, false, List, [], ◌∷◌, refl, ap, sym, ◌∙◌, ◌<◌, ◌+◌, arith, length}
+use Rattle.std.specs.Prelude.{Option, Some, IfSome, All, ◌==◌, option_map, slice_index_or}
 use Rattle.std.specs.List.{AllByRecursion}
 use Rattle.history_keeper.specs.declared.row.Row.{Row}
 use Rattle.history_keeper.specs.declared.row.RowState.{RowState}
 use Rattle.history_keeper.specs.Histories.{IsHistory}
 use Rattle.update_log.proofs.Accepts.{accepts-target}
-use Rattle.update_log.proofs.CoreTraces.{Tied, each-tied, tied-left, tied-stepped, tied-taken, with_end}
+use Rattle.update_log.proofs.CoreTraces.{Tied, each-tied, tied-left, tied-stepped, tied-taken}
 use Rattle.update_log.proofs.LegalOnce.{PastKept, live-others, past-held-on, past-kept-on}
-use Rattle.update_log.proofs.Lists.{All-map, by_test, eqb-other, eqb-self}
+use Rattle.update_log.proofs.Lists.{All-map, eqb-other, eqb-self}
 use Rattle.update_log.proofs.Rows.{accepted-claim}
 use Rattle.update_log.proofs.StepsFew.{end-few}
 use Rattle.update_log.proofs.TakenKept.{taken-by_resume, untaken-unstarted}
@@ -21,7 +21,6 @@ use Rattle.update_log.specs.Once.{how_many, is_pending, strokes, takes}
 use Rattle.update_log.specs.Shows.{Campaign}
 use Rattle.update_log.specs.Steps.{first_trace, trace, traced}
 use Rattle.update_log.specs.Verdicts.{case_of, verdict}
-use Rattle.update_log.specs.declared.answer.AskAnswer.{AskAnswer}
 use Rattle.update_log.specs.declared.answer.ClaimAnswer.{ClaimAnswer}
 use Rattle.update_log.specs.declared.answer.ResumeAnswer.{ResumeAnswer}
 use Rattle.update_log.specs.declared.decision.Stage.{Stage}
@@ -29,8 +28,6 @@ use Rattle.update_log.specs.declared.event.Back.{Back}
 use Rattle.update_log.specs.declared.event.Event.{Event}
 use Rattle.update_log.specs.declared.event.Stored.{Stored}
 use Rattle.update_log.specs.declared.facts.Facts.{Facts}
-use Rattle.update_log.specs.declared.live.Held.{Held}
-use Rattle.update_log.specs.declared.live.LiveEntry.{LiveEntry}
 use Rattle.update_log.specs.declared.refusal.FetchNote.{FetchNote}
 use Rattle.update_log.specs.declared.request.Request.{Request}
 use Rattle.update_log.specs.declared.trace.Trace.{Trace}

@@ -1,10 +1,9 @@
 -- A request has a target only where its device is present.
-use Rattle.std.proofs.Common.{◌≡◌, ℕ, Bool, true, false, List, [], ◌∷◌, refl, ap, sym, ◌∙◌}
+use Rattle.std.proofs.Common.{◌≡◌, ℕ, true, false, List, [], ◌∷◌, refl, ap, sym, ◌∙◌}
 use Rattle.std.specs.Prelude.{Option, Some, None, IfSome, IsTrue, option_map, option_and_then, slice_get}
 use Rattle.std.specs.List.{list_any}
 use Rattle.fw_facts.specs.Views.{guids_of, guids_shown, is_home}
 use Rattle.fw_facts.specs.declared.release.Component.{Component}
-use Rattle.fw_facts.specs.declared.seen.Mode.{Mode}
 use Rattle.fw_facts.specs.declared.seen.Seen.{Seen}
 use Rattle.fw_facts.specs.declared.sheet.Sheet.{Sheet}
 use Rattle.fw_facts.specs.declared.view.DeviceView.{DeviceView}

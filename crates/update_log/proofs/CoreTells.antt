@@ -1,5 +1,5 @@
 -- What one event tells of boards, over what is kept.
-use Rattle.std.proofs.Common.{◌≡◌, ◌+◌, ℕ, suc, Bool, true, false, cond, List, [], ◌∷◌, map, length, refl, ap, sym, ◌∙◌, ◌≤◌, arith}
+use Rattle.std.proofs.Common.{◌≡◌, ◌+◌, ℕ, suc, true, false, cond, List, [], ◌∷◌, map, length, refl, ap, sym, ◌∙◌, ◌≤◌, arith}
 use Rattle.std.specs.Prelude.{Option, Some, None, find, nat_lt, option_map, option_and_then, slice_get}
 use Rattle.std.specs.Str.{bytes_eq}
 use Rattle.std.proofs.lemmas.Option.{slice_get-map, slice_get_past}
@@ -7,8 +7,6 @@ use Rattle.std.proofs.lemmas.Bool.{ltb-false}
 use Rattle.std.specs.List.{position_or_len}
 use Rattle.device_list.specs.Lists.{names, place}
 use Rattle.device_list.specs.declared.selector.Selector.{Selector}
-use Rattle.fw_facts.specs.declared.seen.Seen.{Seen}
-use Rattle.fw_facts.specs.declared.view.DeviceView.{DeviceView}
 use Rattle.history_keeper.specs.declared.row.Row.{Row}
 use Rattle.update_log.proofs.Lists.{by_test}
 use Rattle.update_log.proofs.Openings.{bytes-same}

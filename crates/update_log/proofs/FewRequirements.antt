@@ -1,5 +1,5 @@
 -- The limits of a catalogue, component by component.
-use Rattle.std.proofs.Common.{◌≡◌, ◌≤◌, ◌<◌, ◌^◌, ℕ, List, length, get_or, slice_get, Some, All, arith, subst}
+use Rattle.std.proofs.Common.{◌≤◌, ◌^◌, List, length, All, arith, subst}
 use Rattle.std.proofs.lemmas.Option.{slice_get_within, get_or_from_slice_get}
 use Rattle.fw_facts.specs.declared.release.Component.{Component}
 use Rattle.update_log.specs.CoreCase.{HasFew}

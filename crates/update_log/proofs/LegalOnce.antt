@@ -2,9 +2,8 @@
 use Rattle.update_log.proofs.Unlimited.{unlimited}
 use Rattle.std.proofs.Common.{◌≡◌, ◌≢◌, ℕ, true, false, List, [], ◌∷◌, refl, ap, sym, ◌∙◌, ◌≤◌, arith, ◌⊎◌, inl, inr, length, subst}
 use Rattle.std.proofs.lemmas.Bool.{eqb-true}
-use Rattle.std.specs.Prelude.{Option, Some, None, IfSome, ◌==◌, option_map}
+use Rattle.std.specs.Prelude.{Option, Some, None, IfSome, ◌==◌, option_map, slice_get, unwrap_or}
 use Rattle.std.specs.List.{AllByRecursion}
-use Rattle.std.specs.Prelude.{slice_get, unwrap_or}
 use Rattle.emulated_boards.specs.declared.mark.Mark.{Mark}
 use Rattle.fw_facts.specs.declared.seen.Seen.{Seen}
 use Rattle.history_keeper.specs.Histories.{IsHistory}

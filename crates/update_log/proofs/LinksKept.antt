@@ -10,7 +10,6 @@ use Rattle.history_keeper.specs.Histories.{IsHistory, is_failed, tries}
 use Rattle.history_keeper.specs.declared.change.Change.{Change}
 use Rattle.history_keeper.specs.declared.row.Row.{Row}
 use Rattle.history_keeper.specs.declared.row.RowState.{RowState}
-use Rattle.release_catalogue.specs.declared.reference.ReleaseRef.{ReleaseRef}
 use Rattle.update_log.proofs.Accepts.{NoneRefuses, accepts-target}
 use Rattle.update_log.proofs.LegalOnce.{past-kept, past-kept-on}
 use Rattle.update_log.proofs.LinksOnce.{AllLinked, KeepsFailures, KeepsLinks, TriedOnce, all-linked, by-failures, by-links, by-tried, failure-of, failure_of, found-failures, found-links, found-tried, tried-once}

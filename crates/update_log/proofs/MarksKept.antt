@@ -1,9 +1,8 @@
 -- What each past keeps of the marks that it tells.
 use Rattle.std.proofs.Common.{◌≡◌, ℕ, Bool, true, false, not, ◌&&◌, List, [], ◌∷◌, ◌++◌, refl, ap, sym, ◌∙◌, ◌≤◌, ◌+◌, arith, ◌⊎◌, inl, inr, length, subst}
 use Rattle.std.proofs.lemmas.Bool.{eqb-true, eq-eqb}
-use Rattle.std.specs.Prelude.{Option, Some, None, Result, IfSome, ◌==◌, if◌then◌else◌, option_map, find, filter}
+use Rattle.std.specs.Prelude.{Option, Some, None, Result, IfSome, ◌==◌, if◌then◌else◌, option_map, find, filter, slice_get, IsTrue, unwrap_or}
 use Rattle.std.specs.List.{AllByRecursion, list_any}
-use Rattle.std.specs.Prelude.{slice_get, IsTrue, unwrap_or}
 use Rattle.std.specs.Bool.{OnTrue}
 use Rattle.emulated_boards.specs.declared.fault.BoardFault.{BoardFault}
 use Rattle.emulated_boards.specs.declared.mark.Mark.{Mark}

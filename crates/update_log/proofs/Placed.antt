@@ -1,6 +1,6 @@
 -- A release that is chosen stands in the catalogue at its places.
-use Rattle.std.proofs.Common.{◌≡◌, ℕ, suc, zero, List, [], ◌∷◌, ◌++◌, map, refl, ap, sym, ◌∙◌, ◌<◌, ◌+◌, arith, length, append_assoc, length-append}
-use Rattle.std.specs.Prelude.{Option, Some, None, find, filter, flat_map, slice_get, option_map}
+use Rattle.std.proofs.Common.{◌≡◌, ℕ, List, [], ◌∷◌, ◌++◌, map, refl, ap, sym, ◌∙◌, ◌<◌, ◌+◌, length, append_assoc, length-append}
+use Rattle.std.specs.Prelude.{Option, Some, None, flat_map, slice_get, option_map}
 use Rattle.std.specs.List.{AllByRecursion, enumerate_from}
 use Rattle.std.proofs.lemmas.Option.{slice_get_within}
 use Rattle.fw_facts.specs.declared.release.Component.{Component}

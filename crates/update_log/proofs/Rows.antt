@@ -1,8 +1,7 @@
 -- How the rows grow.
 use Rattle.std.proofs.Common.{◌≡◌, ℕ, suc, Bool, true, false, List, [], ◌∷◌, map, refl, ap, ◌≤◌, arith, ◌⊎◌, inl, inr, length}
 use Rattle.std.proofs.lemmas.List.{length_push}
-use Rattle.std.specs.Prelude.{Option, Some, if◌then◌else◌}
-use Rattle.std.specs.Prelude.{MatchBool}
+use Rattle.std.specs.Prelude.{Option, Some, if◌then◌else◌, MatchBool}
 use Rattle.history_keeper.specs.Changes.{changed, with_state}
 use Rattle.history_keeper.specs.declared.change.Change.{Change}
 use Rattle.history_keeper.specs.declared.row.Row.{Row}

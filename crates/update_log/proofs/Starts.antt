@@ -1,7 +1,6 @@
 -- The state before the first event.
 use Rattle.std.proofs.Common.{◌≡◌, List, [], ap, sym, ◌∙◌, map, arith}
 use Rattle.std.specs.Prelude.{None}
-use Rattle.history_keeper.specs.declared.row.Row.{Row}
 use Rattle.history_keeper.specs.Histories.{IsHistory}
 use Rattle.update_log.specs.declared.event.Event.{Event}
 use Rattle.update_log.specs.declared.facts.Facts.{Facts}

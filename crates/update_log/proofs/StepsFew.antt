@@ -1,6 +1,6 @@
 -- A trace has fewer than six steps where a step is to end.
-use Rattle.std.proofs.Common.{◌≡◌, ℕ, true, false, List, [], ◌∷◌, ◌++◌, refl, ap, sym, ◌∙◌, ◌<◌, ◌≤◌, ◌+◌, arith, length}
-use Rattle.std.specs.Prelude.{Option, Some, None, Result, IfSome, ◌==◌, option_map, option_and_then}
+use Rattle.std.proofs.Common.{◌≡◌, ℕ, List, [], ◌∷◌, ◌<◌, ◌≤◌, arith, length}
+use Rattle.std.specs.Prelude.{Option, Some, None, Result, IfSome, ◌==◌, option_map}
 use Rattle.std.proofs.lemmas.List.{length_push}
 use Rattle.std.proofs.lemmas.Bool.{eqb-true}
 use Rattle.emulated_boards.specs.declared.fault.BoardFault.{BoardFault}

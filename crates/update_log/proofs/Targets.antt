@@ -1,6 +1,6 @@
 -- The target of a request, from what was found.
 use Rattle.std.proofs.Common.{◌≡◌, ℕ, List, refl, sym, ap, ◌∙◌, ◌<◌, length, get_or}
-use Rattle.std.specs.Prelude.{Option, Some, None, option_map, option_and_then, slice_get}
+use Rattle.std.specs.Prelude.{Option, Some, option_map, option_and_then, slice_get}
 use Rattle.std.proofs.lemmas.Option.{slice_get_read}
 use Rattle.fw_facts.specs.Views.{guids_of}
 use Rattle.fw_facts.specs.declared.view.DeviceView.{DeviceView}

@@ -16,9 +16,8 @@ use Rattle.fw_facts.specs.Views.{guids_of, version_of}
 use Rattle.release_catalogue.specs.declared.reference.ReleaseRef.{ReleaseRef}
 use Rattle.release_catalogue.specs.Lookup.{Chosen, all_releases, provides}
 use Rattle.release_catalogue.specs.Places.{matching_places}
-use Rattle.update_log.specs.declared.decision.Stage.{Stage}
 use Rattle.update_log.specs.declared.event.Event.{Event}
-use Rattle.update_log.specs.Verdicts.{is_release, verdict}
+use Rattle.update_log.specs.Verdicts.{is_release}
 use Rattle.update_log.proofs.Devices.{IsIn, each-in}
 use Rattle.std.proofs.lemmas.List.{append-nil}
 use Rattle.update_log.specs.Known.{views}
@@ -27,7 +26,7 @@ use Rattle.update_log.proofs.Openings.{bytes-same}
 use Rattle.update_log.proofs.RowsKept.{or-false}
 use Rattle.update_log.proofs.StrokeFacts.{and-true}
 use Rattle.update_plans.specs.Choosing.{IsHighestFirst, comes_before, found_cmp, goes_first, first_some, good_step, is_higher, tried, tried_at, version_at, version_found, where_good}
-use Rattle.update_plans.specs.Plans.{Scene, accepts, has_id, highest, is_above, is_good, may_come, next_step, release_at, request_of, step_of, view_of, writes}
+use Rattle.update_plans.specs.Plans.{Scene, has_id, highest, is_above, is_good, may_come, next_step, release_at, step_of, view_of}
 use Rattle.update_plans.specs.RawNumbers.{raw_of}
 use Rattle.update_plans.specs.declared.plan.PlanStep.{PlanStep}
 use Rattle.update_plans.proofs.Chained.{good-step}

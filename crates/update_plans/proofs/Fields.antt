@@ -1,8 +1,7 @@
 -- The least raw number of bytes that are read as two decimal digits each.
-use Rattle.std.proofs.Common.{◌≡◌, ℕ, ◌+◌, ◌-◌, ◌*◌, ◌/◌, ◌%◌, ◌^◌, ◌<◌, ◌≤◌, List, [], ◌∷◌, get_or, refl, sym, ap, ◌∙◌, arith}
+use Rattle.std.proofs.Common.{◌≡◌, ℕ, ◌+◌, ◌-◌, ◌*◌, ◌/◌, ◌%◌, ◌^◌, ◌<◌, ◌≤◌, List, [], ◌∷◌, get_or, sym, ap, ◌∙◌, arith}
 use Rattle.version_formats.specs.Formats.{bits, bcd}
-use Rattle.version_formats.specs.declared.format.Format.{Format}
-use Rattle.version_formats.specs.declared.format.Format.TheVariants.{Plain, Number, Pair, Triplet, Quad, Bcd, DellBios, DellBiosMsb, SurfaceLegacy, Surface, IntelMe, IntelMe2, Hex}
+use Rattle.version_formats.specs.declared.format.Format.TheVariants.{Bcd}
 use Rattle.update_plans.specs.Fields.{fields, IsLeastWith}
 
 -- ---- two decimal digits a byte

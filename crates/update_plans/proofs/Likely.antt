@@ -1,5 +1,5 @@
 -- What a version tells of the raw number whose text is equal to it.
-use Rattle.std.proofs.Common.{◌≡◌, ℕ, zero, suc, ◌+◌, ◌-◌, ◌^◌, ◌<◌, ◌≤◌, ◌==◌, Bool, true, false, List, [], ◌∷◌, length, map, drop, Option, Some, None, Ordering, Result, Ok, refl, sym, ap, ◌∙◌, inl, inr, arith, length-drop}
+use Rattle.std.proofs.Common.{◌≡◌, ℕ, zero, suc, ◌+◌, ◌-◌, ◌^◌, ◌<◌, ◌≤◌, ◌==◌, Bool, true, false, List, [], ◌∷◌, length, map, drop, Some, None, Ordering, Ok, refl, sym, ap, ◌∙◌, inl, inr, arith, length-drop}
 use Rattle.std.proofs.lemmas.Bool.{cases_Bool, true≢false}
 use Rattle.std.proofs.lemmas.List.{drop-drop}
 use Rattle.std.proofs.lemmas.List.Elements.{All-cons, All-nil}
@@ -11,12 +11,12 @@ use Rattle.std.specs.Ordering.{is_eq}
 use Rattle.std.specs.declared.cmp.Ordering.TheVariants.{Less, Equal, Greater}
 use Rattle.hex.specs.Hex.{decode_sized, encode_lower, lower_digits, IsBytes}
 use Rattle.hex.proofs.HexLemmas.{decode_sized-encode_lower, length-encode_with}
-use Rattle.version_formats.specs.Formats.{bits, bcd, dot, dotted, render}
+use Rattle.version_formats.specs.Formats.{dot, dotted, render}
 use Rattle.version_formats.specs.VersionOrder.{Section, section_of, sections, same_version, version_cmp}
 use Rattle.version_formats.specs.declared.format.Format.{Format}
 use Rattle.version_formats.specs.declared.format.Format.TheVariants.{Plain, Number, Pair, Triplet, Quad, Bcd, DellBios, DellBiosMsb, SurfaceLegacy, Surface, IntelMe, IntelMe2, Hex}
 use Rattle.version_formats.proofs.VersionLaws.{sections-same}
-use Rattle.update_plans.specs.Fields.{AreNumbers, IsLikely, fields, is_hex, last_eight, whole}
+use Rattle.update_plans.specs.Fields.{AreNumbers, IsLikely, fields, is_hex, last_eight}
 use Rattle.update_plans.specs.RawNumbers.{raw_of}
 use Rattle.update_plans.proofs.Least.{least_below-is, least_below-none}
 use Rattle.update_plans.proofs.Options.{fails_where_not}

@@ -1,28 +1,24 @@
 -- An install is put behind a log event by event: each event may come next.
-use Rattle.std.proofs.Common.{◌≡◌, ℕ, ◌+◌, ◌*◌, ◌≤◌, Bool, true, false, List, [], ◌∷◌, ◌++◌, append_assoc, length, refl, sym, ap, ◌∙◌, subst, arith}
+use Rattle.std.proofs.Common.{◌≡◌, ℕ, ◌+◌, Bool, true, false, List, [], ◌∷◌, ◌++◌, append_assoc, refl, sym, ap, ◌∙◌, subst}
 use Rattle.std.specs.Prelude.{◌==◌, Ok, Option, Some, IsSome, is_some, find, option_map, option_and_then, unwrap_or, if◌then◌else◌}
 use Rattle.std.specs.Str.{bytes_eq}
 use Rattle.std.specs.List.{fold}
-use Rattle.emulated_boards.specs.declared.mark.Mark.{Mark}
-use Rattle.fw_facts.specs.declared.seen.Seen.{Seen}
 use Rattle.release_catalogue.specs.Lookup.{Chosen}
 use Rattle.update_log.specs.declared.event.Event.{Event}
 use Rattle.update_log.specs.declared.event.Op.{Op}
 use Rattle.update_log.specs.CoreAfter.{IsNext}
 use Rattle.history_keeper.specs.declared.row.Row.{Row}
 use Rattle.history_keeper.specs.declared.row.RowState.{RowState}
-use Rattle.update_log.specs.declared.decision.Stage.{Stage}
 use Rattle.update_log.specs.declared.live.LiveEntry.{LiveEntry}
 use Rattle.update_log.specs.declared.trace.Trace.{Trace}
 use Rattle.update_log.specs.Holding.{blocks_of, live, live_entry}
 use Rattle.update_log.specs.Known.{row_of, rows, views}
 use Rattle.update_log.specs.Legal.{IsLegalUnlimited, next_entry}
-use Rattle.update_log.specs.Verdicts.{verdict}
 use Rattle.update_log.proofs.Lists.{eqb-self}
 use Rattle.update_log.specs.Shows.{Campaign, marks}
 use Rattle.update_log.specs.Steps.{all_ops, closing_at, closing_of, next_op, trace}
 use Rattle.update_plans.specs.Following.{IsQuiet}
-use Rattle.update_plans.specs.Plans.{Scene, accepts, asked, done, end_of, installed_with, is_good_with, is_next, release_at, request_of, seen_of, shown_after, taken, view_of, waits_for_boot, with_op, with_some, writes}
+use Rattle.update_plans.specs.Plans.{Scene, asked, done, end_of, installed_with, is_good_with, is_next, release_at, seen_of, shown_after, taken, view_of, waits_for_boot, with_op, with_some}
 use Rattle.update_plans.specs.Putting.{end_on}
 use Rattle.update_plans.specs.declared.plan.PlanStep.{PlanStep}
 use Rattle.update_plans.proofs.Installed.{goes-whole, installed-quiet}

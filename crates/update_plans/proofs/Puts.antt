@@ -1,6 +1,6 @@
 -- What the calls find and leave that put an install behind a log.
-use Rattle.std.proofs.Common.{◌≡◌, ℕ, ◌+◌, ◌<◌, ◌≤◌, ◌&&◌, Bool, true, false, nat_lt, List, [], ◌∷◌, ◌++◌, length, map, refl, sym, ap, ◌∙◌, subst, arith, length-append}
-use Rattle.std.specs.Prelude.{Ok, Option, Some, None, IsSome, find, option_map, option_and_then, if◌then◌else◌}
+use Rattle.std.proofs.Common.{◌≡◌, ℕ, ◌+◌, ◌<◌, ◌≤◌, true, false, List, [], ◌∷◌, ◌++◌, length, refl, sym, ap, ◌∙◌, subst, arith, length-append}
+use Rattle.std.specs.Prelude.{Ok, Option, Some, None, IsSome, find, option_map, option_and_then}
 use Rattle.std.specs.Option.{option_map_or}
 use Rattle.std.proofs.lemmas.Bool.{ltb-true}
 use Rattle.emulated_boards.specs.declared.mark.Mark.{Mark}
@@ -11,7 +11,6 @@ use Rattle.fw_facts.specs.declared.view.DeviceView.{DeviceView}
 use Rattle.fw_facts.specs.Flags.{has_flag}
 use Rattle.history_keeper.specs.declared.row.Row.{Row}
 use Rattle.history_keeper.specs.declared.row.RowState.{RowState}
-use Rattle.release_catalogue.specs.declared.reference.ReleaseRef.{ReleaseRef}
 use Rattle.release_catalogue.specs.Lookup.{Chosen}
 use Rattle.update_log.specs.declared.answer.AskAnswer.{AskAnswer}
 use Rattle.update_log.specs.declared.answer.ClaimAnswer.{ClaimAnswer}
@@ -30,19 +29,18 @@ use Rattle.update_log.specs.Legal.{next_entry}
 use Rattle.update_log.specs.Pasts.{past_of, time_of}
 use Rattle.update_log.specs.Shows.{marks}
 use Rattle.update_log.specs.Steps.{all_ops, next_op, next_step, trace}
-use Rattle.update_log.specs.Verdicts.{verdict}
 use Rattle.history_keeper.specs.Changes.{with_state}
 use Rattle.update_log.proofs.Pasts.{past-push}
 use Rattle.update_log.proofs.Rows.{length-map}
 use Rattle.update_plans.specs.Following.{IsQuiet}
-use Rattle.update_plans.specs.Plans.{Scene, accepts, asked, done, end_of, has_id, installed, installed_with, is_good, is_good_with, is_next, release_at, request_of, seen_of, shown_after, taken, view_of, waits_for_boot, with_some}
+use Rattle.update_plans.specs.Plans.{Scene, asked, done, end_of, installed, installed_with, is_good, is_good_with, is_next, release_at, request_of, seen_of, shown_after, taken, view_of, waits_for_boot, with_some}
 use Rattle.update_plans.specs.Putting.{Begins, IsPutting, Making, end_on, ops_before, shown_on}
 use Rattle.update_plans.specs.declared.plan.PlanStep.{PlanStep}
 use Rattle.update_plans.proofs.Chained.{Good, good-step}
 use Rattle.update_plans.proofs.Claims.{accepted_twice}
 use Rattle.update_plans.proofs.Installed.{cleaned, goes-whole, row, rows-begun}
 use Rattle.update_plans.proofs.Put.{MayBe, before-event, end-said, end_of_step, next-of, some, some-live, step-left, step-taken, step-with, whole}
-use Rattle.update_plans.proofs.Targets.{Found, Tests, found, tests}
+use Rattle.update_plans.proofs.Targets.{Found, found, tests}
 
 some-same : {X : Type 0} {x y : X} → Some x ≡ Some y → x ≡ y
 some-same e = cc

@@ -1,7 +1,7 @@
 -- What the loops find and leave that make plans and check them.
 use Rattle.std.proofs.Common.{◌≡◌, ◌≢◌, ℕ, zero, suc, ◌+◌, ◌-◌, ◌<◌, ◌≤◌, Bool, true, false, List, [], ◌∷◌, ◌++◌, length, map, drop, take, get_or, refl, sym, ap, ◌∙◌, subst, arith, add-one, drop-cons}
 use Rattle.std.proofs.Math.Seq.{take-suc}
-use Rattle.std.specs.Prelude.{AllPairs, IfSome, Option, Some, None, find, is_some, slice_get, option_map, if◌then◌else◌}
+use Rattle.std.specs.Prelude.{AllPairs, Option, Some, None, find, is_some, slice_get, option_map, if◌then◌else◌}
 use Rattle.std.specs.Option.{option_map_or}
 use Rattle.std.specs.Ordering.{is_gt}
 use Rattle.std.specs.Str.{bytes_eq}
@@ -11,20 +11,17 @@ use Rattle.fw_facts.specs.declared.seen.Seen.{Seen}
 use Rattle.fw_facts.specs.declared.sheet.Sheet.{Sheet}
 use Rattle.fw_facts.specs.declared.view.DeviceView.{DeviceView}
 use Rattle.fw_facts.specs.Views.{guids_of, guids_shown}
-use Rattle.history_keeper.specs.declared.row.Row.{Row}
 use Rattle.release_catalogue.specs.declared.reference.ReleaseRef.{ReleaseRef}
 use Rattle.update_log.specs.declared.event.Event.{Event}
-use Rattle.update_log.specs.declared.facts.Facts.{Facts}
-use Rattle.update_log.specs.declared.live.LiveEntry.{LiveEntry}
 use Rattle.update_log.specs.Boards.{Board, devices}
 use Rattle.update_log.specs.Core.{Core, Stands}
 use Rattle.update_log.specs.Holding.{live}
-use Rattle.update_log.specs.Known.{Known, known, view_of as view_in, views}
+use Rattle.update_log.specs.Known.{known, view_of as view_in, views}
 use Rattle.update_log.specs.Pasts.{past_of}
 use Rattle.update_log.proofs.Devices.{devices-differ}
 use Rattle.update_log.proofs.Lists.{by_test}
 use Rattle.update_log.proofs.Openings.{bytes-same, bytes-self}
-use Rattle.update_plans.specs.Choosing.{IsHighestFirst, first_some, good_step, side_of, tried, tried_at, version_found}
+use Rattle.update_plans.specs.Choosing.{first_some, good_step, side_of, tried, tried_at, version_found}
 use Rattle.update_plans.specs.Plans.{Scene, after, chain, chains, device_at, first_bad, installed, is_good, next_step, plan, view_of}
 use Rattle.update_plans.specs.Walks.{walk}
 use Rattle.update_plans.specs.declared.plan.PlanStep.{PlanStep}

@@ -1,5 +1,5 @@
 use Rattle.fw_facts.specs.Flags.{all_flags, flag_word, has_flag}
-use Rattle.client_scripts.proofs.Worded.{put_fit_at, put_fits}
+use Rattle.client_scripts.proofs.Worded.{put_fit_at}
 use Rattle.client_scripts.proofs.commas.put_flags.Goals as goal
 
 pub loop-flag-preserved : goal.loop-flag-preserved

@@ -1,4 +1,4 @@
-use Rattle.std.proofs.Common.{◌≡◌, true, refl, ap, ◌∙◌, List, ℕ, ◌++◌, map}
+use Rattle.std.proofs.Common.{true, refl, ap, ◌∙◌, List, ℕ, ◌++◌, map}
 use Rattle.guid_ids.specs.Identifiers.{guid_text}
 use Rattle.client_scripts.specs.Replies.{with_commas}
 use Rattle.client_scripts.proofs.Worded.{all_fit, put_fit, put_fits}

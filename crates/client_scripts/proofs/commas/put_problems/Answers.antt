@@ -2,7 +2,7 @@ use Rattle.std.proofs.Common.{◌∙◌}
 use Rattle.fw_facts.specs.Problems.{has_problem}
 use Rattle.client_scripts.specs.Replies.{all_problems}
 use Rattle.client_scripts.specs.Words.{problem_word}
-use Rattle.client_scripts.proofs.Worded.{put_fit_at, put_fits}
+use Rattle.client_scripts.proofs.Worded.{put_fit_at}
 use Rattle.client_scripts.proofs.commas.put_problems.Goals as goal
 
 pub loop-problem-preserved : goal.loop-problem-preserved

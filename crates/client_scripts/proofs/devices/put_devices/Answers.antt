@@ -1,4 +1,4 @@
-use Rattle.std.proofs.Common.{ap, ◌∙◌, List, ℕ, ◌++◌}
+use Rattle.std.proofs.Common.{ap, ◌∙◌, ℕ, ◌++◌}
 use Rattle.std.specs.Prelude.{Option}
 use Rattle.client_scripts.specs.Replies.{device_line, reply_line, told_text}
 use Rattle.client_scripts.proofs.Pieces.{put_one}

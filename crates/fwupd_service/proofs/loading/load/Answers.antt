@@ -1,4 +1,4 @@
-use Rattle.std.proofs.Common.{refl, inl}
+use Rattle.std.proofs.Common.{inl}
 use Rattle.fwupd_service.proofs.LoadLaws.{judged_says, quiet-ok, quiet-other, rows_told}
 use Rattle.fwupd_service.proofs.loading.load.Goals as goal
 

@@ -1,4 +1,4 @@
-use Rattle.std.proofs.Common.{◌≡◌, ◌∙◌, None, refl, inl, inr}
+use Rattle.std.proofs.Common.{◌∙◌, None, refl, inl, inr}
 use Rattle.fwupd_service.proofs.LoadLaws.{loaded-only, only-loaded}
 use Rattle.fwupd_service.proofs.planning.plan_campaign.Goals as goal
 

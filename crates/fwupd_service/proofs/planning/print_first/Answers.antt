@@ -1,5 +1,5 @@
 use Rattle.std.proofs.Common.{List, ℕ, ap, subst, ◌∙◌}
-use Rattle.outer_traits.specs.Sinks.{Took, TookFront}
+use Rattle.outer_traits.specs.Sinks.{Took}
 use Rattle.fw_facts.specs.declared.view.DeviceView.{DeviceView}
 use Rattle.update_plans.specs.declared.plan.PlanStep.{PlanStep}
 use Rattle.campaign_plans.specs.Printed.{plan_text}

@@ -1,4 +1,4 @@
-use Rattle.std.proofs.Common.{◌≡◌, ◌∙◌, None, refl, inl, inr}
+use Rattle.std.proofs.Common.{◌∙◌, refl, inl, inr}
 use Rattle.fwupd_service.proofs.LoadLaws.{loaded-only, only-loaded, planned-can-be-played, plan-is-ready}
 use Rattle.fwupd_service.proofs.TopLaws.{stay-same}
 use Rattle.fwupd_service.proofs.update.update_campaign.Goals as goal

@@ -1,6 +1,5 @@
-use Rattle.std.proofs.Common.{◌≡◌, Bor, List, ℕ, map}
+use Rattle.std.proofs.Common.{Bor, List, ℕ, map}
 use Rattle.std.proofs.lemmas.Result.{IfOk-weaker}
-use Rattle.history_keeper.specs.Histories.{Follows, GoesOn}
 use Rattle.history_keeper.proofs.Following.{goes-with, no_from, yes_from}
 use Rattle.history_keeper.proofs.history.goes_on.Goals as goal
 

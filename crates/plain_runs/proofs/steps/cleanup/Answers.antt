@@ -1,8 +1,7 @@
-use Rattle.std.proofs.Common.{ap, ◌∙◌}
+use Rattle.std.proofs.Common.{ap, ◌∙◌, ◌≡◌}
 use Rattle.update_log.specs.declared.event.Op.{Op}
 use Rattle.device_claims.specs.declared.claim.Parts.{Parts}
 use Rattle.std.specs.Prelude.{None}
-use Rattle.std.proofs.Common.{◌≡◌}
 use Rattle.update_log.specs.Steps.{next_step}
 use Rattle.plain_runs.proofs.Same.{on-same}
 use Rattle.plain_runs.proofs.Logs.{back-none, given-of, gone-end, made-end, on-err, payload-of}

@@ -1,4 +1,4 @@
-use Rattle.std.proofs.Common.{◌<◌, ◌≡◌, length, arith}
+use Rattle.std.proofs.Common.{◌<◌, length, arith}
 use Rattle.plugin_trait.proofs.InTurn.{changed, left_alone}
 use Rattle.plugin_trait.proofs.startup.start_all.Goals as goal
 

@@ -1,4 +1,4 @@
-use Rattle.std.proofs.Common.{◌≡◌, map, take, drop, length}
+use Rattle.std.proofs.Common.{◌≡◌, map, take, drop}
 use Rattle.plugin_trait.proofs.startup.start_all.Given as goal
 
 abbrev pub invariant-loop-plugin : goal.invariant-loop-plugin

@@ -1,5 +1,4 @@
-use Rattle.std.proofs.Common.{◌<◌, sym, ◌∙◌, arith}
-use Rattle.std.proofs.Common.{[], ◌∷◌}
+use Rattle.std.proofs.Common.{◌<◌, sym, ◌∙◌, arith, [], ◌∷◌}
 use Rattle.release_catalogue.proofs.Indexes.{says_of_all, within}
 use Rattle.release_catalogue.proofs.lookup.providers.Goals as goal
 

@@ -1,4 +1,4 @@
-use Rattle.std.proofs.Common.{◌≡◌, ◌∙◌, ap, sym, refl, arith, add-one, take, length, get_or}
+use Rattle.std.proofs.Common.{◌∙◌, ap, sym, refl, arith, add-one, take, length, get_or}
 use Rattle.std.specs.Prelude.{option_map, slice_get}
 use Rattle.update_log.proofs.CoreViews.{length-told, told-step, untold-next}
 use Rattle.update_log.proofs.showing.show_all.Goals as goal

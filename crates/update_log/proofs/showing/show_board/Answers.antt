@@ -1,4 +1,4 @@
-use Rattle.std.proofs.Common.{◌≡◌, ◌∙◌, ap, sym, refl, arith, add-one, take, length, get_or}
+use Rattle.std.proofs.Common.{◌∙◌, ap, sym, refl, arith, add-one, take, length, get_or}
 use Rattle.update_log.specs.Known.{for_board}
 use Rattle.update_log.proofs.CoreViews.{length-told, told-step, untold-next}
 use Rattle.update_log.proofs.showing.show_board.Goals as goal

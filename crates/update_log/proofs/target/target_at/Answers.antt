@@ -1,5 +1,5 @@
-use Rattle.std.proofs.Common.{◌≡◌, ◌∙◌, sym, ap, refl, length}
-use Rattle.std.specs.Prelude.{Some, None, slice_get}
+use Rattle.std.proofs.Common.{refl}
+use Rattle.std.specs.Prelude.{Some, None}
 use Rattle.fw_facts.specs.Views.{guids_of}
 use Rattle.release_catalogue.specs.Lookup.{Chosen}
 use Rattle.update_log.proofs.Placed.{component-within, found-with, none-chosen, release-within}

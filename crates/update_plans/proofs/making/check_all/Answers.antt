@@ -1,6 +1,4 @@
-use Rattle.std.proofs.Common.{◌≡◌, ◌+◌, ◌∷◌, ℕ, List, None, Some, drop, length, inr, refl, sym, ap, ◌∙◌, subst, arith, add-one, drop-cons}
-use Rattle.std.specs.Prelude.{Option}
-use Rattle.update_log.specs.declared.event.Event.{Event}
+use Rattle.std.proofs.Common.{◌+◌, List, inr, refl, sym, ap, ◌∙◌, subst, arith}
 use Rattle.update_log.specs.Pasts.{past_of}
 use Rattle.update_plans.specs.Following.{IsQuiet}
 use Rattle.update_plans.specs.Plans.{first_bad, scene}

@@ -1,9 +1,8 @@
-use Rattle.std.proofs.Common.{◌≡◌, ◌+◌, ◌-◌, ◌++◌, ℕ, List, [], ◌∷◌, length, refl, sym, ap, ◌∙◌, subst, arith, length-append}
+use Rattle.std.proofs.Common.{◌≡◌, ◌+◌, ◌-◌, ◌++◌, ℕ, List, [], ◌∷◌, length, sym, ap, ◌∙◌, subst, arith, length-append}
 use Rattle.std.specs.Prelude.{slice_get, IfSome, Option, None, Some}
 use Rattle.fw_facts.specs.declared.view.DeviceView.{DeviceView}
 use Rattle.fw_facts.specs.Views.{guids_of}
 use Rattle.release_catalogue.specs.declared.reference.ReleaseRef.{ReleaseRef}
-use Rattle.update_log.specs.declared.event.Event.{Event}
 use Rattle.update_log.specs.Pasts.{past_of}
 use Rattle.update_plans.specs.Choosing.{IsHighestFirst}
 use Rattle.update_plans.specs.Following.{IsQuiet}

@@ -1,5 +1,4 @@
-use Rattle.std.proofs.Common.{◌≡◌, ◌<◌, ◌+◌, ◌-◌, ◌++◌, ℕ, List, [], length, map, get_or, sym, ap, ◌∙◌, arith, take}
-use Rattle.update_log.specs.declared.event.Event.{Event}
+use Rattle.std.proofs.Common.{◌≡◌, ◌+◌, ◌-◌, ◌++◌, ℕ, List, [], length, map, get_or, sym, ap, ◌∙◌, arith, take}
 use Rattle.update_log.specs.Pasts.{past_of}
 use Rattle.update_plans.specs.Plans.{after, chain, chains, device_at, scene}
 use Rattle.update_plans.specs.declared.plan.PlanStep.{PlanStep}

@@ -1,10 +1,7 @@
-use Rattle.std.proofs.Common.{◌≡◌, ◌<◌, refl, sym, ap, ◌∙◌, subst, arith}
-use Rattle.std.specs.Prelude.{IfOk, IfSome, Some, Option, slice_get}
+use Rattle.std.proofs.Common.{refl, sym, ◌∙◌, subst, arith}
+use Rattle.std.specs.Prelude.{IfOk, IfSome, Option, List, ℕ}
 use Rattle.fw_facts.specs.declared.view.DeviceView.{DeviceView}
 use Rattle.fw_facts.specs.Views.{guids_of}
-use Rattle.release_catalogue.specs.declared.reference.ReleaseRef.{ReleaseRef}
-use Rattle.std.specs.Prelude.{List, ℕ}
-use Rattle.update_log.specs.Pasts.{past_of}
 use Rattle.update_plans.specs.Choosing.{IsHighestFirst}
 use Rattle.update_plans.specs.Plans.{scene}
 use Rattle.update_plans.proofs.Taking.{guids-kept, places-kept}

@@ -1,4 +1,4 @@
-use Rattle.std.proofs.Common.{◌≡◌, ℕ, List, ◌∷◌, ◌++◌, [], refl, sym, ap, ◌∙◌, subst}
+use Rattle.std.proofs.Common.{◌≡◌, ℕ, List, ◌∷◌, ◌++◌, [], sym, ap, ◌∙◌, subst}
 use Rattle.update_plans.proofs.Options.{not_none, same_some}
 use Rattle.update_plans.proofs.Reading.{IsLeft, next-last, next-more, next-of}
 use Rattle.update_plans.proofs.numbers.numbers.Goals as goal

@@ -1,4 +1,4 @@
-use Rattle.std.proofs.Common.{◌≡◌, ℕ, List, length}
+use Rattle.std.proofs.Common.{ℕ, List, length}
 use Rattle.update_plans.specs.Fields.{AreNumbers}
 use Rattle.update_plans.proofs.Reading.{IsLeft}
 use Rattle.update_plans.proofs.numbers.numbers.Given as goal

@@ -1,4 +1,4 @@
-use Rattle.std.proofs.Common.{◌≡◌, ℕ, ◌+◌, ◌*◌, ◌^◌, slice_index, arith}
+use Rattle.std.proofs.Common.{◌≡◌, slice_index, arith}
 use Rattle.update_plans.proofs.Fields.{decimal_byte, least-Bcd}
 use Rattle.update_plans.proofs.packing.packed.Goals as goal
 

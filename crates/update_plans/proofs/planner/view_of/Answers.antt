@@ -1,7 +1,5 @@
 use Rattle.std.proofs.Common.{◌≡◌, None, find, sym, ap, ◌∙◌, rules}
-use Rattle.std.specs.Prelude.{Option, option_and_then, slice_get, List}
-use Rattle.device_list.specs.declared.selector.Selector.{Selector}
-use Rattle.device_list.specs.Lists.{place}
+use Rattle.std.specs.Prelude.{option_and_then, slice_get, List}
 use Rattle.fw_facts.specs.declared.view.DeviceView.{DeviceView}
 use Rattle.update_plans.specs.Plans.{has_id}
 use Rattle.update_plans.proofs.Good.{looked_up}

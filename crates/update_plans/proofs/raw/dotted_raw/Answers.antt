@@ -1,4 +1,4 @@
-use Rattle.std.proofs.Common.{◌≡◌, ℕ, ◌≤◌, ◌<◌, ◌^◌, List, ◌∙◌, arith}
+use Rattle.std.proofs.Common.{◌≡◌, ℕ, ◌≤◌, ◌∙◌, arith}
 use Rattle.version_formats.specs.Formats.{render}
 use Rattle.update_plans.specs.Fields.{fields}
 use Rattle.update_plans.proofs.Likely.{are_numbers, render-fields}

@@ -1,4 +1,4 @@
-use Rattle.std.proofs.Common.{◌≡◌, ℕ, ◌<◌, ◌^◌, List, Some, None, sym, ap, ◌∙◌, subst, arith}
+use Rattle.std.proofs.Common.{ℕ, List, Some, None, sym, ap, ◌∙◌, subst, arith}
 use Rattle.version_formats.specs.VersionOrder.{same_version}
 use Rattle.update_plans.specs.Fields.{IsLikely}
 use Rattle.update_plans.proofs.Likely.{raw_of-none, raw_of-not, raw_of-some}

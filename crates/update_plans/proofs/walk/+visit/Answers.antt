@@ -1,4 +1,4 @@
-use Rattle.std.proofs.Common.{◌≡◌, ℕ, ◌-◌, List, ◌++◌, sym, ap, ◌∙◌, append-nil, arith}
+use Rattle.std.proofs.Common.{ℕ, ◌-◌, List, ◌++◌, sym, ap, ◌∙◌, append-nil}
 use Rattle.update_plans.specs.Walks.{is_child, visit}
 use Rattle.update_plans.specs.declared.walk.Turn.TheVariants.{AfterParent, BeforeParent}
 use Rattle.update_plans.proofs.Walking.{visit-none, visit-parts, visiting-all}

@@ -1,4 +1,4 @@
-use Rattle.std.proofs.Common.{◌≤◌, ◌<◌, ◌+◌, ◌-◌, ◌∷◌, [], ◌++◌, List, length, ap, sym, ◌∙◌, subst, arith, min}
+use Rattle.std.proofs.Common.{◌≤◌, ◌+◌, ◌-◌, ◌∷◌, [], ◌++◌, List, length, ap, sym, ◌∙◌, subst, arith, min}
 use Rattle.std.specs.Prelude.{vec_len, vec_capacity}
 use Rattle.history_keeper.specs.declared.row.Row.{Row}
 use Rattle.update_log.specs.Core.{Stands}

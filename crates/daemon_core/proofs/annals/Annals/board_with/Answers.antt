@@ -1,4 +1,4 @@
-use Rattle.std.proofs.Common.{◌≡◌, ap, ◌∙◌}
+use Rattle.std.proofs.Common.{ap, ◌∙◌}
 use Rattle.update_log.specs.Boards.{board_with}
 use Rattle.daemon_core.specs.Housed.{Annalled}
 use Rattle.daemon_core.proofs.ClaimRows.{board-found}

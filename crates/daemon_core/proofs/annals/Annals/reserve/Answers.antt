@@ -1,5 +1,4 @@
-use Rattle.std.proofs.Common.{ap, arith}
-use Rattle.std.proofs.Common.{length}
+use Rattle.std.proofs.Common.{ap, arith, length}
 use Rattle.daemon_core.specs.Housed.{Annalled, past_in}
 use Rattle.daemon_core.specs.Owed.{owed}
 use Rattle.daemon_core.proofs.OwedLaws.{owed-most}

@@ -1,4 +1,4 @@
-use Rattle.std.proofs.Common.{◌≡◌, sym, subst}
+use Rattle.std.proofs.Common.{sym, subst}
 use Rattle.std.specs.Prelude.{Ok}
 use Rattle.daemon_core.specs.declared.fetched.Fetched.{Fetched}
 use Rattle.daemon_core.specs.Annals.{Appended}

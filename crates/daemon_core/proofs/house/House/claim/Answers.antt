@@ -1,4 +1,4 @@
-use Rattle.std.proofs.Common.{◌≡◌, ◌≤◌, ap, sym, subst, refl}
+use Rattle.std.proofs.Common.{◌≤◌, ap, sym, subst, refl}
 use Rattle.update_log.specs.declared.facts.Facts.{Facts}
 use Rattle.daemon_core.specs.Claims.{claim_event, stopped_by}
 use Rattle.daemon_core.specs.Fetches.{IsFetchOf, block_count}

@@ -1,4 +1,4 @@
-use Rattle.std.proofs.Common.{◌≡◌, ◌∙◌, ◌+◌, ℕ, ap}
+use Rattle.std.proofs.Common.{◌∙◌, ◌+◌, ℕ, ap}
 use Rattle.daemon_core.specs.Fetches.{block_count}
 use Rattle.daemon_core.specs.Housed.{Housed}
 use Rattle.daemon_core.proofs.ClaimExits.{end-fits, end-house, end-ready, may-over}

@@ -1,8 +1,6 @@
-use Rattle.std.proofs.Common.{◌≡◌, ◌<◌, ◌≤◌, ap, sym, subst, length, arith, List}
-use Rattle.std.specs.Prelude.{IfSome, IsSome, OnOk, Some}
+use Rattle.std.proofs.Common.{ap, subst, length, arith}
 use Rattle.daemon_core.specs.Claims.{RoomierPlaces}
-use Rattle.daemon_core.specs.Housed.{Housed, Place}
-use Rattle.daemon_core.specs.Returns.{place_at}
+use Rattle.daemon_core.specs.Housed.{Housed}
 use Rattle.daemon_core.proofs.ClaimRoom.{house-with_room, reserved-places, reserved-room, within-without}
 use Rattle.daemon_core.proofs.house.House.reserve_marks.Goals as goal
 

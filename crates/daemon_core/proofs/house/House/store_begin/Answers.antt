@@ -9,8 +9,7 @@ use Rattle.daemon_core.specs.declared.claimed.Claimed.{Claimed}
 use Rattle.daemon_core.specs.declared.fetched.Fetched.{Fetched}
 use Rattle.daemon_core.specs.Annals.{IsMadeBy}
 use Rattle.daemon_core.specs.Fetches.{whole_note}
-use Rattle.daemon_core.specs.Housed.{Housed, past}
-use Rattle.daemon_core.specs.Keeping.{keeper_faults}
+use Rattle.daemon_core.specs.Housed.{Housed}
 use Rattle.daemon_core.specs.Resumes.{ResumeGave}
 use Rattle.daemon_core.specs.Returns.{place_at}
 use Rattle.daemon_core.specs.Turns.{KeeperFared, signs_of}

@@ -1,4 +1,4 @@
-use Rattle.std.proofs.Common.{◌≡◌, ◌≤◌, ◌∙◌, ◌+◌, ℕ, ap, sym, subst, refl}
+use Rattle.std.proofs.Common.{◌≤◌, ◌∙◌, ◌+◌, ℕ, ap, sym, subst, refl}
 use Rattle.std.specs.Prelude.{Err, IfSome, None, Some, Ok, is_some}
 use Rattle.history_keeper.specs.declared.change.Change.{Change}
 use Rattle.update_log.specs.declared.event.Event.{Event}
@@ -8,8 +8,7 @@ use Rattle.daemon_core.specs.declared.fetched.Fetched.{Fetched}
 use Rattle.daemon_core.specs.Annals.{Appended, IsMadeBy}
 use Rattle.update_log.specs.Pasts.{is_boot}
 use Rattle.daemon_core.specs.Claims.{ClaimGave, claim_event}
-use Rattle.daemon_core.specs.Housed.{Housed, past}
-use Rattle.daemon_core.specs.Keeping.{keeper_faults}
+use Rattle.daemon_core.specs.Housed.{Housed}
 use Rattle.daemon_core.specs.Returns.{place_at}
 use Rattle.daemon_core.specs.Turns.{KeeperFared, signs_of}
 use Rattle.daemon_core.proofs.ClaimAnswers.{gave-taken}

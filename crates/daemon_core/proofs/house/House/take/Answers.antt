@@ -1,4 +1,4 @@
-use Rattle.std.proofs.Common.{◌≡◌, ◌≤◌, ◌∙◌, ℕ, ap, sym, subst, refl}
+use Rattle.std.proofs.Common.{◌≤◌, ◌∙◌, ℕ, ap, sym, subst, refl}
 use Rattle.std.specs.Prelude.{Option, unwrap_or}
 use Rattle.daemon_core.specs.Claims.{claim_event, claim_verdict, stopped_by}
 use Rattle.daemon_core.specs.declared.fetched.Fetched.{Fetched}

@@ -1,4 +1,4 @@
-use Rattle.std.proofs.Common.{◌≡◌, ℕ, ap, sym, ◌∙◌}
+use Rattle.std.proofs.Common.{ℕ, ap, sym, ◌∙◌}
 use Rattle.std.specs.Prelude.{None, Option}
 use Rattle.emulated_boards.specs.Boards.{BoardState}
 use Rattle.daemon_core.specs.Housed.{Place}

@@ -1,4 +1,4 @@
-use Rattle.std.proofs.Common.{◌≡◌, ap, sym, ◌∙◌, List}
+use Rattle.std.proofs.Common.{◌≡◌, ap, sym, ◌∙◌}
 use Rattle.std.specs.Prelude.{None, slice_set}
 use Rattle.daemon_core.specs.Housed.{Place}
 use Rattle.daemon_core.specs.Returns.{place_at}

@@ -1,4 +1,4 @@
-use Rattle.std.proofs.Common.{◌≡◌, [], List, ap, sym, ◌∙◌, subst, arith}
+use Rattle.std.proofs.Common.{◌≡◌, [], List, ap, sym, ◌∙◌, subst}
 use Rattle.history_keeper.specs.declared.row.Row.{Row}
 use Rattle.update_log.proofs.FirstSteps.{stands-reserved}
 use Rattle.update_log.specs.Core.{Core, Stands}

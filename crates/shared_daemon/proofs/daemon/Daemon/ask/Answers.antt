@@ -1,5 +1,5 @@
 use Rattle.std.proofs.Common.{ℕ, List, ap, sym, ◌∙◌, subst}
-use Rattle.std.specs.Prelude.{None}
+use Rattle.std.specs.Prelude.{None, IfOk}
 use Rattle.update_log.specs.declared.event.Event.{Event}
 use Rattle.daemon_core.specs.Housed.{Housed}
 use Rattle.shared_daemon.specs.declared.entry.Entry.{Entry}
@@ -10,7 +10,6 @@ use Rattle.shared_daemon.proofs.daemon.Daemon.ask.Goals as goal
 use Rattle.update_log.specs.Legal.{IsFree}
 use Rattle.daemon_core.specs.declared.hold.Asked.{Asked}
 use Rattle.daemon_core.specs.Holds.{HoldsFor, answer_of}
-use Rattle.std.specs.Prelude.{IfOk}
 
 pub ask-answer-requires : goal.ask-answer-requires
 ask-answer-requires g c = was-seen g.N.Naming.name c.args.pass.now c.enter-turn.result (λ i seen. IsFree (past_seen seen) i) c.args.self.now.id c.number.result (chronicle c.state.result.now) c.requires.pass c.enter-turn.ensures.begins (c.number.ensures ∙ c.enter-turn.ensures.same) (c.enter-turn.ensures.list ∙ ap (λ (h : Housed g.row.K.Denot). chronicle h) (sym c.state.ensures.value)) c.requires.free

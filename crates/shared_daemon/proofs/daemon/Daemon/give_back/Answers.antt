@@ -1,14 +1,12 @@
-use Rattle.std.proofs.Common.{ℕ, List, refl, ap, sym, ◌∙◌}
+use Rattle.std.proofs.Common.{ℕ, List, refl, ap, sym, ◌∙◌, inr}
 use Rattle.update_log.specs.declared.event.Event.{Event}
 use Rattle.daemon_core.specs.Housed.{Housed}
 use Rattle.shared_daemon.specs.declared.entry.Entry.{Entry}
-use Rattle.shared_daemon.specs.Entries.{chronicle}
+use Rattle.shared_daemon.specs.Entries.{chronicle, entry_of}
 use Rattle.shared_daemon.specs.Calls.{Adds}
 use Rattle.shared_daemon.proofs.Turning.{adds, begins-still, took, was-seen}
 use Rattle.shared_daemon.proofs.daemon.Daemon.give_back.Goals as goal
 use Rattle.shared_daemon.specs.Steps.{GoesHome}
-use Rattle.std.proofs.Common.{inr}
-use Rattle.shared_daemon.specs.Entries.{entry_of}
 use Rattle.update_log.specs.declared.event.Back.{Back}
 
 pub give_back-requires : goal.give_back-requires

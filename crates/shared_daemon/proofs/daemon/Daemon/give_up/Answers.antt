@@ -1,14 +1,12 @@
-use Rattle.std.proofs.Common.{◌≡◌, ℕ, List, refl, ap, sym, ◌∙◌, subst}
+use Rattle.std.proofs.Common.{◌≡◌, ℕ, List, refl, ap, sym, ◌∙◌, subst, inr}
 use Rattle.std.specs.Prelude.{Some}
 use Rattle.update_log.specs.declared.event.Event.{Event}
 use Rattle.daemon_core.specs.Housed.{Housed}
 use Rattle.shared_daemon.specs.declared.entry.Entry.{Entry}
-use Rattle.shared_daemon.specs.Entries.{chronicle, past_seen}
+use Rattle.shared_daemon.specs.Entries.{chronicle, past_seen, entry_of}
 use Rattle.shared_daemon.specs.Calls.{Adds}
 use Rattle.shared_daemon.proofs.Turning.{adds, begins-still, took, was-seen}
 use Rattle.shared_daemon.proofs.daemon.Daemon.give_up.Goals as goal
-use Rattle.std.proofs.Common.{inr}
-use Rattle.shared_daemon.specs.Entries.{entry_of}
 use Rattle.daemon_core.specs.Holds.{back_of, held_by}
 use Rattle.update_log.specs.Holding.{hold}
 

@@ -1,4 +1,4 @@
-use Rattle.std.proofs.Common.{ℕ, List, ap, sym, ◌∙◌}
+use Rattle.std.proofs.Common.{ℕ, List, ap, sym, ◌∙◌, IsSome}
 use Rattle.daemon_core.specs.Housed.{Housed}
 use Rattle.shared_daemon.specs.declared.entry.Entry.{Entry}
 use Rattle.shared_daemon.specs.Entries.{chronicle, past_seen}
@@ -6,7 +6,6 @@ use Rattle.shared_daemon.specs.Calls.{JudgedIn}
 use Rattle.shared_daemon.proofs.Turning.{adds, begins-still, took, was-seen}
 use Rattle.shared_daemon.proofs.daemon.Daemon.judge.Goals as goal
 use Rattle.shared_daemon.proofs.Answered.{judged-adds}
-use Rattle.std.proofs.Common.{IsSome}
 use Rattle.update_log.specs.Known.{row_of, rows}
 
 pub judge-answer-requires : goal.judge-answer-requires

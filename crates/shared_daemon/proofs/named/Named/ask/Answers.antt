@@ -1,5 +1,5 @@
 use Rattle.std.proofs.Common.{refl, sym, subst}
-use Rattle.std.specs.Prelude.{None}
+use Rattle.std.specs.Prelude.{None, IfOk}
 use Rattle.update_log.specs.declared.event.Event.{Event}
 use Rattle.shared_daemon.proofs.named.Named.ask.Goals as goal
 use Rattle.shared_daemon.proofs.Keeping.{keeps-calm, same-plans, turned-calm}
@@ -14,7 +14,6 @@ use Rattle.daemon_core.specs.Holds.{HoldsFor, answer_of}
 use Rattle.daemon_core.specs.Turns.{signs_of}
 use Rattle.update_log.specs.Legal.{IsFree}
 use Rattle.update_log.specs.declared.facts.Facts.{Facts}
-use Rattle.std.specs.Prelude.{IfOk}
 
 pub ask-requires-clause-booted : goal.ask-requires-clause-booted
 ask-requires-clause-booted g c = booted-named (signs_of g.K.Keeper.tells g.K.Keeper.faults) g.N.Naming.name c.self.inside.house c.self.invariant

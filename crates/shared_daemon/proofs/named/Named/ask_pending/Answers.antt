@@ -1,5 +1,5 @@
 use Rattle.std.proofs.Common.{◌≡◌, List, refl, sym, subst}
-use Rattle.std.specs.Prelude.{Some}
+use Rattle.std.specs.Prelude.{Some, IfOk}
 use Rattle.update_log.specs.declared.event.Event.{Event}
 use Rattle.shared_daemon.proofs.named.Named.ask_pending.Goals as goal
 use Rattle.shared_daemon.proofs.Keeping.{keeps-calm, same-plans, turned-calm}
@@ -12,12 +12,10 @@ use Rattle.shared_daemon.specs.Entries.{chronicle, past_seen}
 use Rattle.daemon_core.specs.declared.hold.Asked.{Asked}
 use Rattle.daemon_core.specs.Holds.{HoldsFor, answer_of}
 use Rattle.daemon_core.specs.Turns.{signs_of}
-use Rattle.update_log.specs.Legal.{IsFree}
+use Rattle.update_log.specs.Legal.{IsFree, request_of_row}
 use Rattle.history_keeper.specs.declared.row.Row.{Row}
 use Rattle.update_log.specs.Known.{row_of, rows}
-use Rattle.update_log.specs.Legal.{request_of_row}
 use Rattle.update_log.specs.declared.facts.Facts.{Facts}
-use Rattle.std.specs.Prelude.{IfOk}
 
 pub ask_pending-requires-clause-booted : goal.ask_pending-requires-clause-booted
 ask_pending-requires-clause-booted g c = booted-named (signs_of g.K.Keeper.tells g.K.Keeper.faults) g.N.Naming.name c.self.inside.house c.self.invariant

@@ -7,10 +7,9 @@ use Rattle.shared_daemon.proofs.Seeing.{booted-named, to-name}
 use Rattle.shared_daemon.proofs.Turning.{went-in}
 use Rattle.shared_daemon.proofs.Stayed.{ends-met}
 use Rattle.daemon_core.specs.Housed.{Housed, past, rows_before}
-use Rattle.shared_daemon.specs.Calls.{WasSeen}
+use Rattle.shared_daemon.specs.Calls.{WasSeen, WentIn}
 use Rattle.shared_daemon.specs.Entries.{chronicle, past_seen}
 use Rattle.shared_daemon.specs.Steps.{EndsOwn}
-use Rattle.shared_daemon.specs.Calls.{WentIn}
 use Rattle.daemon_core.specs.Returns.{new_marks}
 use Rattle.daemon_core.specs.Turns.{signs_of}
 use Rattle.emulated_boards.specs.Conditions.{view_of}

@@ -4,15 +4,13 @@ use Rattle.shared_daemon.proofs.Keeping.{keeps-counted}
 use Rattle.daemon_core.proofs.Planned.{finish-plans}
 use Rattle.shared_daemon.proofs.Seeing.{booted-named}
 use Rattle.shared_daemon.proofs.Stayed.{comes-met, done-met, finish-planned}
-use Rattle.daemon_core.specs.Housed.{Housed}
-use Rattle.shared_daemon.specs.Calls.{WasSeen}
+use Rattle.daemon_core.specs.Housed.{Housed, past, rows_before}
+use Rattle.shared_daemon.specs.Calls.{WasSeen, FinishedIn}
 use Rattle.shared_daemon.specs.Entries.{chronicle}
 use Rattle.shared_daemon.specs.Steps.{MayFinish}
 use Rattle.shared_daemon.proofs.Answered.{finished-grew, finished-in}
-use Rattle.daemon_core.specs.Housed.{past, rows_before}
 use Rattle.daemon_core.specs.Returns.{number_of}
 use Rattle.daemon_core.specs.Turns.{signs_of}
-use Rattle.shared_daemon.specs.Calls.{FinishedIn}
 
 pub finish-requires-clause-booted : goal.finish-requires-clause-booted
 finish-requires-clause-booted g c = booted-named (signs_of g.K.Keeper.tells g.K.Keeper.faults) g.N.Naming.name c.self.inside.house c.self.invariant

@@ -1,4 +1,4 @@
-use Rattle.std.proofs.Common.{refl, sym, subst}
+use Rattle.std.proofs.Common.{refl, sym, subst, inr}
 use Rattle.update_log.specs.declared.event.Event.{Event}
 use Rattle.shared_daemon.proofs.named.Named.give_back.Goals as goal
 use Rattle.shared_daemon.proofs.Keeping.{keeps-calm}
@@ -12,7 +12,6 @@ use Rattle.daemon_core.specs.Turns.{signs_of}
 use Rattle.shared_daemon.specs.Calls.{WasSeen}
 use Rattle.shared_daemon.specs.Entries.{chronicle}
 use Rattle.shared_daemon.specs.Steps.{GoesHome}
-use Rattle.std.proofs.Common.{inr}
 use Rattle.update_log.specs.declared.event.Back.{Back}
 
 pub give_back-requires-clause-booted : goal.give_back-requires-clause-booted

@@ -1,4 +1,4 @@
-use Rattle.std.proofs.Common.{◌≡◌, refl, sym, subst}
+use Rattle.std.proofs.Common.{◌≡◌, refl, sym, subst, inr}
 use Rattle.std.specs.Prelude.{Some}
 use Rattle.update_log.specs.declared.event.Event.{Event}
 use Rattle.shared_daemon.proofs.named.Named.give_up.Goals as goal
@@ -9,7 +9,6 @@ use Rattle.shared_daemon.proofs.Stayed.{hold-met}
 use Rattle.daemon_core.specs.Housed.{Housed}
 use Rattle.shared_daemon.specs.Calls.{WasSeen}
 use Rattle.shared_daemon.specs.Entries.{chronicle, past_seen}
-use Rattle.std.proofs.Common.{inr}
 use Rattle.daemon_core.specs.Holds.{back_of, held_by}
 use Rattle.daemon_core.specs.Turns.{signs_of}
 use Rattle.update_log.specs.Holding.{hold}

@@ -1,15 +1,13 @@
-use Rattle.std.proofs.Common.{sym, subst}
+use Rattle.std.proofs.Common.{sym, subst, IsSome}
 use Rattle.shared_daemon.proofs.named.Named.judge.Goals as goal
 use Rattle.shared_daemon.proofs.Keeping.{keeps-counted, same-plans}
 use Rattle.shared_daemon.proofs.Seeing.{booted-named}
 use Rattle.shared_daemon.proofs.Stayed.{row-met}
 use Rattle.daemon_core.specs.Housed.{Housed}
 use Rattle.daemon_core.specs.Turns.{signs_of}
-use Rattle.shared_daemon.specs.Calls.{WasSeen}
+use Rattle.shared_daemon.specs.Calls.{WasSeen, JudgedIn}
 use Rattle.shared_daemon.specs.Entries.{chronicle, past_seen}
 use Rattle.shared_daemon.proofs.Answered.{judged-grew, judged-in}
-use Rattle.shared_daemon.specs.Calls.{JudgedIn}
-use Rattle.std.proofs.Common.{IsSome}
 use Rattle.update_log.specs.Known.{row_of, rows}
 
 pub judge-requires-clause-booted : goal.judge-requires-clause-booted

@@ -2,10 +2,9 @@ use Rattle.std.proofs.Common.{◌≡◌, ◌≤◌, ◌+◌, ℕ, List, refl, ap
 use Rattle.std.specs.Prelude.{Option}
 use Rattle.fw_facts.specs.declared.view.DeviceView.{DeviceView}
 use Rattle.history_keeper.specs.declared.change.Change.{Change}
-use Rattle.history_keeper.specs.declared.row.Row.{Row}
 use Rattle.update_log.proofs.CoreKept.{kept-on}
 use Rattle.update_log.proofs.CoreTake.{NextInside, RoomsInside, after-inside, asked_of, claims-as, next-parts, room-left, row-room-left, takes-inside}
-use Rattle.update_log.specs.CoreSteps.{change_on, changed_if, doubt_at, made_at, tells_on, traces_on}
+use Rattle.update_log.specs.CoreSteps.{changed_if, doubt_at, made_at, tells_on, traces_on}
 use Rattle.update_log.specs.CoreViews.{claimed, told_on}
 use Rattle.update_log.specs.declared.live.Held.{Held}
 use Rattle.update_log.specs.declared.live.LiveEntry.{LiveEntry}

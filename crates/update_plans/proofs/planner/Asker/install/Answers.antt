@@ -1,6 +1,4 @@
-use Rattle.std.proofs.Common.{◌≡◌, None, Some, sym, ap, ◌∙◌}
-use Rattle.std.specs.Prelude.{Option, option_map}
-use Rattle.release_catalogue.specs.Lookup.{Chosen}
+use Rattle.std.proofs.Common.{None, Some}
 use Rattle.update_plans.specs.Plans.{scene}
 use Rattle.update_plans.proofs.Puts.{good-there}
 use Rattle.update_plans.proofs.Released.{release_found}

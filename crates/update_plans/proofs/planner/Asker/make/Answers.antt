@@ -1,4 +1,4 @@
-use Rattle.std.proofs.Common.{◌≡◌, false, true, ap, sym, ◌∙◌, arith, refl, Option}
+use Rattle.std.proofs.Common.{false, true, ap, sym, ◌∙◌, arith, refl, Option}
 use Rattle.update_log.specs.declared.event.Event.{Event}
 use Rattle.update_log.specs.declared.event.Op.{Op}
 use Rattle.update_log.specs.Pasts.{past_of}

@@ -1,6 +1,6 @@
-use Rattle.std.proofs.Common.{◌≡◌, ◌<◌, ◌+◌, ℕ, List, length, sym, ap, ◌∙◌, arith}
+use Rattle.std.proofs.Common.{◌≡◌, ◌+◌, ℕ, List, length, ap, ◌∙◌, arith}
 use Rattle.history_keeper.specs.declared.row.Row.{Row}
-use Rattle.update_log.specs.Core.{Core, Stands}
+use Rattle.update_log.specs.Core.{Core}
 use Rattle.update_log.specs.Known.{rows}
 use Rattle.update_log.specs.Pasts.{past_of}
 use Rattle.update_plans.specs.Plans.{release_at, request_of, scene}
