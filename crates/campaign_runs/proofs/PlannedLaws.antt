@@ -1,5 +1,6 @@
 -- Boots by their plans, and boots played, over events that start no boot.
-use Rattle.std.proofs.Common.{◌≡◌, ℕ, Bool, true, false, ◌||◌, List, [], ◌∷◌, ◌++◌, refl, sym, subst}
+use Rattle.std.proofs.Common.{◌≡◌, ℕ, Bool, false, List, [], ◌∷◌, ◌++◌, sym, subst}
+use Rattle.std.proofs.lemmas.Bool.{or_parts}
 use Rattle.std.specs.List.{list_any}
 use Rattle.history_keeper.specs.declared.row.Row.{Row}
 use Rattle.update_log.specs.declared.event.Event.{Event}
@@ -12,10 +13,6 @@ use Rattle.client_plays.specs.Scripts.{EarlierPlayed}
 use Rattle.client_plays.specs.Tools.{Means}
 use Rattle.campaign_runs.specs.Planned.{BootsPlanned}
 
-or-parts : (a b : Bool) → (a || b) ≡ false → (a ≡ false) × (b ≡ false)
-or-parts true b e = cc
-or-parts false b e = (refl, e)
-
 planned-one : (plans : List BootPlan) (event : Event) (past : List Event) → is_boot event ≡ false → BootsPlanned plans past → BootsPlanned plans (event ∷ past)
 planned-one plans (Event.Boot number time limit found boards) past b p = cc
 planned-one plans _ past b p = p
@@ -23,7 +20,7 @@ planned-one plans _ past b p = p
 planned-more : (plans : List BootPlan) (more past : List Event) → list_any is_boot more ≡ false → BootsPlanned plans past → BootsPlanned plans (more ++ past)
 planned-more plans [] past b p = p
 planned-more plans (event ∷ more) past b p =
-    let q = or-parts (is_boot event) (list_any is_boot more) b in planned-one plans event (more ++ past) q.0 (planned-more plans more past q.1 p)
+    let q = or_parts (is_boot event) (list_any is_boot more) b in planned-one plans event (more ++ past) q.0 (planned-more plans more past q.1 p)
 
 pub planned-grown : (plans : List BootPlan) (old new : List Event) → Grew old new → BootsPlanned plans old → BootsPlanned plans new
 planned-grown plans old new g p = subst (BootsPlanned plans) (sym g.are) (planned-more plans g.more old g.no_boot p)
@@ -31,7 +28,7 @@ planned-grown plans old new g p = subst (BootsPlanned plans) (sym g.are) (planne
 earlier-more : (wanting : Bool) (facts : Facts) (opening : List Row) (means : ℕ → Means) (scripts : List (List (List Item))) (more past : List Event) → list_any is_boot more ≡ false → EarlierPlayed wanting facts opening means scripts past → EarlierPlayed wanting facts opening means scripts (more ++ past)
 earlier-more wanting facts opening means scripts [] past b p = p
 earlier-more wanting facts opening means scripts (event ∷ more) past b p =
-    let q = or-parts (is_boot event) (list_any is_boot more) b in
+    let q = or_parts (is_boot event) (list_any is_boot more) b in
     let rest = earlier-more wanting facts opening means scripts more past q.1 p in
     (rw q.0 tt, rest)
 

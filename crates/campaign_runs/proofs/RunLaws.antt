@@ -2,6 +2,7 @@
 use Rattle.std.proofs.Common.{◌≡◌, ℕ, ◌<◌, ◌≤◌, ◌+◌, Bool, true, false, ◌||◌, List, [], ◌∷◌, ◌++◌, length, get_or, refl, ap, sym, ◌∙◌, subst, inl, inr, arith, add-one}
 use Rattle.std.proofs.lemmas.List.Elements.{All-get_or}
 use Rattle.std.proofs.lemmas.Option.{slice_get_cases, slice_get-get_or}
+use Rattle.std.proofs.lemmas.Bool.{or_right, or_left}
 use Rattle.std.specs.List.{list_any}
 use Rattle.std.specs.Prelude.{All, Some, slice_get, unwrap_or}
 use Rattle.history_keeper.specs.declared.row.Row.{Row}
@@ -156,24 +157,15 @@ pub run-read : {K : Type 0} (signs : Signs K) (now before : Bool) (means : ℕ �
 run-read signs now before means of_boot plan mid begun new b m f =
     m.played.rest.same.reopened ∙ b.read (sym (grew-faulted (past begun) (past new) m.played.grew) ∙ f)
 
--- Memory was wanting now, or before.
-or-first : (a b : Bool) → a ≡ true → (a || b) ≡ true
-or-first true b e = refl
-or-first false b e = cc
-
-or-other : (a b : Bool) → b ≡ true → (a || b) ≡ true
-or-other true b e = refl
-or-other false b e = e
-
 pub boot-either : {K : Type 0} (signs : Signs K) (told before now : Bool) (means : ℕ → Means) (of_boot : List (List Item)) (old new : Housed K) → told ≡ (before || now) → HouseBootPlayed signs now means of_boot old new → BootMore signs told before means of_boot old new
 boot-either signs told before now means of_boot old new e h =
     record {
       played = record {
-        played = played-told now told old.annals.facts (rows_before old.annals) means of_boot (past new) (λ n. e ∙ or-other before now n) h.played;
+        played = played-told now told old.annals.facts (rows_before old.annals) means of_boot (past new) (λ n. e ∙ or_right before now n) h.played;
         grew = h.grew;
         rest = h.rest;
       };
-      told = λ b. e ∙ or-first before now b;
+      told = λ b. e ∙ or_left before now b;
     }
 
 -- Each client has the same means in each boot.

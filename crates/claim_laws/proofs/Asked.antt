@@ -1,9 +1,9 @@
 -- What a client holds whose last event is an ask that was answered with a hold.
 use Rattle.std.proofs.Common.{◌≡◌, ◌⊎◌, ℕ, Bool, true, false, not, List, [], ◌∷◌, ◌++◌, refl, ap, sym, ◌∙◌, subst}
+use Rattle.std.proofs.lemmas.Option.{same_Some}
 use Rattle.std.specs.Prelude.{Option, Some, None, ◌==◌, find}
 use Rattle.release_catalogue.specs.declared.reference.ReleaseRef.{ReleaseRef}
 use Rattle.history_keeper.specs.declared.row.Row.{Row}
-use Rattle.update_log.proofs.Accepts.{some-same}
 use Rattle.update_log.proofs.Lists.{by_test, eqb-other, eqb-self, find-filter, find-filter_none, find-push_other}
 use Rattle.update_log.specs.declared.answer.AskAnswer.{AskAnswer}
 use Rattle.update_log.specs.declared.answer.ClaimAnswer.{ClaimAnswer}
@@ -61,7 +61,7 @@ asked-hold (event ∷ past) client request pending blocks release h =
     (λ t. let bad : None ≡ Some ask = rw t at l in cc)
     (λ t. by_test (is_of client event) _
     (λ u. let e : Some event ≡ Some ask = rw (t, u) at l in
-    subst (λ (x : Event). hold (x ∷ past) client ≡ Some (asked_hold client request pending blocks release)) (sym (some-same event ask e)) now)
+    subst (λ (x : Event). hold (x ∷ past) client ≡ Some (asked_hold client request pending blocks release)) (sym (same_Some event ask e)) now)
     (λ u. let e : last_of client past ≡ Some ask = rw (t, u) at l in
     hold-kept event past client t u ∙ asked-hold past client request pending blocks release e))
   where
@@ -84,7 +84,7 @@ install-came c opening past client request blocks release note answer allowed as
     claim-came c.facts opening past client request note answer (asked_hold client request None blocks release) claim accepted came
   where
     same : allowed.0 ≡ asked_hold client request None blocks release
-    same = some-same allowed.0 (asked_hold client request None blocks release) (sym allowed.1.held_is ∙ asked-hold past client request None blocks release asked)
+    same = same_Some allowed.0 (asked_hold client request None blocks release) (sym allowed.1.held_is ∙ asked-hold past client request None blocks release asked)
 
     claim : ClaimAllowed c.facts opening past client request note answer (asked_hold client request None blocks release)
     claim = subst (ClaimAllowed c.facts opening past client request note answer) same allowed.1

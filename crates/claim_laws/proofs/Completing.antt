@@ -1,13 +1,13 @@
 -- What an ask that was accepted comes to, and a request that was put off.
 use Rattle.std.proofs.Common.{◌≡◌, ◌⊎◌, ℕ, ◌<◌, Bool, true, false, List, [], ◌∷◌, ◌++◌, ◌+◌, length, append_assoc, refl, ap, sym, ◌∙◌, subst, inl, inr, arith}
 use Rattle.std.proofs.lemmas.Bool.{eqb-true}
+use Rattle.std.proofs.lemmas.Option.{same_Some}
 use Rattle.std.specs.List.{list_any}
 use Rattle.std.specs.Prelude.{Option, Some, None, option_map}
 use Rattle.history_keeper.specs.declared.change.Change.{Change}
 use Rattle.history_keeper.specs.declared.row.Row.{Row}
 use Rattle.history_keeper.specs.declared.row.RowState.{RowState}
 use Rattle.release_catalogue.specs.declared.reference.ReleaseRef.{ReleaseRef}
-use Rattle.update_log.proofs.Accepts.{some-same}
 use Rattle.update_log.proofs.Lists.{eqb-self}
 use Rattle.update_log.specs.declared.answer.AskAnswer.{AskAnswer}
 use Rattle.update_log.specs.declared.answer.ClaimAnswer.{ClaimAnswer}
@@ -118,7 +118,7 @@ module _ (c : Campaign) (opening : List Row) (past : List Event) (files : Files)
     last_so : (other : Event) → asks_for client other ≡ true → last_of client met ≡ Some other → (other ≡ ask) × (list_any (is_of client) out.between ≡ false)
     last_so other t h =
         let r = last-asked client asked out.between other out.between_on out.asks t h in
-        (some-same other ask (sym r.0 ∙ last-here), r.1)
+        (same_Some other ask (sym r.0 ∙ last-here), r.1)
 
     -- An entry that it took ended.
     taken_so : (event : Event) (entry : ℕ) → out.event ≡ event → takes entry event ≡ true → IsEndedBy (off past) entry out.newer
@@ -159,7 +159,7 @@ module _ (c : Campaign) (opening : List Row) (past : List Event) (files : Files)
         let f : FetchedFor c.facts files client None note (last_of client met) = told_so (Event.Claim client other note answer) e refl (eqb-self client) in
         let r = last_so (Event.Ask client f.request None (AskAnswer.Hold f.blocks f.release)) (eqb-self client) f.asked in
         let s = ask-same client f.request request None pending f.blocks blocks f.release release r.0 in
-        let held : a.0 ≡ given = some-same a.0 given (sym a.1.held_is ∙ held_so) in
+        let held : a.0 ≡ given = same_Some a.0 given (sym a.1.held_is ∙ held_so) in
         let wanted : other ≡ request = sym a.1.request_is ∙ ap (λ (h : Held). h.request) held in
         let now : out.event ≡ Event.Claim client request note answer = e ∙ ap (λ (x : Request). Event.Claim client x note answer) wanted in
         let fetched : IsFetched c.facts files release note = subst (λ (x : ReleaseRef). IsFetched c.facts files x note) s.release f.fetched in
@@ -232,7 +232,7 @@ module _ (c : Campaign) (opening : List Row) (past : List Event) (files : Files)
       let f : FetchedFor c.facts files 0 (Some row) note (last_of 0 seen) = told_so c opening past files wanting 0 legal idle told request (Some entry) blocks release later before are in_boot (Event.Resume 0 row (Some note) answer stored) e refl refl in
       let r = last_so c opening past files wanting 0 legal idle told request (Some entry) blocks release later before are in_boot (Event.Ask 0 f.request (Some row) (AskAnswer.Hold f.blocks f.release)) refl f.asked in
       let s = ask-same 0 f.request request (Some row) (Some entry) f.blocks blocks f.release release r.0 in
-      let same : row ≡ entry = some-same row entry s.pending in
+      let same : row ≡ entry = same_Some row entry s.pending in
       let now : ends.event ≡ Event.Resume 0 entry (Some note) answer stored = e ∙ ap (λ (n : ℕ). Event.Resume 0 n (Some note) answer stored) same in
       let fetched : IsFetched c.facts files release note = subst (λ (x : ReleaseRef). IsFetched c.facts files x note) s.release f.fetched in
       record {
@@ -256,7 +256,7 @@ module _ (c : Campaign) (opening : List Row) (past : List Event) (files : Files)
   not-claimed : (wanted : Request) (note : FetchNote) (answer : ClaimAnswer) (G : Type 0) → ends.event ≡ Event.Claim 0 wanted note answer → G
   not-claimed wanted note answer G e =
       let a = let_so c opening past files wanting 0 legal idle told request (Some entry) blocks release later before are in_boot (Event.Claim 0 wanted note answer) e in
-      let held : a.0 ≡ wants = some-same a.0 wants (sym a.1.held_is ∙ held_so c opening past files wanting 0 legal idle told request (Some entry) blocks release later before are in_boot) in
+      let held : a.0 ≡ wants = same_Some a.0 wants (sym a.1.held_is ∙ held_so c opening past files wanting 0 legal idle told request (Some entry) blocks release later before are in_boot) in
       let bad : Some entry ≡ None = ap (λ (h : Held). h.pending) (sym held) ∙ a.1.pending in
       cc
 

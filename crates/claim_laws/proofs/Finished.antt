@@ -1,10 +1,10 @@
 -- Each install of a script is asked for, and goes on.
 use Rattle.std.proofs.Common.{◌≡◌, ◌⊎◌, ℕ, ◌<◌, Bool, true, false, zero, suc, List, [], ◌∷◌, ◌++◌, refl, ap, sym, ◌∙◌, subst, inl, inr}
 use Rattle.std.proofs.lemmas.Bool.{eqb-true}
+use Rattle.std.proofs.lemmas.Option.{same_Some}
 use Rattle.std.specs.List.{cons_option, filter_map, list_any}
 use Rattle.std.specs.Prelude.{Option, Some, None, slice_get, if◌then◌else◌}
 use Rattle.history_keeper.specs.declared.row.Row.{Row}
-use Rattle.update_log.proofs.Accepts.{some-same}
 use Rattle.update_log.proofs.Lists.{by_test}
 use Rattle.update_log.specs.declared.answer.AskAnswer.{AskAnswer}
 use Rattle.update_log.specs.declared.answer.ClaimAnswer.{ClaimAnswer}
@@ -38,12 +38,12 @@ among-behind (Some y) x xs a = inr a
 
 among-head : {X : Type 0} (o : Option X) (x : X) (xs : List X) → o ≡ Some x → Among x (cons_option o xs)
 among-head None x xs e = cc
-among-head (Some y) x xs e = inl (some-same y x e)
+among-head (Some y) x xs e = inl (same_Some y x e)
 
 -- What a place of a list gives.
 among-place : {X Y : Type 0} (f : X → Option Y) (xs : List X) (n : ℕ) (x : X) (y : Y) → slice_get xs n ≡ Some x → f x ≡ Some y → Among y (filter_map f xs)
 among-place f [] n x y e g = cc
-among-place f (z ∷ xs) zero x y e g = among-head (f z) y (filter_map f xs) (ap f (some-same z x e) ∙ g)
+among-place f (z ∷ xs) zero x y e g = among-head (f z) y (filter_map f xs) (ap f (same_Some z x e) ∙ g)
 among-place f (z ∷ xs) (suc n) x y e g = among-behind (f z) y (filter_map f xs) (among-place f xs n x y e g)
 
 -- And where it is given.

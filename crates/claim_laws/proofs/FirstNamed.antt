@@ -1,5 +1,6 @@
 -- Why the refusal that is decided is the first.
 use Rattle.std.proofs.Common.{◌≡◌, ℕ, suc, ◌<◌, ◌≤◌, arith, Bool, true, false, List, [], ◌∷◌, refl, sym, ap, ◌∙◌, subst}
+use Rattle.std.proofs.lemmas.Option.{same_Some}
 use Rattle.std.specs.Prelude.{Option, Some, None, IfSome, ◌==◌, if◌then◌else◌, is_some, option_map}
 use Rattle.history_keeper.specs.declared.row.Row.{Row}
 use Rattle.update_log.specs.declared.decision.Decision.{Decision}
@@ -7,7 +8,6 @@ use Rattle.update_log.specs.declared.refusal.Refusal.{Refusal}
 use Rattle.update_log.specs.Known.{Target}
 use Rattle.update_log.specs.Verdicts.{Case, busy, decided, first_refusal, hindered, installed, is_that_release, kept, locked, need, no_room, not_updatable, older, on_found, on_kept, on_present, on_target, out_of_size, present, refused_or, retry, rows_full, unmet, unsettled, vetoed, where_so}
 use Rattle.claim_laws.specs.FirstRefusal.{IsFirst, found_by, has_release, target_in, test_place}
-use Rattle.update_log.proofs.Accepts.{some-same}
 use Rattle.update_log.proofs.Lists.{eqb-other, eqb-self}
 
 -- A table of tests, each under the place of the refusals that it finds.
@@ -42,7 +42,7 @@ look-below n m ((k, o) ∷ rest) le a =
 first-above : (m : ℕ) (table : Table) (r : Refusal) → Above m table → Rises table → first_refusal (found_in table) ≡ Some r → m < test_place r
 first-above m [] r a s f = cc
 first-above m ((k, Some x) ∷ rest) r a s f =
-    let same : x ≡ r = some-same x r f in
+    let same : x ≡ r = same_Some x r f in
     let number : test_place r ≡ k = ap test_place (sym same) ∙ s.0 in
     let lt : m < k = a.0 in
     omega (arith, number, lt)
@@ -52,7 +52,7 @@ first-above m ((k, None) ∷ rest) r a s f = first-above m rest r a.1 s.2 f
 first-stands : (table : Table) (r : Refusal) → Rises table → first_refusal (found_in table) ≡ Some r → look_up (test_place r) table ≡ Some r
 first-stands [] r s f = cc
 first-stands ((k, Some x) ∷ rest) r s f =
-    let same : x ≡ r = some-same x r f in
+    let same : x ≡ r = same_Some x r f in
     let number : test_place r ≡ k = ap test_place (sym same) ∙ s.0 in
     rw number (rw (eqb-self k) f)
 first-stands ((k, None) ∷ rest) r s f =
@@ -62,7 +62,7 @@ first-stands ((k, None) ∷ rest) r s f =
 none-lower : (table : Table) (r : Refusal) (n : ℕ) → Rises table → first_refusal (found_in table) ≡ Some r → n < test_place r → look_up n table ≡ None
 none-lower [] r n s f lt = refl
 none-lower ((k, Some x) ∷ rest) r n s f lt =
-    let same : x ≡ r = some-same x r f in
+    let same : x ≡ r = same_Some x r f in
     let number : test_place r ≡ k = ap test_place (sym same) ∙ s.0 in
     rw (eqb-other n k (λ e. omega (arith, number, lt, e))) (look-below n k rest (omega (arith, number, lt)) s.1)
 none-lower ((k, None) ∷ rest) r n s f lt = by (n == k) refl (none-lower rest r n s.2 f lt)

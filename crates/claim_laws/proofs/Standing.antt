@@ -1,10 +1,10 @@
 -- Where an event of a boot stands: what came before it, and how long a hold stands behind its ask.
-use Rattle.std.proofs.Common.{◌≡◌, ◌⊎◌, ℕ, Bool, true, false, ◌||◌, List, [], ◌∷◌, ◌++◌, refl, ap, sym, ◌∙◌, subst, inl, inr}
-use Rattle.std.proofs.lemmas.Bool.{eqb-true}
+use Rattle.std.proofs.Common.{◌≡◌, ◌⊎◌, ℕ, Bool, true, false, List, [], ◌∷◌, ◌++◌, refl, ap, sym, ◌∙◌, subst, inl, inr}
+use Rattle.std.proofs.lemmas.Bool.{eqb-true, or_parts}
+use Rattle.std.proofs.lemmas.Option.{same_Some}
 use Rattle.std.specs.List.{list_any}
 use Rattle.std.specs.Prelude.{Option, Some, None, ◌==◌}
 use Rattle.history_keeper.specs.declared.row.Row.{Row}
-use Rattle.update_log.proofs.Accepts.{some-same}
 use Rattle.update_log.proofs.Lists.{by_test}
 use Rattle.update_log.specs.declared.event.Event.{Event}
 use Rattle.update_log.specs.declared.facts.Facts.{Facts}
@@ -18,10 +18,6 @@ use Rattle.client_plays.specs.Tools.{Files}
 use Rattle.client_plays.proofs.MomentLaws.{grew-off, mine-boot, mine-other, mine-own}
 use Rattle.claim_laws.proofs.Asked.{hold-kept}
 use Rattle.claim_laws.proofs.Told.{AllTold, Told}
-
-or-parts : (a b : Bool) → (a || b) ≡ false → (a ≡ false) × (b ≡ false)
-or-parts true b e = cc
-or-parts false b e = (refl, e)
 
 -- ---- a legal log, in front
 
@@ -75,7 +71,7 @@ module _ (facts : Facts) (files : Files) (Cause : Type 0) where
       subst (λ (before : Option Event). Told facts files Cause before event) (last-own client past)
       (all-last None (mine client past) (at past event) (subst (AllTold facts files Cause None) (mine-own client past event b o) p))
   told-at client (e ∷ newer) event past n b o p =
-      let k = or-parts (is_boot e) (list_any is_boot newer) n in
+      let k = or_parts (is_boot e) (list_any is_boot newer) n in
       let rest : List Event = newer ++ event ∷ past in
       by_test (is_of client e) _
       (λ t. told-at client newer event past k.1 b o (all-front None (mine client rest) (at rest e ∷ []) (subst (AllTold facts files Cause None) (mine-own client rest e k.0 t) p)))
@@ -132,7 +128,7 @@ pub record Released (client : ℕ) (asked later : List Event) (held : Held) : Ty
 still-or-released : (c : Campaign) (opening : List Row) (client : ℕ) (asked later : List Event) (held : Held) → IsLegal c opening (later ++ asked) → list_any is_boot later ≡ false → hold asked client ≡ Some held → StillHeld client asked later held ⊎ Released client asked later held
 still-or-released c opening client asked [] held l n h = inl (record { still = h; asks = refl })
 still-or-released c opening client asked (e ∷ later) held l n h =
-    let k = or-parts (is_boot e) (list_any is_boot later) n in
+    let k = or_parts (is_boot e) (list_any is_boot later) n in
     elim (still-or-released c opening client asked later held l.0 k.1 h) [
       | inl s ↦
           by_test (lets_go client e) _
@@ -172,12 +168,12 @@ pub last-asked : (client : ℕ) (asked between : List Event) (ask : Event) → l
     → (last_of client asked ≡ Some ask) × (list_any (is_of client) between ≡ false)
 last-asked client asked [] ask n a t h = (h, refl)
 last-asked client asked (e ∷ between) ask n a t h =
-    let k = or-parts (is_boot e) (list_any is_boot between) n in
-    let j = or-parts (asks_for client e) (list_any (asks_for client) between) a in
+    let k = or_parts (is_boot e) (list_any is_boot between) n in
+    let j = or_parts (asks_for client e) (list_any (asks_for client) between) a in
     let l : last_of_after client e (last_of client (between ++ asked)) ≡ Some ask = h in
     by_test (is_of client e) _
     (λ o. let same : Some e ≡ Some ask = rw (k.0, o) at l in
-    let bad : true ≡ false = sym t ∙ ap (asks_for client) (sym (some-same e ask same)) ∙ j.0 in cc)
+    let bad : true ≡ false = sym t ∙ ap (asks_for client) (sym (same_Some e ask same)) ∙ j.0 in cc)
     (λ o. let before : last_of client (between ++ asked) ≡ Some ask = rw (k.0, o) at l in
     let r = last-asked client asked between ask k.1 j.1 t before in
     (r.0, rw o r.1))

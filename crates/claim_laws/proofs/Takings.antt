@@ -1,6 +1,7 @@
 -- What is fetched of a payload that lies on the shelf, and what is answered then.
 use Rattle.std.proofs.Common.{◌≡◌, ℕ, true, List, length, refl, ap, sym, ◌∙◌, subst, ◌⊎◌, inl, inr, arith}
 use Rattle.std.proofs.lemmas.Bool.{eq-eqb}
+use Rattle.std.proofs.lemmas.Option.{same_Some}
 use Rattle.std.specs.Prelude.{Option, Some, None, IfSome, ◌==◌, unwrap_or}
 use Rattle.std.specs.Str.{bytes_eq}
 use Rattle.sha2.specs.Sha256.{sha256}
@@ -9,7 +10,6 @@ use Rattle.fw_facts.specs.declared.release.Release.{Release}
 use Rattle.outer_traits.specs.Shelves.{file_of}
 use Rattle.release_catalogue.specs.declared.reference.ReleaseRef.{ReleaseRef}
 use Rattle.history_keeper.specs.declared.row.Row.{Row}
-use Rattle.update_log.proofs.Accepts.{some-same}
 use Rattle.update_log.proofs.Openings.{bytes-self}
 use Rattle.update_log.specs.declared.answer.ClaimAnswer.{ClaimAnswer}
 use Rattle.update_log.specs.declared.answer.ResumeAnswer.{ResumeAnswer}
@@ -41,7 +41,7 @@ use Rattle.claim_laws.specs.Complete.{CanResume, CanTake, HasPayload, Resumes, T
 found-whole : (o : Option (List ℕ)) (bytes digest : List ℕ) (size : ℕ) → o ≡ Some bytes → length bytes ≡ size → sha256 bytes ≡ digest → found_of o digest size ≡ whole bytes
 found-whole None bytes digest size e l d = cc
 found-whole (Some other) bytes digest size e l d =
-    let same : other ≡ bytes = some-same other bytes e in
+    let same : other ≡ bytes = same_Some other bytes e in
     let long : (length other == size) ≡ true = eq-eqb (length other) size (ap length same ∙ l) in
     let hash : bytes_eq (sha256 other) digest ≡ true = ap (λ (x : List ℕ). bytes_eq x digest) (ap sha256 same ∙ d) ∙ bytes-self digest in
     let done : found_of (Some other) digest size ≡ whole bytes = rw (long, hash) (ap whole same) in
@@ -151,7 +151,7 @@ resumption-came facts opening past client entry note answer stored row held allo
     goal = target facts (views facts opening past) held.request
 
     same : allowed.fetched_is.0 ≡ held
-    same = some-same allowed.fetched_is.0 held (sym allowed.fetched_is.1 ∙ holds)
+    same = same_Some allowed.fetched_is.0 held (sym allowed.fetched_is.1 ∙ holds)
 
     answered : ResumeAnswered note goal (verdict facts opening past 0 held.request (Stage.Resume entry held.release)) answer
     answered = subst (λ (h : Held). ResumeAnswered note (target facts (views facts opening past) h.request) (verdict facts opening past 0 h.request (Stage.Resume entry h.release)) answer) same allowed.fetched_is.3

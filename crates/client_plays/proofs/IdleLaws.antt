@@ -1,6 +1,6 @@
 -- A legal log whose boot ends with nothing out ends idle.
 use Rattle.std.proofs.Common.{◌≡◌, ◌⊎◌, ℕ, Bool, true, false, ◌||◌, List, [], ◌∷◌, ◌++◌, refl, ap, sym, ◌∙◌, subst, inl, inr}
-use Rattle.std.proofs.lemmas.Bool.{eqb-true, eq-eqb}
+use Rattle.std.proofs.lemmas.Bool.{eqb-true, eq-eqb, or_parts}
 use Rattle.std.specs.Prelude.{Some, None, ◌==◌, find, not}
 use Rattle.std.specs.List.{list_any, AllByRecursion}
 use Rattle.history_keeper.specs.declared.row.Row.{Row}
@@ -19,10 +19,6 @@ use Rattle.update_log.specs.Pasts.{finishes, is_boot, off, puts_off}
 use Rattle.update_log.specs.Shows.{Campaign}
 use Rattle.client_plays.specs.Endings.{IsIdle}
 use Rattle.client_plays.specs.Idle.{EndsIdle, IsEndedBy, IsGivenBack, Taking, given_back, gives_back}
-
-or-parts : (a b : Bool) → (a || b) ≡ false → (a ≡ false) × (b ≡ false)
-or-parts true b e = cc
-or-parts false b e = (refl, e)
 
 or-true : (a : Bool) → (a || true) ≡ true
 or-true true = refl
@@ -103,7 +99,7 @@ taken-ends : (c : Campaign) (opening : List Row) (later : List Event) (event : E
     → (is_live (live (later ++ event ∷ before)) entry ≡ true) ⊎ IsEndedBy (off (later ++ event ∷ before)) entry later
 taken-ends c opening [] event before entry l b t = inl (taken-live event before entry t)
 taken-ends c opening (e ∷ later) event before entry l b t =
-    let p = or-parts (is_boot e) (list_any is_boot later) b in
+    let p = or_parts (is_boot e) (list_any is_boot later) b in
     let past = later ++ event ∷ before in
     let stays : off past ≡ true → off (e ∷ past) ≡ true = off-stays e past p.0 in
     elim (taken-ends c opening later event before entry l.0 p.1 t) [
@@ -224,7 +220,7 @@ fresh-taken boot before entry [] event rest G b e n t =
     boot-takes Event.Cut b t = cc
 fresh-taken boot before entry (e ∷ later) event rest G b are n t =
     let same : boot ≡ e = cc in
-    let p = or-parts (is_boot e) (list_any is_boot later) n in
+    let p = or_parts (is_boot e) (list_any is_boot later) n in
     let bad : true ≡ false = sym b ∙ ap is_boot same ∙ p.0 in cc
 
 pub fresh-idle : (boot : Event) (before : List Event) → is_boot boot ≡ true → EndsIdle (boot ∷ before)

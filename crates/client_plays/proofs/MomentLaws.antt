@@ -1,6 +1,6 @@
 -- What a client did, over one event and over one stretch of events after another.
 use Rattle.std.proofs.Common.{◌≡◌, ◌≢◌, ℕ, Bool, true, false, ◌||◌, List, [], ◌∷◌, ◌++◌, append_assoc, append-nil, refl, ap, sym, ◌∙◌, eq-eqb}
-use Rattle.std.proofs.lemmas.Bool.{ne_eqb}
+use Rattle.std.proofs.lemmas.Bool.{ne_eqb, or_parts, or_from}
 use Rattle.std.proofs.lemmas.List.Folds.{list_any-append}
 use Rattle.std.specs.List.{list_any}
 use Rattle.std.specs.Prelude.{Some, None}
@@ -34,13 +34,8 @@ boots-same past event b = rw b refl
 pub began-same : (past : List Event) (event : Event) → is_boot event ≡ false → began (event ∷ past) ≡ began past
 began-same past event b = rw b refl
 
--- A past that grew.
-or-none : (a b : Bool) → a ≡ false → b ≡ false → (a || b) ≡ false
-or-none true b x y = x
-or-none false b x y = y
-
 any-none : (a b : List Event) → list_any is_boot a ≡ false → list_any is_boot b ≡ false → list_any is_boot (a ++ b) ≡ false
-any-none a b x y = list_any-append is_boot a b ∙ or-none _ _ x y
+any-none a b x y = list_any-append is_boot a b ∙ or_from _ _ x y
 
 pub grew-nothing : (past : List Event) → Grew past past
 grew-nothing past = record { more = []; are = refl; no_boot = refl }
@@ -56,20 +51,16 @@ grew-both old mid new a b =
       no_boot = any-none b.more a.more b.no_boot a.no_boot;
     }
 
-or-parts : (a b : Bool) → (a || b) ≡ false → (a ≡ false) × (b ≡ false)
-or-parts true b e = cc
-or-parts false b e = (refl, e)
-
 boots-more : (more past : List Event) → list_any is_boot more ≡ false → boots (more ++ past) ≡ boots past
 boots-more [] past b = refl
-boots-more (event ∷ more) past b = let p = or-parts (is_boot event) (list_any is_boot more) b in boots-same (more ++ past) event p.0 ∙ boots-more more past p.1
+boots-more (event ∷ more) past b = let p = or_parts (is_boot event) (list_any is_boot more) b in boots-same (more ++ past) event p.0 ∙ boots-more more past p.1
 
 pub grew-boots : (old new : List Event) → Grew old new → boots new ≡ boots old
 grew-boots old new g = ap boots g.are ∙ boots-more g.more old g.no_boot
 
 began-more : (more past : List Event) → list_any is_boot more ≡ false → began (more ++ past) ≡ began past
 began-more [] past b = refl
-began-more (event ∷ more) past b = let p = or-parts (is_boot event) (list_any is_boot more) b in began-same (more ++ past) event p.0 ∙ began-more more past p.1
+began-more (event ∷ more) past b = let p = or_parts (is_boot event) (list_any is_boot more) b in began-same (more ++ past) event p.0 ∙ began-more more past p.1
 
 pub grew-began : (old new : List Event) → Grew old new → began new ≡ began old
 grew-began old new g = ap began g.are ∙ began-more g.more old g.no_boot
@@ -78,7 +69,7 @@ grew-began old new g = ap began g.are ∙ began-more g.more old g.no_boot
 off-more : (more past : List Event) → list_any is_boot more ≡ false → off past ≡ true → off (more ++ past) ≡ true
 off-more [] past b e = e
 off-more (event ∷ more) past b e =
-    let p = or-parts (is_boot event) (list_any is_boot more) b in
+    let p = or_parts (is_boot event) (list_any is_boot more) b in
     let rest : off (more ++ past) ≡ true = off-more more past p.1 e in
     rw (p.0, rest) (or-true (puts_off event))
   where

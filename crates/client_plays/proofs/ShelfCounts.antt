@@ -1,6 +1,6 @@
 -- The faults of shelves that a log tells, by what its clients did.
-use Rattle.std.proofs.Common.{◌≡◌, ◌≢◌, ℕ, zero, suc, ◌≤◌, ◌+◌, Bool, true, false, ◌||◌, List, [], ◌∷◌, ◌++◌, refl, ap, sym, ◌∙◌, subst, inl, inr, arith, eq-eqb}
-use Rattle.std.proofs.lemmas.Bool.{ne_eqb}
+use Rattle.std.proofs.Common.{◌≡◌, ◌≢◌, ℕ, zero, suc, ◌≤◌, ◌+◌, Bool, true, false, List, [], ◌∷◌, ◌++◌, refl, ap, sym, ◌∙◌, subst, inl, inr, arith, eq-eqb}
+use Rattle.std.proofs.lemmas.Bool.{ne_eqb, or_parts}
 use Rattle.std.proofs.lemmas.Bool.Decides.{eqb_tells}
 use Rattle.std.specs.List.{list_any}
 use Rattle.std.specs.Prelude.{◌==◌, ◌&&◌, Option, Some, None, option_map, slice_get, unwrap_or, if◌then◌else◌}
@@ -93,17 +93,13 @@ own-event zero past event b =
 own-event (suc n) past event b =
     own-more (suc (suc n)) past event b ∙ ap (λ (k : ℕ). faults_in (mine (suc (suc n)) past) + k) (sym (other-told (client_of event) n (tells_shelf_fault event)))
 
-or-parts : (a b : Bool) → (a || b) ≡ false → (a ≡ false) × (b ≡ false)
-or-parts true b e = cc
-or-parts false b e = (refl, e)
-
 grown-both : (told told' k own own' start mine : ℕ) → told' ≡ told + k → own' ≡ own + k → told + mine ≡ start + own → told' + mine ≡ start + own'
 grown-both told told' k own own' start mine a b c = omega arith
 
 grown-more : (place : ℕ) (more past : List Event) → list_any is_boot more ≡ false → shelf_faults place (more ++ past) + shelf_own place past ≡ shelf_faults place past + shelf_own place (more ++ past)
 grown-more place [] past b = refl
 grown-more place (event ∷ more) past b =
-    let p = or-parts (is_boot event) (list_any is_boot more) b in
+    let p = or_parts (is_boot event) (list_any is_boot more) b in
     grown-both (shelf_faults place (more ++ past)) (shelf_faults place (event ∷ (more ++ past))) (bit (is_of_shelf place event && tells_shelf_fault event)) (shelf_own place (more ++ past)) (shelf_own place (event ∷ (more ++ past))) (shelf_faults place past) (shelf_own place past)
     (bit-more (is_of_shelf place event && tells_shelf_fault event) (shelf_faults place (more ++ past)))
     (own-event place (more ++ past) event p.0)

@@ -1,5 +1,6 @@
 -- A boot: the daemon's tasks, and then the clients.
-use Rattle.std.proofs.Common.{◌≡◌, ◌≢◌, ◌⊎◌, ℕ, ◌<◌, ◌≤◌, ◌+◌, ◌-◌, ◌^◌, Bool, true, false, ◌||◌, List, [], ◌++◌, refl, ap, sym, ◌∙◌, subst, inl, inr, arith}
+use Rattle.std.proofs.Common.{◌≡◌, ◌≢◌, ◌⊎◌, ℕ, ◌<◌, ◌≤◌, ◌+◌, ◌-◌, ◌^◌, Bool, true, false, ◌||◌, List, [], ◌++◌, ap, sym, ◌∙◌, subst, inl, inr, arith}
+use Rattle.std.proofs.lemmas.Bool.{or_right, or_left}
 use Rattle.history_keeper.specs.declared.row.Row.{Row}
 use Rattle.update_log.specs.declared.event.Event.{Event}
 use Rattle.update_log.specs.declared.facts.Facts.{Facts}
@@ -34,14 +35,6 @@ fresh-mine past client f = ap (mine client) f.are ∙ mine-boot client f.before 
 
 not-first : (client : ℕ) → 0 < client → client ≢ 0
 not-first client h e = omega arith
-
-or-one : (a b : Bool) → a ≡ true → (a || b) ≡ true
-or-one true b e = refl
-or-one false b e = cc
-
-or-other : (a b : Bool) → b ≡ true → (a || b) ≡ true
-or-other true b e = refl
-or-other false b e = e
 
 -- Nothing was done in a boot that was off from the first.
 pub boot-off : {K : Type 0} (signs : Signs K) (means : ℕ → Means) (of_boot : List (List Item)) (h : Housed K) → IsIdle (past h) → IsFresh (past h) → off (past h) ≡ true → HouseBootPlayed signs false means of_boot h h
@@ -93,13 +86,13 @@ module _ {K : Type 0} (signs : Signs K) (now : Bool) (means : Means) (old mid : 
         subst (λ (fs : Means). T fs (began (past new)) (mine 0 (past new))) (sym first)
         (subst (λ (b : List Event). T means b (mine 0 (past new))) (sym boot)
         (subst (λ (m : List Moment). T means (began (past old)) m) (sym own)
-        (still-played 0 (TaskPlays old.annals.facts (rows_before old.annals) means) (tasks old.annals.facts (rows_before old.annals) (began (past old))) h.went.moments (off (past mid)) (off (past new)) now (now || wanting) stays (or-one now wanting) h.went.plays)))
+        (still-played 0 (TaskPlays old.annals.facts (rows_before old.annals) means) (tasks old.annals.facts (rows_before old.annals) (began (past old))) h.went.moments (off (past mid)) (off (past new)) now (now || wanting) stays (or_left now wanting) h.went.plays)))
 
     scripts-played : (client : ℕ) → 0 < client → PlayedSo (off (past new)) (now || wanting) client (Plays old.annals.facts (rows_before old.annals) (told client) client) (items_of of_boot client) (mine client (past new))
     scripts-played client c =
         let s : SameFacts old.annals mid.annals = h.rest.same in
         let P : Facts → List Row → Means → Type 0 = λ fs o x. PlayedSo (off (past new)) wanting client (Plays fs o x client) (items_of of_boot client) (mine client (past new)) in
-        still-played client (Plays old.annals.facts (rows_before old.annals) (told client) client) (items_of of_boot client) (mine client (past new)) (off (past new)) (off (past new)) wanting (now || wanting) (λ o. o) (or-other now wanting)
+        still-played client (Plays old.annals.facts (rows_before old.annals) (told client) client) (items_of of_boot client) (mine client (past new)) (off (past new)) (off (past new)) wanting (now || wanting) (λ o. o) (or_right now wanting)
         (subst (λ (x : Means). P old.annals.facts (rows_before old.annals) x) (same client)
         (subst (λ (o : List Row). P old.annals.facts o (then client)) (before-same old.annals mid.annals s)
         (subst (λ (fs : Facts). P fs (rows_before mid.annals) (then client)) s.facts (p.clients client c))))

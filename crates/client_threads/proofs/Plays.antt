@@ -1,7 +1,8 @@
 -- Scripts that were played, or left.
-use Rattle.std.proofs.Common.{◌≡◌, ℕ, ◌<◌, ◌≤◌, Bool, true, false, zero, suc, List, [], ◌∷◌, length, refl, sym, subst, inr, arith}
+use Rattle.std.proofs.Common.{◌≡◌, ℕ, ◌<◌, Bool, true, false, zero, suc, List, [], ◌∷◌, length, refl, sym, subst, inr, arith}
 use Rattle.std.proofs.lemmas.Bool.{eqb-true}
-use Rattle.std.specs.Prelude.{◌==◌, slice_get, None}
+use Rattle.std.proofs.lemmas.Option.{slice_get_past}
+use Rattle.std.specs.Prelude.{◌==◌}
 use Rattle.history_keeper.specs.declared.row.Row.{Row}
 use Rattle.update_log.specs.declared.facts.Facts.{Facts}
 use Rattle.client_scripts.specs.declared.item.Item.{Item}
@@ -37,15 +38,9 @@ pub empty-list : {X : Type 0} (xs : List X) → (length xs == 0) ≡ true → xs
 empty-list [] e = refl
 empty-list (x ∷ xs) e = let z : length (x ∷ xs) ≡ 0 = eqb-true (length (x ∷ xs)) 0 e in absurd (omega arith)
 
--- A client beyond the last one has no script.
-get-none : {X : Type 0} (xs : List X) (n : ℕ) → length xs ≤ n → slice_get xs n ≡ None
-get-none [] n l = refl
-get-none (x ∷ xs) zero l = absurd (omega arith)
-get-none (x ∷ xs) (suc n) l = get-none xs n (omega arith)
-
 pub items-beyond : (of_boot : List (List Item)) (client : ℕ) → length of_boot < client → items_of of_boot client ≡ []
 items-beyond of_boot zero l = refl
-items-beyond of_boot (suc n) l = rw (get-none of_boot n (omega arith)) refl
+items-beyond of_boot (suc n) l = rw (slice_get_past of_boot n (omega arith)) refl
 
 -- Where nothing was done for want of memory, all was left.
 all-left : {X : Type 0} (client : ℕ) (Play : X → List Moment → Type 0) (xs : List X) → ((x : X) → Leaves client (Play x) []) → PlaysAll true client Play xs []

@@ -6,13 +6,14 @@ use Rattle.fw_facts.specs.declared.release.Release.{Release}
 use Rattle.std.proofs.lemmas.List.{append-nil, length_push}
 use Rattle.std.proofs.lemmas.List.Sums.{sum_by_push}
 use Rattle.std.proofs.lemmas.Bool.{ltb-false}
+use Rattle.std.proofs.lemmas.Option.{same_Some}
 use Rattle.fw_facts.specs.Views.{guids_of}
 use Rattle.fw_facts.specs.declared.view.DeviceView.{DeviceView}
 use Rattle.fw_facts.specs.declared.seen.Seen.{Seen}
 use Rattle.history_keeper.specs.declared.row.Row.{Row}
 use Rattle.release_catalogue.specs.Lookup.{Chosen, chosen}
 use Rattle.release_catalogue.specs.declared.reference.ReleaseRef.{ReleaseRef}
-use Rattle.update_log.proofs.Accepts.{none-refuses, some-same}
+use Rattle.update_log.proofs.Accepts.{none-refuses}
 use Rattle.update_log.proofs.Placed.{chosen-placed}
 use Rattle.update_log.proofs.Lists.{by_test}
 use Rattle.update_log.specs.Holding.{blocks_of, held, hold, hold_of, holds, without_client}
@@ -76,7 +77,7 @@ target-placed facts views request t h = at (place request.device views) h
     at-chosen : (place : ℕ) (view : DeviceView) (o : Option Chosen) → chosen facts.catalogue (guids_of view) request.version ≡ o → option_map (λ c. let u : Target = record { place = place; view = view; chosen = c } in u) o ≡ Some t → IsReleaseAt facts.catalogue t.chosen.at t.chosen.release
     at-chosen place view None e g = cc
     at-chosen place view (Some c) e g =
-        let same : record { place = place; view = view; chosen = c } ≡ t = some-same (record { place = place; view = view; chosen = c }) t g in
+        let same : record { place = place; view = view; chosen = c } ≡ t = same_Some (record { place = place; view = view; chosen = c }) t g in
         let p = chosen-placed facts.catalogue (guids_of view) request.version c e in
         subst (λ (u : Target). IsReleaseAt facts.catalogue u.chosen.at u.chosen.release) same
         (record { component = c.component; component_is = p.component; release_is = p.release })
@@ -174,8 +175,8 @@ house-held told doubted client request pending blocks release old new pool h o k
 pub release-same : (catalogue : List Component) (at : ReleaseRef) (a b : Release) → IsReleaseAt catalogue at a → IsReleaseAt catalogue at b → a ≡ b
 release-same catalogue at a b k l =
     let c : Some k.component ≡ Some l.component = sym k.component_is ∙ l.component_is in
-    let e : k.component ≡ l.component = some-same k.component l.component c in
-    some-same a b (sym k.release_is ∙ ap (λ (x : Component). slice_get x.releases at.release) e ∙ l.release_is)
+    let e : k.component ≡ l.component = same_Some k.component l.component c in
+    same_Some a b (sym k.release_is ∙ ap (λ (x : Component). slice_get x.releases at.release) e ∙ l.release_is)
 
 -- What was accepted over some annals, over annals that are the same.
 pub found-over : (a b : Annalled) (client : ℕ) (request : Request) (pending : Option ℕ) (at : ReleaseRef) (blocks : ℕ) → b ≡ a

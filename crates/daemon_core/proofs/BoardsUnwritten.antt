@@ -2,7 +2,7 @@
 use Rattle.std.proofs.Common.{◌≡◌, ℕ, Bool, true, false, ◌||◌, List, [], ◌∷◌, ◌++◌, refl, ap, sym, ◌∙◌, ◌⊎◌, inl, inr, subst}
 use Rattle.std.specs.Prelude.{Option, Some, None, ◌==◌, if◌then◌else◌, option_map, slice_get, unwrap_or}
 use Rattle.std.specs.List.{list_any}
-use Rattle.std.proofs.lemmas.Bool.{eqb-true, eq-eqb}
+use Rattle.std.proofs.lemmas.Bool.{eqb-true, eq-eqb, or_parts, or_right, or_left, or_cases}
 use Rattle.std.proofs.lemmas.List.Folds.{list_any-append, list_any_at}
 use Rattle.emulated_boards.specs.declared.mark.Mark.{Mark}
 use Rattle.fw_facts.specs.Views.{is_home}
@@ -47,27 +47,12 @@ prefix-begins Op.Attach entry digest (m ∷ m' ∷ ms) p e = absurd p.1
 prefix-begins Op.Write entry digest [] p e = cc
 prefix-begins Op.Write entry digest (m ∷ ms) p e = rw p.0 refl
 
-or-cases : (a b : Bool) → (a || b) ≡ true → (a ≡ true) ⊎ (b ≡ true)
-or-cases true b h = inl refl
-or-cases false b h = inr h
-
-or-left : (a b : Bool) → a ≡ true → (a || b) ≡ true
-or-left a b h = rw h refl
-
-or-right : (a b : Bool) → b ≡ true → (a || b) ≡ true
-or-right true b h = refl
-or-right false b h = h
-
-or-none : (a b : Bool) → (a || b) ≡ false → (a ≡ false) × (b ≡ false)
-or-none true b h = cc
-or-none false b h = (refl, h)
-
 pub append-begins : (xs ys : List Mark) → BeginsToo xs → BeginsToo ys → BeginsToo (xs ++ ys)
-append-begins xs ys f g e = list_any-append is_began xs ys ∙ at (or-cases (list_any is_ended xs) (list_any is_ended ys) (sym (list_any-append is_ended xs ys) ∙ e))
+append-begins xs ys f g e = list_any-append is_began xs ys ∙ at (or_cases (list_any is_ended xs) (list_any is_ended ys) (sym (list_any-append is_ended xs ys) ∙ e))
   where
     at : (list_any is_ended xs ≡ true) ⊎ (list_any is_ended ys ≡ true) → (list_any is_began xs || list_any is_began ys) ≡ true
-    at (inl h) = or-left (list_any is_began xs) (list_any is_began ys) (f h)
-    at (inr h) = or-right (list_any is_began xs) (list_any is_began ys) (g h)
+    at (inl h) = or_left (list_any is_began xs) (list_any is_began ys) (f h)
+    at (inr h) = or_right (list_any is_began xs) (list_any is_began ys) (g h)
 
 -- a tail of the marks of an open step
 pub open-begins : (facts : Facts) (opening : List Row) (past : List Event) (number : ℕ) (ms : List Mark) → IsPrefix ms (open_marks facts opening past number) → BeginsToo ms
@@ -107,13 +92,13 @@ since-told facts first opening (event ∷ past) number h =
     list_any-append is_began (told facts opening past number) (told_by facts (rows facts opening past) event number) ∙
     by_test (tells_home (tells facts (live past) (known facts opening past) event number)) _
     (λ t. let bad : false ≡ true = rw t at h in cc)
-    (λ f. at (since-told facts first opening past number) (or-cases (list_any is_began (told_by facts (rows facts opening past) event number)) (began_since facts first opening past number) (rw f at h)))
+    (λ f. at (since-told facts first opening past number) (or_cases (list_any is_began (told_by facts (rows facts opening past) event number)) (began_since facts first opening past number) (rw f at h)))
   where
     at : (began_since facts first opening past number ≡ true → list_any is_began (told facts opening past number) ≡ true)
         → (list_any is_began (told_by facts (rows facts opening past) event number) ≡ true) ⊎ (began_since facts first opening past number ≡ true)
         → (list_any is_began (told facts opening past number) || list_any is_began (told_by facts (rows facts opening past) event number)) ≡ true
-    at before (inl t) = or-right (list_any is_began (told facts opening past number)) _ t
-    at before (inr s) = or-left (list_any is_began (told facts opening past number)) _ (before s)
+    at before (inl t) = or_right (list_any is_began (told facts opening past number)) _ t
+    at before (inr s) = or_left (list_any is_began (told facts opening past number)) _ (before s)
 
 pub has-first : (shown first : Seen) (raw : ℕ) → HasRaw shown raw → ShowsFirst shown first → HasRaw first raw
 has-first (Seen.Home r mode) first raw h s = subst (HasRaw first) h s
@@ -125,10 +110,10 @@ pub allowed-first : (facts : Facts) (first : List Seen) (opening : List Row) (pa
     → RawAllowed facts first opening past number ms raw → BeginsToo (told facts opening past number ++ ms) → list_any is_began (told facts opening past number ++ ms) ≡ false
     → ShowsFirst (home_before facts first opening past number) (first_of_board first number) → HasRaw (first_of_board first number) raw
 allowed-first facts first opening past number ms raw (inl h) b n s = has-first (home_before facts first opening past number) (first_of_board first number) raw h s
-allowed-first facts first opening past number ms raw (inr (inl (z, t))) b n s = at (or-cases (list_any is_began ms) (began_since facts first opening past number) t)
+allowed-first facts first opening past number ms raw (inr (inl (z, t))) b n s = at (or_cases (list_any is_began ms) (began_since facts first opening past number) t)
   where
     none : (list_any is_began (told facts opening past number) ≡ false) × (list_any is_began ms ≡ false)
-    none = or-none (list_any is_began (told facts opening past number)) (list_any is_began ms) (sym (list_any-append is_began (told facts opening past number) ms) ∙ n)
+    none = or_parts (list_any is_began (told facts opening past number)) (list_any is_began ms) (sym (list_any-append is_began (told facts opening past number) ms) ∙ n)
 
     at : (list_any is_began ms ≡ true) ⊎ (began_since facts first opening past number ≡ true) → HasRaw (first_of_board first number) raw
     at (inl h) = let bad : true ≡ false = sym h ∙ none.1 in cc
@@ -204,7 +189,7 @@ first-itself Seen.Stranger = tt
 
 module _ (c : Campaign) (opening : List Row) (past : List Event) (event : Event) (number : ℕ) (legal : IsLegal c opening (event ∷ past)) (n : list_any is_began (told c.facts opening (event ∷ past) number) ≡ false) where
   none-before : list_any is_began (told c.facts opening past number) ≡ false
-  none-before = (or-none (list_any is_began (told c.facts opening past number)) (list_any is_began (told_by c.facts (rows c.facts opening past) event number)) (sym (list_any-append is_began (told c.facts opening past number) (told_by c.facts (rows c.facts opening past) event number)) ∙ n)).0
+  none-before = (or_parts (list_any is_began (told c.facts opening past number)) (list_any is_began (told_by c.facts (rows c.facts opening past) event number)) (sym (list_any-append is_began (told c.facts opening past number) (told_by c.facts (rows c.facts opening past) event number)) ∙ n)).0
 
   module _ (before : Unwritten c.facts c.first opening past number) where
     first-of : (shown : Seen) → tells c.facts (live past) (known c.facts opening past) event number ≡ Some shown → ShowsFirst shown (first_of_board c.first number)

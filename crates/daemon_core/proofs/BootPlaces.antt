@@ -2,6 +2,7 @@
 use Rattle.std.proofs.Common.{◌≡◌, ℕ, Bool, true, false, ◌||◌, ◌≤◌, List, [], ◌∷◌, ◌++◌, refl, ap, sym, ◌∙◌, inl, inr, append-nil, drop, length, subst}
 use Rattle.std.proofs.Math.Seq.{drop-append_seam}
 use Rattle.std.proofs.lemmas.List.Folds.{list_any-append}
+use Rattle.std.proofs.lemmas.Bool.{or_parts}
 use Rattle.std.specs.Prelude.{Option, Some, None, Contains, IsTrue, if◌then◌else◌, slice_get, unwrap_or, option_map}
 use Rattle.std.specs.List.{list_any}
 use Rattle.emulated_boards.specs.Boards.{BoardState}
@@ -12,7 +13,6 @@ use Rattle.fw_facts.specs.Views.{is_home}
 use Rattle.fw_facts.specs.declared.seen.Mode.{Mode}
 use Rattle.fw_facts.specs.declared.seen.Seen.{Seen}
 use Rattle.history_keeper.specs.declared.row.Row.{Row}
-use Rattle.update_log.proofs.RowsKept.{or-false}
 use Rattle.update_log.specs.declared.event.BoardSeen.{BoardSeen}
 use Rattle.update_log.specs.declared.event.Event.{Event}
 use Rattle.update_log.specs.declared.event.Found.{Found}
@@ -71,7 +71,7 @@ module _ (facts : Facts) (first : List Seen) (opening : List Row) (past : List E
       none_here = ap (list_any is_began) (sym h.fits.journal.told_and_tail ∙ sym w.same.journal) ∙ none
 
       none_before : list_any is_began (told facts opening past n) ≡ false
-      none_before = (or-false (list_any is_began (told facts opening past n)) (list_any is_began tail) (sym (list_any-append is_began (told facts opening past n) tail) ∙ none_here)).0
+      none_before = (or_parts (list_any is_began (told facts opening past n)) (list_any is_began tail) (sym (list_any-append is_began (told facts opening past n) tail) ∙ none_here)).0
 
       at : (x : Seen) → view_of (booted absent b.condition) ≡ x → ShowsFirst x (first_of_board first n)
       at (Seen.Home raw mode) e =

@@ -1,6 +1,7 @@
 -- What a claim has whose request is accepted.
 use Rattle.std.proofs.Common.{◌≡◌, ℕ, zero, suc, ◌<◌, ◌+◌, true, false, List, [], ◌∷◌, length, map, refl, ap, sym, ◌∙◌}
-use Rattle.std.proofs.lemmas.Bool.{eq-eqb, eqb-true}
+use Rattle.std.proofs.lemmas.Bool.{eq-eqb, eqb-true, and_parts}
+use Rattle.std.proofs.lemmas.Option.{same_Some}
 use Rattle.std.specs.Prelude.{Option, Some, None, slice_get, option_map, option_and_then, unwrap_or, find, position, is_some, ◌==◌}
 use Rattle.std.specs.List.{AllByRecursion, list_any}
 use Rattle.std.specs.Str.{bytes_eq}
@@ -17,11 +18,10 @@ use Rattle.history_keeper.specs.declared.row.Row.{Row}
 use Rattle.history_keeper.specs.declared.row.RowState.{RowState}
 use Rattle.release_catalogue.specs.Lookup.{Chosen, chosen}
 use Rattle.release_catalogue.specs.declared.reference.ReleaseRef.{ReleaseRef}
-use Rattle.update_log.proofs.Accepts.{accepts-target, some-same}
+use Rattle.update_log.proofs.Accepts.{accepts-target}
 use Rattle.update_log.proofs.Lists.{All-filter, All-find, by_test}
 use Rattle.update_log.proofs.Openings.{bytes-self}
 use Rattle.update_log.proofs.RowsKept.{is_kept, no-tag, not_kept}
-use Rattle.update_log.proofs.StrokeFacts.{and-true}
 use Rattle.update_log.specs.Boards.{Board, all_boards, board_with, devices, is_device, is_served, plugin_place}
 use Rattle.update_log.specs.Holding.{live}
 use Rattle.update_log.specs.Known.{Target, is_board_of, is_on, known, new_row, row_with_tag, rows, target, target_at, target_of, view_of, views}
@@ -54,7 +54,7 @@ pub record BoardSeen (f : Board → DeviceView) (boards : List Board) (v : Devic
 
 pub board-seen : (f : Board → DeviceView) (boards : List Board) (n : ℕ) (v : DeviceView) → slice_get (map f boards) n ≡ Some v → BoardSeen f boards v
 board-seen f [] n v e = cc
-board-seen f (b ∷ bs) zero v e = record { board = b; view_is = some-same (f b) v e; other = b; found = rw (bytes-self b.sheet.device) refl }
+board-seen f (b ∷ bs) zero v e = record { board = b; view_is = same_Some (f b) v e; other = b; found = rw (bytes-self b.sheet.device) refl }
 board-seen f (b ∷ bs) (suc n) v e =
     let r = board-seen f bs n v e in
     by_test (bytes_eq b.sheet.device r.board.sheet.device) (BoardSeen f (b ∷ bs) v)
@@ -68,7 +68,7 @@ target-seen facts all request t h = at (place request.device all) h
     at-chosen : (n : ℕ) (view : DeviceView) (o : Option Chosen) → slice_get all n ≡ Some view → option_map (λ c. let u : Target = record { place = n; view = view; chosen = c } in u) o ≡ Some t → (n : ℕ) × (slice_get all n ≡ Some t.view)
     at-chosen n view None s g = cc
     at-chosen n view (Some c) s g =
-        let same : record { place = n; view = view; chosen = c } ≡ t = some-same (record { place = n; view = view; chosen = c }) t g in
+        let same : record { place = n; view = view; chosen = c } ≡ t = same_Some (record { place = n; view = view; chosen = c }) t g in
         (n, s ∙ ap (λ (u : Target). Some u.view) same)
 
     at-view : (n : ℕ) (o : Option DeviceView) → slice_get all n ≡ o → option_and_then (target_of facts request.version n) o ≡ Some t → (n : ℕ) × (slice_get all n ≡ Some t.view)
@@ -125,7 +125,7 @@ device-served facts device number h = at (find (λ b. bytes_eq b.sheet.device de
     at (Some b) f e =
         let n : b.number ≡ number = cc in
         let served : is_served facts b ≡ true = All-find (λ (x : Board). is_served facts x ≡ true) (λ (x : Board). bytes_eq x.sheet.device device) (devices facts) b
-        (All-filter (λ (x : Board). Unit {0}) (λ (x : Board). is_served facts x ≡ true) (is_device facts) (all_boards facts) (all-true (all_boards facts)) (λ x _ d. (and-true (is_served facts x) _ d).0)) f in
+        (All-filter (λ (x : Board). Unit {0}) (λ (x : Board). is_served facts x ≡ true) (is_device facts) (all_boards facts) (all-true (all_boards facts)) (λ x _ d. (and_parts (is_served facts x) _ d).0)) f in
         let p = is-some (plugin_place facts b) served in
         let sheet : slice_get facts.sheets number ≡ Some b.sheet = ap (slice_get facts.sheets) (sym n) ∙ All-find (HasSheet facts.sheets) (λ (x : Board). bytes_eq x.sheet.device device) (devices facts) b (device-sheet facts) f in
         (p.0, ap (option_and_then (λ (s : Sheet). position (λ vetoes. bytes_eq vetoes.plugin s.plugin) facts.vetoes)) sheet ∙ p.1)
@@ -135,7 +135,7 @@ device-served facts device number h = at (find (λ b. bytes_eq b.sheet.device de
 -- one release is at two places that are the same
 release-there : (catalogue : List Component) (a b : ReleaseRef) (release : Release) → is_release a b ≡ true → IsReleaseAt catalogue b release → IsReleaseAt catalogue a release
 release-there catalogue a b release h k =
-    let p = and-true (a.component == b.component) _ h in
+    let p = and_parts (a.component == b.component) _ h in
     record {
       component = k.component;
       component_is = ap (slice_get catalogue) (eqb-true a.component b.component p.0) ∙ k.component_is;
@@ -163,7 +163,7 @@ claimable facts opening past client request release a =
       t,
       record {
         found = h.1.found;
-        that = (and-true (is_release release t.chosen.at) _ h.1.that).0;
+        that = (and_parts (is_release release t.chosen.at) _ h.1.that).0;
         unclaimed = not-busy t.view.claim h.1.none.is_busy;
         few = fits-rows (length (rows facts opening past)) h.1.none.is_rows_full;
         suits = (refl, new-tag (rows facts opening past) (new_row (length (rows facts opening past) + 1) (time_of past) client request RowState.Begun t) (no-tag (rows facts opening past) request.tag k));

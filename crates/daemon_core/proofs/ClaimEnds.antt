@@ -1,5 +1,5 @@
 -- A house after the end of a step.
-use Rattle.std.proofs.Common.{◌≡◌, ◌≢◌, ℕ, zero, suc, ◌<◌, ◌≤◌, ◌+◌, Bool, true, false, List, [], ◌∷◌, ◌++◌, length, drop, refl, ap, sym, ◌∙◌, subst, arith, ◌⊎◌, inl, inr}
+use Rattle.std.proofs.Common.{◌≡◌, ◌≢◌, ℕ, zero, suc, ◌<◌, ◌≤◌, ◌+◌, Bool, true, false, List, [], ◌∷◌, ◌++◌, length, drop, refl, ap, sym, ◌∙◌, subst, arith, ◌⊎◌, inl, inr, le_refl}
 use Rattle.std.proofs.lemmas.Bool.{eqb-true}
 use Rattle.std.proofs.lemmas.List.{length-append}
 use Rattle.std.proofs.lemmas.Option.{slice_get_within}
@@ -135,15 +135,12 @@ end-allowed a client entry op outcome number b s = λ c f g.
     subst (λ (x : Facts). EndAllowed x c.first (rows_before a) (past_in a) client entry op outcome (marks_in a entry b) (view_of b.condition)) (sym f)
     (subst (λ (x : List Seen). EndAllowed a.facts x (rows_before a) (past_in a) client entry op outcome (marks_in a entry b) (view_of b.condition)) (sym g) s.allowed)
 
-same-length : (n : ℕ) → n ≤ n
-same-length n = omega arith
-
 pub end-ready : (a : Annalled) (client entry : ℕ) (op : Op) (outcome : Result (Unit {0}) BoardFault) (number : ℕ) (b : BoardState) → IsAnnals a → Runs a → 0 < boots (past_in a) → EndsIn a client entry op outcome number b → IsReady a (end_event a client entry op outcome b)
 end-ready a client entry op outcome number b k r n s =
     spent-ready a (end_event a client entry op outcome b) k
     (runs-takes a (end_event a client entry op outcome b) r n refl)
     (end-allowed a client entry op outcome number b s)
-    refl (same-length (length (rows a.facts (rows_before a) (past_in a))))
+    refl (le_refl (length (rows a.facts (rows_before a) (past_in a))))
 
 -- the live entry of the step
 pub end-live : (a : Annalled) (client entry : ℕ) (op : Op) (outcome : Result (Unit {0}) BoardFault) (number : ℕ) (b : BoardState) → IsAnnals a → Runs a → EndsIn a client entry op outcome number b → (l : LiveEntry) × (live_entry (past_in a) entry ≡ Some l)

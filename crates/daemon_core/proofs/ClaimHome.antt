@@ -1,5 +1,5 @@
 -- A house to which the board of a live entry comes home.
-use Rattle.std.proofs.Common.{◌≡◌, ◌≢◌, ℕ, ◌<◌, ◌≤◌, ◌+◌, ◌-◌, Bool, true, false, List, [], ◌∷◌, length, refl, ap, sym, ◌∙◌, subst, arith, ◌⊎◌, inl, inr}
+use Rattle.std.proofs.Common.{◌≡◌, ◌≢◌, ℕ, ◌<◌, ◌≤◌, ◌+◌, ◌-◌, Bool, true, false, List, [], ◌∷◌, length, refl, ap, sym, ◌∙◌, subst, arith, ◌⊎◌, inl, inr, le_refl}
 use Rattle.std.specs.Prelude.{Option, Some, None, slice_get, unwrap_or, find, ◌==◌}
 use Rattle.fw_facts.specs.declared.seen.Seen.{Seen}
 use Rattle.block_pool.specs.Views.{PoolCounts}
@@ -81,15 +81,12 @@ home-places a event client entry number l tail b blocks places k count stand s e
 abbrev pub back_event : ℕ → ℕ → Event
 back_event client entry = Event.GiveBack client (Back.Entry entry)
 
-same-length : (n : ℕ) → n ≤ n
-same-length n = omega arith
-
 pub back-ready : (a : Annalled) (client entry number : ℕ) (l : LiveEntry) (tail : List Mark) (b : BoardState) (blocks : ℕ) → IsAnnals a → 0 < boots (past_in a) → off (past_in a) ≡ true → HomeTo a client entry number l tail b blocks → IsReady a (back_event client entry)
 back-ready a client entry number l tail b blocks k n o s =
     spent-ready a (back_event client entry) k
     (record { booted = λ _. n; on = λ h. cc; below = λ h. absurd (no h) })
     (λ c f g. (l, s.live, s.client_is, o))
-    refl (same-length (length (rows a.facts (rows_before a) (past_in a))))
+    refl (le_refl (length (rows a.facts (rows_before a) (past_in a))))
   where
     no : false ≡ true → ⊥
     no h = cc

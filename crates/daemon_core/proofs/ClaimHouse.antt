@@ -1,5 +1,5 @@
 -- A house after the steps of a live entry.
-use Rattle.std.proofs.Common.{◌≡◌, ℕ, ◌<◌, ◌≤◌, ◌+◌, true, false, List, ◌∷◌, length, refl, ap, sym, subst, arith, inl, inr}
+use Rattle.std.proofs.Common.{◌≡◌, ℕ, ◌<◌, ◌≤◌, ◌+◌, true, false, List, ◌∷◌, length, refl, ap, sym, subst, arith, inl, inr, le_refl}
 use Rattle.std.specs.Prelude.{Option, Result, Ok, Err}
 use Rattle.history_keeper.specs.declared.row.Row.{Row}
 use Rattle.history_keeper.specs.declared.change.Change.{Change}
@@ -60,15 +60,12 @@ spent-ready a event k t w s r =
       row = (let e = ap length k.stands.rows in omega (arith, e, r));
     }
 
-same-length : (n : ℕ) → n ≤ n
-same-length n = omega arith
-
 pub start-ready : (a b : Annalled) (client entry : ℕ) (op : Op) (l : LiveEntry) → a ≡ b → IsAnnals a → Runs b → 0 < boots (past_in b) → StartAllowed b.facts (rows_before b) (past_in b) client entry op l → IsReady a (Event.Start client entry op)
 start-ready a b client entry op l e k r n s =
     spent-ready a (Event.Start client entry op) k
     (runs-takes a (Event.Start client entry op) (subst Runs (sym e) r) (subst (λ (x : Annalled). 0 < boots (past_in x)) (sym e) n) refl)
     (start-allowed a client entry op l (subst (λ (x : Annalled). StartAllowed x.facts (rows_before x) (past_in x) client entry op l) (sym e) s))
-    refl (same-length (length (rows a.facts (rows_before a) (past_in a))))
+    refl (le_refl (length (rows a.facts (rows_before a) (past_in a))))
 
 -- After a start.
 pub house-started : {K : Type 0} (told : K → List Row → Type 0) (doubted : K → Option Change) (client entry : ℕ) (op : Op) (l : LiveEntry) (old : Housed K) (new : Annalled) → IsHouse told doubted old → IsAnnals old.annals → IsAnnals new → Appended client (Event.Start client entry op) old.annals new → old.annals.loaded ≡ true → StartAllowed old.annals.facts (rows_before old.annals) (past old) client entry op l → IsHouse told doubted (record old { annals = new })

@@ -2,10 +2,9 @@
 use Rattle.std.proofs.Common.{◌≡◌, ℕ, true, false, ◌||◌, List, [], ◌∷◌, ◌++◌, refl, ap, sym, ◌∙◌}
 use Rattle.std.specs.Prelude.{Some, None, ◌==◌, find}
 use Rattle.std.specs.List.{AllByRecursion}
-use Rattle.std.proofs.lemmas.Bool.{eqb-true}
+use Rattle.std.proofs.lemmas.Bool.{eqb-true, or_parts}
 use Rattle.history_keeper.specs.declared.row.Row.{Row}
 use Rattle.update_log.proofs.Lists.{All-find, All-filter, All-map, All-push, by_test, find-passes}
-use Rattle.update_log.proofs.RowsKept.{or-false}
 use Rattle.update_log.specs.Holding.{is_live, live, live_entry, open_steps, step_open, without_entry}
 use Rattle.update_log.specs.Legal.{Allowed, IsLegal}
 use Rattle.update_log.specs.Pasts.{is_fault, is_keeper_fault, off}
@@ -64,11 +63,11 @@ open-step : (c : Campaign) (opening : List Row) (past : List Event) (event : Eve
 open-step c opening past (Event.Boot number time limit found boards) a k o = tt
 open-step c opening past (Event.Claim client request fetched (ClaimAnswer.Entry entry)) a k o =
     All-map _ _ (open_steps past) (k o) (λ s h. live-push (live past) _ s.entry h)
-open-step c opening past (Event.Claim client request fetched (ClaimAnswer.Refused refusal)) a k o = k (or-false (is_keeper_fault refusal) (off past) o).1
-open-step c opening past (Event.Schedule client request (ClaimAnswer.Refused refusal)) a k o = k (or-false (is_keeper_fault refusal) (off past) o).1
+open-step c opening past (Event.Claim client request fetched (ClaimAnswer.Refused refusal)) a k o = k (or_parts (is_keeper_fault refusal) (off past) o).1
+open-step c opening past (Event.Schedule client request (ClaimAnswer.Refused refusal)) a k o = k (or_parts (is_keeper_fault refusal) (off past) o).1
 open-step c opening past (Event.Resume client entry fetched ResumeAnswer.Begun stored) a k o =
-    All-map _ _ (open_steps past) (k (or-false (is_fault stored) (off past) o).1) (λ s h. live-push (live past) _ s.entry h)
-open-step c opening past (Event.Resume client entry fetched (ResumeAnswer.Refused refusal) stored) a k o = k (or-false (is_keeper_fault refusal || is_fault stored) (off past) o).1
+    All-map _ _ (open_steps past) (k (or_parts (is_fault stored) (off past) o).1) (λ s h. live-push (live past) _ s.entry h)
+open-step c opening past (Event.Resume client entry fetched (ResumeAnswer.Refused refusal) stored) a k o = k (or_parts (is_keeper_fault refusal || is_fault stored) (off past) o).1
 open-step c opening past (Event.Start client entry op) a k o =
     let s = a.1 in
     All-push _ (open_steps past) (record { client = client; entry = entry; op = op }) (k o) (live-found (live past) entry a.0 s.live)
@@ -76,8 +75,8 @@ open-step c opening past (Event.End client entry op outcome told seen) a k o =
     All-filter _ _ _ (open_steps past) (k o) (λ s h _. h)
 open-step c opening past (Event.Finish client entry state stored) a k o =
     let f = a.2 in
-    both-left (live past) entry (open_steps past) (not-open (open_steps past) entry f.open_none) (k (or-false (is_fault stored) (off past) o).1)
-open-step c opening past (Event.Judge client entry version state stored) a k o = k (or-false (is_fault stored) (off past) o).1
+    both-left (live past) entry (open_steps past) (not-open (open_steps past) entry f.open_none) (k (or_parts (is_fault stored) (off past) o).1)
+open-step c opening past (Event.Judge client entry version state stored) a k o = k (or_parts (is_fault stored) (off past) o).1
 open-step c opening past (Event.GiveBack client (Back.Entry entry)) a k o = let off-is : off past ≡ true = a.3 in cc
 open-step c opening past Event.Cut a k o = cc
 open-step c opening past _ a k o = k o

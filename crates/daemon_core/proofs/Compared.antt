@@ -1,13 +1,12 @@
 -- Rows that are the same.
 use Rattle.std.proofs.Common.{◌≡◌, ℕ, zero, suc, true, false, ◌+◌, ◌<◌, ◌≤◌, List, [], ◌∷◌, refl, ap, sym, ◌∙◌, arith, length, take}
-use Rattle.std.proofs.lemmas.Bool.{eqb-true, eq-eqb}
+use Rattle.std.proofs.lemmas.Bool.{eqb-true, eq-eqb, and_parts}
 use Rattle.std.proofs.lemmas.Option.{slice_get_past}
 use Rattle.std.specs.Prelude.{Bool, Option, Some, None, ◌==◌, slice_get}
 use Rattle.std.specs.Str.{bytes_eq}
 use Rattle.history_keeper.specs.declared.row.Row.{Row}
 use Rattle.history_keeper.specs.declared.row.RowState.{RowState}
 use Rattle.update_log.proofs.Openings.{bytes-same, bytes-self}
-use Rattle.update_log.proofs.StrokeFacts.{and-true}
 use Rattle.daemon_core.specs.Comparing.{DifferFirstAt, number_of, same_optional, same_request, same_row, same_state, same_terms}
 
 state-same : (a b : RowState) → (number_of a == number_of b) ≡ true → a ≡ b
@@ -30,21 +29,21 @@ optional-self same is (Some x) = is x
 
 pub row-same : (a b : Row) → same_row a b ≡ true → a ≡ b
 row-same a b h =
-    let all = and-true _ (same_state a b) h in
-    let both = and-true (same_request a b) (same_terms a b) all.0 in
-    let q3 = and-true _ (same_optional (λ m n. m == n) a.retry_of b.retry_of) both.1 in
-    let q2 = and-true (a.duration == b.duration) (same_optional bytes_eq a.protocol b.protocol) q3.0 in
-    let r9 = and-true _ (a.flags == b.flags) both.0 in
-    let r8 = and-true _ (bytes_eq a.digest b.digest) r9.0 in
-    let r7 = and-true _ (bytes_eq a.version_new b.version_new) r8.0 in
-    let r6 = and-true _ (bytes_eq a.version_old b.version_old) r7.0 in
-    let r5 = and-true _ (bytes_eq a.component b.component) r6.0 in
-    let r4 = and-true _ (bytes_eq a.device b.device) r5.0 in
-    let r3 = and-true _ (a.client == b.client) r4.0 in
-    let r2 = and-true (a.entry == b.entry) (bytes_eq a.tag b.tag) r3.0 in
-    let s4 = and-true _ (a.time_changed == b.time_changed) all.1 in
-    let s3 = and-true _ (a.time_added == b.time_added) s4.0 in
-    let s2 = and-true (number_of a.state == number_of b.state) (a.reason == b.reason) s3.0 in
+    let all = and_parts _ (same_state a b) h in
+    let both = and_parts (same_request a b) (same_terms a b) all.0 in
+    let q3 = and_parts _ (same_optional (λ m n. m == n) a.retry_of b.retry_of) both.1 in
+    let q2 = and_parts (a.duration == b.duration) (same_optional bytes_eq a.protocol b.protocol) q3.0 in
+    let r9 = and_parts _ (a.flags == b.flags) both.0 in
+    let r8 = and_parts _ (bytes_eq a.digest b.digest) r9.0 in
+    let r7 = and_parts _ (bytes_eq a.version_new b.version_new) r8.0 in
+    let r6 = and_parts _ (bytes_eq a.version_old b.version_old) r7.0 in
+    let r5 = and_parts _ (bytes_eq a.component b.component) r6.0 in
+    let r4 = and_parts _ (bytes_eq a.device b.device) r5.0 in
+    let r3 = and_parts _ (a.client == b.client) r4.0 in
+    let r2 = and_parts (a.entry == b.entry) (bytes_eq a.tag b.tag) r3.0 in
+    let s4 = and_parts _ (a.time_changed == b.time_changed) all.1 in
+    let s3 = and_parts _ (a.time_added == b.time_added) s4.0 in
+    let s2 = and_parts (number_of a.state == number_of b.state) (a.reason == b.reason) s3.0 in
     let e1 : a.entry ≡ b.entry = eqb-true a.entry b.entry r2.0 in
     let e2 : a.tag ≡ b.tag = bytes-same a.tag b.tag r2.1 in
     let e3 : a.client ≡ b.client = eqb-true a.client b.client r3.1 in

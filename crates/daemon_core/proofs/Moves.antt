@@ -1,7 +1,7 @@
 -- A house after the board of a device was taken out of its port.
 use Rattle.std.proofs.Common.{◌≡◌, ◌≢◌, ℕ, zero, suc, ◌<◌, ◌≤◌, ◌+◌, Bool, true, false, ◌||◌, List, [], ◌∷◌, ◌++◌, length, map, refl, ap, sym, ◌∙◌, subst, arith, ◌⊎◌, inl, inr}
 use Rattle.std.proofs.lemmas.List.{append-nil}
-use Rattle.std.proofs.lemmas.Option.{slice_get-map, slice_get_within}
+use Rattle.std.proofs.lemmas.Option.{slice_get-map, slice_get_within, same_Some}
 use Rattle.std.specs.Prelude.{Option, Some, None, Ok, IsSome, IsTrue, MatchBool, Contains, if◌then◌else◌, find, option_map, option_and_then, slice_get, slice_index_or, slice_set, unwrap_or}
 use Rattle.std.specs.List.{AllByRecursion, list_any}
 use Rattle.std.specs.Str.{bytes_eq}
@@ -17,7 +17,6 @@ use Rattle.fw_facts.specs.declared.sheet.Sheet.{Sheet}
 use Rattle.fw_facts.specs.declared.view.DeviceView.{DeviceView}
 use Rattle.history_keeper.specs.declared.change.Change.{Change}
 use Rattle.history_keeper.specs.declared.row.Row.{Row}
-use Rattle.update_log.proofs.Accepts.{some-same}
 use Rattle.update_log.proofs.Lists.{by_test, eqb-other, eqb-self}
 use Rattle.update_log.proofs.Openings.{bytes-self}
 use Rattle.update_log.specs.Boards.{Board, board_at, devices}
@@ -59,7 +58,7 @@ pub record FoundBoard (facts : Facts) (entries : List LiveEntry) (k : Known) (se
 got : (facts : Facts) (f : Board → DeviceView) (bs : List Board) (at : ℕ) (view : DeviceView) → AllByRecursion (HasSheet facts.sheets) bs → slice_get (map f bs) at ≡ Some view
     → (c : Board) × (slice_get facts.sheets c.number ≡ Some c.sheet) × (slice_get bs at ≡ Some c) × (f c ≡ view)
 got facts f [] at view a h = cc
-got facts f (c ∷ bs) zero view a h = (c, a.0, refl, some-same (f c) view h)
+got facts f (c ∷ bs) zero view a h = (c, a.0, refl, same_Some (f c) view h)
 got facts f (c ∷ bs) (suc at) view a h = got facts f bs at view a.1 h
 
 pub found-board : (facts : Facts) (entries : List LiveEntry) (k : Known) (selector : Selector) (view : DeviceView) → found_view (views_in facts entries k) selector ≡ Some view → FoundBoard facts entries k selector view
@@ -81,7 +80,7 @@ board-on : (facts : Facts) (all : List Row) (c : Board) (entry : ℕ) (l : LiveE
 board-on facts all c entry l s t =
     let r = row-on facts all l.entry c.number t in
     let x = on-board facts r.row.device c.number r.board_is in
-    let same : x.board.sheet ≡ c.sheet = some-same x.board.sheet c.sheet (sym x.sheet ∙ s) in
+    let same : x.board.sheet ≡ c.sheet = same_Some x.board.sheet c.sheet (sym x.sheet ∙ s) in
     let d : r.row.device ≡ c.sheet.device = sym x.device_is ∙ ap (λ (y : Sheet). y.device) same in
     let e : bytes_eq r.row.device c.sheet.device ≡ true = subst (λ (y : List ℕ). bytes_eq r.row.device y ≡ true) d (bytes-self r.row.device) in
     ap (λ (o : Option Row). unwrap_or (option_map (λ r. bytes_eq r.device c.sheet.device) o) false) r.row_is ∙ e

@@ -1,6 +1,7 @@
 -- A house after the board of a device was put back into its port.
 use Rattle.std.proofs.Common.{◌≡◌, ◌≢◌, ℕ, ◌<◌, ◌≤◌, ◌+◌, true, false, Bool, List, [], ◌∷◌, ◌++◌, length, refl, ap, sym, ◌∙◌, subst, arith, ◌⊎◌, inl, inr}
 use Rattle.std.proofs.lemmas.List.{append-nil}
+use Rattle.std.proofs.lemmas.Option.{same_Some}
 use Rattle.std.specs.Prelude.{Option, Some, None, Contains, if◌then◌else◌, option_map, slice_set, unwrap_or}
 use Rattle.std.specs.List.{list_any}
 use Rattle.device_list.specs.declared.selector.Selector.{Selector}
@@ -15,7 +16,6 @@ use Rattle.fw_facts.specs.declared.seen.Seen.{Seen}
 use Rattle.fw_facts.specs.declared.view.DeviceView.{DeviceView}
 use Rattle.history_keeper.specs.declared.change.Change.{Change}
 use Rattle.history_keeper.specs.declared.row.Row.{Row}
-use Rattle.update_log.proofs.Accepts.{some-same}
 use Rattle.update_log.proofs.Lists.{All-find, find-passes}
 use Rattle.update_log.specs.Core.{Core}
 use Rattle.update_log.specs.Holding.{is_live, live, open_steps}
@@ -184,7 +184,7 @@ module _ (facts : Facts) (first : List Seen) (opening : List Row) (past : List E
       record {
         home = ap is_home shown_is;
         fresh = λ m e.
-            let same : n ≡ m = some-same n m (sym f ∙ e) in
+            let same : n ≡ m = same_Some n m (sym f ∙ e) in
             subst (λ (x : ℕ). FreshShows facts first opening past x [] shown) same
             (subst (λ (x : Seen). FreshShows facts first opening past n [] x) (sym shown_is) (h.1.1.plugs closed));
       }

@@ -1,5 +1,5 @@
 -- How each event changes what is owed.
-use Rattle.std.proofs.Common.{◌≡◌, ℕ, Bool, true, false, not, List, [], ◌∷◌, ◌++◌, refl, ap, sym, ◌≤◌, ◌+◌, ◌*◌, arith, length, subst}
+use Rattle.std.proofs.Common.{◌≡◌, ℕ, Bool, true, false, not, List, [], ◌∷◌, ◌++◌, refl, ap, sym, ◌≤◌, ◌+◌, ◌*◌, arith, length, subst, le_refl}
 use Rattle.std.specs.Prelude.{Some, Result, ◌==◌, filter, sum_by}
 use Rattle.std.proofs.lemmas.List.{length_push}
 use Rattle.std.proofs.lemmas.List.Sums.{sum_by_push}
@@ -122,9 +122,6 @@ owed-taken past event l o h v s =
 fewer : (client : ℕ) (hs : List Held) → length (filter (λ (h : Held). not (h.client == client)) hs) ≤ length hs
 fewer client hs = filter-few (λ (h : Held). not (h.client == client)) hs
 
-same-number : (n : ℕ) → n ≤ n
-same-number n = omega arith
-
 no-more : (n : ℕ) → n ≤ n + 0
 no-more n = omega arith
 
@@ -134,7 +131,7 @@ owed-adds c opening past (Event.Boot number time limit found boards) b a s =
     let w = owed-within (Event.Boot number time limit found boards ∷ past) in
     let none : owed_by false (Event.Boot number time limit found boards ∷ past) ≡ 0 = refl in omega (arith, w, none)
 owed-adds c opening past (Event.Query client query) b a s =
-    owed-quiet past (Event.Query client query) (b.on refl) (same-number (length (holds past))) refl (λ e. refl)
+    owed-quiet past (Event.Query client query) (b.on refl) (le_refl (length (holds past))) refl (λ e. refl)
 owed-adds c opening past (Event.Ask client request pending (AskAnswer.Hold blocks release)) b a s =
     let event : Event = Event.Ask client request pending (AskAnswer.Hold blocks release) in
     let few = fewer client (holds past) in
@@ -142,9 +139,9 @@ owed-adds c opening past (Event.Ask client request pending (AskAnswer.Hold block
     on-adds past (Event.Ask client request pending (AskAnswer.Hold blocks release)) 2 (b.on refl)
     (owed-more past event 1 0 (omega (arith, few, pushed)) (no-more (sum_by (entry_on past) (live past))))
 owed-adds c opening past (Event.Ask client request pending (AskAnswer.Kept entry state)) b a s =
-    owed-quiet past (Event.Ask client request pending (AskAnswer.Kept entry state)) (b.on refl) (same-number (length (holds past))) refl (λ e. refl)
+    owed-quiet past (Event.Ask client request pending (AskAnswer.Kept entry state)) (b.on refl) (le_refl (length (holds past))) refl (λ e. refl)
 owed-adds c opening past (Event.Ask client request pending (AskAnswer.Refused refusal)) b a s =
-    owed-quiet past (Event.Ask client request pending (AskAnswer.Refused refusal)) (b.on refl) (same-number (length (holds past))) refl (λ e. refl)
+    owed-quiet past (Event.Ask client request pending (AskAnswer.Refused refusal)) (b.on refl) (le_refl (length (holds past))) refl (λ e. refl)
 owed-adds c opening past (Event.Claim client request fetched (ClaimAnswer.Entry entry)) b a s =
     owed-taken past (Event.Claim client request fetched (ClaimAnswer.Entry entry)) (record { client = client; entry = entry; blocks = blocks_fetched fetched }) (b.on refl) (fewer client (holds past)) refl (λ e. refl)
 owed-adds c opening past (Event.Claim client request fetched (ClaimAnswer.Kept entry state)) b a s =
@@ -152,19 +149,19 @@ owed-adds c opening past (Event.Claim client request fetched (ClaimAnswer.Kept e
 owed-adds c opening past (Event.Claim client request fetched (ClaimAnswer.Refused refusal)) b a s =
     owed-quiet past (Event.Claim client request fetched (ClaimAnswer.Refused refusal)) (b.on refl) (fewer client (holds past)) refl (λ e. refl)
 owed-adds c opening past (Event.Schedule client request answer) b a s =
-    owed-quiet past (Event.Schedule client request answer) (b.on refl) (same-number (length (holds past))) refl (λ e. refl)
+    owed-quiet past (Event.Schedule client request answer) (b.on refl) (le_refl (length (holds past))) refl (λ e. refl)
 owed-adds c opening past (Event.Resume client entry fetched ResumeAnswer.Begun stored) b a s =
     owed-taken past (Event.Resume client entry fetched ResumeAnswer.Begun stored) (record { client = client; entry = entry; blocks = blocks_fetched_if fetched }) (b.on refl) (fewer client (holds past)) refl (λ e. refl)
 owed-adds c opening past (Event.Resume client entry fetched (ResumeAnswer.Refused refusal) stored) b a s =
     owed-quiet past (Event.Resume client entry fetched (ResumeAnswer.Refused refusal) stored) (b.on refl) (fewer client (holds past)) refl (λ e. refl)
 owed-adds c opening past (Event.Judge client entry version state stored) b a s =
-    owed-quiet past (Event.Judge client entry version state stored) (b.on refl) (same-number (length (holds past))) refl (λ e. refl)
+    owed-quiet past (Event.Judge client entry version state stored) (b.on refl) (le_refl (length (holds past))) refl (λ e. refl)
 owed-adds c opening past (Event.Unplug client device answer) b a s =
-    owed-quiet past (Event.Unplug client device answer) (b.on refl) (same-number (length (holds past))) refl (λ e. refl)
+    owed-quiet past (Event.Unplug client device answer) (b.on refl) (le_refl (length (holds past))) refl (λ e. refl)
 owed-adds c opening past (Event.Plug client device answer) b a s =
-    owed-quiet past (Event.Plug client device answer) (b.on refl) (same-number (length (holds past))) refl (λ e. refl)
+    owed-quiet past (Event.Plug client device answer) (b.on refl) (le_refl (length (holds past))) refl (λ e. refl)
 owed-adds c opening past Event.Cut b a s =
-    owed-quiet past Event.Cut a.on (same-number (length (holds past))) refl (λ e. refl)
+    owed-quiet past Event.Cut a.on (le_refl (length (holds past))) refl (λ e. refl)
 owed-adds c opening past _ b a s = cc
 
 strokes-more : (past : List Event) (client entry : ℕ) (op : Op) (e : ℕ) → length (strokes e past) ≤ length (strokes e (Event.Start client entry op ∷ past))
@@ -233,7 +230,7 @@ owed-spends c opening past (Event.End client entry op outcome told seen) g k b a
 owed-spends c opening past (Event.Finish client entry state stored) g k b a s =
     let finished = a.2 in
     on-step past (Event.Finish client entry state stored) 1 (b.on refl)
-    (gone-on past (Event.Finish client entry state stored) entry a.0 finished.live (same-number (length (holds past))) refl (λ e. refl))
+    (gone-on past (Event.Finish client entry state stored) entry a.0 finished.live (le_refl (length (holds past))) refl (λ e. refl))
 owed-spends c opening past (Event.GiveBack client (Back.Tag tag)) g k b a s =
     back-hold past (Event.GiveBack client (Back.Tag tag)) client a.0 a.1 refl refl refl (λ e. refl)
 owed-spends c opening past (Event.GiveBack client (Back.Pending entry)) g k b a s =

@@ -3,8 +3,9 @@ use Rattle.std.proofs.Common.{◌≡◌, ℕ, Bool, true, List, length, refl, ap
 use Rattle.std.specs.Prelude.{Option, Some, None, nat_lt, position, slice_get, option_map, option_and_then, ◌==◌}
 use Rattle.std.specs.List.{position_or_len}
 use Rattle.std.specs.Str.{bytes_eq}
-use Rattle.std.proofs.lemmas.Bool.{eq-eqb, eqb-true}
+use Rattle.std.proofs.lemmas.Bool.{eq-eqb, eqb-true, and_parts}
 use Rattle.std.proofs.lemmas.List.Folds.{find_at}
+use Rattle.std.proofs.lemmas.Option.{same_Some}
 use Rattle.block_pool.specs.Views.{SealedBytes}
 use Rattle.device_list.specs.Lists.{names, place}
 use Rattle.device_list.specs.declared.selector.Selector.{Selector}
@@ -15,10 +16,9 @@ use Rattle.fw_facts.specs.declared.view.DeviceView.{DeviceView}
 use Rattle.history_keeper.specs.declared.row.Row.{Row}
 use Rattle.release_catalogue.specs.Lookup.{Chosen, chosen}
 use Rattle.release_catalogue.specs.declared.reference.ReleaseRef.{ReleaseRef}
-use Rattle.update_log.proofs.Accepts.{accepts-target, some-same}
+use Rattle.update_log.proofs.Accepts.{accepts-target}
 use Rattle.update_log.proofs.Lists.{by_test, find-passes}
 use Rattle.update_log.proofs.Openings.{bytes-same, bytes-self}
-use Rattle.update_log.proofs.StrokeFacts.{and-true}
 use Rattle.update_log.specs.Known.{Target, target, target_at, target_of, views}
 use Rattle.update_log.specs.Legal.{is_fetched}
 use Rattle.update_log.specs.Verdicts.{Case, case_of, is_release, verdict}
@@ -50,7 +50,7 @@ target-device facts all request device t h d = at (place request.device all) ref
     at-chosen : (n : ℕ) (view : DeviceView) (o : Option Chosen) → place request.device all ≡ Some n → slice_get all n ≡ Some view → option_map (λ c. let u : Target = record { place = n; view = view; chosen = c } in u) o ≡ Some t → t.view.sheet.device ≡ device
     at-chosen n view None p s g = cc
     at-chosen n view (Some c) p s g =
-        let same : record { place = n; view = view; chosen = c } ≡ t = some-same (record { place = n; view = view; chosen = c }) t g in
+        let same : record { place = n; view = view; chosen = c } ≡ t = same_Some (record { place = n; view = view; chosen = c }) t g in
         let named : names request.device view ≡ true = position-passes (names request.device) all n view p s in
         let id : bytes_eq device view.sheet.device ≡ true = subst (λ (x : Selector). names x view ≡ true) d named in
         sym (ap (λ (u : Target). u.view.sheet.device) same) ∙ sym (bytes-same device view.sheet.device id)
@@ -66,7 +66,7 @@ target-device facts all request device t h d = at (place request.device all) ref
 -- One release is at two places that are the same.
 release-there : (catalogue : List Component) (a b : ReleaseRef) (release : Release) → is_release a b ≡ true → IsReleaseAt catalogue b release → IsReleaseAt catalogue a release
 release-there catalogue a b release h k =
-    let p = and-true (a.component == b.component) _ h in
+    let p = and_parts (a.component == b.component) _ h in
     record {
       component = k.component;
       component_is = ap (slice_get catalogue) (eqb-true a.component b.component p.0) ∙ k.component_is;
@@ -88,7 +88,7 @@ resumable facts opening past entry request release a =
     let c : Case = case_of facts opening past 0 request (Stage.Resume entry release) in
     let h = accepts-target c a.0 a.2 a.1 a.3 in
     let t : Target = h.0 in
-    (t, record { found = h.1.found; that = (and-true (is_release release t.chosen.at) _ h.1.that).0; unclaimed = not-busy t.view.claim h.1.none.is_busy })
+    (t, record { found = h.1.found; that = (and_parts (is_release release t.chosen.at) _ h.1.that).0; unclaimed = not-busy t.view.claim h.1.none.is_busy })
 
 -- A whole payload is that of the release that was found.
 pub whole-resumed : (facts : Facts) (opening : List Row) (past : List Event) (request : Request) (release : ReleaseRef) (t : Target) (payload : SealedBytes) → Resumable facts opening past request release t → IsPayloadOf facts release payload → is_fetched (whole_note payload) (target facts (views facts opening past) request) ≡ true

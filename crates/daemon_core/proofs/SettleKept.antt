@@ -3,7 +3,8 @@ use Rattle.std.proofs.Common.{◌≡◌, ◌≢◌, ℕ, zero, suc, ◌<◌, Boo
 use Rattle.std.specs.Prelude.{Option, Some, None, IfSome, IsSome, if◌then◌else◌, ◌&&◌, ◌==◌, find, map, slice_get, option_map, option_and_then, AllPairs, slice_index_or}
 use Rattle.std.specs.List.{AllByRecursion, list_any}
 use Rattle.std.specs.Str.{bytes_eq}
-use Rattle.std.proofs.lemmas.Bool.{eqb-true}
+use Rattle.std.proofs.lemmas.Bool.{eqb-true, and_parts, and_right}
+use Rattle.std.proofs.lemmas.Option.{same_Some}
 use Rattle.device_list.specs.Lists.{place}
 use Rattle.device_list.specs.declared.selector.Selector.{Selector}
 use Rattle.fw_facts.specs.Views.{is_home, version_of, version_shown}
@@ -13,7 +14,6 @@ use Rattle.fw_facts.specs.declared.view.DeviceView.{DeviceView}
 use Rattle.history_keeper.specs.Histories.{BothUnsettled, is_unsettled}
 use Rattle.history_keeper.specs.declared.row.Row.{Row}
 use Rattle.history_keeper.specs.declared.row.RowState.{RowState}
-use Rattle.update_log.proofs.Accepts.{some-same}
 use Rattle.update_log.proofs.Devices.{devices-differ}
 use Rattle.update_log.proofs.HistoryKept.{rows-history}
 use Rattle.update_log.proofs.LegalOnce.{past-kept}
@@ -63,11 +63,6 @@ is-waiting views rows selector entry h = at (found_view views selector) refl h
     at None v g = cc
     at (Some view) v g = at-home view v (is_home view.seen) refl g
 
-both-true : (a b : Bool) → (a && b) ≡ true → (a ≡ true) × (b ≡ true)
-both-true true true h = (refl, refl)
-both-true true false h = cc
-both-true false b h = cc
-
 -- Devices differ in their IDs, so a row's device is the one that was found.
 
 others : (b : Board) (bs : List Board) → ((j : ℕ) (d : Board) → j < length bs → b.sheet.device ≢ (slice_index_or bs j d).sheet.device) → AllByRecursion (λ (c : Board). b.sheet.device ≢ c.sheet.device) bs
@@ -76,14 +71,14 @@ others b (c ∷ bs) h = (h zero c (omega arith), others b bs (λ j d l. h (suc j
 
 got : (P : Board → Type 0) (f : Board → DeviceView) (bs : List Board) (at : ℕ) (view : DeviceView) → AllByRecursion P bs → slice_get (map f bs) at ≡ Some view → (c : Board) × P c × (f c ≡ view)
 got P f [] at view a h = cc
-got P f (c ∷ bs) zero view a h = (c, a.0, some-same (f c) view h)
+got P f (c ∷ bs) zero view a h = (c, a.0, same_Some (f c) view h)
 got P f (c ∷ bs) (suc at) view a h = got P f bs at view a.1 h
 
 unique-view : (entries : List LiveEntry) (k : Known) (bs : List Board) (at : ℕ) (view : DeviceView) (device : List ℕ) → ((i j : ℕ) (d : Board) → i < j → j < length bs → (slice_index_or bs i d).sheet.device ≢ (slice_index_or bs j d).sheet.device) → slice_get (map (view_of entries k) bs) at ≡ Some view → view.sheet.device ≡ device
     → find (λ v. bytes_eq v.sheet.device device) (map (view_of entries k) bs) ≡ Some view
 unique-view entries k [] at view device d h q = cc
 unique-view entries k (b ∷ bs) zero view device d h q =
-    let s : view_of entries k b ≡ view = some-same (view_of entries k b) view h in
+    let s : view_of entries k b ≡ view = same_Some (view_of entries k b) view h in
     let t : b.sheet.device ≡ device = ap (λ (v : DeviceView). v.sheet.device) s ∙ q in
     let u : bytes_eq b.sheet.device device ≡ true = subst (λ (x : List ℕ). bytes_eq b.sheet.device x ≡ true) t (bytes-self b.sheet.device) in
     rw u (ap Some s)
@@ -131,7 +126,7 @@ pub record SettleRow (a : Annalled) (selector : Selector) (entry : ℕ) : Type 0
 pub settle-row : (a : Annalled) (selector : Selector) (entry : ℕ) → IsAnnals a → row_to_settle a selector ≡ DeviceRow.Waiting entry → SettleRow a selector entry
 settle-row a selector entry k h =
     let w = is-waiting a.core.views a.core.rows selector entry h in
-    let passes = both-true (bytes_eq w.row.device w.view.sheet.device) (is_unsettled w.row.state)
+    let passes = and_parts (bytes_eq w.row.device w.view.sheet.device) (is_unsettled w.row.state)
     (find-passes (λ (r : Row). bytes_eq r.device w.view.sheet.device && is_unsettled r.state) a.core.rows w.row w.row_is) in
     let valid = (past-kept k.legal.0 (rows_before a) (past_in a) k.stands.history k.legal.3).rows_kept.valid.entries in
     let own : AllByRecursion (λ (r : Row). row_of (rows a.facts (rows_before a) (past_in a)) r.entry ≡ Some r) (rows a.facts (rows_before a) (past_in a)) =
@@ -157,7 +152,7 @@ settle-some a selector entry s = rw s.row_is refl
 pub settle-open : (a : Annalled) (selector : Selector) (entry : ℕ) (found : Standing) → SettleRow a selector entry → standing_of a entry ≡ Some found → is_open found ≡ true
 settle-open a selector entry found s h =
     let e : Some (standing (past_in a) a.core.views entry s.waiting.row) ≡ Some found = rw s.row_is at h in
-    subst (λ (x : Standing). is_open x ≡ true) (some-same (standing (past_in a) a.core.views entry s.waiting.row) found e) s.opens
+    subst (λ (x : Standing). is_open x ≡ true) (same_Some (standing (past_in a) a.core.views entry s.waiting.row) found e) s.opens
 
 -- Which questions may be asked.
 
@@ -166,16 +161,12 @@ can-open past entry RowState.Success h = cc
 can-open past entry RowState.Failed h = cc
 can-open past entry _ h = refl
 
-last-false : (a b : Bool) → b ≡ false → (a && b) ≡ false
-last-false true b h = h
-last-false false b h = refl
-
 -- A row that is of another device or is settled can't be judged.
 not-judged : (past : List Event) (view : DeviceView) (r : Row) → (bytes_eq r.device view.sheet.device && is_unsettled r.state) ≡ false → can_judge past view r ≡ false
 not-judged past view r h =
     by_test (can_judge past view r) _
-    (λ t. let b = both-true (bytes_eq view.sheet.device r.device && is_home view.seen) (may_judge past r.state r.entry) t in
-    let c = both-true (bytes_eq view.sheet.device r.device) (is_home view.seen) b.0 in
+    (λ t. let b = and_parts (bytes_eq view.sheet.device r.device && is_home view.seen) (may_judge past r.state r.entry) t in
+    let c = and_parts (bytes_eq view.sheet.device r.device) (is_home view.seen) b.0 in
     let own : bytes_eq r.device view.sheet.device ≡ true = subst (λ (x : List ℕ). bytes_eq x view.sheet.device ≡ true) (bytes-same view.sheet.device r.device c.0) (bytes-self view.sheet.device) in
     let u : is_unsettled r.state ≡ true = can-open past r.entry r.state b.1 in
     let k : (bytes_eq r.device view.sheet.device && is_unsettled r.state) ≡ true = rw (own, u) refl in
@@ -193,15 +184,15 @@ none-waits past view (r ∷ rs) h =
 none-home : (past : List Event) (view : DeviceView) (rows : List Row) → is_home view.seen ≡ false → list_any (can_judge past view) rows ≡ false
 none-home past view [] h = refl
 none-home past view (r ∷ rs) h =
-    let c : can_judge past view r ≡ false = ap (λ (b : Bool). b && may_judge past r.state r.entry) (last-false (bytes_eq view.sheet.device r.device) (is_home view.seen) h) in
+    let c : can_judge past view r ≡ false = ap (λ (b : Bool). b && may_judge past r.state r.entry) (and_right (bytes_eq view.sheet.device r.device) (is_home view.seen) h) in
     let rest : list_any (can_judge past view) rs ≡ false = none-home past view rs h in rw (c, rest) refl
 
 none-beside : (past : List Event) (view : DeviceView) (r : Row) (rs : List Row) → (bytes_eq r.device view.sheet.device && is_unsettled r.state) ≡ true → ((j : ℕ) (d : Row) → j < length rs → BothUnsettled r (slice_index_or rs j d) → ⊥) → list_any (can_judge past view) rs ≡ false
 none-beside past view r [] t h = refl
 none-beside past view r (c ∷ rs) t h =
     by_test (bytes_eq c.device view.sheet.device && is_unsettled c.state) _
-    (λ u. let a = both-true (bytes_eq r.device view.sheet.device) (is_unsettled r.state) t in
-    let b = both-true (bytes_eq c.device view.sheet.device) (is_unsettled c.state) u in
+    (λ u. let a = and_parts (bytes_eq r.device view.sheet.device) (is_unsettled r.state) t in
+    let b = and_parts (bytes_eq c.device view.sheet.device) (is_unsettled c.state) u in
     absurd (h zero c (omega arith) (bytes-same r.device view.sheet.device a.0 ∙ sym (bytes-same c.device view.sheet.device b.0), a.1, b.1)))
     (λ f. let k : can_judge past view c ≡ false = not-judged past view c f in
     let rest : list_any (can_judge past view) rs ≡ false = none-beside past view r rs t (λ j d l. h (suc j) d (omega (arith, l))) in rw (k, rest) refl)
@@ -211,8 +202,8 @@ one-waits past view [] row d h m = refl
 one-waits past view (r ∷ rs) row d h m =
     by_test (bytes_eq r.device view.sheet.device && is_unsettled r.state) _
     (λ t. let h' : Some r ≡ Some row = rw t at h in
-    let s : r ≡ row = some-same r row h' in
-    let mine : can_judge past view r ≡ false = last-false (bytes_eq view.sheet.device r.device && is_home view.seen) (may_judge past r.state r.entry) (subst (λ (x : Row). may_judge past x.state x.entry ≡ false) (sym s) m) in
+    let s : r ≡ row = same_Some r row h' in
+    let mine : can_judge past view r ≡ false = and_right (bytes_eq view.sheet.device r.device && is_home view.seen) (may_judge past r.state r.entry) (subst (λ (x : Row). may_judge past x.state x.entry ≡ false) (sym s) m) in
     let rest : list_any (can_judge past view) rs ≡ false = none-beside past view r rs t (λ j e l. d zero (suc j) e (omega arith) (omega (arith, l))) in rw (mine, rest) refl)
     (λ f. let k : can_judge past view r ≡ false = not-judged past view r f in
     let rest : list_any (can_judge past view) rs ≡ false = one-waits past view rs row (λ i j e l n. d (suc i) (suc j) e (omega (arith, l)) (omega (arith, n))) (rw f at h) m in rw (k, rest) refl)
@@ -286,7 +277,7 @@ waits-allowed a client selector entry k s h =
     let w = s.waiting in
     let e : Some (standing (past_in a) a.core.views entry w.row) ≡ Some Standing.Waits = rw s.row_is at h in
     let must : must_wait (past_in a) entry w.row.state ≡ true =
-    waits-so w.row (is_unsettled w.row.state) (must_wait (past_in a) entry w.row.state) (view_of_row a.core.views w.row) (some-same (standing (past_in a) a.core.views entry w.row) Standing.Waits e) in
+    waits-so w.row (is_unsettled w.row.state) (must_wait (past_in a) entry w.row.state) (view_of_row a.core.views w.row) (same_Some (standing (past_in a) a.core.views entry w.row) Standing.Waits e) in
     let begun : AllBegun a.core.rows (live (past_in a)) =
     subst (λ (rs : List Row). AllBegun rs (live (past_in a))) (sym k.stands.rows)
     (subst (λ (f : Facts). AllBegun (rows f (rows_before a) (past_in a)) (live (past_in a))) k.legal.1 (wait-kept k.legal.0 (rows_before a) (past_in a) k.stands.history k.legal.3).begun) in
@@ -294,7 +285,7 @@ waits-allowed a client selector entry k s h =
     λ n. by_test (is_live (live (past_in a)) entry) _
     (λ t. let b : state_of a.core.rows entry ≡ Some RowState.Begun = live-begun a.core.rows (live (past_in a)) entry begun t in
     let c : Some w.row.state ≡ Some RowState.Begun = rw s.row_is at b in
-    let bad : RowState.NeedsReboot ≡ RowState.Begun = sym n ∙ some-same w.row.state RowState.Begun c in cc)
+    let bad : RowState.NeedsReboot ≡ RowState.Begun = sym n ∙ same_Some w.row.state RowState.Begun c in cc)
     (λ f. f) in
     let may : may_judge (past_in a) w.row.state w.row.entry ≡ false = subst (λ (x : ℕ). may_judge (past_in a) w.row.state x ≡ false) (sym w.entry_is) (waits-not (past_in a) entry w.row.state must not-live) in
     let differ = subst (λ (rs : List Row). AllPairs (λ x y. BothUnsettled x y → ⊥) rs) (sym k.stands.rows)

@@ -1,7 +1,8 @@
 -- Rows that are judged, one after the other.
-use Rattle.std.proofs.Common.{◌≡◌, ◌⊎◌, ℕ, ◌<◌, ◌≤◌, ◌+◌, Bool, true, false, ◌&&◌, ◌||◌, List, [], ◌∷◌, ◌++◌, map, append_assoc, refl, ap, sym, ◌∙◌, subst, inl, inr, suc, take, drop, length, get_or}
+use Rattle.std.proofs.Common.{◌≡◌, ◌⊎◌, ℕ, ◌<◌, ◌≤◌, ◌+◌, Bool, true, false, ◌&&◌, List, [], ◌∷◌, ◌++◌, map, append_assoc, refl, ap, sym, ◌∙◌, subst, inl, inr, suc, take, drop, length, get_or}
 use Rattle.std.proofs.lemmas.List.{map-append, take_all}
 use Rattle.std.proofs.lemmas.List.Folds.{list_any-append}
+use Rattle.std.proofs.lemmas.Bool.{or_parts}
 use Rattle.std.specs.Prelude.{Option, Some, None, ◌==◌, not, filter, option_map, unwrap_or}
 use Rattle.std.specs.List.{list_any}
 use Rattle.fw_facts.specs.Views.{is_home}
@@ -108,12 +109,8 @@ one-same entries old mid entry l m s n =
     (λ t. let u : can_judge mid.facts (rows_before mid) (past_in mid) entry ≡ true = same ∙ t in one mid entry true u ∙ sym (one old entry true t))
     (λ t. let u : can_judge mid.facts (rows_before mid) (past_in mid) entry ≡ false = same ∙ t in one mid entry false u ∙ sym (one old entry false t))
 
-or-none : (a b : Bool) → (a || b) ≡ false → (a ≡ false) × (b ≡ false)
-or-none true b h = cc
-or-none false b h = (refl, h)
-
 any-none : (entries : List ℕ) (entry other : ℕ) → list_any (λ e. e == other) (entries ++ entry ∷ []) ≡ false → (list_any (λ e. e == other) entries ≡ false) × (list_any (λ e. e == other) (entry ∷ []) ≡ false)
-any-none entries entry other h = or-none _ _ (sym (list_any-append (λ e. e == other) entries (entry ∷ [])) ∙ h)
+any-none entries entry other h = or_parts _ _ (sym (list_any-append (λ e. e == other) entries (entry ∷ [])) ∙ h)
 
 stays-more : (entries : List ℕ) (entry : ℕ) (old mid new : Annalled) → JudgeStays entries old mid → JudgeStays (entry ∷ []) mid new → JudgeStays (entries ++ entry ∷ []) old new
 stays-more entries entry old mid new s t =
@@ -185,8 +182,8 @@ pub not-before : (before : List ℕ) (entry : ℕ) (behind all : List ℕ) → b
 not-before before entry behind all e a = by before (subst AreApart (sym e) a)
   where
     not-in : (x : ℕ) (ys : List ℕ) → list_any (λ e. e == x) (ys ++ entry ∷ behind) ≡ false → (x == entry) ≡ false
-    not-in x [] h = eqb-other x entry (λ s. let t : (entry == x) ≡ true = ap (λ (n : ℕ). n == x) (sym s) ∙ eqb-self x in let f : (entry == x) ≡ false = (or-none _ _ h).0 in let bad : true ≡ false = sym t ∙ f in cc)
-    not-in x (y ∷ ys) h = not-in x ys (or-none _ _ h).1
+    not-in x [] h = eqb-other x entry (λ s. let t : (entry == x) ≡ true = ap (λ (n : ℕ). n == x) (sym s) ∙ eqb-self x in let f : (entry == x) ≡ false = (or_parts _ _ h).0 in let bad : true ≡ false = sym t ∙ f in cc)
+    not-in x (y ∷ ys) h = not-in x ys (or_parts _ _ h).1
 
     by : (xs : List ℕ) → AreApart (xs ++ entry ∷ behind) → list_any (λ e. e == entry) xs ≡ false
     by [] a = refl

@@ -1,6 +1,7 @@
 -- A row that may be judged.
 use Rattle.std.proofs.Common.{◌≡◌, ℕ, ◌≤◌, Bool, true, false, ◌&&◌, ◌||◌, List, [], ◌∷◌, ◌++◌, map, refl, ap, sym, ◌∙◌, subst, inl, inr}
-use Rattle.std.proofs.lemmas.Bool.{eqb-true}
+use Rattle.std.proofs.lemmas.Bool.{eqb-true, and_right}
+use Rattle.std.proofs.lemmas.Option.{same_Some}
 use Rattle.std.specs.Prelude.{Option, Some, None, Result, Ok, Err, ◌==◌, if◌then◌else◌, option_map, unwrap_or}
 use Rattle.fw_facts.specs.Views.{is_home, version_of, version_shown}
 use Rattle.fw_facts.specs.declared.seen.Seen.{Seen}
@@ -42,10 +43,6 @@ use Rattle.daemon_tasks.proofs.Rows.{others-appended, rows-halted}
 use Rattle.daemon_tasks.proofs.Turns.{Halted, cut_past, did-appended, halted-did, halted-holds, halted-live, halted-memory, halted-off}
 
 -- ---- how a row stands, and whether it can be judged
-
-pub and-false : (a b : Bool) → b ≡ false → (a && b) ≡ false
-and-false true b e = e
-and-false false b e = refl
 
 settled-not : (past : List Event) (entry : ℕ) (state : RowState) → is_unsettled state ≡ false → may_judge past state entry ≡ false
 settled-not past entry RowState.Success u = refl
@@ -91,7 +88,7 @@ unjudged-not past views entry row s e l h n =
     by : (u w : Bool) → is_unsettled row.state ≡ u → must_wait past entry row.state ≡ w → (if u then (if w then Standing.Waits else judged_on row (view_of_row views row)) else Standing.Settled) ≡ s → is_judgeable past views row ≡ false
     by false w eu ew g = may (settled-not past entry row.state eu)
     by true true eu ew g = may (waits-not past entry row.state l ew)
-    by true false eu ew g = and-false (may_judge past row.state row.entry) _ (absent-not row (view_of_row views row) s g n)
+    by true false eu ew g = and_right (may_judge past row.state row.entry) _ (absent-not row (view_of_row views row) s g n)
 
 -- The rows and views of the log, as they are kept.
 standing-row : (a : Annalled) (entry : ℕ) (row : Row) → IsAnnals a → row_of (rows_at a) entry ≡ Some row → standing_of a entry ≡ Some (standing (past_in a) (views a.facts (rows_before a) (past_in a)) entry row)
@@ -103,13 +100,10 @@ standing-row a entry row k r =
 own-entry : (all : List Row) (entry : ℕ) (row : Row) → row_of all entry ≡ Some row → row.entry ≡ entry
 own-entry all entry row r = eqb-true row.entry entry (find-passes (λ x. x.entry == entry) all row r)
 
-some-is : {X : Type 0} (a b : X) → Some a ≡ Some b → a ≡ b
-some-is a b e = cc
-
 can-not : (a : Annalled) (entry : ℕ) (row : Row) (s : Standing) → IsAnnals a → live (past_in a) ≡ [] → row_of (rows_at a) entry ≡ Some row → standing_of a entry ≡ Some s → IsUnjudged s → can_judge a.facts (rows_before a) (past_in a) entry ≡ false
 can-not a entry row s k l r h n =
     let V = views a.facts (rows_before a) (past_in a) in
-    let is : standing (past_in a) V entry row ≡ s = some-is (standing (past_in a) V entry row) s (sym (standing-row a entry row k r) ∙ h) in
+    let is : standing (past_in a) V entry row ≡ s = same_Some (standing (past_in a) V entry row) s (sym (standing-row a entry row k r) ∙ h) in
     ap (λ (o : Option Row). unwrap_or (option_map (is_judgeable (past_in a) V) o) false) r
     ∙ unjudged-not (past_in a) V entry row s (own-entry (rows_at a) entry row r) l is n
 

@@ -1,6 +1,6 @@
 -- The places decide the pattern relation.
 use Rattle.std.proofs.Common.{◌≡◌, ℕ, suc, Bool, true, false, ◌&&◌, ◌||◌, not, List, [], ◌∷◌, ◌++◌, length, refl, sym, ap, arith, ◌∙◌, ⊎_elim, append_assoc}
-use Rattle.std.proofs.lemmas.Bool.{and_parts, and_from, or_cases, or_left, or_right, true≢false}
+use Rattle.std.proofs.lemmas.Bool.{and_parts, and_from, or_cases, or_left, or_right, true≢false, not-true}
 use Rattle.std.proofs.lemmas.List.Folds.{Any-from_list_any, list_any-from_Any}
 use Rattle.std.specs.List.{list_all}
 use Rattle.std.specs.Prelude.{◌↔◌, IsTrue}
@@ -180,10 +180,6 @@ branch-behind branch b text free i =
       ends = i.ends;
     }
 
-free-from_not : (tied : Bool) → not tied ≡ true → tied ≡ false
-free-from_not true h = absurd (true≢false (sym h))
-free-from_not false h = refl
-
 not-from_free : (tied : Bool) → (tied ≡ true → ⊥) → not tied ≡ true
 not-from_free true h = absurd (h refl)
 not-from_free false h = refl
@@ -194,7 +190,7 @@ branch-from_branch_at branch (b ∷ text) h = ⊎_elim
     (λ here. branch-from_begin branch (b ∷ text) (begin-from_pieces_at branch.to_end branch.pieces (b ∷ text) here))
     (λ later.
     let both = and_parts (not branch.from_start) (branch_at branch text) later in
-    branch-behind branch b text (free-from_not branch.from_start both.0) (branch-from_branch_at branch text both.1))
+    branch-behind branch b text (not-true branch.from_start both.0) (branch-from_branch_at branch text both.1))
     (or_cases (pieces_at branch.to_end branch.pieces (b ∷ text)) (not branch.from_start && branch_at branch text) h)
 
 branch_at-here : (branch : Branch) (text : List ℕ) → pieces_at branch.to_end branch.pieces text ≡ true → branch_at branch text ≡ true

@@ -1,6 +1,7 @@
 -- That a run which nothing keeps from it does all that it is for.
 use Rattle.std.proofs.Common.{◌≡◌, ◌⊎◌, ℕ, ◌≤◌, ◌++◌, ◌+◌, true, false, List, [], length, map, refl, ap, sym, ◌∙◌, subst, inl, inr, arith}
 use Rattle.std.proofs.lemmas.List.{append-nil, length-append}
+use Rattle.std.proofs.lemmas.Option.{same_Some}
 use Rattle.std.specs.Prelude.{◌-◌, ◌^◌, Option, Some, None}
 use Rattle.fw_facts.specs.declared.machine.MachineFacts.{MachineFacts}
 use Rattle.history_keeper.proofs.Prefixes.{history_front, history_none}
@@ -44,13 +45,10 @@ use Rattle.fwupd_service.proofs.FaultsTold.{counted-none, no-fault-told}
 
 -- ---- what came of the input
 
-some-same : {X : Type 0} (x y : X) → Some x ≡ Some y → x ≡ y
-some-same x y h = cc
-
 -- What came is a front of the input.
 came-front : (came bytes : List ℕ) (old new : Option (List ℕ)) → Came came old new → old ≡ Some bytes → (rest : List ℕ) × (new ≡ Some rest) × (came ++ rest ≡ bytes)
 came-front came bytes old None c e = let bad : None ≡ Some bytes = sym c ∙ e in cc
-came-front came bytes old (Some rest) c e = (rest, refl, some-same (came ++ rest) bytes (sym c ∙ e))
+came-front came bytes old (Some rest) c e = (rest, refl, same_Some (came ++ rest) bytes (sym c ∙ e))
 
 -- At the end of the input all of it came.
 came-all : (came bytes : List ℕ) (old new : Option (List ℕ)) → Came came old new → old ≡ Some bytes → AtEnd new → came ≡ bytes

@@ -1,6 +1,7 @@
 -- What a status says of a campaign that was played, once its output was written.
 use Rattle.std.proofs.Common.{◌≡◌, ℕ, ◌<◌, ◌≤◌, ◌||◌, Bool, true, false, List, [], length, Option, refl, sym, subst, arith}
 use Rattle.std.proofs.lemmas.List.{append-nil}
+use Rattle.std.proofs.lemmas.Bool.{or_parts}
 use Rattle.emulated_boards.specs.Boards.{BoardState}
 use Rattle.history_keeper.specs.declared.change.Change.{Change}
 use Rattle.history_keeper.specs.declared.row.Row.{Row}
@@ -22,10 +23,6 @@ use Rattle.fwupd_service.specs.Telling.{any_fault, any_want}
 by_test : (b : Bool) (G : Type 0) → (b ≡ true → G) → (b ≡ false → G) → G
 by_test true G f g = f refl
 by_test false G f g = g refl
-
-or_parts : (a b : Bool) → (a || b) ≡ false → (a ≡ false) × (b ≡ false)
-or_parts true b e = cc
-or_parts false b e = (refl, e)
 
 -- All of an output is a front of it.
 whole_front : (text : List ℕ) (before after : Option (List ℕ)) → Took text before after → TookFront text before after

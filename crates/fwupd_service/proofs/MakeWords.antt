@@ -4,7 +4,7 @@ use Rattle.std.specs.Prelude.{codes, option_and_then, option_map}
 use Rattle.std.specs.List.{before_first, after_first, position_or_len}
 use Rattle.std.specs.Result.{result_ok}
 use Rattle.std.specs.Str.{bytes_eq}
-use Rattle.std.proofs.lemmas.Bool.{leb-true}
+use Rattle.std.proofs.lemmas.Bool.{leb-true, and_parts}
 use Rattle.fw_base.specs.Names.{is_no_name_byte, name_read, name_unless}
 use Rattle.fw_base.specs.declared.name.NameFault.{NameFault}
 use Rattle.fw_base.specs.declared.name.NameFault.TheVariants.{Empty, TooLong}
@@ -38,12 +38,8 @@ holds-if : {A : Type 0} (P : A → Type 0) (b : Bool) (x y : Option A) → Holds
 holds-if P true x y h k = h
 holds-if P false x y h k = k
 
-both : (a b : Bool) → (a && b) ≡ true → (a ≡ true) × (b ≡ true)
-both true b e = (refl, e)
-both false b e = cc
-
 tested : (least most n : ℕ) (b : Bool) → (nat_le least n && nat_le n most) ≡ b → Holds (IsWithin least most) (if b then Some n else None)
-tested least most n true e = let h = both (nat_le least n) (nat_le n most) e in record { low = leb-true least n h.0; high = leb-true n most h.1 }
+tested least most n true e = let h = and_parts (nat_le least n) (nat_le n most) e in record { low = leb-true least n h.0; high = leb-true n most h.1 }
 tested least most n false e = tt
 
 within : (least most : ℕ) (word : List ℕ) → Holds (IsWithin least most) (number_within least most word)

@@ -5,6 +5,7 @@ use Rattle.std.specs.Str.{bytes_eq}
 use Rattle.std.specs.Cmp.Lexicographic.{bytes_decides}
 use Rattle.std.proofs.lemmas.List.{get_or_default}
 use Rattle.std.proofs.lemmas.Option.{slice_get-get_or}
+use Rattle.std.proofs.lemmas.Bool.{and_parts}
 use Rattle.history_keeper.specs.declared.row.Row.{Row}
 use Rattle.history_keeper.specs.declared.row.RowState.{RowState}
 use Rattle.history_keeper.specs.Histories.{IsFailure, is_failed}
@@ -13,10 +14,6 @@ use Rattle.history_keeper.specs.Numbers.{IsNumbered}
 pub failed-is : (state : RowState) → is_failed state ≡ true → state ≡ RowState.Failed
 failed-is RowState.Failed h = refl
 failed-is _ h = cc
-
-and-true : (a b : Bool) → (a && b) ≡ true → (a ≡ true) × (b ≡ true)
-and-true true b h = (refl, h)
-and-true false b h = cc
 
 -- the row at a place of rows that are numbered
 entry-at : (rows : List Row) (k : ℕ) (x : Row) → IsNumbered rows → k < length rows → get_or rows k x ≡ x → x.entry ≡ k + 1
@@ -50,7 +47,7 @@ none-there rows entry device place row h low next is untrue (k, x, within, here,
 
 pub found : (rows : List Row) (entry : ℕ) (device : List ℕ) (place : ℕ) (row : Row) (b : Bool) → IsNumbered rows → place < length rows → entry ≡ place + 1 → row ≡ get_or rows place row → b ≡ (bytes_eq row.device device && is_failed row.state) → MatchBool b (Any (IsFailure entry device) rows) (Any (IsFailure entry device) rows → ⊥)
 found rows entry device place row true h low next is e =
-    let both = and-true (bytes_eq row.device device) (is_failed row.state) (sym e) in
+    let both = and_parts (bytes_eq row.device device) (is_failed row.state) (sym e) in
     let entry_is : row.entry ≡ entry = h place row (slice_get-get_or rows place row low ∙ ap Some (sym is)) ∙ sym next in (
       place,
       row,

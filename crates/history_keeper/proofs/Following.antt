@@ -1,12 +1,12 @@
 -- A row that goes on with a history clashes with none of its rows.
-use Rattle.std.proofs.Common.{◌≡◌, ℕ, Bool, true, false, ◌&&◌, ◌||◌, ◌+◌, not, cond, List, [], ◌∷◌, ◌++◌, length, map, filter, Any, refl, sym, ap, ◌∙◌, inl, inr, MatchBool}
+use Rattle.std.proofs.Common.{◌≡◌, ℕ, Bool, true, false, ◌&&◌, ◌||◌, ◌+◌, cond, List, [], ◌∷◌, ◌++◌, length, map, filter, Any, refl, sym, ap, ◌∙◌, inl, inr, MatchBool}
 use Rattle.std.specs.Bool.{OnTrue}
 use Rattle.std.specs.Prelude.{Option, Some, None, nat_eq, option_map, unwrap_or}
 use Rattle.std.specs.Option.{option_to_list}
 use Rattle.std.specs.List.{list_any}
 use Rattle.std.specs.Str.{bytes_eq}
 use Rattle.std.specs.Cmp.Lexicographic.{bytes_decides}
-use Rattle.std.proofs.lemmas.Bool.{eqb-true, eq-eqb}
+use Rattle.std.proofs.lemmas.Bool.{eqb-true, eq-eqb, and_parts, not-true, and_from, not-false}
 use Rattle.std.proofs.lemmas.List.Elements.{filter_map-append}
 use Rattle.std.proofs.lemmas.List.Folds.{Any-from_list_any, list_any-from_Any}
 use Rattle.history_keeper.specs.declared.row.Row.{Row}
@@ -31,13 +31,6 @@ has_tag rows row = list_any-map (λ (r : Row). r.tag) (bytes_eq row.tag) rows
 pub has_device : (rows : List Row) (row : Row) → list_any (bytes_eq row.device) (waiting_of rows) ≡ list_any (λ (r : Row). is_unsettled r.state && bytes_eq row.device r.device) rows
 has_device rows row = list_any-map (λ (r : Row). r.device) (bytes_eq row.device) (filter (λ (r : Row). is_unsettled r.state) rows) ∙ list_any-filter (λ (r : Row). is_unsettled r.state) (λ (r : Row). bytes_eq row.device r.device) rows
 
-and-true : (a b : Bool) → (a && b) ≡ true → (a ≡ true) × (b ≡ true)
-and-true true b h = (refl, h)
-and-true false b h = cc
-
-both-true : (a b : Bool) → a ≡ true → b ≡ true → (a && b) ≡ true
-both-true a b h k = rw (h, k) refl
-
 -- The row tries again what the test passes.
 abbrev pub is_tried : (ℕ → Bool) → Row → Bool
 is_tried p r = unwrap_or (option_map p r.retry_of) false
@@ -59,14 +52,6 @@ tried-of : (entry : ℕ) (o : Option ℕ) → unwrap_or (option_map (nat_eq entr
 tried-of entry None h = cc
 tried-of entry (Some n) h = ap Some (sym (eqb-true entry n h))
 
-not-true : (b : Bool) → not b ≡ true → b ≡ false
-not-true true h = cc
-not-true false h = refl
-
-not-false : (b : Bool) → not b ≡ false → b ≡ true
-not-false true h = refl
-not-false false h = cc
-
 -- A row that goes on clashes with none.
 pub free : (rows : List Row) (row : Row) → GoesOn rows (tags_of rows) (waiting_of rows) (retried_of rows) row → Clashes rows row → ⊥
 free rows row g (k, x, within, here, inl same) =
@@ -76,9 +61,9 @@ free rows row g (k, x, within, here, inl same) =
     cc
 free rows row g (k, x, within, here, inr (inl both)) =
     let f = g.follows in
-    let yes : list_any (λ (r : Row). is_unsettled r.state && bytes_eq row.device r.device) rows ≡ true = list_any-from_Any (λ (r : Row). is_unsettled r.state && bytes_eq row.device r.device) rows (k, x, within, here, both-true _ _ both.1 ((bytes_decides row.device x.device).1 (sym both.0))) in
+    let yes : list_any (λ (r : Row). is_unsettled r.state && bytes_eq row.device r.device) rows ≡ true = list_any-from_Any (λ (r : Row). is_unsettled r.state && bytes_eq row.device r.device) rows (k, x, within, here, and_from _ _ both.1 ((bytes_decides row.device x.device).1 (sym both.0))) in
     let no : (is_unsettled row.state && list_any (λ (r : Row). is_unsettled r.state && bytes_eq row.device r.device) rows) ≡ false = ap (λ b. is_unsettled row.state && b) (sym (has_device rows row)) ∙ f.device in
-    let true_too : (is_unsettled row.state && list_any (λ (r : Row). is_unsettled r.state && bytes_eq row.device r.device) rows) ≡ true = both-true _ _ both.2 yes in
+    let true_too : (is_unsettled row.state && list_any (λ (r : Row). is_unsettled r.state && bytes_eq row.device r.device) rows) ≡ true = and_from _ _ both.2 yes in
     cc
 free rows row g (k, x, within, here, inr (inr (entry, a, b))) =
     let l = g.links in
@@ -104,9 +89,9 @@ clash rows row odds entry link =
         let some : Any (λ (r : Row). bytes_eq row.tag r.tag ≡ true) rows = Any-from_list_any (λ (r : Row). bytes_eq row.tag r.tag) rows (sym (has_tag rows row) ∙ h) in
         (some.0, some.1, some.2, some.3, inl (sym ((bytes_decides row.tag some.1.tag).0 some.4)))
     by_tag false true u h k l =
-        let parts : (is_unsettled row.state ≡ true) × (list_any (bytes_eq row.device) (waiting_of rows) ≡ true) = and-true _ _ k in
+        let parts : (is_unsettled row.state ≡ true) × (list_any (bytes_eq row.device) (waiting_of rows) ≡ true) = and_parts _ _ k in
         let some : Any (λ (r : Row). is_unsettled r.state && bytes_eq row.device r.device ≡ true) rows = Any-from_list_any (λ (r : Row). is_unsettled r.state && bytes_eq row.device r.device) rows (sym (has_device rows row) ∙ parts.1) in
-        let two : (is_unsettled some.1.state ≡ true) × (bytes_eq row.device some.1.device ≡ true) = and-true _ _ some.4 in
+        let two : (is_unsettled some.1.state ≡ true) × (bytes_eq row.device some.1.device ≡ true) = and_parts _ _ some.4 in
         (some.0, some.1, some.2, some.3, inr (inl (sym ((bytes_decides row.device some.1.device).0 two.1), two.0, parts.0)))
     by_tag false false false h k l = retry_clash rows row row.retry_of refl l
     by_tag false false true h k l =

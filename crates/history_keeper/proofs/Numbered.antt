@@ -2,7 +2,7 @@
 use Rattle.std.proofs.Common.{◌≡◌, ℕ, zero, suc, Bool, true, false, List, [], ◌∷◌, ◌++◌, length, map, refl, ap, sym, ◌∙◌, ◌<◌, ◌≤◌, ◌+◌, arith, ◌⊎◌, inl, inr}
 use Rattle.std.proofs.lemmas.Bool.{eqb-true, eq-eqb}
 use Rattle.std.specs.Prelude.{Option, Some, None, ◌==◌, option_map, slice_get, slice_set}
-use Rattle.std.proofs.lemmas.Option.{slice_get-map, slice_get_within}
+use Rattle.std.proofs.lemmas.Option.{slice_get-map, slice_get_within, same_Some}
 use Rattle.history_keeper.specs.declared.row.Row.{Row}
 use Rattle.history_keeper.specs.declared.row.RowState.{RowState}
 use Rattle.history_keeper.specs.Changes.{with_state}
@@ -13,15 +13,12 @@ pub by_test : (b : Bool) (G : Type 0) → (b ≡ true → G) → (b ≡ false �
 by_test true G f g = f refl
 by_test false G f g = g refl
 
-pub some-same : {X : Type 0} (x y : X) → Some x ≡ Some y → x ≡ y
-some-same x y h = cc
-
 pub eqb-other : (m n : ℕ) → (m ≡ n → ⊥) → (m == n) ≡ false
 eqb-other m n h = by_test (m == n) _ (λ t. absurd (h (eqb-true m n t))) (λ t. t)
 
 -- The row behind the others, and those before it.
 pub get-push : (rows : List Row) (row r : Row) (at : ℕ) → slice_get (rows ++ row ∷ []) at ≡ Some r → (slice_get rows at ≡ Some r) ⊎ ((at ≡ length rows) × (row ≡ r))
-get-push [] row r zero h = inr (refl, some-same row r h)
+get-push [] row r zero h = inr (refl, same_Some row r h)
 get-push [] row r (suc at) h = cc
 get-push (x ∷ rows) row r zero h = inl h
 get-push (x ∷ rows) row r (suc at) h = later (get-push rows row r at h)
@@ -72,7 +69,7 @@ module _ (e : ℕ) (state : RowState) (reason time : ℕ) where
   within-stated : (n : ℕ) (rows : List Row) (k : ℕ) (r : Row) → CountsFrom n rows → slice_get rows k ≡ Some r → e ≡ k + n → slice_set rows k (with_state e state reason time r) ≡ map (with_state e state reason time) rows
   within-stated n [] k r c g q = cc
   within-stated n (x ∷ rows) zero r c g q =
-      let same : x ≡ r = some-same x r g in
+      let same : x ≡ r = same_Some x r g in
       ap (λ y. with_state e state reason time y ∷ rows) (sym same)
       ∙ ap (λ rs. with_state e state reason time x ∷ rs) (past-stated (n + 1) rows c.1 (inl (omega arith)))
   within-stated n (x ∷ rows) (suc k) r c g q =
@@ -97,7 +94,7 @@ module _ (e : ℕ) (state : RowState) (reason time : ℕ) where
     where
       by_row : (at : ℕ) (r : Row) (o : Option Row) → slice_get rows at ≡ o → option_map (with_state e state reason time) o ≡ Some r → r.entry ≡ at + 1
       by_row at r None f g = cc
-      by_row at r (Some s) f g = ap (λ (x : Row). x.entry) (sym (some-same (with_state e state reason time s) r g)) ∙ stated-entry s ∙ h at s f
+      by_row at r (Some s) f g = ap (λ (x : Row). x.entry) (sym (same_Some (with_state e state reason time s) r g)) ∙ stated-entry s ∙ h at s f
 
 -- Rows that are numbered up to a place.
 
@@ -108,7 +105,7 @@ pub numbered-more : (end : ℕ) (rows : List Row) (row : Row) → NumberedBefore
 numbered-more end rows row h there next = λ at r l g. by_test (at == end) _
     (λ t. let same : at ≡ end = eqb-true at end t in
     let found : Some row ≡ Some r = sym there ∙ ap (slice_get rows) (sym same) ∙ g in
-    ap (λ (x : Row). x.entry) (sym (some-same row r found)) ∙ next ∙ ap (λ n. n + 1) (sym same))
+    ap (λ (x : Row). x.entry) (sym (same_Some row r found)) ∙ next ∙ ap (λ n. n + 1) (sym same))
     (λ t. h at r (let apart : at ≡ end → ⊥ = λ e. let yes : (at == end) ≡ true = eq-eqb at end e in cc in omega (arith, apart)) g)
 
 pub numbered-all : (end : ℕ) (rows : List Row) → NumberedBefore end rows → length rows ≤ end → IsNumbered rows

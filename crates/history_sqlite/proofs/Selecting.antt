@@ -11,7 +11,8 @@ use Rattle.sqlite_value.specs.Keys.{ascending}
 use Rattle.sqlite_sql.proofs.QueryLemmas.{key_cmp_total}
 use Rattle.sqlite_keyed.proofs.SortLemmas.{sorted_unique}
 use Rattle.std.proofs.lemmas.Cmp.{on_total}
-use Rattle.std.specs.List.{AllByRecursion, flat_map}
+use Rattle.std.proofs.lemmas.List.Concat.{flat_map_single}
+use Rattle.std.specs.List.{AllByRecursion}
 use Rattle.std.specs.List.Sorted.{IsPermutation}
 use Rattle.sqlite.specs.Tree.{Trees, IsAscending}
 use Rattle.sqlite.specs.declared.error.Error.{Error}
@@ -25,10 +26,6 @@ use Rattle.history_sqlite.specs.Tables.{history_schema, older_schema, rows_tree,
 use Rattle.history_sqlite.proofs.Effects.{stays, older_stays, show_changes_nothing, query_stays, plain_at}
 use Rattle.history_sqlite.proofs.Layouts.{overlaid, query_of, project, older_project, select_is, select_plain, older_select_is, older_select_plain}
 use Rattle.history_sqlite.proofs.Inserting.{lower}
-
-flat_one : {X Y : Type 0} (f : X → Y) (xs : List X) → flat_map (λ x. f x ∷ []) xs ≡ map f xs
-flat_one f [] = refl
-flat_one f (x ∷ xs) = ap (λ l. f x ∷ l) (flat_one f xs)
 
 pub drop_none : {X : Type 0} (xs : List X) → drop 0 xs ≡ xs
 drop_none [] = refl
@@ -66,7 +63,7 @@ module _ (tree : ℕ) (overlaid_is : (db : Trees) → overlay db [] tree ≡ db 
   answered : (db : Trees) (rows : List Row) (all : List Values) → db tree ≡ map kept rows → AreNumbered 1 rows → IsAnswer query (overlay db []) [] all → all ≡ map shown rows
   answered db rows all holds in_turn a =
       let staged : a.staged ≡ map (λ (r : Values). [] ∷ r ∷ []) (map kept rows) =
-      a.grouped ∙ flat_one (λ (r : Values). [] ∷ r ∷ []) (overlay db [] tree) ∙ ap (map (λ (r : Values). [] ∷ r ∷ [])) (overlaid_is db ∙ holds) in
+      a.grouped ∙ flat_map_single (λ (r : Values). [] ∷ r ∷ []) (overlay db [] tree) ∙ ap (map (λ (r : Values). [] ∷ r ∷ [])) (overlaid_is db ∙ holds) in
       let found : a.kept ≡ map shown_as rows = a.distinct ∙ ap (map (output query)) staged ∙ outputs rows in
       let total = on_total (λ (o : Output). o.0) (key_cmp_total (ascending Binary ∷ []) 0) in
       let ordered : a.ordered ≡ map shown_as rows =

@@ -3,6 +3,8 @@ use Rattle.std.proofs.Common.{◌≡◌, ℕ, ◌<◌, ◌≤◌, Bool, true, fa
 use Rattle.std.proofs.lemmas.List.{append-nil}
 use Rattle.std.proofs.lemmas.List.Elements.{Contains-append_left, Contains-append_right}
 use Rattle.std.proofs.lemmas.List.Folds.{list_any-append}
+use Rattle.std.proofs.lemmas.Bool.{or_left}
+use Rattle.std.proofs.lemmas.Option.{same_Some}
 use Rattle.std.specs.Prelude.{Option, Some, None, Contains, IsTrue, MatchBool, OnErr, OnOk, Result, Ok, Err, ⊤, unwrap_or}
 use Rattle.std.specs.List.{list_any}
 use Rattle.fw_facts.specs.Views.{is_home}
@@ -18,7 +20,6 @@ use Rattle.emulated_boards.specs.declared.image.Image.{Image}
 use Rattle.emulated_boards.specs.declared.mark.Mark.{Mark}
 use Rattle.plugin_trait.specs.Steps.{IsAway, KeepsRules}
 use Rattle.history_keeper.specs.declared.row.Row.{Row}
-use Rattle.update_log.proofs.Accepts.{some-same}
 use Rattle.update_log.specs.declared.event.Event.{Event}
 use Rattle.update_log.specs.declared.event.Op.{Op}
 use Rattle.update_log.specs.declared.facts.Facts.{Facts}
@@ -102,9 +103,6 @@ none-of xs ys h = at (list_any is_began xs) (list_any is_began ys) (sym (list_an
     at true b h = cc
     at false b h = (refl, h)
 
-or-one : (a b : Bool) → a ≡ true → (a || b) ≡ true
-or-one a b h = rw h refl
-
 -- Where no write began the image stays.
 unbegun-image : (entry : ℕ) (payload : Image) (ms : List Mark) (old new : Image) → list_any is_began ms ≡ false → ImageGave entry payload ms old new → new ≡ old
 unbegun-image entry payload ms old new n (inl e) = e
@@ -167,7 +165,7 @@ module _ (facts : Facts) (first : List Seen) (opening : List Row) (past : List E
 
   image-left : ImageGave entry payload ms old.condition.image new.condition.image → RawAllowed facts first opening past number ms (number_of_image new.condition.image)
   image-left (inl e) = subst (λ (i : Image). RawAllowed facts first opening past number ms (number_of_image i)) (sym e) (raw-wider facts first opening past number ms (number_of_image old.condition.image) k.image)
-  image-left (inr (inl b)) = inr (inl (ap (λ (o : Option ℕ). unwrap_or o 0) b.0, or-one (list_any is_began ms) (began_since facts first opening past number) b.1))
+  image-left (inr (inl b)) = inr (inl (ap (λ (o : Option ℕ). unwrap_or o 0) b.0, or_left (list_any is_began ms) (began_since facts first opening past number) b.1))
   image-left (inr (inr w)) =
       inr (inr (entry, payload.digest, Contains-append_right (told facts opening past number) ms (Mark.Ended entry payload.digest) w.1.ended, raw ∙ ap (λ (i : Image). Some (number_of_image i)) (sym w.0)))
 
@@ -176,7 +174,7 @@ module _ (facts : Facts) (first : List Seen) (opening : List Row) (past : List E
       let w = k.staged image (sym same ∙ e) in
       (w.0, w.1, subst (λ (x : List Mark). Contains x (Mark.Ended w.0 w.1)) (sym g.journal) (Contains-append_left old.journal ms (Mark.Ended w.0 w.1) w.2), w.3)
   staged-left (inr w) image e =
-      let same : payload ≡ image = some-same payload image (sym w.0 ∙ e) in
+      let same : payload ≡ image = same_Some payload image (sym w.0 ∙ e) in
       (entry, payload.digest, subst (λ (x : List Mark). Contains x (Mark.Ended entry payload.digest)) (sym g.journal) (Contains-append_right old.journal ms (Mark.Ended entry payload.digest) w.1.ended), raw ∙ ap (λ (i : Image). Some (number_of_image i)) same)
 
   -- Behind the step the board stands to the log, with the step's marks as its tail.

@@ -1,6 +1,7 @@
 -- A claim as its entry is taken.
 use Rattle.std.proofs.Common.{◌≡◌, ℕ, ◌<◌, Bool, true, false, List, [], ◌∷◌, refl, ap, sym, ◌∙◌, subst}
 use Rattle.std.proofs.lemmas.Bool.{eqb-true}
+use Rattle.std.proofs.lemmas.Option.{same_Some}
 use Rattle.std.specs.Prelude.{Option, Some, None, ◌&&◌, ◌==◌, find, option_map, unwrap_or}
 use Rattle.std.specs.List.{AllByRecursion}
 use Rattle.std.specs.Str.{bytes_eq}
@@ -8,7 +9,6 @@ use Rattle.fw_facts.specs.declared.seen.Seen.{Seen}
 use Rattle.block_pool.specs.Views.{SealedBytes}
 use Rattle.history_keeper.specs.Histories.{IsHistory}
 use Rattle.history_keeper.specs.declared.row.Row.{Row}
-use Rattle.update_log.proofs.Accepts.{some-same}
 use Rattle.update_log.proofs.LegalOnce.{row-found}
 use Rattle.update_log.proofs.Lists.{All-find, All-map, by_test, eqb-self, find-passes}
 use Rattle.update_log.proofs.Openings.{bytes-same}
@@ -88,7 +88,7 @@ both-true false b h = cc
 
 whole-digest : (payload : SealedBytes) (note : FetchNote) (c : Chosen) → Some note ≡ Some (whole_note payload) → is_whole note c ≡ true → payload.digest ≡ c.release.digest
 whole-digest payload note c e h =
-    let same : note ≡ whole_note payload = some-same note (whole_note payload) e in
+    let same : note ≡ whole_note payload = same_Some note (whole_note payload) e in
     let w : is_whole (whole_note payload) c ≡ true = ap (λ (n : FetchNote). is_whole n c) (sym same) ∙ h in
     bytes-same payload.digest c.release.digest (both-true (bytes_eq payload.digest c.release.digest) _ w)
 

@@ -1,6 +1,7 @@
 -- A story with one event more.
 use Rattle.std.proofs.Common.{◌≡◌, ℕ, ◌+◌, ◌≤◌, Bool, true, false, not, ◌&&◌, ◌==◌, List, [], ◌∷◌, ◌++◌, length, None, refl, ap, sym, ◌∙◌, subst, arith, inl}
 use Rattle.std.proofs.lemmas.List.{length_push}
+use Rattle.std.proofs.lemmas.Bool.{and_parts}
 use Rattle.std.specs.Prelude.{Option, Some, is_none, option_map}
 use Rattle.std.specs.List.{list_any}
 use Rattle.fw_facts.specs.declared.view.DeviceView.{DeviceView}
@@ -118,16 +119,11 @@ claim-rows facts opening core client request note entry s room =
     let one = one-row (λ t. new_row (length k.rows + 1) (time_of past) client request RowState.Begun t) (target facts (views facts opening past) request) (rows facts opening past) in
     omega (arith, same, one, room)
 
-both-true : (a b : Bool) → (a && b) ≡ true → (a ≡ true) × (b ≡ true)
-both-true true true h = (refl, refl)
-both-true true false h = cc
-both-true false b h = cc
-
 pub claim-story : (s : StoryTold) (client : ℕ) (held : Held) (note : FetchNote) → IsStory s → hold (past s) client ≡ Some held → held.pending ≡ None
     → (is_fetched note (target s.facts s.core.views held.request) && is_accepted (verdict s.facts s.opening (past s) client held.request (Stage.Claim held.release))) ≡ true
     → (entry : ℕ) → entry ≡ length s.core.rows + 1 → RunsOn s.facts s.opening (Event.Claim client held.request note (ClaimAnswer.Entry entry) ∷ past s)
 claim-story s client held note k h p b entry n =
-    let both = both-true (is_fetched note (target s.facts s.core.views held.request)) (is_accepted (verdict s.facts s.opening (past s) client held.request (Stage.Claim held.release))) b in
+    let both = and_parts (is_fetched note (target s.facts s.core.views held.request)) (is_accepted (verdict s.facts s.opening (past s) client held.request (Stage.Claim held.release))) b in
     rw n (claim-runs s.facts s.opening s.core client held note k.runs k.stands h p both.1 both.0)
 
 -- More room changes nothing.

@@ -1,11 +1,12 @@
 -- What the statements do to the table of marks.
 use Rattle.std.proofs.Common.{◌≡◌, inl, inr, ℕ, pos, negsuc, ◌+◌, ◌<◌, List, [], ◌∷◌, ◌++◌, length, map, drop, codes, true, false, None, Ok, IsTrue, refl, sym, ap, subst, subst₂, ◌∙◌, arith}
 use Rattle.std.specs.Result.{is_ok}
-use Rattle.std.specs.Prelude.{flat_map, fold, ◌+ℤ◌}
+use Rattle.std.specs.Prelude.{fold, ◌+ℤ◌}
 use Rattle.std.specs.List.{AllByRecursion}
 use Rattle.std.specs.List.Sorted.{IsPermutation}
 use Rattle.std.specs.declared.cmp.Ordering.TheVariants.{Less}
 use Rattle.std.proofs.lemmas.Cmp.{on_total}
+use Rattle.std.proofs.lemmas.List.Concat.{flat_map_single}
 use Rattle.sqlite.specs.declared.types.Value.TheVariants.{Null, Int}
 use Rattle.sqlite.specs.declared.error.Error.{Error}
 use Rattle.sqlite.specs.Order.{Row as Values}
@@ -261,10 +262,6 @@ in_order : (place : ℕ) (marks : List ℕ) → IsAscending (λ a b. output_cmp 
 in_order place [] = tt
 in_order place (entry ∷ marks) = (above_all place (place + 1) entry marks (omega arith), in_order (place + 1) marks)
 
-flat_one : {X Y : Type 0} (f : X → Y) (xs : List X) → flat_map (λ x. f x ∷ []) xs ≡ map f xs
-flat_one f [] = refl
-flat_one f (x ∷ xs) = ap (λ l. f x ∷ l) (flat_one f xs)
-
 drop_none : {X : Type 0} (xs : List X) → drop 0 xs ≡ xs
 drop_none [] = refl
 drop_none (x ∷ xs) = refl
@@ -272,7 +269,7 @@ drop_none (x ∷ xs) = refl
 answered : (db : Trees) (marks : List ℕ) (all : List Values) → db 0 ≡ stored_from 1 marks → IsAnswer query (overlay db []) [] all → all ≡ map shown_of marks
 answered db marks all holds a =
     let staged : a.staged ≡ map (λ (r : Values). [] ∷ r ∷ []) (stored_from 1 marks) =
-    a.grouped ∙ flat_one (λ (r : Values). [] ∷ r ∷ []) (overlay db [] 0) ∙ ap (map (λ (r : Values). [] ∷ r ∷ [])) holds in
+    a.grouped ∙ flat_map_single (λ (r : Values). [] ∷ r ∷ []) (overlay db [] 0) ∙ ap (map (λ (r : Values). [] ∷ r ∷ [])) holds in
     let found : a.kept ≡ outputs_from 1 marks = a.distinct ∙ ap (map (output query)) staged ∙ staged_from 1 marks in
     let total = on_total (λ (o : Output). o.0) (key_cmp_total (ascending Binary ∷ []) 0) in
     let ordered : a.ordered ≡ outputs_from 1 marks =

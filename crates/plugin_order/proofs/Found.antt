@@ -1,9 +1,10 @@
 -- Numbers that are found one after another, each at a place of a list.
-use Rattle.std.proofs.Common.{◌≡◌, ℕ, zero, suc, ◌+◌, ◌<◌, ◌≤◌, ◌⊎◌, inl, inr, Option, Some, None, List, [], ◌∷◌, ◌++◌, length, get_or, set, drop, replicate, IsTrue, refl, sym, ap, ◌∙◌, subst, arith, Bool, length-append}
+use Rattle.std.proofs.Common.{◌≡◌, ℕ, zero, suc, ◌+◌, ◌<◌, ◌⊎◌, inl, inr, Option, Some, None, List, [], ◌∷◌, ◌++◌, length, get_or, set, drop, replicate, IsTrue, refl, sym, ap, ◌∙◌, subst, arith, Bool, length-append}
 use Rattle.std.proofs.lemmas.List.{get_or-set_same, get_or-set_other, get_or-replicate}
 use Rattle.std.proofs.Math.ListN.{get_or-append, get_or-eq_default, length-replicate}
 use Rattle.std.proofs.Math.Seq.{get_or-append_seam}
-use Rattle.std.proofs.lemmas.Bool.Decides.{eqb_tells, leb_tells}
+use Rattle.std.proofs.lemmas.Bool.Decides.{eqb_tells}
+use Rattle.std.proofs.lemmas.Bool.{cases_lt}
 use Rattle.plugin_order.specs.declared.rules.Rules.{Rules}
 use Rattle.plugin_order.specs.Chains.{IsLongest, Leads, IsCycle}
 use Rattle.plugin_order.specs.Table.{holds, height_of}
@@ -25,9 +26,6 @@ set_found P hs at new lt here old p h e =
       | inr n ↦ old p h (sym (get_or-set_other hs at p (Some new) None n.1) ∙ e)
     ]
 
-lt_or_le : (a b : ℕ) → (a < b) ⊎ (b ≤ a)
-lt_or_le a b = elim (leb_tells b a) [ inl y ↦ inr y.1 | inr n ↦ inl n.1 ]
-
 option_cases : (o : Option ℕ) → (o ≡ None) ⊎ ((h : ℕ) × (o ≡ Some h))
 option_cases None = inl refl
 option_cases (Some h) = inr (h, refl)
@@ -37,7 +35,7 @@ not_both o h n s = cc
 
 -- a list of nothing has no number
 pub none_found : (n p h : ℕ) → height_of (replicate n None) p ≡ Some h → ⊥
-none_found n p h e = elim (lt_or_le p n) [
+none_found n p h e = elim (cases_lt p n) [
   | inl l ↦ (let s : get_or (replicate n None) p None ≡ None = get_or-replicate n p None None l in not_both _ h s e)
   | inr g ↦ (
       let len : length (replicate {A = Option ℕ} n None) ≡ n = length-replicate n None in

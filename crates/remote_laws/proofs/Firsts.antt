@@ -8,6 +8,7 @@ use Rattle.std.proofs.lemmas.List.{append-nil}
 use Rattle.std.proofs.lemmas.List.Concat.{flat_map-append}
 use Rattle.std.proofs.lemmas.List.Folds.{list_any-append}
 use Rattle.std.proofs.lemmas.Slice.Eq.{bytes_eq-Decides}
+use Rattle.std.proofs.lemmas.Bool.{or_parts}
 use Rattle.version_formats.specs.VersionOrder.{same_version}
 use Rattle.fw_facts.specs.declared.release.Component.{Component}
 use Rattle.fw_facts.specs.declared.release.Release.{Release}
@@ -67,14 +68,10 @@ of_all hides alike id version (c ∷ cs) =
 
 -- ---- what isn't offered
 
-neither : (a b : Bool) → (a || b) ≡ false → (a ≡ false) × (b ≡ false)
-neither true b e = cc
-neither false b e = (refl, e)
-
 none_has : (version : List ℕ) (rs : List Release) → list_any (has version) rs ≡ false → filter (has version) rs ≡ []
 none_has version [] e = refl
 none_has version (r ∷ rs) e =
-    let n : (has version r ≡ false) × (list_any (has version) rs ≡ false) = neither (has version r) (list_any (has version) rs) e in
+    let n : (has version r ≡ false) × (list_any (has version) rs ≡ false) = or_parts (has version r) (list_any (has version) rs) e in
     rw n.0 (none_has version rs n.1)
 
 none_of_one : (id version : List ℕ) (c : Component) (b : Bool) → bytes_eq c.id id ≡ b → (b && list_any (has version) c.releases) ≡ false
@@ -86,7 +83,7 @@ none_offered : (id version : List ℕ) (cs : List Component) → offers id versi
 none_offered id version [] e = refl
 none_offered id version (c ∷ cs) e =
     let n : ((bytes_eq c.id id && list_any (has version) c.releases) ≡ false) × (offers id version cs ≡ false)
-    = neither (bytes_eq c.id id && list_any (has version) c.releases) (offers id version cs) e in
+    = or_parts (bytes_eq c.id id && list_any (has version) c.releases) (offers id version cs) e in
     ap (λ (xs : List Release). xs ++ offered id version cs) (none_of_one id version c (bytes_eq c.id id) refl n.0)
     ∙ none_offered id version cs n.1
 

@@ -1,10 +1,10 @@
 -- Rows that are found one after the other; what is known of rows that are due.
-use Rattle.std.proofs.Common.{◌≡◌, ℕ, zero, suc, ◌+◌, ◌<◌, ◌≤◌, arith, Bool, true, false, ◌&&◌, not, List, [], ◌∷◌, ◌++◌, length, map, take, drop, filter, get_or, if◌then◌else◌, refl, sym, ap, subst, ◌∙◌}
+use Rattle.std.proofs.Common.{◌≡◌, ℕ, zero, suc, ◌+◌, ◌<◌, ◌≤◌, arith, Bool, true, false, not, List, [], ◌∷◌, ◌++◌, length, map, take, drop, filter, get_or, if◌then◌else◌, refl, sym, ap, subst, ◌∙◌}
 use Rattle.std.specs.Prelude.{All, AllPairs, Contains, ◌==◌}
 use Rattle.std.proofs.lemmas.List.{get_or-map, get_or-take, get_or_read, length-append, length-take, take-append-drop, take_all, take_at, take_more}
 use Rattle.std.proofs.lemmas.List.Elements.{All-contains, All-contains_itself, All-filter, All-map, All-take, All-weaker, filter-append, filter_passes}
 use Rattle.std.proofs.lemmas.List.Kept.{AllPairs-filter}
-use Rattle.std.proofs.lemmas.Bool.{eq-eqb}
+use Rattle.std.proofs.lemmas.Bool.{eq-eqb, and_parts}
 use Rattle.history_keeper.specs.declared.row.Row.{Row}
 use Rattle.history_keeper.specs.Histories.{IsHistory}
 use Rattle.history_keeper.proofs.Prefixes.{front-pairs}
@@ -70,16 +70,11 @@ due-rise rows marks n h =
 pub due-of_rows : (rows : List Row) (marks : List ℕ) (n : ℕ) → All (λ row. Contains rows row) (take n (due marks rows))
 due-of_rows rows marks n = All-take (Contains rows) n (due marks rows) (All-filter (is_due marks) (Contains rows) rows (All-contains_itself rows))
 
-both : (a b : Bool) → (a && b) ≡ true → (a ≡ true) × (b ≡ true)
-both true true h = (refl, refl)
-both true false h = cc
-both false b h = cc
-
 pub due-judged : (rows : List Row) (marks : List ℕ) (n : ℕ) → All (λ row. is_judged row.state ≡ true) (take n (due marks rows))
 due-judged rows marks n =
     All-take (λ (row : Row). is_judged row.state ≡ true) n (due marks rows)
     (All-weaker (λ (row : Row). is_due marks row ≡ true) (λ (row : Row). is_judged row.state ≡ true)
-    (λ row h. (both (is_judged row.state) (not (is_marked marks row.entry)) h).0) (due marks rows) (filter_passes (is_due marks) rows))
+    (λ row h. (and_parts (is_judged row.state) (not (is_marked marks row.entry)) h).0) (due marks rows) (filter_passes (is_due marks) rows))
 
 -- An entry that is among the marks is found there.
 marked-there : (marks : List ℕ) (entry : ℕ) → Contains marks entry → is_marked marks entry ≡ true
@@ -94,7 +89,7 @@ pub due-unmarked : (rows : List Row) (marks : List ℕ) (n : ℕ) → All (λ ro
 due-unmarked rows marks n =
     All-take (λ (row : Row). Contains marks row.entry → ⊥) n (due marks rows)
     (All-weaker (λ (row : Row). is_due marks row ≡ true) (λ (row : Row). Contains marks row.entry → ⊥)
-    (λ row h there. let no : not (is_marked marks row.entry) ≡ true = (both (is_judged row.state) (not (is_marked marks row.entry)) h).1 in
+    (λ row h there. let no : not (is_marked marks row.entry) ≡ true = (and_parts (is_judged row.state) (not (is_marked marks row.entry)) h).1 in
     let yes : is_marked marks row.entry ≡ true = marked-there marks row.entry there in
     not-true (is_marked marks row.entry) yes no) (due marks rows) (filter_passes (is_due marks) rows))
   where

@@ -1,6 +1,7 @@
 -- An index with one row more, and with another state of a row.
 use Rattle.std.proofs.Common.{◌≡◌, ℕ, suc, Bool, true, false, ◌&&◌, List, [], ◌∷◌, ◌++◌, length, map, refl, ap, sym, ◌∙◌, ◌+◌, ◌⊎◌, inl, inr, subst}
-use Rattle.std.proofs.lemmas.Option.{slice_get-map}
+use Rattle.std.proofs.lemmas.Option.{slice_get-map, same_Some}
+use Rattle.std.proofs.lemmas.Bool.{and_parts, and_from}
 use Rattle.std.specs.Prelude.{Result, Ok, Err, IsOk, OnOk, IfSome, Option, Some, None, ◌==◌, if◌then◌else◌, option_map, slice_get}
 use Rattle.std.specs.Cmp.Lexicographic.{bytes_decides}
 use Rattle.std.specs.List.{list_any}
@@ -11,16 +12,9 @@ use Rattle.history_keeper.specs.declared.row.RowState.{RowState}
 use Rattle.history_keeper.specs.Changes.{with_state}
 use Rattle.history_keeper.specs.Histories.{is_unsettled}
 use Rattle.row_index.specs.Rows.{has_tag, waits_on}
-use Rattle.history_keeper.proofs.Numbered.{by_test, get-push, numbered-push, some-same}
+use Rattle.history_keeper.proofs.Numbered.{by_test, get-push, numbered-push}
 use Rattle.row_index.specs.Indexes.{IsIndexOf, WaitsFromBefore, or_noted, place_of, row_at}
 use Rattle.row_index.proofs.Places.{place-push}
-
-and-true : (a b : Bool) → (a && b) ≡ true → (a ≡ true) × (b ≡ true)
-and-true true b h = (refl, h)
-and-true false b h = cc
-
-both-true : (a b : Bool) → a ≡ true → b ≡ true → (a && b) ≡ true
-both-true a b h k = rw (h, k) refl
 
 bytes-symm : (a b : List ℕ) → bytes_eq a b ≡ true → bytes_eq b a ≡ true
 bytes-symm a b h = (bytes_decides b a).1 (sym ((bytes_decides a b).0 h))
@@ -40,7 +34,7 @@ ok-then (Err e) h p = cc
 
 pub some-at : {X : Type 0} (P : X → Type 0) (o : Option X) (x : X) → o ≡ Some x → IfSome o P → P x
 some-at P None x e h = cc
-some-at P (Some y) x e h = subst P (some-same y x e) h
+some-at P (Some y) x e h = subst P (same_Some y x e) h
 
 pub some-if : {X : Type 0} (P : X → Type 0) (o : Option X) → ((x : X) → o ≡ Some x → P x) → IfSome o P
 some-if P None h = tt
@@ -60,7 +54,7 @@ map-place test f (r ∷ rows) h =
 
 mapped : (f : Row → Row) (o : Option Row) (r : Row) → option_map f o ≡ Some r → (x : Row) × (o ≡ Some x) × (f x ≡ r)
 mapped f None r h = cc
-mapped f (Some x) r h = (x, refl, some-same (f x) r h)
+mapped f (Some x) r h = (x, refl, same_Some (f x) r h)
 
 stated-same : (e : ℕ) (state : RowState) (reason time : ℕ) (r : Row) → ((with_state e state reason time r).entry ≡ r.entry) × ((with_state e state reason time r).tag ≡ r.tag) × ((with_state e state reason time r).device ≡ r.device)
 stated-same e state reason time r = by_test (r.entry == e) _ (λ t. rw t (refl, refl, refl)) (λ t. rw t (refl, refl, refl))
@@ -83,17 +77,17 @@ module _ {S : Type 0} where
       device-at : (device : List ℕ) (at : ℕ) (r : Row) → waits_on device r ≡ true → (slice_get rows at ≡ Some r) ⊎ ((at ≡ length rows) × (row ≡ r)) → get bytes_eq waiting' device ≡ Some at
       device-at device at r u (inr g) =
           let here : waits_on device row ≡ true = ap (waits_on device) g.1 ∙ u in
-          let two = and-true (bytes_eq row.device device) (is_unsettled row.state) here in
-          let test : (is_unsettled row.state && bytes_eq device row.device) ≡ true = both-true _ _ two.1 (bytes-symm row.device device two.0) in
+          let two = and_parts (bytes_eq row.device device) (is_unsettled row.state) here in
+          let test : (is_unsettled row.state && bytes_eq device row.device) ≡ true = and_from _ _ two.1 (bytes-symm row.device device two.0) in
           w device ∙ rw test (ap Some (sym g.0))
       device-at device at r u (inl g) =
           let before : get bytes_eq waiting device ≡ Some at = i.of_devices device at r g u in
           by_test (is_unsettled row.state && bytes_eq device row.device) _
-          (λ test. let two = and-true (is_unsettled row.state) (bytes_eq device row.device) test in
+          (λ test. let two = and_parts (is_unsettled row.state) (bytes_eq device row.device) test in
           let same : device ≡ row.device = (bytes_decides device row.device).0 two.1 in
           let clash : list_any (waits_on row.device) (row_at rows (get bytes_eq waiting row.device)) ≡ true =
           subst (λ (d : List ℕ). list_any (waits_on d) (row_at rows (get bytes_eq waiting d)) ≡ true) same (noted-waits rows device at r (get bytes_eq waiting device) before g u) in
-          let bad : (is_unsettled row.state && list_any (waits_on row.device) (row_at rows (get bytes_eq waiting row.device))) ≡ true = both-true _ _ two.0 clash in
+          let bad : (is_unsettled row.state && list_any (waits_on row.device) (row_at rows (get bytes_eq waiting row.device))) ≡ true = and_from _ _ two.0 clash in
           let worse : true ≡ false = sym bad ∙ free in cc)
           (λ test. w device ∙ rw test before)
 
@@ -111,8 +105,8 @@ module _ {S : Type 0} where
         of_devices = λ device at r g u.
             let m = mapped (with_state e state reason time) (slice_get rows at) r (sym (slice_get-map (with_state e state reason time) rows at) ∙ g) in
             let new : waits_on device (with_state e state reason time m.0) ≡ true = ap (waits_on device) m.2 ∙ u in
-            let two = and-true (bytes_eq (with_state e state reason time m.0).device device) (is_unsettled (with_state e state reason time m.0).state) new in
-            let old : waits_on device m.0 ≡ true = both-true (bytes_eq m.0.device device) (is_unsettled m.0.state)
+            let two = and_parts (bytes_eq (with_state e state reason time m.0).device device) (is_unsettled (with_state e state reason time m.0).state) new in
+            let old : waits_on device m.0 ≡ true = and_from (bytes_eq m.0.device device) (is_unsettled m.0.state)
             (ap (λ d. bytes_eq d device) (sym (stated-same e state reason time m.0).2) ∙ two.0)
             (b at m.0 m.1 two.1) in
             i.of_devices device at m.0 m.1 old;

@@ -3,14 +3,14 @@ use Rattle.std.proofs.Common.{◌≡◌, ℕ, zero, suc, Bool, true, false, not,
 use Rattle.std.proofs.lemmas.Bool.{eqb-true, eq-eqb}
 use Rattle.std.specs.Prelude.{Option, Some, None, ◌==◌, find, option_map, slice_get}
 use Rattle.std.specs.Bool.{OnFalse}
-use Rattle.std.proofs.lemmas.Option.{slice_get-map}
+use Rattle.std.proofs.lemmas.Option.{slice_get-map, same_Some}
 use Rattle.history_keeper.specs.declared.row.Row.{Row}
 use Rattle.history_keeper.specs.declared.row.RowState.{RowState}
 use Rattle.history_keeper.specs.Changes.{with_state}
 use Rattle.row_index.specs.Rows.{has_entry}
 use Rattle.history_keeper.specs.Histories.{is_unsettled}
 use Rattle.history_keeper.specs.Numbers.{IsNumbered}
-use Rattle.history_keeper.proofs.Numbered.{by_test, some-same, eqb-other, CountsFrom, counts-from, stated-past}
+use Rattle.history_keeper.proofs.Numbered.{by_test, eqb-other, CountsFrom, counts-from, stated-past}
 use Rattle.row_index.specs.Indexes.{WaitsFromBefore, or_noted, place_of, row_at}
 
 pub place-push : (test : Row → Bool) (rows : List Row) (row : Row) → or_noted (place_of test rows) (test row) (length rows) ≡ place_of test (rows ++ row ∷ [])
@@ -62,7 +62,7 @@ one-passes test (x ∷ rows) (suc k) h =
 
 pub near-passes : (test : Row → Bool) (rows : List Row) (noted : Option ℕ) → ((at : ℕ) (r : Row) → slice_get rows at ≡ Some r → test r ≡ true → noted ≡ Some at) → find test (row_at rows noted) ≡ find test rows
 near-passes test rows None h = sym (none-passes test rows (λ at r g p. let bad : None ≡ Some at = h at r g p in cc))
-near-passes test rows (Some k) h = one-passes test rows k (λ at r g p. some-same k at (h at r g p))
+near-passes test rows (Some k) h = one-passes test rows k (λ at r g p. same_Some k at (h at r g p))
 
 -- The row of an entry.
 
@@ -106,14 +106,14 @@ module _ (e : ℕ) (state : RowState) (reason time : ℕ) where
       let counted : s.entry ≡ at + 1 = h at s f in
       let same : k ≡ at = omega arith in
       let found : Some r ≡ Some s = sym g ∙ ap (slice_get rows) same ∙ f in
-      ap (λ (x : Row). is_unsettled x.state) (sym (some-same r s found)) ∙ u)
+      ap (λ (x : Row). is_unsettled x.state) (sym (same_Some r s found)) ∙ u)
       (λ t. let kept : with_state e state reason time s ≡ s = rw t refl in ap (λ (x : Row). is_unsettled x.state) (sym kept) ∙ w)
 
   pub none-waits : (rows : List Row) → IsNumbered rows → (e ≡ 0) ⊎ (length rows < e) → WaitsFromBefore (with_state e state reason time) rows
   none-waits rows h l = λ at s f w.
       let mapped : slice_get (map (with_state e state reason time) rows) at ≡ Some (with_state e state reason time s) = slice_get-map (with_state e state reason time) rows at ∙ ap (option_map (with_state e state reason time)) f in
       let same : Some s ≡ Some (with_state e state reason time s) = sym f ∙ ap (λ rs. slice_get rs at) (stated-past e state reason time rows h l) ∙ mapped in
-      ap (λ (x : Row). is_unsettled x.state) (some-same s (with_state e state reason time s) same) ∙ w
+      ap (λ (x : Row). is_unsettled x.state) (same_Some s (with_state e state reason time s) same) ∙ w
 
 pub not-settled : (b : Bool) (P : Type 0) → (b ≡ true → P) → OnFalse (not b) P
 not-settled true P h = h refl

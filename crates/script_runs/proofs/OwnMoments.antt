@@ -1,6 +1,6 @@
 -- A client's own moments, by what its pass saw before and sees now.
 use Rattle.std.proofs.Common.{◌≡◌, ℕ, ◌≤◌, ◌+◌, Bool, true, false, List, [], ◌∷◌, ◌++◌, map, filter, reverse, refl, ap, sym, ◌∙◌, subst, inl, inr, arith, append-nil, append_assoc}
-use Rattle.std.proofs.lemmas.List.{reverse-append}
+use Rattle.std.proofs.lemmas.List.{reverse-append, append_cancel_left}
 use Rattle.std.proofs.lemmas.List.Elements.{filter-append}
 use Rattle.std.specs.Prelude.{Option, Some, None, IfSome, ◌==◌, option_map, unwrap_or}
 use Rattle.std.specs.List.{AllByRecursion}
@@ -37,10 +37,6 @@ filter-cons p x xs ys e =
 
 tail-same : {X : Type 0} (x : X) (xs ys : List X) → x ∷ xs ≡ x ∷ ys → xs ≡ ys
 tail-same x xs ys e = cc
-
-append-same : {X : Type 0} (front xs ys : List X) → front ++ xs ≡ front ++ ys → xs ≡ ys
-append-same [] xs ys e = e
-append-same (x ∷ front) xs ys e = append-same front xs ys (tail-same x (front ++ xs) (front ++ ys) e)
 
 -- What a client gained as its own, between two pasts of one boot: moments, of those of these events that
 -- are its own.
@@ -183,7 +179,7 @@ made-since lock name old new more p q g =
     ∙ ap (λ (l : List Entry). made_by maker_of old.number l) longer
     ∙ made_by-append old.number (beyond name.start old.seen) rest
     ∙ ap (λ (l : List Entry). l ++ made_by maker_of old.number rest) (sym p.mine) in
-    append-same old.mine (made_by maker_of old.number rest) (map (entry_of old.number) more) (sym parts ∙ g.mine_are)
+    append_cancel_left old.mine (made_by maker_of old.number rest) (map (entry_of old.number) more) (sym parts ∙ g.mine_are)
 
 -- What a pass gained as its own moments, of the events that it gained as its own: a cut is nobody's.
 pub record OwnOf (more : List Event) (old new : PassView Entry) : Type 0 where

@@ -2,7 +2,7 @@
 use Rattle.std.proofs.Common.{◌≡◌, ℕ, Bool, true, false, ◌||◌, not, List, [], ◌∷◌, ◌++◌, refl, ap, sym, ◌∙◌}
 use Rattle.std.specs.Prelude.{Some, ◌==◌, find, filter}
 use Rattle.std.specs.List.{list_any}
-use Rattle.std.proofs.lemmas.Bool.{eqb-true}
+use Rattle.std.proofs.lemmas.Bool.{eqb-true, or_right}
 use Rattle.update_log.proofs.Lists.{by_test, eqb-self, find-filter, find-push_other}
 use Rattle.update_log.specs.Holding.{blocks_fetched, blocks_fetched_if, hold, holds, live, without_client}
 use Rattle.update_log.specs.Legal.{IsFree}
@@ -85,9 +85,5 @@ boots-other past event b = rw b refl
 pub time-other : (past : List Event) (event : Event) → is_boot event ≡ false → time_of (event ∷ past) ≡ time_of past
 time-other past event b = time-same event (time_of past) b
 
-or-true : (a b : Bool) → b ≡ true → (a || b) ≡ true
-or-true true b h = refl
-or-true false b h = h
-
 pub off-other : (past : List Event) (event : Event) → is_boot event ≡ false → off past ≡ true → off (event ∷ past) ≡ true
-off-other past event b h = rw b (or-true (puts_off event) (off past) h)
+off-other past event b h = rw b (or_right (puts_off event) (off past) h)

@@ -1,6 +1,7 @@
 -- What an accepted request had.
 use Rattle.std.proofs.Common.{◌≡◌, ℕ, Bool, true, false, List, [], ◌∷◌, refl, ap, sym, ◌∙◌, subst}
 use Rattle.std.proofs.lemmas.List.Folds.{find_at}
+use Rattle.std.proofs.lemmas.Option.{same_Some}
 use Rattle.std.specs.Prelude.{Option, Some, None, if◌then◌else◌, option_map, option_and_then, slice_get, find, filter, position, nat_lt, length}
 use Rattle.std.specs.List.{AllByRecursion, position_or_len}
 use Rattle.std.specs.Str.{bytes_eq}
@@ -102,16 +103,13 @@ accepts-target c device blocks release h = at-kept (kept c) h
     at-kept None g = at-present (present c) g
     at-kept (Some row) g = cc
 
-pub some-same : {X : Type 0} (x y : X) → Some x ≡ Some y → x ≡ y
-some-same x y h = cc
-
 -- What is found in a filtered list passes the filter.
 pub find-filtered : {X : Type 0} (p q : X → Bool) (xs : List X) (x : X) → find p (filter q xs) ≡ Some x → q x ≡ true
 find-filtered p q [] x h = cc
 find-filtered p q (y ∷ ys) x h =
     by_test (q y) _
     (λ t. by_test (p y) _
-    (λ u. let e : Some y ≡ Some x = rw (t, u) at h in ap q (sym (some-same y x e)) ∙ t)
+    (λ u. let e : Some y ≡ Some x = rw (t, u) at h in ap q (sym (same_Some y x e)) ∙ t)
     (λ u. find-filtered p q ys x (rw (t, u) at h)))
     (λ t. find-filtered p q ys x (rw t at h))
 
@@ -128,7 +126,7 @@ target-matches facts views request t h = at (place request.device views) h
     at-chosen : (place : ℕ) (view : DeviceView) (o : Option Chosen) → chosen facts.catalogue (guids_of view) request.version ≡ o → option_map (λ c. let u : Target = record { place = place; view = view; chosen = c } in u) o ≡ Some t → provides (guids_of t.view) t.chosen.component ≡ true
     at-chosen place view None e g = cc
     at-chosen place view (Some c) e g =
-        let same : record { place = place; view = view; chosen = c } ≡ t = some-same (record { place = place; view = view; chosen = c }) t g in
+        let same : record { place = place; view = view; chosen = c } ≡ t = same_Some (record { place = place; view = view; chosen = c }) t g in
         ap (λ (u : Target). provides (guids_of u.view) u.chosen.component) (sym same)
         ∙ chosen-provides facts.catalogue (guids_of view) request.version c e
 
@@ -145,7 +143,7 @@ found-passes : {X : Type 0} (p : X → Bool) (xs : List X) (i : ℕ) (x : X) →
 found-passes p xs i x at h =
     let first : find p xs ≡ slice_get xs (position_or_len p xs) = find_at p xs in
     by_test (nat_lt (position_or_len p xs) (length xs)) _
-    (λ t. let same : position_or_len p xs ≡ i = some-same (position_or_len p xs) i (rw t at at) in
+    (λ t. let same : position_or_len p xs ≡ i = same_Some (position_or_len p xs) i (rw t at at) in
     find-passes p xs x (first ∙ ap (slice_get xs) same ∙ h))
     (λ t. let bad : None ≡ Some i = rw t at at in cc)
 
@@ -157,7 +155,7 @@ target-device facts views request device t by h = at (place request.device views
     at-chosen : (place : ℕ) (view : DeviceView) (o : Option Chosen) → option_map (λ c. let u : Target = record { place = place; view = view; chosen = c } in u) o ≡ Some t → view ≡ t.view
     at-chosen place view None g = cc
     at-chosen place view (Some c) g =
-        ap (λ (u : Target). u.view) (some-same (record { place = place; view = view; chosen = c }) t g)
+        ap (λ (u : Target). u.view) (same_Some (record { place = place; view = view; chosen = c }) t g)
 
     named : (p : ℕ) (view : DeviceView) → place request.device views ≡ Some p → slice_get views p ≡ Some view → view.sheet.device ≡ device
     named p view e g =

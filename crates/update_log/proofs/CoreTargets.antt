@@ -1,5 +1,6 @@
 -- A request has a target only where its device is present.
 use Rattle.std.proofs.Common.{◌≡◌, ℕ, true, false, List, [], ◌∷◌, refl, ap, sym, ◌∙◌}
+use Rattle.std.proofs.lemmas.Option.{same_Some}
 use Rattle.std.specs.Prelude.{Option, Some, None, IfSome, IsTrue, option_map, option_and_then, slice_get}
 use Rattle.std.specs.List.{list_any}
 use Rattle.fw_facts.specs.Views.{guids_of, guids_shown, is_home}
@@ -8,7 +9,7 @@ use Rattle.fw_facts.specs.declared.seen.Seen.{Seen}
 use Rattle.fw_facts.specs.declared.sheet.Sheet.{Sheet}
 use Rattle.fw_facts.specs.declared.view.DeviceView.{DeviceView}
 use Rattle.release_catalogue.specs.Lookup.{Chosen, chosen, provides}
-use Rattle.update_log.proofs.Accepts.{chosen-provides, some-same}
+use Rattle.update_log.proofs.Accepts.{chosen-provides}
 use Rattle.update_log.specs.Known.{Target, target_at, target_of}
 use Rattle.update_log.specs.declared.facts.Facts.{Facts}
 
@@ -27,7 +28,7 @@ target-home facts views version place t h = at-view (slice_get views place) h
     at-chosen : (view : DeviceView) (o : Option Chosen) → chosen facts.catalogue (guids_of view) version ≡ o → option_map (λ c. let u : Target = record { place = place; view = view; chosen = c } in u) o ≡ Some t → IsTrue (is_home t.view.seen)
     at-chosen view None e g = cc
     at-chosen view (Some c) e g =
-        let same : record { place = place; view = view; chosen = c } ≡ t = some-same (record { place = place; view = view; chosen = c }) t g in
+        let same : record { place = place; view = view; chosen = c } ≡ t = same_Some (record { place = place; view = view; chosen = c }) t g in
         home-shown t.view.sheet t.view.seen t.chosen.component
         (ap (λ (u : Target). provides (guids_of u.view) u.chosen.component) (sym same)
         ∙ chosen-provides facts.catalogue (guids_of view) version c e)

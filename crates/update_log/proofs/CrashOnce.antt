@@ -1,11 +1,12 @@
 -- What a crash leaves is legal.
 use Rattle.std.proofs.Common.{◌≡◌, ℕ, zero, suc, Bool, true, false, List, [], ◌∷◌, ◌++◌, refl, ap, sym, ◌∙◌, ◌⊎◌, inl, inr, length, subst, append-nil, arith}
+use Rattle.std.proofs.lemmas.Option.{same_Some}
+use Rattle.std.proofs.lemmas.List.{append_cancel_left}
 use Rattle.std.specs.Prelude.{Option, Some, None, MatchBool, slice_get, unwrap_or, option_map}
 use Rattle.fw_facts.specs.declared.seen.Seen.{Seen}
 use Rattle.history_keeper.specs.Histories.{IsHistory}
 use Rattle.history_keeper.specs.declared.row.Row.{Row}
 use Rattle.history_keeper.specs.declared.row.RowState.{RowState}
-use Rattle.update_log.proofs.Accepts.{some-same}
 use Rattle.update_log.proofs.HistoryKept.{rows-history}
 use Rattle.update_log.proofs.LegalOnce.{JournalsFit, past-kept, past-once}
 use Rattle.update_log.proofs.Pasts.{past-push}
@@ -72,7 +73,7 @@ abbrev pub MayCome : Campaign → List Row → List Event → Event → Type 0
 MayCome c opening past event = BootTakes past event × Allowed c opening past event
 
 pub come-alike : (c : Campaign) (opening : List Row) (past : List Event) (g f : Event) → Some g ≡ Some f → MayCome c opening past g → MayCome c opening past f
-come-alike c opening past g f e h = subst (MayCome c opening past) (some-same g f e) h
+come-alike c opening past g f e h = subst (MayCome c opening past) (same_Some g f e) h
 
 -- an event at fault is allowed where the event was
 pub faulted-allowed : (c : Campaign) (opening : List Row) (past : List Event) (event f : Event) → faulted event ≡ Some f → BootTakes past event → Allowed c opening past event → MayCome c opening past f
@@ -119,10 +120,6 @@ crash-legal c opening (event ∷ past) crashed legal (inl e) = rw e legal
 crash-legal c opening (event ∷ past) crashed legal (inr (inl (f, e, g))) = let p = faulted-allowed c opening past event f e legal.1 legal.2 in rw g (legal.0, p.0, p.1)
 crash-legal c opening (event ∷ past) crashed legal (inr (inr h)) = crash-legal c opening past crashed legal.0 h
 
-pub append-cancel : {X : Type 0} (xs ys zs : List X) → xs ++ ys ≡ xs ++ zs → ys ≡ zs
-append-cancel [] ys zs h = h
-append-cancel (x ∷ xs) ys zs h = append-cancel xs ys zs (let e : xs ++ ys ≡ xs ++ zs = cc in e)
-
 pub get-alike : {X Y : Type 0} (xs : List X) (ys : List Y) (i : ℕ) (x : X) → length ys ≡ length xs → slice_get xs i ≡ Some x → (y : Y) × (slice_get ys i ≡ Some y)
 get-alike [] ys i x l h = cc
 get-alike (x' ∷ xs) [] i x l h = absurd (omega arith)
@@ -154,7 +151,7 @@ next-allowed c opening past plan states found boards planned fits n = (
         let f = t.1 in
         let j = f.journal in
         let l = n.listed board b s.0 e s.1 in
-        let same : b.untold ≡ t.0 = append-cancel (told c.facts opening past board) b.untold t.0 (sym l.tail ∙ j.told_and_tail) in
+        let same : b.untold ≡ t.0 = append_cancel_left (told c.facts opening past board) b.untold t.0 (sym l.tail ∙ j.told_and_tail) in
         record { number = l.number; presence = l.presence; untold = rw same j.tail_is; shown = l.shown }
 
 -- The journals fit after it.

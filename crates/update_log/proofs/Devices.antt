@@ -3,13 +3,12 @@ use Rattle.std.proofs.Common.{◌≡◌, ◌≢◌, ℕ, zero, suc, Bool, true, 
 use Rattle.std.specs.Prelude.{Option, Some, None, ◌==◌, nat_lt, is_some, option_map, unwrap_or, filter, find, AllPairs, Contains, slice_index_or}
 use Rattle.std.specs.List.{AllByRecursion, list_any}
 use Rattle.std.specs.Str.{bytes_eq}
-use Rattle.std.proofs.lemmas.Bool.{eqb-true, eq-eqb, ltb-true, ltb-false}
+use Rattle.std.proofs.lemmas.Bool.{eqb-true, eq-eqb, ltb-true, ltb-false, and_parts, not-true, or_right, or_left, and_from, or_cases}
 use Rattle.fw_facts.specs.declared.sheet.Sheet.{Sheet}
 use Rattle.update_log.specs.declared.facts.Facts.{Facts}
 use Rattle.update_log.specs.Boards.{Board, boards_from, all_boards, plugin_place, is_served, is_earlier, is_same_place, goes_before, is_beaten, is_device, devices, board_with, OneDevice}
 use Rattle.update_log.proofs.Lists.{by_test, All-map, All-filter}
 use Rattle.update_log.proofs.Openings.{bytes-self, bytes-same}
-use Rattle.update_log.proofs.StrokeFacts.{and-true}
 
 -- An element is in a list where each test that it passes finds some.
 abbrev pub IsIn : {X : Type 0} → List X → X → Type 0
@@ -34,16 +33,6 @@ Above a b = (b.priority < a.priority) ⊎ ((a.priority ≡ b.priority) × ((a.pl
 abbrev rank_of : Facts → Board → Rank
 rank_of facts b = record { priority = b.sheet.priority; place = unwrap_or (plugin_place facts b) 0; number = b.number }
 
-or-right : (a b : Bool) → b ≡ true → (a || b) ≡ true
-or-right true b h = refl
-or-right false b h = h
-
-or-left : (a b : Bool) → a ≡ true → (a || b) ≡ true
-or-left a b h = rw h refl
-
-and-both : (a b : Bool) → a ≡ true → b ≡ true → (a && b) ≡ true
-and-both a b h k = rw (h, k) refl
-
 lt-true : (a b : ℕ) → a < b → nat_lt a b ≡ true
 lt-true a b h = by_test (nat_lt a b) _ (λ t. t) (λ f. absurd (omega (arith, ltb-false a b f, h)))
 
@@ -51,17 +40,13 @@ lt-true a b h = by_test (nat_lt a b) _ (λ t. t) (λ f. absurd (omega (arith, lt
 before-by : (pa pb : ℕ) (a b : Option ℕ) (na nb : ℕ) → is_some a ≡ true → is_some b ≡ true → Above (record { priority = pa; place = unwrap_or a 0; number = na }) (record { priority = pb; place = unwrap_or b 0; number = nb }) → (nat_lt pb pa || ((pa == pb) && (is_earlier a b || (is_same_place a b && nat_lt na nb)))) ≡ true
 before-by pa pb None b na nb s t h = cc
 before-by pa pb (Some i) None na nb s t h = cc
-before-by pa pb (Some i) (Some j) na nb s t (inl h) = or-left _ _ (lt-true pb pa h)
-before-by pa pb (Some i) (Some j) na nb s t (inr (e, inl h)) = or-right (nat_lt pb pa) _ (and-both (pa == pb) _ (eq-eqb pa pb e) (or-left _ _ (lt-true i j h)))
+before-by pa pb (Some i) (Some j) na nb s t (inl h) = or_left _ _ (lt-true pb pa h)
+before-by pa pb (Some i) (Some j) na nb s t (inr (e, inl h)) = or_right (nat_lt pb pa) _ (and_from (pa == pb) _ (eq-eqb pa pb e) (or_left _ _ (lt-true i j h)))
 before-by pa pb (Some i) (Some j) na nb s t (inr (e, inr (p, h))) =
-    or-right (nat_lt pb pa) _ (and-both (pa == pb) _ (eq-eqb pa pb e) (or-right (nat_lt i j) _ (and-both (i == j) _ (eq-eqb i j p) (lt-true na nb h))))
-
-or-either : (a b : Bool) → (a || b) ≡ true → (a ≡ true) ⊎ (b ≡ true)
-or-either true b h = inl refl
-or-either false b h = inr h
+    or_right (nat_lt pb pa) _ (and_from (pa == pb) _ (eq-eqb pa pb e) (or_right (nat_lt i j) _ (and_from (i == j) _ (eq-eqb i j p) (lt-true na nb h))))
 
 by-before : (pa pb : ℕ) (a b : Option ℕ) (na nb : ℕ) → (nat_lt pb pa || ((pa == pb) && (is_earlier a b || (is_same_place a b && nat_lt na nb)))) ≡ true → Above (record { priority = pa; place = unwrap_or a 0; number = na }) (record { priority = pb; place = unwrap_or b 0; number = nb })
-by-before pa pb a b na nb h = at (or-either (nat_lt pb pa) _ h)
+by-before pa pb a b na nb h = at (or_cases (nat_lt pb pa) _ h)
   where
     places : (a b : Option ℕ) → (is_earlier a b ≡ true) ⊎ ((is_same_place a b && nat_lt na nb) ≡ true) → (unwrap_or a 0 < unwrap_or b 0) ⊎ ((unwrap_or a 0 ≡ unwrap_or b 0) × (na < nb))
     places None b (inl h) = cc
@@ -69,11 +54,11 @@ by-before pa pb a b na nb h = at (or-either (nat_lt pb pa) _ h)
     places (Some i) None (inl h) = cc
     places (Some i) None (inr h) = cc
     places (Some i) (Some j) (inl h) = inl (ltb-true i j h)
-    places (Some i) (Some j) (inr h) = let p = and-true (i == j) (nat_lt na nb) h in inr (eqb-true i j p.0, ltb-true na nb p.1)
+    places (Some i) (Some j) (inr h) = let p = and_parts (i == j) (nat_lt na nb) h in inr (eqb-true i j p.0, ltb-true na nb p.1)
 
     at : (nat_lt pb pa ≡ true) ⊎ (((pa == pb) && (is_earlier a b || (is_same_place a b && nat_lt na nb))) ≡ true) → Above (record { priority = pa; place = unwrap_or a 0; number = na }) (record { priority = pb; place = unwrap_or b 0; number = nb })
     at (inl t) = inl (ltb-true pb pa t)
-    at (inr t) = let p = and-true (pa == pb) _ t in inr (eqb-true pa pb p.0, places a b (or-either (is_earlier a b) _ p.1))
+    at (inr t) = let p = and_parts (pa == pb) _ t in inr (eqb-true pa pb p.0, places a b (or_cases (is_earlier a b) _ p.1))
 
 -- Of two ranks with different numbers one is above the other; none is above itself; and above is
 -- passed on.
@@ -98,8 +83,8 @@ above-one a b n = at (compared a.priority b.priority)
 -- A served board of the ID that goes before another beats it.
 beats : (facts : Facts) (a b : Board) → is_served facts a ≡ true → is_served facts b ≡ true → a.sheet.device ≡ b.sheet.device → Above (rank_of facts a) (rank_of facts b) → is_beaten facts b a ≡ true
 beats facts a b s t e h =
-    and-both (bytes_eq a.sheet.device b.sheet.device && is_served facts a) (goes_before facts a b)
-    (and-both (bytes_eq a.sheet.device b.sheet.device) (is_served facts a) (rw e (bytes-self b.sheet.device)) s)
+    and_from (bytes_eq a.sheet.device b.sheet.device && is_served facts a) (goes_before facts a b)
+    (and_from (bytes_eq a.sheet.device b.sheet.device) (is_served facts a) (rw e (bytes-self b.sheet.device)) s)
     (before-by a.sheet.priority b.sheet.priority (plugin_place facts a) (plugin_place facts b) a.number b.number s t h)
 
 -- A device is in the list of boards, served and not beaten.
@@ -108,13 +93,9 @@ pub record IsOne (facts : Facts) (b : Board) : Type 0 where
   pub served : is_served facts b ≡ true
   pub unbeaten : list_any (is_beaten facts b) (all_boards facts) ≡ false
 
-not-true : (b : Bool) → not b ≡ true → b ≡ false
-not-true true h = cc
-not-true false h = refl
-
 pub one-of : (facts : Facts) (b : Board) → IsIn (all_boards facts) b → is_device facts b ≡ true → IsOne facts b
 one-of facts b i d =
-    let p = and-true (is_served facts b) (not (list_any (is_beaten facts b) (all_boards facts))) d in
+    let p = and_parts (is_served facts b) (not (list_any (is_beaten facts b) (all_boards facts))) d in
     record { inside = i; served = p.0; unbeaten = not-true (list_any (is_beaten facts b) (all_boards facts)) p.1 }
 
 pub devices-are : (facts : Facts) → AllByRecursion (IsOne facts) (devices facts)
@@ -271,18 +252,18 @@ unbeaten-by facts device top b c h = by_test (is_beaten facts top b) _ (λ t. ab
   where
     clash : is_beaten facts top b ≡ true → ⊥
     clash t =
-        let p = and-true (bytes_eq b.sheet.device top.sheet.device && is_served facts b) (goes_before facts b top) t in
-        let q = and-true (bytes_eq b.sheet.device top.sheet.device) (is_served facts b) p.0 in
-        let r = and-true (bytes_eq top.sheet.device device) (is_served facts top) c in
+        let p = and_parts (bytes_eq b.sheet.device top.sheet.device && is_served facts b) (goes_before facts b top) t in
+        let q = and_parts (bytes_eq b.sheet.device top.sheet.device) (is_served facts b) p.0 in
+        let r = and_parts (bytes_eq top.sheet.device device) (is_served facts top) c in
         let same : bytes_eq b.sheet.device device ≡ true = rw (bytes-same b.sheet.device top.sheet.device q.0) r.0 in
-        h (and-both (bytes_eq b.sheet.device device) (is_served facts b) same q.1)
+        h (and_from (bytes_eq b.sheet.device device) (is_served facts b) same q.1)
         (by-before b.sheet.priority top.sheet.priority (plugin_place facts b) (plugin_place facts top) b.number top.number p.1)
 
 top-is : (facts : Facts) (device : List ℕ) (top : Board) → IsTop facts device (all_boards facts) top → is_device facts top ≡ true
 top-is facts device top w =
-    let r = and-true (bytes_eq top.sheet.device device) (is_served facts top) w.candidate in
+    let r = and_parts (bytes_eq top.sheet.device device) (is_served facts top) w.candidate in
     let n : list_any (is_beaten facts top) (all_boards facts) ≡ false = none-any (is_beaten facts top) (all_boards facts) (All-map _ _ (all_boards facts) w.unbeaten (λ b h. unbeaten-by facts device top b w.candidate h)) in
-    and-both (is_served facts top) (not (list_any (is_beaten facts top) (all_boards facts))) r.1 (rw n refl)
+    and_from (is_served facts top) (not (list_any (is_beaten facts top) (all_boards facts))) r.1 (rw n refl)
 
 any-filter : {X : Type 0} (p q : X → Bool) (xs : List X) → list_any (λ x. q x && p x) xs ≡ true → list_any p (filter q xs) ≡ true
 any-filter p q [] h = cc
@@ -303,13 +284,13 @@ pub device-found : (facts : Facts) (board : Board) → Contains (all_boards fact
 device-found facts board c s = at (top-of facts board.sheet.device (all_boards facts))
   where
     own : is_candidate facts board.sheet.device board ≡ true
-    own = and-both (bytes_eq board.sheet.device board.sheet.device) (is_served facts board) (bytes-self board.sheet.device) s
+    own = and_from (bytes_eq board.sheet.device board.sheet.device) (is_served facts board) (bytes-self board.sheet.device) s
 
     at : HasTop facts board.sheet.device (all_boards facts) ⊎ NoneOf facts board.sheet.device (all_boards facts) → is_some (board_with facts board.sheet.device) ≡ true
     at (inl (top, w)) =
-        let r = and-true (bytes_eq top.sheet.device board.sheet.device) (is_served facts top) w.candidate in
+        let r = and_parts (bytes_eq top.sheet.device board.sheet.device) (is_served facts top) w.candidate in
         let any : list_any (λ b. is_device facts b && bytes_eq b.sheet.device board.sheet.device) (all_boards facts) ≡ true =
-        w.inside (λ b. is_device facts b && bytes_eq b.sheet.device board.sheet.device) (and-both (is_device facts top) (bytes_eq top.sheet.device board.sheet.device) (top-is facts board.sheet.device top w) r.0) in
+        w.inside (λ b. is_device facts b && bytes_eq b.sheet.device board.sheet.device) (and_from (is_device facts top) (bytes_eq top.sheet.device board.sheet.device) (top-is facts board.sheet.device top w) r.0) in
         some-mapped (λ (b : Board). b.number) (find (λ b. bytes_eq b.sheet.device board.sheet.device) (devices facts))
         (find-any (λ b. bytes_eq b.sheet.device board.sheet.device) (devices facts)
         (any-filter (λ b. bytes_eq b.sheet.device board.sheet.device) (is_device facts) (all_boards facts) any))

@@ -4,6 +4,7 @@ use Rattle.std.proofs.Common.{◌≡◌, ℕ, Bool, true, false, ◌&&◌, ◌||
 use Rattle.std.proofs.lemmas.List.{map-append}
 use Rattle.std.proofs.lemmas.Map.Keys.{IsDistinct-push}
 use Rattle.std.proofs.lemmas.Cmp.{nat_list_eq_equiv}
+use Rattle.std.proofs.lemmas.Bool.{or_parts}
 use Rattle.std.specs.Prelude.{Option, Some, None, IfSome, ◌==◌, option_map, option_and_then}
 use Rattle.std.specs.List.{list_any, IsDistinct}
 use Rattle.std.specs.Str.{bytes_eq}
@@ -243,11 +244,6 @@ rows-asked facts opening past event fate change k none n r d o =
     clear Fate.Dropped change h = refl
     clear Fate.Doubtful change h = cc
 
-pub or-false : (a b : Bool) → (a || b) ≡ false → (a ≡ false) × (b ≡ false)
-or-false false false h = (refl, refl)
-or-false false true h = cc
-or-false true b h = cc
-
 pub fault-clear : (stored : Stored) → is_fault stored ≡ false → is_doubtful (fate_stored stored) ≡ false
 fault-clear Stored.Fault h = cc
 fault-clear _ h = refl
@@ -255,7 +251,7 @@ fault-clear _ h = refl
 pub rows-finish : (facts : Facts) (opening : List Row) (past : List Event) (client entry : ℕ) (state : RowState) (stored : Stored) → RowsKept facts opening past → off past ≡ false → is_pending state ≡ false → RowsStep facts opening past (Event.Finish client entry state stored)
 rows-finish facts opening past client entry state stored k o p =
     rows-asked facts opening past (Event.Finish client entry state stored) (fate_stored stored) (advance (time_of past) (known facts opening past) entry state) k (k.doubt_off o) p refl refl
-    (λ h. fault-clear stored (or-false (is_fault stored) (off past) h).0)
+    (λ h. fault-clear stored (or_parts (is_fault stored) (off past) h).0)
 
 -- a claim whose tag isn't kept asks for a change that the rows can take
 pub claim-asks : (facts : Facts) (opening : List Row) (past : List Event) (client : ℕ) (request : Request) (fetched : FetchNote) (answer : ClaimAnswer) (held : Held) → ClaimAllowed facts opening past client request fetched answer held → is_kept_answer answer ≡ false → IfSome (addition facts (time_of past) (live past) (known facts opening past) client request RowState.Begun) (λ c. NextChange c (rows facts opening past))
@@ -273,7 +269,7 @@ rows-claim facts opening past client request fetched (ClaimAnswer.Entry entry) h
 rows-claim facts opening past client request fetched (ClaimAnswer.Refused refusal) held k o a =
     rows-asked facts opening past (Event.Claim client request fetched (ClaimAnswer.Refused refusal)) (fate_answered (ClaimAnswer.Refused refusal)) _ k (k.doubt_off o)
     (claim-asks facts opening past client request fetched (ClaimAnswer.Refused refusal) held a refl) refl refl
-    (λ h. let f : is_keeper_fault refusal ≡ false = (or-false (is_keeper_fault refusal) (off past) h).0 in rw f refl)
+    (λ h. let f : is_keeper_fault refusal ≡ false = (or_parts (is_keeper_fault refusal) (off past) h).0 in rw f refl)
 
 -- neither an end nor a judgement makes a row pending
 pub judged-settled : (shown : List ℕ) (row : Row) → is_pending (judge shown row) ≡ false
@@ -333,20 +329,20 @@ rows-schedule facts opening past client request (ClaimAnswer.Entry entry) k o a 
 rows-schedule facts opening past client request (ClaimAnswer.Refused refusal) k o a =
     rows-asked facts opening past (Event.Schedule client request (ClaimAnswer.Refused refusal)) (fate_answered (ClaimAnswer.Refused refusal)) _ k (k.doubt_off o)
     (schedule-asks facts opening past client request (ClaimAnswer.Refused refusal) a refl) refl refl
-    (λ h. let f : is_keeper_fault refusal ≡ false = (or-false (is_keeper_fault refusal) (off past) h).0 in rw f refl)
+    (λ h. let f : is_keeper_fault refusal ≡ false = (or_parts (is_keeper_fault refusal) (off past) h).0 in rw f refl)
 
 pub rows-resume : (facts : Facts) (opening : List Row) (past : List Event) (client entry : ℕ) (fetched : Option FetchNote) (answer : ResumeAnswer) (stored : Stored) → RowsKept facts opening past → off past ≡ false → RowsStep facts opening past (Event.Resume client entry fetched answer stored)
 rows-resume facts opening past client entry fetched ResumeAnswer.Begun stored k o =
     rows-asked facts opening past (Event.Resume client entry fetched ResumeAnswer.Begun stored) (fate_stored stored) (resumption (time_of past) (known facts opening past) entry ResumeAnswer.Begun) k (k.doubt_off o) refl refl refl
-    (λ h. fault-clear stored (or-false (is_fault stored) (off past) h).0)
+    (λ h. fault-clear stored (or_parts (is_fault stored) (off past) h).0)
 rows-resume facts opening past client entry fetched (ResumeAnswer.Refused refusal) stored k o =
     rows-asked facts opening past (Event.Resume client entry fetched (ResumeAnswer.Refused refusal) stored) (fate_stored stored) (resumption (time_of past) (known facts opening past) entry (ResumeAnswer.Refused refusal)) k (k.doubt_off o) (resumption-next (time_of past) (known facts opening past) entry (ResumeAnswer.Refused refusal)) refl refl
-    (λ h. fault-clear stored (or-false (is_keeper_fault refusal) (is_fault stored) (or-false (is_keeper_fault refusal || is_fault stored) (off past) h).0).1)
+    (λ h. fault-clear stored (or_parts (is_keeper_fault refusal) (is_fault stored) (or_parts (is_keeper_fault refusal || is_fault stored) (off past) h).0).1)
 
 pub rows-judge : (facts : Facts) (opening : List Row) (past : List Event) (client entry : ℕ) (version : List ℕ) (state : RowState) (stored : Stored) → RowsKept facts opening past → off past ≡ false → is_pending state ≡ false → RowsStep facts opening past (Event.Judge client entry version state stored)
 rows-judge facts opening past client entry version state stored k o p =
     rows-asked facts opening past (Event.Judge client entry version state stored) (fate_stored stored) (advance (time_of past) (known facts opening past) entry state) k (k.doubt_off o) p refl refl
-    (λ h. fault-clear stored (or-false (is_fault stored) (off past) h).0)
+    (λ h. fault-clear stored (or_parts (is_fault stored) (off past) h).0)
 
 pub rows-step-on : (c : Campaign) (opening : List Row) (past : List Event) (event : Event) → RowsKept c.facts opening past → BootRuns past event → Allowed c opening past event → RowsStep c.facts opening past event
 rows-step-on c opening past (Event.Boot number time limit found boards) k takes a =

@@ -1,7 +1,7 @@
 -- The order of an entry's steps.
 use Rattle.std.proofs.Common.{◌≡◌, ℕ, Bool, true, false, ◌&&◌, List, [], ◌∷◌, refl, ◌<◌, ◌≤◌, ◌+◌, arith, if◌then◌else◌}
 use Rattle.std.specs.Prelude.{Some, nat_lt}
-use Rattle.std.proofs.lemmas.Bool.{ltb-true}
+use Rattle.std.proofs.lemmas.Bool.{ltb-true, and_parts}
 use Rattle.update_log.proofs.Lists.{find-passes}
 use Rattle.update_log.specs.Once.{InOrder, Stroke, is_write}
 use Rattle.update_log.specs.Steps.{all_ops, is_wanted, last_number, next_step, op_number}
@@ -19,15 +19,10 @@ abbrev pub is_open : List Stroke → Bool
 is_open (Stroke.Started op ∷ rest) = true
 is_open _ = false
 
-pub and-true : (a b : Bool) → (a && b) ≡ true → (a ≡ true) × (b ≡ true)
-and-true true true h = (refl, refl)
-and-true true false h = cc
-and-true false b h = cc
-
 -- the next step is above the last
 pub next-rises : (t : Trace) (op : Op) → next_step t ≡ Some op → last_number t.steps < op_number op
 next-rises t op h =
-    ltb-true (last_number t.steps) (op_number op) (and-true (nat_lt (last_number t.steps) (op_number op)) (is_wanted t op) (find-passes (λ x. nat_lt (last_number t.steps) (op_number x) && is_wanted t x) all_ops op h)).0
+    ltb-true (last_number t.steps) (op_number op) (and_parts (nat_lt (last_number t.steps) (op_number op)) (is_wanted t op) (find-passes (λ x. nat_lt (last_number t.steps) (op_number x) && is_wanted t x) all_ops op h)).0
 
 -- the first step is prepare
 pub next-first : (t : Trace) (op : Op) → last_number t.steps ≡ 0 → next_step t ≡ Some op → op ≡ Op.Prepare

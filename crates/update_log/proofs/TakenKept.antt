@@ -1,7 +1,7 @@
 -- What each past keeps of the events that took its entries.
 use Rattle.std.proofs.Common.{◌≡◌, ◌≢◌, ℕ, Bool, true, false, List, [], ◌∷◌, ◌++◌, map, refl, ap, sym, ◌∙◌, ◌<◌, ◌≤◌, ◌+◌, arith, ◌⊎◌, inl, inr, length, subst}
 use Rattle.std.proofs.lemmas.List.{length_push}
-use Rattle.std.proofs.lemmas.Bool.{eqb-true, eq-eqb, leb-true, leb-false}
+use Rattle.std.proofs.lemmas.Bool.{eqb-true, eq-eqb, leb-true, leb-false, and_parts}
 use Rattle.std.specs.Prelude.{Option, Some, None, Result, IfSome, ◌==◌, option_map, find, MatchBool, nat_le, unwrap_or}
 use Rattle.std.specs.List.{AllByRecursion}
 use Rattle.std.specs.Str.{bytes_eq}
@@ -19,7 +19,6 @@ use Rattle.update_log.proofs.Lists.{All-find, All-map, All-push, by_test, eqb-ot
 use Rattle.update_log.proofs.Openings.{EntriesFrom, bytes-same}
 use Rattle.update_log.proofs.Rows.{accepted-claim, changed-grows, rows_by-refused}
 use Rattle.update_log.proofs.RowsKept.{GoesOn, NextChange, RowsKept, claim-not_kept, fixed, fixed_row, goes_on-fixed, no-tag, not_kept, row_of-past, schedule-not_kept, with_state-fixed}
-use Rattle.update_log.proofs.StrokeFacts.{and-true}
 use Rattle.update_log.specs.Holding.{blocks_fetched, blocks_fetched_if, held, holds, live, request_held}
 use Rattle.update_log.specs.Known.{Fate, Target, doubt, fate_stored, new_row, reason_of, refusal_number, row_of, row_with_tag, rows, rows_by, rows_found, seen, target, views}
 use Rattle.update_log.specs.Legal.{ClaimAllowed, ResumeAllowed, ResumeAnswered, ResumeFetched, ScheduleAllowed, ScheduleAnswered, StartAllowed, request_of_row, is_fetched, is_whole, next_entry}
@@ -461,7 +460,7 @@ taken-by_resume facts opening past client entry fetched stored row made fresh a 
         let r : row_of (rows facts opening past) entry ≡ Some row = a.row_is in
         let e : target facts (views facts opening past) held.request ≡ Some t = has.found in
         let met : first_unmet_for facts row.client (views facts opening past) t ≡ None = (let m = target-met k t has.none in rw r at m) in
-        let both = and-true _ (unwrap_or (option_map (λ x. bytes_eq x.digest t.chosen.release.digest) (row_of (rows facts opening past) entry)) true) has.that in
+        let both = and_parts _ (unwrap_or (option_map (λ x. bytes_eq x.digest t.chosen.release.digest) (row_of (rows facts opening past) entry)) true) has.that in
         let that : bytes_eq row.digest t.chosen.release.digest ≡ true = rw r at both.1 in
         let hold_is : request_held (holds past) client ≡ Some held.request = rw zero_client (ap (option_map (λ h. h.request)) f.1) in
         let of_row : IsOfRow (rows facts opening past) held = All-find (IsOfRow (rows facts opening past)) (λ (x : Held). x.client == 0) (holds past) held made f.1 in

@@ -1,7 +1,7 @@
 -- Each legal past keeps that a device has at most one row that waits for its end.
 use Rattle.std.proofs.Common.{◌≡◌, ◌≢◌, ℕ, Bool, true, false, ◌&&◌, not, List, [], ◌∷◌, refl, ap, sym, ◌∙◌, ◌+◌, arith, length, subst}
-use Rattle.std.proofs.lemmas.Bool.{eqb-true, eq-eqb}
-use Rattle.std.proofs.lemmas.Option.{slice_get-map}
+use Rattle.std.proofs.lemmas.Bool.{eqb-true, eq-eqb, and_parts}
+use Rattle.std.proofs.lemmas.Option.{slice_get-map, same_Some}
 use Rattle.std.specs.Prelude.{Option, Some, None, IfSome, ◌==◌, find, option_map, option_and_then, slice_get, unwrap_or}
 use Rattle.std.specs.List.{AllByRecursion, list_any}
 use Rattle.std.specs.Str.{bytes_eq}
@@ -14,13 +14,12 @@ use Rattle.history_keeper.specs.declared.row.Row.{Row}
 use Rattle.history_keeper.specs.declared.row.RowState.{RowState}
 use Rattle.release_catalogue.specs.Lookup.{Chosen, chosen}
 use Rattle.release_catalogue.specs.declared.reference.ReleaseRef.{ReleaseRef}
-use Rattle.update_log.proofs.Accepts.{HasTarget, NoneRefuses, accepts-target, some-same}
+use Rattle.update_log.proofs.Accepts.{HasTarget, NoneRefuses, accepts-target}
 use Rattle.update_log.proofs.LegalOnce.{past-kept-on}
 use Rattle.update_log.proofs.Lists.{All-both, All-filter, All-find, All-map, All-push, by_test, eqb-other, find-passes}
 use Rattle.update_log.proofs.Openings.{EntriesFrom}
 use Rattle.update_log.proofs.Rows.{accepted-claim, rows_by-refused}
 use Rattle.update_log.proofs.RowsKept.{RowsKept, row_of-past}
-use Rattle.update_log.proofs.StrokeFacts.{and-true}
 use Rattle.update_log.proofs.TakenKept.{find-push_new}
 use Rattle.update_log.proofs.Unlimited.{unlimited}
 use Rattle.update_log.proofs.WaitsOnce.{KeepsOnce, WaitOnce, by-once, found-once, found-own, only-waits, push-state, state-by, state-made, state_of, waits-once, waits_on}
@@ -86,7 +85,7 @@ no-way all device entries way (r ∷ rs) k own n m =
     let none : list_any (waits_on device) rs ≡ false = no-way all device entries way rs k own.1 rest m in
     by_test (waits_on device r) _
     (λ t. by_test (is_live entries r.entry) _
-    (λ v. absurd (live-on all device entries r own.0 (and-true (bytes_eq r.device device) (is_unsettled r.state) t).0 v m))
+    (λ v. absurd (live-on all device entries r own.0 (and_parts (bytes_eq r.device device) (is_unsettled r.state) t).0 v m))
     (λ v. let bad : true ≡ false = sym t ∙ k r u v in cc))
     (λ t. rw t none))
 
@@ -97,13 +96,13 @@ target-claim facts entries k request t h = at (place request.device (views_in fa
     claimed : (v : DeviceView) (o : Option Board) → option_map (view_of entries k) o ≡ Some v → v.claim ≡ option_map (λ l. l.entry) (find (is_on k.rows v.sheet.device) entries)
     claimed v None e = cc
     claimed v (Some b) e =
-        let same : view_of entries k b ≡ v = some-same (view_of entries k b) v e in
+        let same : view_of entries k b ≡ v = same_Some (view_of entries k b) v e in
         subst (λ (w : DeviceView). w.claim ≡ option_map (λ l. l.entry) (find (is_on k.rows w.sheet.device) entries)) same refl
 
     at-chosen : (at : ℕ) (v : DeviceView) (o : Option Chosen) → v.claim ≡ option_map (λ l. l.entry) (find (is_on k.rows v.sheet.device) entries) → option_map (λ c. let u : Target = record { place = at; view = v; chosen = c } in u) o ≡ Some t → t.view.claim ≡ option_map (λ l. l.entry) (find (is_on k.rows t.view.sheet.device) entries)
     at-chosen at v None w e = cc
     at-chosen at v (Some c) w e =
-        let same : record { place = at; view = v; chosen = c } ≡ t = some-same (record { place = at; view = v; chosen = c }) t e in
+        let same : record { place = at; view = v; chosen = c } ≡ t = same_Some (record { place = at; view = v; chosen = c }) t e in
         subst (λ (u : Target). u.view.claim ≡ option_map (λ l. l.entry) (find (is_on k.rows u.view.sheet.device) entries)) same w
 
     at-view : (at : ℕ) (o : Option DeviceView) → slice_get (views_in facts entries k) at ≡ o → option_and_then (target_of facts request.version at) o ≡ Some t → t.view.claim ≡ option_map (λ l. l.entry) (find (is_on k.rows t.view.sheet.device) entries)
@@ -152,12 +151,12 @@ accepted-free facts opening past client request stage t own v has =
 -- No request is refused for the history's fault before its commit.
 
 so-not : (b : Bool) (r : Refusal) → r ≢ Refusal.KeeperFault → where_so b r ≡ Some Refusal.KeeperFault → ⊥
-so-not true r k h = k (some-same r Refusal.KeeperFault h)
+so-not true r k h = k (same_Some r Refusal.KeeperFault h)
 so-not false r k h = cc
 
 map-not : {X : Type 0} (f : X → Refusal) (o : Option X) → ((x : X) → f x ≢ Refusal.KeeperFault) → option_map f o ≡ Some Refusal.KeeperFault → ⊥
 map-not f None k h = cc
-map-not f (Some x) k h = k x (some-same (f x) Refusal.KeeperFault h)
+map-not f (Some x) k h = k x (same_Some (f x) Refusal.KeeperFault h)
 
 first-not : (os : List (Option Refusal)) → AllByRecursion (λ o. o ≡ Some Refusal.KeeperFault → ⊥) os → first_refusal os ≡ Some Refusal.KeeperFault → ⊥
 first-not [] a h = cc
@@ -362,7 +361,7 @@ wait-schedule facts opening past client request (ClaimAnswer.Refused refusal) k 
 -- the live entries' rows are begun, so an entry whose row isn't begun isn't live
 unlike : (rs : List Row) (entry : ℕ) (state : RowState) (entries : List LiveEntry) → state ≢ RowState.Begun → state_of rs entry ≡ Some state → AllBegun rs entries → AllByRecursion (λ l. (entry == l.entry) ≡ false) entries
 unlike rs entry state entries n s b =
-    All-map _ _ entries b (λ l h. eqb-other entry l.entry (λ e. n (some-same state RowState.Begun (sym s ∙ ap (state_of rs) e ∙ h))))
+    All-map _ _ entries b (λ l h. eqb-other entry l.entry (λ e. n (same_Some state RowState.Begun (sym s ∙ ap (state_of rs) e ∙ h))))
 
 none-live : (entry : ℕ) (entries : List LiveEntry) → not (is_live entries entry) ≡ true → AllByRecursion (λ l. (entry == l.entry) ≡ false) entries
 none-live entry [] h = tt

@@ -1,6 +1,6 @@
 -- Of each device at most one row waits for its end, and which changes keep that.
 use Rattle.std.proofs.Common.{◌≡◌, ℕ, zero, suc, Bool, true, false, ◌&&◌, List, [], ◌∷◌, ◌++◌, map, refl, ap, sym, ◌∙◌, ◌<◌, ◌≤◌, ◌+◌, arith, length, subst}
-use Rattle.std.proofs.lemmas.Bool.{eqb-true}
+use Rattle.std.proofs.lemmas.Bool.{eqb-true, and_parts, and_from}
 use Rattle.std.specs.Prelude.{Option, Some, IfSome, AllPairs, EachIndex, ◌==◌, option_map, slice_index, slice_index_or}
 use Rattle.std.specs.List.{AllByRecursion, list_any}
 use Rattle.std.specs.Str.{bytes_eq}
@@ -12,7 +12,6 @@ use Rattle.history_keeper.specs.declared.row.RowState.{RowState}
 use Rattle.update_log.proofs.Lists.{by_test, eqb-other}
 use Rattle.update_log.proofs.MarksKept.{how_many-append}
 use Rattle.update_log.proofs.Openings.{EntriesFrom, bytes-same, bytes-self}
-use Rattle.update_log.proofs.StrokeFacts.{and-true}
 use Rattle.update_log.specs.Known.{Fate, row_of, rows_by, rows_found}
 use Rattle.update_log.specs.Once.{how_many}
 use Rattle.update_log.specs.declared.event.Found.{Found}
@@ -38,10 +37,6 @@ state_of rows entry = option_map (λ r. r.state) (row_of rows entry)
 
 -- How many rows of a device wait.
 
-both-true : (a b : Bool) → a ≡ true → b ≡ true → (a && b) ≡ true
-both-true true b h g = g
-both-true false b h g = h
-
 pub none-many : {X : Type 0} (p : X → Bool) (xs : List X) → list_any p xs ≡ false → how_many p xs ≡ 0
 none-many p [] h = refl
 none-many p (x ∷ xs) h =
@@ -53,7 +48,7 @@ push-once : (rows : List Row) (row : Row) → list_any (waits_on row.device) row
 push-once rows row n w = λ device.
     let sum = how_many-append (waits_on device) rows (row ∷ []) in
     by_test (waits_on device row) _
-    (λ t. let same : row.device ≡ device = bytes-same row.device device (and-true (bytes_eq row.device device) (is_unsettled row.state) t).0 in
+    (λ t. let same : row.device ≡ device = bytes-same row.device device (and_parts (bytes_eq row.device device) (is_unsettled row.state) t).0 in
     let none : how_many (waits_on device) rows ≡ 0 = subst (λ (d : List ℕ). how_many (waits_on d) rows ≡ 0) same (none-many (waits_on row.device) rows n) in
     let one : how_many (waits_on device) (row ∷ []) ≡ 1 = rw t refl in
     omega (arith, sum, none, one))
@@ -73,8 +68,8 @@ waited device entry state reason time r k h =
     by_test (r.entry == entry) _
     (λ t. let made : with_state entry state reason time r ≡ record r { state = state; reason = reason; time_changed = time } = rw t refl in
     let new : (bytes_eq r.device device && is_unsettled state) ≡ true = ap (waits_on device) (sym made) ∙ h in
-    let two = and-true (bytes_eq r.device device) (is_unsettled state) new in
-    both-true (bytes_eq r.device device) (is_unsettled r.state) two.0 (k two.1 t))
+    let two = and_parts (bytes_eq r.device device) (is_unsettled state) new in
+    and_from (bytes_eq r.device device) (is_unsettled r.state) two.0 (k two.1 t))
     (λ f. let same : with_state entry state reason time r ≡ r = rw f refl in ap (waits_on device) (sym same) ∙ h)
 
 all-waited : (device : List ℕ) (entry : ℕ) (state : RowState) (reason time : ℕ) (rows : List Row) → KeepsOnce (Change.Advance entry state reason time) rows → AllByRecursion (λ r. waits_on device (with_state entry state reason time r) ≡ true → waits_on device r ≡ true) rows
@@ -193,8 +188,8 @@ alone : (device : List ℕ) (r : Row) (rows : List Row) → waits_on device r �
 alone device r [] t h = refl
 alone device r (s ∷ rows) t h =
     by_test (waits_on device s) _
-    (λ u. let one = and-true (bytes_eq r.device device) (is_unsettled r.state) t in
-    let two = and-true (bytes_eq s.device device) (is_unsettled s.state) u in
+    (λ u. let one = and_parts (bytes_eq r.device device) (is_unsettled r.state) t in
+    let two = and_parts (bytes_eq s.device device) (is_unsettled s.state) u in
     absurd (h 0 s (omega arith) (bytes-same r.device device one.0 ∙ sym (bytes-same s.device device two.0), one.1, two.1)))
     (λ f. rw f (alone device r rows t (λ j d l. h (suc j) d (omega arith))))
 
@@ -229,8 +224,8 @@ pub no-two-wait : (rows : List Row) → WaitOnce rows → AllPairs (λ a b. Both
 no-two-wait rows w = λ i j d l m both.
     let a = slice_index_or rows i d in
     let b = slice_index_or rows j d in
-    let first : waits_on b.device a ≡ true = both-true (bytes_eq a.device b.device) (is_unsettled a.state) (ap (bytes_eq a.device) (sym both.0) ∙ bytes-self a.device) both.1 in
-    let second : waits_on b.device b ≡ true = both-true (bytes_eq b.device b.device) (is_unsettled b.state) (bytes-self b.device) both.2 in
+    let first : waits_on b.device a ≡ true = and_from (bytes_eq a.device b.device) (is_unsettled a.state) (ap (bytes_eq a.device) (sym both.0) ∙ bytes-self a.device) both.1 in
+    let second : waits_on b.device b ≡ true = and_from (bytes_eq b.device b.device) (is_unsettled b.state) (bytes-self b.device) both.2 in
     let two : 2 ≤ how_many (waits_on b.device) rows = two-at (waits_on b.device) rows i j d l m first second in
     let one : how_many (waits_on b.device) rows ≤ 1 = w b.device in
     omega arith

@@ -5,6 +5,7 @@ use Rattle.std.proofs.lemmas.Fmt.{decimal_digit}
 use Rattle.version_formats.specs.declared.format.Format.{Format}
 use Rattle.std.specs.List.{list_any}
 use Rattle.std.proofs.lemmas.Bool.{eqb-true}
+use Rattle.std.proofs.lemmas.Option.{same_Some}
 use Rattle.fw_facts.specs.declared.seen.Seen.{Seen}
 use Rattle.fw_facts.specs.declared.seen.Mode.{Mode}
 use Rattle.emulated_boards.specs.declared.mark.Mark.{Mark}
@@ -33,7 +34,6 @@ use Rattle.update_log.specs.Steps.{judge}
 use Rattle.update_log.specs.Shows.{EndShows, FreshShows, HasRaw, HasMode, home_before, is_began}
 use Rattle.update_log.specs.Legal.{IsLegal, BootTakes, Allowed, ClaimAnswered, next_entry}
 use Rattle.update_log.specs.Examples.{one_plan, two_plans, two_boards, plain_boot, ask, claim, request, start, ended, both_marks, old, new, torn, digest, other_digest, well, shows, judged, offline_request, row_request, no_device, InstallIsLegal, TornWriteIsLegal, OfflineInstallIsLegal, UnhashedIsNot, GoneOnIsNot, TrustedIsNot}
-use Rattle.update_log.proofs.Accepts.{some-same}
 
 -- The versions that the board shows.
 pub old-text : render Format.Triplet 0x01000000 ≡ codes "1.0.0"
@@ -66,12 +66,12 @@ takes-uncounted past event u b =
 
 -- A fact of the one element, or the two, of a list.
 each-of-one : {X : Type 0} (Fact : ℕ → X → Type 0) (x : X) → Fact 0 x → (n : ℕ) (y : X) → slice_get (x ∷ []) n ≡ Some y → Fact n y
-each-of-one Fact x f zero y e = subst (Fact 0) (some-same x y e) f
+each-of-one Fact x f zero y e = subst (Fact 0) (same_Some x y e) f
 each-of-one Fact x f (suc n) y e = cc
 
 each-of-two : {X : Type 0} (Fact : ℕ → X → Type 0) (x y : X) → Fact 0 x → Fact 1 y → (n : ℕ) (z : X) → slice_get (x ∷ y ∷ []) n ≡ Some z → Fact n z
-each-of-two Fact x y f g zero z e = subst (Fact 0) (some-same x z e) f
-each-of-two Fact x y f g (suc zero) z e = subst (Fact 1) (some-same y z e) g
+each-of-two Fact x y f g zero z e = subst (Fact 0) (same_Some x z e) f
+each-of-two Fact x y f g (suc zero) z e = subst (Fact 1) (same_Some y z e) g
 each-of-two Fact x y f g (suc (suc n)) z e = cc
 
 same-raw : (raw other : ℕ) (mode other_mode : Mode) → Seen.Home raw mode ≡ Seen.Home other other_mode → raw ≡ other
@@ -491,7 +491,7 @@ pub unhashed-not : UnhashedIsNot
 unfolding chosen first_unmet version_cmp sections
 unhashed-not legal =
     let (held, a) = legal.2 in
-    let same = some-same _ held a.held_is in
+    let same = same_Some _ held a.held_is in
     let answer = subst (λ (h : Held). ClaimAnswered (FetchNote.Whole other_digest 14 0x01010000) (target one_plan.facts (views one_plan.facts [] past2) request) (next_entry one_plan.facts [] past2) (verdict one_plan.facts [] past2 1 request (Stage.Claim h.release)) (ClaimAnswer.Entry 1)) (sym same) a.answer_is in
     let computed : ClaimAnswer.Entry 1 ≡ ClaimAnswer.Refused _ = rw old-text at answer in cc
 
@@ -504,5 +504,5 @@ pub trusted-not : TrustedIsNot
 unfolding chosen first_unmet version_cmp sections
 trusted-not legal =
     let (row, view, a) = legal.2 in
-    let same = some-same _ row a.row_is in
+    let same = same_Some _ row a.row_is in
     let state = subst (λ (r : Row). RowState.Success ≡ judge (codes "0.0.0") r) (sym same) a.state_is in cc

@@ -6,7 +6,7 @@ use Rattle.std.specs.List.{AllByRecursion, list_any}
 use Rattle.std.specs.Ordering.{is_gt, is_le, is_lt, ordering_reverse}
 use Rattle.std.specs.declared.cmp.Ordering.{Ordering}
 use Rattle.std.specs.declared.cmp.Ordering.TheVariants.{Less, Equal, Greater}
-use Rattle.std.proofs.lemmas.Bool.{eqb-true, ltb-true}
+use Rattle.std.proofs.lemmas.Bool.{eqb-true, ltb-true, or_parts, and_parts, or_cases}
 use Rattle.std.proofs.lemmas.List.Folds.{list_any-append}
 use Rattle.std.proofs.lemmas.List.Sorted.{All-permutation, list_any-IsPermutation}
 use Rattle.version_formats.specs.VersionOrder.{version_cmp}
@@ -20,11 +20,10 @@ use Rattle.update_log.specs.declared.event.Event.{Event}
 use Rattle.update_log.specs.Verdicts.{is_release}
 use Rattle.update_log.proofs.Devices.{IsIn, each-in}
 use Rattle.std.proofs.lemmas.List.{append-nil}
+use Rattle.std.proofs.lemmas.Option.{same_Some}
 use Rattle.update_log.specs.Known.{views}
 use Rattle.update_log.proofs.Lists.{All-append, All-both, All-filter, All-map, All-push, by_test, eqb-self, find-passes}
 use Rattle.update_log.proofs.Openings.{bytes-same}
-use Rattle.update_log.proofs.RowsKept.{or-false}
-use Rattle.update_log.proofs.StrokeFacts.{and-true}
 use Rattle.update_plans.specs.Choosing.{IsHighestFirst, comes_before, found_cmp, goes_first, first_some, good_step, is_higher, tried, tried_at, version_at, version_found, where_good}
 use Rattle.update_plans.specs.Plans.{Scene, has_id, highest, is_above, is_good, may_come, next_step, release_at, step_of, view_of}
 use Rattle.update_plans.specs.RawNumbers.{raw_of}
@@ -32,9 +31,6 @@ use Rattle.update_plans.specs.declared.plan.PlanStep.{PlanStep}
 use Rattle.update_plans.proofs.Chained.{good-step}
 use Rattle.update_plans.proofs.Highest.{Ordered, Parted, catalogue-ordered, highest-is, highest-none, parted}
 use Rattle.update_plans.proofs.Targets.{found, release-same, tests}
-
-some-same : {X : Type 0} {x y : X} → Some x ≡ Some y → x ≡ y
-some-same e = cc
 
 -- ---- orders
 
@@ -62,21 +58,17 @@ le-not a b h = ap is_lt (version_cmp-back a b) ∙ of (version_cmp a b) h
     of Equal h = refl
     of Greater h = cc
 
-or-cases : (a b : Bool) → (a || b) ≡ true → (a ≡ true) ⊎ (b ≡ true)
-or-cases true b h = inl refl
-or-cases false b h = inr h
-
 -- ---- places
 
 same-self : (a : ReleaseRef) → is_release a a ≡ true
 same-self a = rw (eqb-self a.component, eqb-self a.release) refl
 
 before-cases : (a b : ReleaseRef) → comes_before a b ≡ true → (a.component < b.component) ⊎ ((a.component ≡ b.component) × (a.release < b.release))
-before-cases a b h = of (or-cases (nat_lt a.component b.component) _ h)
+before-cases a b h = of (or_cases (nat_lt a.component b.component) _ h)
   where
     of : (nat_lt a.component b.component ≡ true) ⊎ (((a.component == b.component) && nat_lt a.release b.release) ≡ true) → (a.component < b.component) ⊎ ((a.component ≡ b.component) × (a.release < b.release))
     of (inl t) = inl (ltb-true a.component b.component t)
-    of (inr t) = let parts = and-true (a.component == b.component) (nat_lt a.release b.release) t in inr (eqb-true a.component b.component parts.0, ltb-true a.release b.release parts.1)
+    of (inr t) = let parts = and_parts (a.component == b.component) (nat_lt a.release b.release) t in inr (eqb-true a.component b.component parts.0, ltb-true a.release b.release parts.1)
 
 pub before-once : (a b : ReleaseRef) → comes_before a b ≡ true → comes_before b a ≡ true → ⊥
 before-once a b h k = of (before-cases a b h) (before-cases b a k)
@@ -190,7 +182,7 @@ module _ (s : Scene) (number : ℕ) (device : List ℕ) (view : DeviceView) (sho
 
   passing : (y : Chosen) → passes y ≡ true → Passes y
   passing y h =
-      let parts = and-true (is_above view y) (option_map_or (λ step. is_good s number step past) (step_of view y) false) h in
+      let parts = and_parts (is_above view y) (option_map_or (λ step. is_good s number step past) (step_of view y) false) h in
       of (step_of view y) refl parts.1 (back-gt y.release.version shown ∙ sym (ap (λ (v : Option (List ℕ)). option_map_or (λ shown. is_lt (version_cmp shown y.release.version)) v false) shows) ∙ parts.0)
     where
       of : (o : Option PlanStep) → step_of view y ≡ o → option_map_or (λ step. is_good s number step past) o false ≡ true → is_gt (version_cmp y.release.version shown) ≡ true → Passes y
@@ -207,7 +199,7 @@ module _ (s : Scene) (number : ℕ) (device : List ℕ) (view : DeviceView) (sho
     where
       of : (o : Option ℕ) → option_map (λ raw. record { device = view.sheet.device; release = y.at; raw = raw }) o ≡ Some step → Asks y step
       of None e = cc
-      of (Some raw) e = let same = some-same e in record { at_is = ap (λ (x : PlanStep). x.release) (sym same); device_is = ap (λ (x : PlanStep). x.device) (sym same) }
+      of (Some raw) e = let same = same_Some _ _ e in record { at_is = ap (λ (x : PlanStep). x.release) (sym same); device_is = ap (λ (x : PlanStep). x.device) (sym same) }
 
   -- so its component provides a GUID that the device shows, and its place is among the places
   listed : (y : Chosen) → One y → passes y ≡ true → list_any (is_release y.at) places ≡ true
@@ -215,10 +207,10 @@ module _ (s : Scene) (number : ℕ) (device : List ℕ) (view : DeviceView) (sho
       let p : Passes y = passing y h in
       let a : Asks y p.step = asks-so y p.step p.step_is in
       let g = good-step s number p.step past p.good in
-      let same : g.chosen ≡ y = some-same (sym g.there ∙ ap (release_at s) a.at_is ∙ o.own) in
+      let same : g.chosen ≡ y = same_Some _ _ (sym g.there ∙ ap (release_at s) a.at_is ∙ o.own) in
       let all_so = tests s number p.step g.chosen past g.good in
       let f = found s number p.step g.chosen past g.there all_so.asked_so in
-      let seen : f.t.view ≡ view = some-same (sym f.view_is ∙ ap (λ (d : List ℕ). view_of s d past) (a.device_is ∙ device-own) ∙ here) in
+      let seen : f.t.view ≡ view = same_Some _ _ (sym f.view_is ∙ ap (λ (d : List ℕ). view_of s d past) (a.device_is ∙ device-own) ∙ here) in
       let one : f.t.chosen ≡ y = f.chosen_is ∙ same in
       let provided : provides (guids_of view) y.component ≡ true =
       ap (λ (v : DeviceView). provides (guids_of v) y.component) (sym seen) ∙ ap (λ (c : Chosen). provides (guids_of f.t.view) c.component) (sym one) ∙ f.provided in
@@ -262,7 +254,7 @@ module _ (s : Scene) (number : ℕ) (device : List ℕ) (view : DeviceView) (sho
   -- one that doesn't go before another has no higher version
   not-higher : (at r : ReleaseRef) (x y : Chosen) → release_at s at ≡ Some x → release_at s r ≡ Some y → goes_first s.facts r at ≡ false → is_le (version_cmp y.release.version x.release.version) ≡ true
   not-higher at r x y own other g =
-      let parts = or-false (is_higher s.facts r at) (not (is_higher s.facts at r) && comes_before r at) g in
+      let parts = or_parts (is_higher s.facts r at) (not (is_higher s.facts at r) && comes_before r at) g in
       back-le x.release.version y.release.version (sym (higher-own r at y x other own) ∙ parts.0)
 
   below-all : (at : ReleaseRef) (rest : List ReleaseRef) (x : Chosen) → release_at s at ≡ Some x → Falls s (at ∷ rest) → is_gt (version_cmp (version_at s.facts at) shown) ≡ false → AllByRecursion Fails (at ∷ rest)
@@ -302,7 +294,7 @@ module _ (s : Scene) (number : ℕ) (device : List ℕ) (view : DeviceView) (sho
       behind : (z : Chosen) → One z → passes z ≡ true → (z.at ≡ at) ⊎ (goes_first s.facts z.at at ≡ false)
       behind z o t =
           let there : list_any (is_release z.at) (front ++ at ∷ rest) ≡ true = ap (list_any (is_release z.at)) whole ∙ listed z o t in
-          of (or-cases (list_any (is_release z.at) front) (list_any (is_release z.at) (at ∷ rest)) (sym (list_any-append (is_release z.at) front (at ∷ rest)) ∙ there))
+          of (or_cases (list_any (is_release z.at) front) (list_any (is_release z.at) (at ∷ rest)) (sym (list_any-append (is_release z.at) front (at ∷ rest)) ∙ there))
         where
           in-rest : (is_release z.at at ≡ true) ⊎ (list_any (is_release z.at) rest ≡ true) → (z.at ≡ at) ⊎ (goes_first s.facts z.at at ≡ false)
           in-rest (inl e) = inl (release-same z.at at e)
@@ -310,14 +302,14 @@ module _ (s : Scene) (number : ℕ) (device : List ℕ) (view : DeviceView) (sho
 
           of : (list_any (is_release z.at) front ≡ true) ⊎ (list_any (is_release z.at) (at ∷ rest) ≡ true) → (z.at ≡ at) ⊎ (goes_first s.facts z.at at ≡ false)
           of (inl e) = let fails : passes z ≡ false = among Fails front z.at fail e z o.own in let bad : true ≡ false = sym t ∙ fails in cc
-          of (inr e) = in-rest (or-cases (is_release z.at at) (list_any (is_release z.at) rest) e)
+          of (inr e) = in-rest (or_cases (is_release z.at at) (list_any (is_release z.at) rest) e)
 
       not-above : (z : Chosen) → One z → passes z ≡ true → is_lt (version_cmp y.release.version z.release.version) ≡ false
       not-above z o t = of (behind z o t)
         where
           of : (z.at ≡ at) ⊎ (goes_first s.facts z.at at ≡ false) → is_lt (version_cmp y.release.version z.release.version) ≡ false
           of (inl e) =
-              let same : z ≡ y = some-same (sym o.own ∙ ap (release_at s) e ∙ own) in
+              let same : z ≡ y = same_Some _ _ (sym o.own ∙ ap (release_at s) e ∙ own) in
               ap (λ (c : Chosen). is_lt (version_cmp y.release.version c.release.version)) same ∙ ap is_lt (version_cmp-reflexive y.release.version)
           of (inr g) = le-not z.release.version y.release.version (not-higher at z.at y z own o.own g)
 
@@ -336,7 +328,7 @@ module _ (s : Scene) (number : ℕ) (device : List ℕ) (view : DeviceView) (sho
           of : (z.at ≡ at) ⊎ (goes_first s.facts z.at at ≡ false) → is_lt (version_cmp z.release.version y.release.version) ≡ true
           of (inl e) = let bad : comes_before at at ≡ true = ap (λ (r : ReleaseRef). comes_before r at) (sym e) ∙ before-at in absurd (before-once at at bad bad)
           of (inr g) =
-              let parts = or-false (is_higher s.facts z.at at) (not (is_higher s.facts at z.at) && comes_before z.at at) g in
+              let parts = or_parts (is_higher s.facts z.at at) (not (is_higher s.facts at z.at) && comes_before z.at at) g in
               is-lower (is_higher s.facts at z.at) refl parts.1
 
       front-of : {X : Type 0} (P : X → Type 0) (xs ys : List X) → AllByRecursion P (xs ++ ys) → AllByRecursion P xs
@@ -385,7 +377,7 @@ module _ (s : Scene) (number : ℕ) (device : List ℕ) (view : DeviceView) (sho
   is-that (Some x) step e = of (is_good s number x past) refl e
     where
       of : (b : Bool) → is_good s number x past ≡ b → (if b then Some x else None) ≡ Some step → IsThat (Some x) step
-      of true i e = record { that = e; good = subst (λ (z : PlanStep). is_good s number z past ≡ true) (some-same e) i }
+      of true i e = record { that = e; good = subst (λ (z : PlanStep). is_good s number z past ≡ true) (same_Some _ _ e) i }
       of false i e = cc
 
   is-next : (front rest : List ReleaseRef) (at : ReleaseRef) → front ++ at ∷ rest ≡ places → AllByRecursion Fails front → Falls s (at ∷ rest) → is_gt (version_cmp (version_at s.facts at) shown) ≡ true

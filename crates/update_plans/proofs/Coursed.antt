@@ -2,7 +2,7 @@
 use Rattle.std.proofs.Common.{◌≡◌, ℕ, suc, ◌+◌, ◌≤◌, ◌&&◌, ◌||◌, ◌⊎◌, Bool, true, false, nat_lt, not, List, [], ◌∷◌, ◌++◌, inl, inr, refl, sym, ap, ◌∙◌, subst, arith}
 use Rattle.std.specs.Prelude.{Ok, find, if◌then◌else◌}
 use Rattle.std.specs.List.{AllByRecursion, list_any}
-use Rattle.std.proofs.lemmas.Bool.{le-ltb, lt-ltb}
+use Rattle.std.proofs.lemmas.Bool.{le-ltb, lt-ltb, or_parts}
 use Rattle.fw_facts.specs.declared.flags.DeviceFlag.{DeviceFlag}
 use Rattle.fw_facts.specs.Flags.{has_flag}
 use Rattle.fw_facts.specs.declared.seen.Mode.{Mode}
@@ -21,14 +21,10 @@ use Rattle.update_plans.specs.Plans.{board_after, is_next, shown_after}
 
 -- ---- which step is the next
 
-or-false : (a b : Bool) → (a || b) ≡ false → (a ≡ false) × (b ≡ false)
-or-false true b e = cc
-or-false false b e = (refl, e)
-
 later : (op : Op) (p : Op → Bool) (rest : List Op) → list_any (λ o. is_op o op) rest ≡ false → is_next (find p rest) op ≡ false
 later op p [] h = refl
 later op p (o ∷ rest) h =
-    let parts = or-false (is_op o op) (list_any (λ o. is_op o op) rest) h in
+    let parts = or_parts (is_op o op) (list_any (λ o. is_op o op) rest) h in
     by_test (p o) _ (λ t. rw t parts.0) (λ f. rw f (later op p rest parts.1))
 
 -- where none of a front passes and none behind is that step, it is the next where it passes

@@ -6,7 +6,8 @@ use Rattle.std.specs.Str.{bytes_eq}
 use Rattle.std.specs.Ordering.{is_eq, ordering_reverse}
 use Rattle.std.specs.declared.cmp.Ordering.{Ordering}
 use Rattle.std.specs.declared.cmp.Ordering.TheVariants.{Less, Equal, Greater}
-use Rattle.std.proofs.lemmas.Bool.{eqb-true}
+use Rattle.std.proofs.lemmas.Bool.{eqb-true, or_parts, and_parts}
+use Rattle.std.proofs.lemmas.Option.{same_Some}
 use Rattle.version_formats.specs.Formats.{render}
 use Rattle.version_formats.specs.VersionOrder.{same_version, version_cmp}
 use Rattle.version_formats.proofs.VersionLaws.{version_cmp-back}
@@ -47,8 +48,7 @@ use Rattle.update_log.proofs.Accepts.{none-refuses}
 use Rattle.update_log.proofs.Lists.{All-filter, All-find, All-map, by_test}
 use Rattle.update_log.proofs.Openings.{bytes-same}
 use Rattle.update_log.proofs.Rows.{accepted-claim}
-use Rattle.update_log.proofs.RowsKept.{or-false, row_of-past}
-use Rattle.update_log.proofs.StrokeFacts.{and-true}
+use Rattle.update_log.proofs.RowsKept.{row_of-past}
 use Rattle.update_plans.specs.Following.{IsAcceptedNext, IsFollowed, IsPlayed, IsQuiet, is_mode, is_version, shows_alike}
 use Rattle.update_plans.specs.Plans.{Scene, accepts, after, asked, done, end_of, first_bad, installed, installed_with, is_ended, is_good, is_good_with, release_at, request_of, taken, view_of}
 use Rattle.update_plans.specs.declared.plan.PlanStep.{PlanStep}
@@ -59,9 +59,6 @@ use Rattle.update_plans.proofs.Installed.{board, cleaned, device-is, first as co
 use Rattle.update_plans.proofs.Played.{AreSteps, Closes, Made, Steps, closes, each-step, left, made, rows_with, with-steps}
 use Rattle.update_plans.proofs.Shown.{IsOf, view-now}
 use Rattle.update_plans.proofs.Targets.{Found, Tests, found, tests}
-
-some-same : {X : Type 0} {x y : X} → Some x ≡ Some y → x ≡ y
-some-same e = cc
 
 -- ---- what a board shows
 
@@ -80,7 +77,7 @@ shown-like : (sheet : Sheet) (x y : Seen) → is_home y ≡ true → (is_version
 shown-like sheet Seen.Gone Seen.Gone h a = cc
 shown-like sheet Seen.Stranger Seen.Gone h a = cc
 shown-like sheet (Seen.Home raw mode) (Seen.Home raw' mode') h a =
-    let parts = and-true (is_version (version_shown sheet (Seen.Home raw mode)) (version_shown sheet (Seen.Home raw' mode'))) (is_mode mode mode') a in
+    let parts = and_parts (is_version (version_shown sheet (Seen.Home raw mode)) (version_shown sheet (Seen.Home raw' mode'))) (is_mode mode mode') a in
     of mode mode' (bytes-same (render sheet.format raw) (render sheet.format raw') parts.0) parts.1
   where
     of : (m m' : Mode) → render sheet.format raw ≡ render sheet.format raw' → is_mode m m' ≡ true → LikeSeen sheet (Seen.Home raw m) (Seen.Home raw' m')
@@ -224,7 +221,7 @@ record Beside (o : Option Target) (t : Target) : Type 0 where
 
 beside : (o p : Option Target) → SameTarget o p → (t : Target) → p ≡ Some t → Beside o t
 beside _ _ SameTarget.Neither t e = cc
-beside _ _ (SameTarget.Both at a b chosen m) t e = subst (Beside (Some (record { place = at; view = a; chosen = chosen }))) (some-same e) (record { view = a; target_is = refl; like = m })
+beside _ _ (SameTarget.Both at a b chosen m) t e = subst (Beside (Some (record { place = at; view = a; chosen = chosen }))) (same_Some _ _ e) (record { view = a; target_is = refl; like = m })
 
 -- what a row says of its target
 row-like : (entry time client : ℕ) (request : Request) (state : RowState) (a : DeviceView) (t : Target) → Like a t.view
@@ -389,7 +386,7 @@ module _ (s : Scene) (first : List Seen) (plans : List BootPlan) (number : ℕ) 
     stored-is : (entry : ℕ) (stored : Stored) → IsLegal c s.opening (play entry stored) → off (play entry stored) ≡ false → stored ≡ Stored.Yes
     stored-is entry stored legal on =
         let finish = legal.2.2 in
-        let calm = or-false (is_fault stored) _ on in
+        let calm = or_parts (is_fault stored) _ on in
         stored-yes legal.2.1 stored finish.unchanged (ap is_ended (sym finish.state_is) ∙ ended-well) calm.0
 
     module _ (are : AreSteps s.client (next_entry s.facts s.opening p) steps) (legal : IsLegal c s.opening (play (next_entry s.facts s.opening p) Stored.Yes))
@@ -447,7 +444,7 @@ module _ (s : Scene) (first : List Seen) (plans : List BootPlan) (number : ℕ) 
           waits = has_flag DeviceFlag.NeedsReboot (flags_of f.t.view)
 
           closed : state ≡ closing_of closes-p.t_last row-p (view_in (live last-p) (known s.facts s.opening last-p) b)
-          closed = let finish = legal.2.2 in finish.state_is ∙ some-same (sym finish.closing ∙ closes-p.closing_is)
+          closed = let finish = legal.2.2 in finish.state_is ∙ same_Some _ _ (sym finish.closing ∙ closes-p.closing_is)
 
           ended-p : state ≡ settled waits (ended_well Op.Write closes-p.t_last.steps) (same_version text f.t.chosen.release.version)
           ended-p =
@@ -476,7 +473,7 @@ module _ (s : Scene) (first : List Seen) (plans : List BootPlan) (number : ℕ) 
           by_test (b.number == n) _
           (λ t.
           let at : b.number ≡ n = eqb-true b.number n t in
-          let one : b.sheet ≡ sheet = some-same (sym has-b ∙ ap (slice_get s.facts.sheets) at ∙ there) in
+          let one : b.sheet ≡ sheet = same_Some _ _ (sym has-b ∙ ap (slice_get s.facts.sheets) at ∙ there) in
           subst (λ (m : ℕ). LikeSeen sheet (seen s.facts s.opening now m) (seen s.facts s.opening ended-q m)) at
           (subst (λ (x : Sheet). LikeSeen x (seen s.facts s.opening now b.number) (seen s.facts s.opening ended-q b.number)) one board-like))
           (λ t.
@@ -546,7 +543,7 @@ before-play s c number step chosen past next played b =
     let legal = subst (IsLegal c s.opening) played.goes_on b.legal in
     let claimed = legal-before c s.opening played.steps begun legal.0 in
     let finish : (is_fault played.stored || off (played.steps ++ begun)) ≡ false = subst (λ (events : List Event). off events ≡ false) played.goes_on b.on in
-    let calm = or-false (is_fault played.stored) (off (played.steps ++ begun)) finish in
+    let calm = or_parts (is_fault played.stored) (off (played.steps ++ begun)) finish in
     record { legal = claimed.0.0; on = sym l.off_is ∙ calm.1 }
   where
     begun : List Event
@@ -594,7 +591,7 @@ follow s first plans _ _ rest _ _ _ (IsFollowed.GoesOn number step steps chosen 
     g = good-step s number step planned parts.0
 
     one : g.chosen ≡ chosen
-    one = some-same (sym g.there ∙ there)
+    one = same_Some _ _ (sym g.there ∙ there)
 
     good : is_good_with s number step planned chosen ≡ true
     good = subst (λ (x : Chosen). is_good_with s number step planned x ≡ true) one g.good
@@ -621,7 +618,7 @@ next_accepted s steps step more past now c chosen facts legal quiet good followe
     let behind = follow s c.first c.plans 1 steps (step ∷ more) past past now followed (record { legal = legal-here; on = on }) at-first in
     let parts = first-good s (1 + length steps) step more (after s 1 steps past) behind.good in
     let g = good-step s (1 + length steps) step (after s 1 steps past) parts.0 in
-    let one : g.chosen ≡ chosen = some-same (sym g.there ∙ there) in
+    let one : g.chosen ≡ chosen = same_Some _ _ (sym g.there ∙ there) in
     let all = tests s (1 + length steps) step g.chosen (after s 1 steps past) g.good in
     ap (accepts step.release) (verdict-like s now (after s 1 steps past) behind.same s.client (request_of s (length steps + 1) step chosen) Stage.Ask)
     ∙ ap (λ (n : ℕ). accepts step.release (verdict s.facts s.opening (after s 1 steps past) s.client (request_of s n step chosen) Stage.Ask)) (omega arith)

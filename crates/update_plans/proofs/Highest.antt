@@ -1,9 +1,10 @@
 -- The first of releases that stand from the highest down is the highest of those that pass.
-use Rattle.std.proofs.Common.{◌≡◌, ℕ, ◌+◌, ◌<◌, ◌≤◌, ◌||◌, Bool, true, false, not, nat_lt, List, [], ◌∷◌, ◌++◌, map, refl, sym, ap, subst, arith}
+use Rattle.std.proofs.Common.{◌≡◌, ℕ, ◌+◌, ◌<◌, ◌≤◌, Bool, true, false, not, nat_lt, List, [], ◌∷◌, ◌++◌, map, refl, sym, ap, subst, arith}
 use Rattle.std.specs.Prelude.{Some, None, filter, find, flat_map}
 use Rattle.std.specs.List.{AllByRecursion, enumerate_from, list_any}
 use Rattle.std.specs.Ordering.{is_lt}
 use Rattle.std.proofs.lemmas.Bool.Decides.{nat_tests}
+use Rattle.std.proofs.lemmas.Bool.{or_right}
 use Rattle.fw_facts.specs.declared.release.Component.{Component}
 use Rattle.fw_facts.specs.declared.release.Release.{Release}
 use Rattle.release_catalogue.specs.declared.reference.ReleaseRef.{ReleaseRef}
@@ -45,13 +46,9 @@ entries-at n c k [] = tt
 entries-at n c k (r ∷ rs) =
     (record { component = refl; release = omega arith }, All-map (StandsAt n (k + 1)) (StandsAt n k) (entries n c (k + 1) rs) (entries-at n c (k + 1) rs) (λ x h. record { component = h.component; release = (let l = h.release in omega (arith, l)) }))
 
-or-right : (a b : Bool) → b ≡ true → (a || b) ≡ true
-or-right true b h = refl
-or-right false b h = h
-
 same-before : (a b : ReleaseRef) → a.component ≡ b.component → a.release < b.release → comes_before a b ≡ true
 same-before a b same less =
-    or-right (nat_lt a.component b.component) _ (rw (same, eqb-self b.component) (let t : nat_lt a.release b.release ≡ true = grind (arith, nat_tests) in t))
+    or_right (nat_lt a.component b.component) _ (rw (same, eqb-self b.component) (let t : nat_lt a.release b.release ≡ true = grind (arith, nat_tests) in t))
 
 other-before : (a b : ReleaseRef) → a.component < b.component → comes_before a b ≡ true
 other-before a b less = let t : nat_lt a.component b.component ≡ true = grind (arith, nat_tests) in rw t refl
@@ -120,7 +117,7 @@ any-behind : (p t : Chosen → Bool) (front back : List Chosen) (c : Chosen) →
 any-behind p t [] back c here that = rw (here, that) refl
 any-behind p t (y ∷ front) back c here that =
     by_test (p y) _
-    (λ u. rw u (or-right (t y) _ (any-behind p t front back c here that)))
+    (λ u. rw u (or_right (t y) _ (any-behind p t front back c here that)))
     (λ u. rw u (any-behind p t front back c here that))
 
 none-any : (t : Chosen → Bool) (xs : List Chosen) → AllByRecursion (λ x. t x ≡ false) xs → list_any t xs ≡ false

@@ -6,6 +6,7 @@ use Rattle.std.specs.Option.{option_map_or}
 use Rattle.std.specs.List.{AllByRecursion}
 use Rattle.std.specs.Str.{bytes_eq}
 use Rattle.std.proofs.lemmas.Bool.{eqb-true}
+use Rattle.std.proofs.lemmas.Option.{same_Some}
 use Rattle.fw_facts.specs.declared.flags.DeviceFlag.{DeviceFlag}
 use Rattle.fw_facts.specs.declared.seen.Mode.{Mode}
 use Rattle.fw_facts.specs.declared.seen.Seen.{Seen}
@@ -56,9 +57,6 @@ use Rattle.update_plans.proofs.Coursed.{attached, course_is, is-runtime, later-r
 use Rattle.update_plans.proofs.Installing.{Goes, goes-on}
 use Rattle.update_plans.proofs.Shown.{IsOf, board-of, view-now}
 use Rattle.update_plans.proofs.Targets.{Found, found, tests}
-
-some-same : {X : Type 0} {x y : X} → Some x ≡ Some y → x ≡ y
-some-same e = cc
 
 -- the one live entry is found, and none is left without it
 only-live : (past : List Event) (l : LiveEntry) → live past ≡ l ∷ [] → live_entry past l.entry ≡ Some l
@@ -196,7 +194,7 @@ module _ (s : Scene) (number : ℕ) (step : PlanStep) (chosen : Chosen) (past : 
 
   -- the view that was found is the board's
   pub view-is : f.t.view ≡ view_in (live past) (known s.facts s.opening past) b
-  view-is = some-same (sym f.view_is ∙ view-now s step.device b past board.1)
+  view-is = same_Some _ _ (sym f.view_is ∙ view-now s step.device b past board.1)
 
   pub flags-are : has_flag DeviceFlag.NeedsReboot f.t.view.sheet.flags ≡ has_flag DeviceFlag.NeedsReboot b.sheet.flags
   flags-are = ap (λ (v : DeviceView). has_flag DeviceFlag.NeedsReboot v.sheet.flags) view-is
@@ -405,7 +403,7 @@ good-is s number step chosen past v q there at_home =
     ends : asks ≡ true → claims ≡ true → is_ended (end_of s number step chosen past) ≡ ends_well v chosen.component chosen.release.version step.raw
     ends a c =
         let f = found s number step chosen past there a in
-        let same : f.t.view ≡ v = some-same (sym f.view_is ∙ at_home) in
+        let same : f.t.view ≡ v = same_Some _ _ (sym f.view_is ∙ at_home) in
         ends-so s number step chosen past q f (goes-whole s number step chosen past q f c)
         ∙ ap (λ (view : DeviceView). ends_well view f.t.chosen.component chosen.release.version step.raw) same
         ∙ ap (λ (c : Chosen). ends_well v c.component chosen.release.version step.raw) f.chosen_is

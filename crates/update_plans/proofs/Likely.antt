@@ -1,6 +1,6 @@
 -- What a version tells of the raw number whose text is equal to it.
 use Rattle.std.proofs.Common.{◌≡◌, ℕ, zero, suc, ◌+◌, ◌-◌, ◌^◌, ◌<◌, ◌≤◌, ◌==◌, Bool, true, false, List, [], ◌∷◌, length, map, drop, Some, None, Ordering, Ok, refl, sym, ap, ◌∙◌, inl, inr, arith, length-drop}
-use Rattle.std.proofs.lemmas.Bool.{cases_Bool, true≢false}
+use Rattle.std.proofs.lemmas.Bool.{cases_Bool, true≢false, false_from_ne_true}
 use Rattle.std.proofs.lemmas.List.{drop-drop}
 use Rattle.std.proofs.lemmas.List.Elements.{All-cons, All-nil}
 use Rattle.std.proofs.lemmas.List.Splits.{join_with_byte-slice_split, slice_split-cons_no, slice_split-cons_yes}
@@ -19,7 +19,6 @@ use Rattle.version_formats.proofs.VersionLaws.{sections-same}
 use Rattle.update_plans.specs.Fields.{AreNumbers, IsLikely, fields, is_hex, last_eight}
 use Rattle.update_plans.specs.RawNumbers.{raw_of}
 use Rattle.update_plans.proofs.Least.{least_below-is, least_below-none}
-use Rattle.update_plans.proofs.Options.{fails_where_not}
 use Rattle.update_plans.proofs.Sections.{sections-render, sections-hex}
 
 abbrev is_dot : ℕ → Bool
@@ -164,7 +163,7 @@ decoded-hex raw version h same =
 pub raw_of-none : (format : Format) (version : List ℕ) → IsLikely format version None → raw_of format version ≡ None
 unfolding raw_of
 raw_of-none format version likely =
-    least_below-none (λ raw. same_version (render format raw) version) (2 ^ 32) (λ raw h. fails_where_not _ (λ same. likely raw h same))
+    least_below-none (λ raw. same_version (render format raw) version) (2 ^ 32) (λ raw h. false_from_ne_true _ (λ same. likely raw h same))
 
 -- the likely one is it, where its text is equal to the version
 pub raw_of-some : (format : Format) (version : List ℕ) (raw : ℕ) → raw < 2 ^ 32 → IsLikely format version (Some raw) → same_version (render format raw) version ≡ true
@@ -172,7 +171,7 @@ pub raw_of-some : (format : Format) (version : List ℕ) (raw : ℕ) → raw < 2
 unfolding raw_of
 raw_of-some format version raw small likely same =
     least_below-is (λ raw. same_version (render format raw) version) (2 ^ 32) raw small same
-    (λ lower h. fails_where_not _ (λ passes. absurd (omega (arith, (likely lower (omega arith) passes).0))))
+    (λ lower h. false_from_ne_true _ (λ passes. absurd (omega (arith, (likely lower (omega arith) passes).0))))
 
 -- and else there is none
 pub raw_of-not : (format : Format) (version : List ℕ) (raw : ℕ) → IsLikely format version (Some raw) → same_version (render format raw) version ≡ false
@@ -180,5 +179,5 @@ pub raw_of-not : (format : Format) (version : List ℕ) (raw : ℕ) → IsLikely
 unfolding raw_of
 raw_of-not format version raw likely other =
     least_below-none (λ raw. same_version (render format raw) version) (2 ^ 32)
-    (λ n h. fails_where_not _ (λ passes.
+    (λ n h. false_from_ne_true _ (λ passes.
     true≢false (sym (ap (λ (text : List ℕ). same_version text version) ((likely n h passes).1) ∙ passes) ∙ other)))

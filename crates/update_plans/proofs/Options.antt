@@ -1,5 +1,5 @@
 -- Options that are known twice.
-use Rattle.std.proofs.Common.{◌≡◌, ℕ, ◌^◌, ◌<◌, Option, Some, None, Result, Ok, Err, MatchResult, cond, nat_lt, Bool, true, false, refl, sym, subst}
+use Rattle.std.proofs.Common.{◌≡◌, ℕ, ◌^◌, ◌<◌, Option, Some, None, Result, Ok, Err, MatchResult, cond, nat_lt, refl, sym, subst}
 use Rattle.std.proofs.lemmas.Bool.{lt-ltb}
 use Rattle.std.specs.Option.{IsSomeAnd}
 
@@ -23,8 +23,3 @@ answered (Err y) x P Q h e = cc
 
 pub some_and : {A : Type 0} (r : Option A) (x : A) (P : A → Type 0) → r ≡ Some x → P x → IsSomeAnd r P
 some_and {A = A} r x P e h = subst (λ (o : Option A). IsSomeAnd o P) (sym e) h
-
--- a test that can't pass fails
-pub fails_where_not : (b : Bool) → (b ≡ true → ⊥) → b ≡ false
-fails_where_not true h = absurd (h refl)
-fails_where_not false h = refl

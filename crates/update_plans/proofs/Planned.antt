@@ -1,5 +1,6 @@
 -- The plan: each of its steps is good after those before it, and there are no more than its limit.
 use Rattle.std.proofs.Common.{not, ◌≡◌, ℕ, zero, suc, ◌+◌, ◌-◌, ◌≤◌, Bool, true, false, List, [], ◌∷◌, ◌++◌, length, length-append, refl, sym, ap, ◌∙◌, arith}
+use Rattle.std.proofs.lemmas.Bool.{and_parts}
 use Rattle.std.specs.Prelude.{Option, Some, None, filter, option_and_then, if◌then◌else◌}
 use Rattle.std.specs.Option.{option_map_or}
 use Rattle.std.specs.List.{AllByRecursion, list_any}
@@ -10,7 +11,6 @@ use Rattle.release_catalogue.specs.Lookup.{Chosen, all_releases}
 use Rattle.update_log.specs.declared.event.Event.{Event}
 use Rattle.update_log.specs.Known.{views}
 use Rattle.update_log.proofs.Lists.{All-filter, All-find}
-use Rattle.update_log.proofs.StrokeFacts.{and-true}
 use Rattle.update_plans.specs.Plans.{Scene, after, chain, chains, first_bad, highest, installed, is_above, is_good, may_come, next_step, plan, step_of, steps_max, view_of, visited}
 use Rattle.update_plans.specs.declared.plan.PlanStep.{PlanStep}
 
@@ -31,7 +31,7 @@ next-good s number device past step h = of_view (view_of s device past) h
   where
     good : (view : DeviceView) (chosen : Chosen) → may_come s number view past chosen ≡ true → step_of view chosen ≡ Some step → is_good s number step past ≡ true
     good view chosen may e =
-        let parts = and-true (is_above view chosen) (option_map_or (λ step. is_good s number step past) (step_of view chosen) false) may in
+        let parts = and_parts (is_above view chosen) (option_map_or (λ step. is_good s number step past) (step_of view chosen) false) may in
         ap (λ (o : Option PlanStep). option_map_or (λ step. is_good s number step past) o false) (sym e) ∙ parts.1
 
     of_chosen : (view : DeviceView) (o : Option Chosen) → highest (filter (may_come s number view past) (all_releases s.facts.catalogue)) ≡ o → option_and_then (step_of view) o ≡ Some step → is_good s number step past ≡ true

@@ -3,7 +3,7 @@ use Rattle.std.proofs.Common.{◌≡◌, ℕ, suc, ◌+◌, ◌&&◌, ◌==◌, 
 use Rattle.std.specs.Prelude.{All, Option, Some, None, Ok, find, option_map, option_and_then, unwrap_or, if◌then◌else◌}
 use Rattle.std.specs.List.{AllByRecursion, fold}
 use Rattle.std.specs.Str.{bytes_eq}
-use Rattle.std.proofs.lemmas.Bool.{eqb-true}
+use Rattle.std.proofs.lemmas.Bool.{eqb-true, and_parts}
 use Rattle.fw_facts.specs.declared.seen.Seen.{Seen}
 use Rattle.fw_facts.specs.Views.{flags_of}
 use Rattle.emulated_boards.specs.declared.mark.Mark.{Mark}
@@ -29,7 +29,6 @@ use Rattle.update_log.specs.Pasts.{off, time_of}
 use Rattle.update_log.specs.Shows.{marks}
 use Rattle.update_log.specs.Steps.{closing, closing_at, closing_of, first_trace, next_op, trace, view_of_row, with_step}
 use Rattle.update_log.proofs.Lists.{eqb-self}
-use Rattle.update_log.proofs.StrokeFacts.{and-true}
 use Rattle.update_log.proofs.TakenKept.{find-push_new}
 use Rattle.update_plans.specs.Following.{is_step_of}
 use Rattle.update_plans.specs.Plans.{Scene, is_next, request_of, seen_of, shown_after, waits_for_boot, with_op}
@@ -85,7 +84,7 @@ others-left s entry (event ∷ steps) base a number board at other = of event a.
     of : (event : Event) → is_step_of s.client entry event ≡ true → seen s.facts s.opening (steps ++ base) board ≡ seen s.facts s.opening base board → seen s.facts s.opening (event ∷ steps ++ base) board ≡ seen s.facts s.opening base board
     of (Event.Start client taken op) h rest = rest
     of (Event.End client taken op outcome told shown) h rest =
-        let parts = and-true (client == s.client) (taken == entry) h in
+        let parts = and_parts (client == s.client) (taken == entry) h in
         let same : taken ≡ entry = eqb-true taken entry parts.1 in
         let none : for_board (board_of s.facts (rows s.facts s.opening (steps ++ base)) taken) board shown ≡ None =
         ap (λ (n : ℕ). for_board (board_of s.facts (rows s.facts s.opening (steps ++ base)) n) board shown) same
@@ -106,7 +105,7 @@ traced s entry (event ∷ steps) base flags a t = of event a.0 (traced s entry s
     of : (event : Event) → is_step_of s.client entry event ≡ true → Traced s entry (steps ++ base) flags → Traced s entry (event ∷ steps ++ base) flags
     of (Event.Start client taken op) h r = record { t = r.t; trace_is = r.trace_is; flags_are = r.flags_are }
     of (Event.End client taken op outcome told shown) h r =
-        let parts = and-true (client == s.client) (taken == entry) h in
+        let parts = and_parts (client == s.client) (taken == entry) h in
         record {
           t = with_step (record { op = op; outcome = outcome; seen = shown }) r.t;
           trace_is = rw (parts.1, r.trace_is) refl;

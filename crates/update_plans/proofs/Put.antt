@@ -1,5 +1,6 @@
 -- An install is put behind a log event by event: each event may come next.
 use Rattle.std.proofs.Common.{◌≡◌, ℕ, ◌+◌, Bool, true, false, List, [], ◌∷◌, ◌++◌, append_assoc, refl, sym, ap, ◌∙◌, subst}
+use Rattle.std.proofs.lemmas.List.Sums.{fold-append}
 use Rattle.std.specs.Prelude.{◌==◌, Ok, Option, Some, IsSome, is_some, find, option_map, option_and_then, unwrap_or, if◌then◌else◌}
 use Rattle.std.specs.Str.{bytes_eq}
 use Rattle.std.specs.List.{fold}
@@ -42,10 +43,6 @@ before-event s past event m = record { c = m.c; facts_are = m.facts_are; legal =
 before-events : (s : Scene) (events past : List Event) → MayBe s (events ++ past) → MayBe s past
 before-events s [] past m = m
 before-events s (event ∷ events) past m = before-events s events past (before-event s (events ++ past) event m)
-
-fold-append : {A B : Type 0} (f : B → A → B) (a : B) (xs ys : List A) → fold f a (xs ++ ys) ≡ fold f (fold f a xs) ys
-fold-append f a [] ys = refl
-fold-append f a (x ∷ xs) ys = fold-append f (f a x) xs ys
 
 module _ (s : Scene) (number : ℕ) (step : PlanStep) (chosen : Chosen) (past : List Event) (q : IsQuiet s past) (there : release_at s step.release ≡ Some chosen) (good : is_good_with s number step past chosen ≡ true) where
   pub whole : MayBe s (installed_with s number step chosen past)

@@ -3,6 +3,7 @@ use Rattle.std.proofs.Common.{◌≡◌, ℕ, ◌+◌, ◌<◌, ◌≤◌, true,
 use Rattle.std.specs.Prelude.{Ok, Option, Some, None, IsSome, find, option_map, option_and_then}
 use Rattle.std.specs.Option.{option_map_or}
 use Rattle.std.proofs.lemmas.Bool.{ltb-true}
+use Rattle.std.proofs.lemmas.Option.{same_Some}
 use Rattle.emulated_boards.specs.declared.mark.Mark.{Mark}
 use Rattle.fw_facts.specs.declared.flags.DeviceFlag.{DeviceFlag}
 use Rattle.fw_facts.specs.declared.release.Release.{Release}
@@ -42,18 +43,15 @@ use Rattle.update_plans.proofs.Installed.{cleaned, goes-whole, row, rows-begun}
 use Rattle.update_plans.proofs.Put.{MayBe, before-event, end-said, end_of_step, next-of, some, some-live, step-left, step-taken, step-with, whole}
 use Rattle.update_plans.proofs.Targets.{Found, found, tests}
 
-some-same : {X : Type 0} {x y : X} → Some x ≡ Some y → x ≡ y
-some-same e = cc
-
 -- ---- the release
 
 -- the release that was found is the chosen one's
 pub release-of : (o : Option Chosen) (chosen : Chosen) (release : Release) → o ≡ Some chosen → option_map (λ (c : Chosen). c.release) o ≡ Some release → chosen.release ≡ release
-release-of o chosen release there e = some-same (sym (ap (option_map (λ (c : Chosen). c.release)) there) ∙ e)
+release-of o chosen release there e = same_Some _ _ (sym (ap (option_map (λ (c : Chosen). c.release)) there) ∙ e)
 
 pub digest-of : (o : Option Chosen) (release : Release) → option_map (λ (c : Chosen). c.release) o ≡ Some release → option_map (λ (c : Chosen). c.release.digest) o ≡ Some release.digest
 digest-of None release e = cc
-digest-of (Some chosen) release e = ap (λ (r : Release). Some r.digest) (some-same e)
+digest-of (Some chosen) release e = ap (λ (r : Release). Some r.digest) (same_Some _ _ e)
 
 -- ---- the state
 
@@ -268,7 +266,7 @@ module _ (s : Scene) (step : PlanStep) (at : Making) (core : Core) (p : IsPuttin
         end-is : end_made ≡ the_end
         end-is =
             ap (λ (ms : List Mark). Event.End s.client entry op (Ok tt) ms shown)
-            (told_is ∙ ap (λ (n : ℕ). marks op n digest) same ∙ ap (marks op own) (sym (some-same (sym (ap (option_map (λ (c : Chosen). c.release.digest)) p.there) ∙ digest_is))))
+            (told_is ∙ ap (λ (n : ℕ). marks op n digest) same ∙ ap (marks op own) (sym (same_Some _ _ (sym (ap (option_map (λ (c : Chosen). c.release.digest)) p.there) ∙ digest_is))))
             ∙ ap (λ (x : Seen). Event.End s.client entry op (Ok tt) (marks op own p.chosen.release.digest) x)
             (shown_is ∙ ap (λ (vs : List DeviceView). shown_on vs op step) (p.stands.views ∙ ap (views s.facts s.opening) p.past_is) ∙ shown-so op step.raw (view_of s step.device so_far))
             ∙ ap (λ (n : ℕ). Event.End s.client n op (Ok tt) (marks op own p.chosen.release.digest)

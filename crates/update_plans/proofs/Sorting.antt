@@ -10,7 +10,7 @@ use Rattle.std.specs.Cmp.{IsStrictWeakOrder}
 use Rattle.std.specs.Ordering.{is_le, is_lt, ordering_reverse}
 use Rattle.std.specs.declared.cmp.Ordering.{Ordering}
 use Rattle.std.specs.declared.cmp.Ordering.TheVariants.{Less, Equal, Greater}
-use Rattle.std.proofs.lemmas.Bool.{eqb-true, le-ltb, ltb-false, ltb-true, ne_eqb}
+use Rattle.std.proofs.lemmas.Bool.{eqb-true, le-ltb, ltb-false, ltb-true, ne_eqb, or_parts, and_parts, not-true, or_from}
 use Rattle.std.proofs.lemmas.List.Sorted.{sorted_far, ties_stay_sorted}
 use Rattle.version_formats.proofs.VersionLaws.{version_cmp-back, version_cmp-transitive}
 use Rattle.release_catalogue.specs.declared.reference.ReleaseRef.{ReleaseRef}
@@ -18,7 +18,6 @@ use Rattle.release_catalogue.specs.Lookup.{Chosen, all_releases, provides}
 use Rattle.release_catalogue.specs.Places.{matching_places}
 use Rattle.update_log.specs.declared.facts.Facts.{Facts}
 use Rattle.update_log.proofs.Lists.{All-filter, by_test, eqb-self}
-use Rattle.update_log.proofs.StrokeFacts.{and-true}
 use Rattle.update_plans.specs.Choosing.{IsHighestFirst, comes_before, found_cmp, goes_first, is_higher, version_found}
 use Rattle.update_plans.proofs.Choice.{before-once}
 use Rattle.update_plans.proofs.Highest.{Ordered, catalogue-ordered}
@@ -119,29 +118,17 @@ before-order = record {
 abbrev both_orders : {X : Type 0} → (X → X → Bool) → (X → X → Bool) → X → X → Bool
 both_orders lt by x y = lt x y || (not (lt y x) && by x y)
 
-or-both : (a b : Bool) → (a || b) ≡ false → (a ≡ false) × (b ≡ false)
-or-both true b h = cc
-or-both false b h = (refl, h)
-
-false-or : (a b : Bool) → a ≡ false → b ≡ false → (a || b) ≡ false
-false-or true b h k = cc
-false-or false b h k = k
-
-true-not : (a : Bool) → not a ≡ true → a ≡ false
-true-not true h = cc
-true-not false h = refl
-
 lexical : {X : Type 0} (lt by : X → X → Bool) → IsStrictWeakOrder lt → IsStrictWeakOrder by → IsStrictWeakOrder (both_orders lt by)
 lexical {X} lt by o p = record {
   one_way = λ x y h. one x y (lt x y) refl h;
-  chain = λ x y z h k. two x y z (or-both (lt x y) (not (lt y x) && by x y) h) (or-both (lt y z) (not (lt z y) && by y z) k);
+  chain = λ x y z h k. two x y z (or_parts (lt x y) (not (lt y x) && by x y) h) (or_parts (lt y z) (not (lt z y) && by y z) k);
 }
   where
     one : (x y : X) (a : Bool) → lt x y ≡ a → (a || (not (lt y x) && by x y)) ≡ true → (lt y x || (not (lt x y) && by y x)) ≡ false
-    one x y true e h = false-or (lt y x) (not (lt x y) && by y x) (o.one_way x y e) (ap (λ (b : Bool). not b && by y x) e)
+    one x y true e h = or_from (lt y x) (not (lt x y) && by y x) (o.one_way x y e) (ap (λ (b : Bool). not b && by y x) e)
     one x y false e h =
-        let parts = and-true (not (lt y x)) (by x y) h in
-        false-or (lt y x) (not (lt x y) && by y x) (true-not (lt y x) parts.0) (ap (λ (b : Bool). not b && by y x) e ∙ p.one_way x y parts.1)
+        let parts = and_parts (not (lt y x)) (by x y) h in
+        or_from (lt y x) (not (lt x y) && by y x) (not-true (lt y x) parts.0) (ap (λ (b : Bool). not b && by y x) e ∙ p.one_way x y parts.1)
 
     tied : (x y z : X) → lt z x ≡ false → (lt x y ≡ false) × ((not (lt y x) && by x y) ≡ false) → (lt y z ≡ false) × ((not (lt z y) && by y z) ≡ false) → by x z ≡ false
     tied x y z e h k =
@@ -149,13 +136,13 @@ lexical {X} lt by o p = record {
 
     two : (x y z : X) → (lt x y ≡ false) × ((not (lt y x) && by x y) ≡ false) → (lt y z ≡ false) × ((not (lt z y) && by y z) ≡ false) → (lt x z || (not (lt z x) && by x z)) ≡ false
     two x y z h k =
-        false-or (lt x z) (not (lt z x) && by x z) (o.chain x y z h.0 k.0)
+        or_from (lt x z) (not (lt z x) && by x z) (o.chain x y z h.0 k.0)
         (by_test (lt z x) ((not (lt z x) && by x z) ≡ false) (λ t. ap (λ (b : Bool). not b && by x z) t) (λ f. ap (λ (b : Bool). not b && by x z) f ∙ tied x y z f h k))
 
 -- what a stable sort by one order makes of a list that another sorted
 both-sorted : {X : Type 0} (lt by : X → X → Bool) → IsStrictWeakOrder lt → IsStrictWeakOrder by → (xs ys : List X) → IsSortedBy lt ys → IsSortedBy by xs → IsStableBy lt xs ys → IsSortedBy (both_orders lt by) ys
 both-sorted {X} lt by o p xs ys up old stable k d low within =
-    false-or (lt (slice_index_or ys (k + 1) d) (slice_index_or ys k d)) (not (lt (slice_index_or ys k d) (slice_index_or ys (k + 1) d)) && by (slice_index_or ys (k + 1) d) (slice_index_or ys k d)) (up k d low within)
+    or_from (lt (slice_index_or ys (k + 1) d) (slice_index_or ys k d)) (not (lt (slice_index_or ys k d) (slice_index_or ys (k + 1) d)) && by (slice_index_or ys (k + 1) d) (slice_index_or ys k d)) (up k d low within)
     (tie (lt (slice_index_or ys k d) (slice_index_or ys (k + 1) d)) refl)
   where
     tie : (t : Bool) → lt (slice_index_or ys k d) (slice_index_or ys (k + 1) d) ≡ t → (not t && by (slice_index_or ys (k + 1) d) (slice_index_or ys k d)) ≡ false

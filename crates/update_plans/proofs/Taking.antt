@@ -1,6 +1,7 @@
 -- What the loops find and leave that make plans and check them.
 use Rattle.std.proofs.Common.{◌≡◌, ◌≢◌, ℕ, zero, suc, ◌+◌, ◌-◌, ◌<◌, ◌≤◌, Bool, true, false, List, [], ◌∷◌, ◌++◌, length, map, drop, take, get_or, refl, sym, ap, ◌∙◌, subst, arith, add-one, drop-cons}
 use Rattle.std.proofs.Math.Seq.{take-suc}
+use Rattle.std.proofs.lemmas.Option.{same_Some}
 use Rattle.std.specs.Prelude.{AllPairs, Option, Some, None, find, is_some, slice_get, option_map, if◌then◌else◌}
 use Rattle.std.specs.Option.{option_map_or}
 use Rattle.std.specs.Ordering.{is_gt}
@@ -30,9 +31,6 @@ use Rattle.update_plans.proofs.Planned.{after-append}
 use Rattle.update_plans.proofs.Shown.{view-now}
 use Rattle.update_plans.proofs.Within.{AllBelow, as-many}
 
-some-same : {X : Type 0} {x y : X} → Some x ≡ Some y → x ≡ y
-some-same e = cc
-
 -- ---- places
 
 pub got_at : {X : Type 0} (xs : List X) (at : ℕ) (x : X) → at < length xs → x ≡ get_or xs at x → slice_get xs at ≡ Some x
@@ -46,7 +44,7 @@ record IsAt {X : Type 0} (xs : List X) (at : ℕ) (x d : X) : Type 0 where
 
 at-got : {X : Type 0} (xs : List X) (at : ℕ) (x d : X) → slice_get xs at ≡ Some x → IsAt xs at x d
 at-got [] at x d e = cc
-at-got (y ∷ xs) zero x d e = record { within = omega arith; is = some-same e }
+at-got (y ∷ xs) zero x d e = record { within = omega arith; is = same_Some _ _ e }
 at-got (y ∷ xs) (suc at) x d e = let more = at-got xs at x d e in record { within = (let w = more.within in omega (arith, w)); is = more.is }
 
 -- ---- devices
@@ -58,7 +56,7 @@ Differ bs = AllPairs (λ a b. a.sheet.device ≢ b.sheet.device) bs
 own-found : (bs : List Board) → Differ bs → (at : ℕ) (b : Board) → slice_get bs at ≡ Some b → find (λ x. bytes_eq x.sheet.device b.sheet.device) bs ≡ Some b
 own-found [] differ at b e = cc
 own-found (x ∷ bs) differ zero b e =
-    subst (λ (y : Board). find (λ z. bytes_eq z.sheet.device y.sheet.device) (x ∷ bs) ≡ Some y) (some-same e) (rw (bytes-self x.sheet.device) refl)
+    subst (λ (y : Board). find (λ z. bytes_eq z.sheet.device y.sheet.device) (x ∷ bs) ≡ Some y) (same_Some _ _ e) (rw (bytes-self x.sheet.device) refl)
 own-found (x ∷ bs) differ (suc at) b e =
     let there = at-got bs at b b e in
     let other : x.sheet.device ≢ b.sheet.device =
@@ -77,7 +75,7 @@ of-board s past at v e = of (slice_get (devices s.facts) at) refl (sym (get-map 
   where
     of : (o : Option Board) → slice_get (devices s.facts) at ≡ o → option_map (view_in (live past) (known s.facts s.opening past)) o ≡ Some v → OfBoard s past at v
     of None there h = cc
-    of (Some b) there h = record { b = b; there = there; view_is = sym (some-same h) }
+    of (Some b) there h = record { b = b; there = there; view_is = sym (same_Some _ _ h) }
 
 -- the device at a place is the one of its ID
 pub own-view : (s : Scene) (past : List Event) (at : ℕ) (v : DeviceView) → slice_get (views s.facts s.opening past) at ≡ Some v → view_of s v.sheet.device past ≡ Some v
@@ -108,7 +106,7 @@ module _ (s : Scene) (old new : Core) (at : ℕ) (before : Stands s.facts s.open
   guids-kept v w e f side =
       let o = of-board s (past_of old.log) at v (ap (λ (vs : List DeviceView). slice_get vs at) (sym before.views) ∙ e) in
       let n = of-board s (past_of new.log) at w (ap (λ (vs : List DeviceView). slice_get vs at) (sym after.views) ∙ f) in
-      let b : n.b ≡ o.b = some-same (sym n.there ∙ o.there) in
+      let b : n.b ≡ o.b = same_Some _ _ (sym n.there ∙ o.there) in
       let sheet : w.sheet ≡ v.sheet = ap (λ (x : DeviceView). x.sheet) n.view_is ∙ ap (λ (x : Board). x.sheet) b ∙ sym (ap (λ (x : DeviceView). x.sheet) o.view_is) in
       ap (λ (x : Sheet). guids_shown x w.seen) sheet ∙ same v.sheet w.seen v.seen side
     where
@@ -119,7 +117,7 @@ module _ (s : Scene) (old new : Core) (at : ℕ) (before : Stands s.facts s.open
       modes sheet Mode.Bootloader Mode.Runtime raw raw' e = cc
 
       same : (sheet : Sheet) (x y : Seen) → side_of x ≡ side_of y → guids_shown sheet x ≡ guids_shown sheet y
-      same sheet (Seen.Home raw m) (Seen.Home raw' m') e = modes sheet m m' raw raw' (some-same e)
+      same sheet (Seen.Home raw m) (Seen.Home raw' m') e = modes sheet m m' raw raw' (same_Some _ _ e)
       same sheet Seen.Gone Seen.Gone e = refl
       same sheet Seen.Gone Seen.Stranger e = refl
       same sheet Seen.Stranger Seen.Gone e = refl
@@ -231,11 +229,6 @@ drop-whole (suc n) [] h = refl
 drop-whole (suc n) (x ∷ xs) h = drop-whole n xs (omega (arith, h))
 
 -- ---- what stands at a place
-
-pub got_or : {X : Type 0} (xs : List X) (at : ℕ) (d : X) → at < length xs → slice_get xs at ≡ Some (get_or xs at d)
-got_or [] at d within = absurd (omega (arith, within))
-got_or (x ∷ xs) zero d within = refl
-got_or (x ∷ xs) (suc at) d within = got_or xs at d (omega (arith, within))
 
 drop-got : {X : Type 0} (xs : List X) (i : ℕ) (x : X) → slice_get xs i ≡ Some x → drop i xs ≡ x ∷ drop (i + 1) xs
 drop-got {X} xs i x e =

@@ -2,8 +2,8 @@
 use Rattle.std.proofs.Common.{◌≡◌, ℕ, ◌&&◌, ◌==◌, Bool, true, false, cond, nat_lt, List, [], ◌∷◌, length, position, refl, sym, ap, ◌∙◌, subst}
 use Rattle.std.specs.Prelude.{Option, Some, None, find, slice_get, option_map, option_and_then, if◌then◌else◌}
 use Rattle.std.specs.List.{position_or_len}
-use Rattle.std.proofs.lemmas.Bool.{eqb-true, ltb-false}
-use Rattle.std.proofs.lemmas.Option.{slice_get_past}
+use Rattle.std.proofs.lemmas.Bool.{eqb-true, ltb-false, and_parts}
+use Rattle.std.proofs.lemmas.Option.{slice_get_past, same_Some}
 use Rattle.std.proofs.lemmas.List.Folds.{find_at}
 use Rattle.device_list.proofs.GuidLaws.{bytes_eq-symm}
 use Rattle.device_list.specs.declared.selector.Selector.{Selector}
@@ -24,15 +24,11 @@ use Rattle.update_log.specs.Known.{Target, row_with_tag, rows, target, target_at
 use Rattle.update_log.specs.Verdicts.{Case, case_of, first_refusal, is_release, need, on_found, on_kept, on_present, present, refusals, refused_or, verdict}
 use Rattle.update_log.proofs.Accepts.{chosen-provides}
 use Rattle.update_log.proofs.Placed.{IsPlaced, chosen-placed}
-use Rattle.update_log.proofs.StrokeFacts.{and-true}
 use Rattle.update_plans.specs.Plans.{Scene, accepts, asked, end_of, has_id, is_ended, is_good_with, release_at, request_of, step_tag, view_of, writes}
 use Rattle.update_plans.specs.declared.plan.PlanStep.{PlanStep}
 use Rattle.update_plans.proofs.Released.{chosen_at, found_at, place_at}
 
 -- ---- look-ups
-
-some-same : {X : Type 0} {x y : X} → Some x ≡ Some y → x ≡ y
-some-same e = cc
 
 pub find-same : {X : Type 0} (p q : X → Bool) (xs : List X) → ((x : X) → p x ≡ q x) → find p xs ≡ find q xs
 find-same p q [] same = refl
@@ -43,7 +39,7 @@ pub found-place : {X : Type 0} (p : X → Bool) (xs : List X) (at : ℕ) → pos
 found-place p xs at h = go (nat_lt (position_or_len p xs) (length xs)) h
   where
     go : (b : Bool) → cond b (Some (position_or_len p xs)) None ≡ Some at → slice_get xs at ≡ find p xs
-    go true e = ap (slice_get xs) (sym (some-same e)) ∙ sym (find_at p xs)
+    go true e = ap (slice_get xs) (sym (same_Some _ _ e)) ∙ sym (find_at p xs)
     go false e = cc
 
 -- and where there is none, nothing passes
@@ -58,7 +54,7 @@ found-none p xs h = go (nat_lt (position_or_len p xs) (length xs)) refl h
 
 pub release-same : (a b : ReleaseRef) → is_release a b ≡ true → a ≡ b
 release-same a b h =
-    let parts = and-true (a.component == b.component) (a.release == b.release) h in
+    let parts = and_parts (a.component == b.component) (a.release == b.release) h in
     ap (λ (n : ℕ). place_at n a.release) (eqb-true a.component b.component parts.0) ∙ ap (place_at b.component) (eqb-true a.release b.release parts.1)
 
 -- a release that is looked up by its place stands there
@@ -73,7 +69,7 @@ stands components at chosen h = of_component (slice_get components at.component)
         → option_map (chosen_at at.component at.release c) r ≡ Some chosen → Stands components at chosen
     of_release c None there of e = cc
     of_release c (Some r) there of e =
-        subst (Stands components at) (some-same e) (record { at_is = refl; placed = record { component = there; release = of } })
+        subst (Stands components at) (same_Some _ _ e) (record { at_is = refl; placed = record { component = there; release = of } })
 
     of_component : (o : Option Component) → slice_get components at.component ≡ o
         → option_and_then (λ c. option_map (chosen_at at.component at.release c) (slice_get c.releases at.release)) o ≡ Some chosen → Stands components at chosen
@@ -83,9 +79,9 @@ stands components at chosen h = of_component (slice_get components at.component)
 -- two releases that stand at one place are one
 pub placed-once : (components : List Component) (a b : Chosen) → IsPlaced components a → IsPlaced components b → a.at ≡ b.at → a ≡ b
 placed-once components a b p q same =
-    let component : a.component ≡ b.component = some-same (sym p.component ∙ ap (λ (at : ReleaseRef). slice_get components at.component) same ∙ q.component) in
+    let component : a.component ≡ b.component = same_Some _ _ (sym p.component ∙ ap (λ (at : ReleaseRef). slice_get components at.component) same ∙ q.component) in
     let release : a.release ≡ b.release =
-    some-same (sym p.release ∙ ap (λ (c : Component). slice_get c.releases a.at.release) component ∙ ap (λ (at : ReleaseRef). slice_get b.component.releases at.release) same ∙ q.release) in
+    same_Some _ _ (sym p.release ∙ ap (λ (c : Component). slice_get c.releases a.at.release) component ∙ ap (λ (at : ReleaseRef). slice_get b.component.releases at.release) same ∙ q.release) in
     ap (λ (at : ReleaseRef). made at a.component a.release) same ∙ ap (λ (c : Component). made b.at c a.release) component ∙ ap (made b.at b.component) release
   where
     made : ReleaseRef → Component → Release → Chosen
@@ -127,7 +123,7 @@ module _ (s : Scene) (number : ℕ) (step : PlanStep) (chosen : Chosen) (past : 
       → (t.view ≡ view) × (o ≡ Some t.chosen)
   of-target at view t None e = cc
   of-target at view t (Some c) e =
-      let same : record { place = at; view = view; chosen = c } ≡ t = some-same e in
+      let same : record { place = at; view = view; chosen = c } ≡ t = same_Some _ _ e in
       (sym (ap (λ (x : Target). x.view) same), ap (λ (x : Target). Some x.chosen) same)
 
   view-found : (at : ℕ) (view : DeviceView) → Here at view → view_of s step.device past ≡ Some view
@@ -207,9 +203,9 @@ pub record Tests (s : Scene) (number : ℕ) (step : PlanStep) (chosen : Chosen) 
 
 four-true : (w a c e : Bool) → (w && a && c && e) ≡ true → (w ≡ true) × (a ≡ true) × (c ≡ true) × (e ≡ true)
 four-true w a c e h =
-    let three = and-true (w && a && c) e h in
-    let two = and-true (w && a) c three.0 in
-    let one = and-true w a two.0 in
+    let three = and_parts (w && a && c) e h in
+    let two = and_parts (w && a) c three.0 in
+    let one = and_parts w a two.0 in
     (one.0, one.1, two.1, three.1)
 
 pub tests : (s : Scene) (number : ℕ) (step : PlanStep) (chosen : Chosen) (past : List Event) → is_good_with s number step past chosen ≡ true → Tests s number step chosen past
