@@ -78,7 +78,7 @@ overwritten-row passed (b ∷ rest) at piece p r h f =
     rw (concat-unwound passed (overwritten b at piece ∷ rest), concat-unwound passed (b ∷ rest), place)
     (sym (overwritten-middle front b (concat rest) at piece fits))
 
-take-two : (a b c : List ℕ) (n : ℕ) → n ≡ length a + length b → take n (a ++ (b ++ c)) ≡ a ++ b
+pub take-two : (a b c : List ℕ) (n : ℕ) → n ≡ length a + length b → take n (a ++ (b ++ c)) ≡ a ++ b
 take-two a b c n h = rw (h, take-append-add) (ap (λ x. a ++ x) (take_at b c (length b) refl))
 
 drop-two : (a b c : List ℕ) (n m : ℕ) → n ≡ length a + (length b + m) → drop n (a ++ (b ++ c)) ≡ drop m c

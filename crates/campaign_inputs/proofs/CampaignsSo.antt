@@ -5,6 +5,7 @@ use Rattle.std.proofs.lemmas.Option.{slice_get-map}
 use Rattle.plugin_order.specs.declared.sheet.PluginSheet.{PluginSheet}
 use Rattle.plugin_order.specs.declared.arrangement.Arrangement.{Arrangement}
 use Rattle.plugin_starts.specs.Chosen.{AreAt}
+use Rattle.plugin_trait.proofs.InTurn.{heads, tails}
 use Rattle.update_log.specs.declared.facts.PluginVetoes.{PluginVetoes}
 use Rattle.site_types.specs.declared.campaign.Campaign.{Campaign}
 use Rattle.site_types.specs.declared.site.Site.{Site}
@@ -19,25 +20,19 @@ joined : {A X Y Z : Type 0} (F : A → X) (G : A → Y) (h : X → Y → Z) (x :
 joined F G h x y None e1 e2 = cc
 joined F G h x y (Some a) e1 e2 = cc
 
-first_of : {A : Type 0} (x y : A) (xs ys : List A) → x ∷ xs ≡ y ∷ ys → x ≡ y
-first_of x y xs ys e = cc
-
-rest_of : {A : Type 0} (x y : A) (xs ys : List A) → x ∷ xs ≡ y ∷ ys → xs ≡ ys
-rest_of x y xs ys e = cc
-
 pub joined_at : {A X Y Z : Type 0} (F : A → X) (G : A → Y) (f : A → X) (g : A → Y) (h : X → Y → Z) (all chosen : List A) (ps : List ℕ)
     → AreAt (map F all) ps (map f chosen) → AreAt (map G all) ps (map g chosen) → AreAt (map (λ a. h (F a) (G a)) all) ps (map (λ a. h (f a) (g a)) chosen)
 joined_at F G f g h all [] [] e1 e2 = refl
 joined_at F G f g h all (c ∷ chosen) [] e1 e2 = cc
 joined_at F G f g h all [] (p ∷ ps) e1 e2 = cc
 joined_at {X = X} {Y = Y} {Z = Z} F G f g h all (c ∷ chosen) (p ∷ ps) e1 e2 =
-    let one : Some (f c) ≡ option_map F (slice_get all p) = first_of _ _ _ _ e1 ∙ slice_get-map F all p in
-    let two : Some (g c) ≡ option_map G (slice_get all p) = first_of _ _ _ _ e2 ∙ slice_get-map G all p in
+    let one : Some (f c) ≡ option_map F (slice_get all p) = heads _ _ _ _ e1 ∙ slice_get-map F all p in
+    let two : Some (g c) ≡ option_map G (slice_get all p) = heads _ _ _ _ e2 ∙ slice_get-map G all p in
     let here : Some (h (f c) (g c)) ≡ slice_get (map (λ a. h (F a) (G a)) all) p =
     joined F G h (f c) (g c) (slice_get all p) one two ∙ sym (slice_get-map (λ a. h (F a) (G a)) all p) in
     ap (λ (x : Option Z). x ∷ map Some (map (λ a. h (f a) (g a)) chosen)) here
     ∙ ap (λ (xs : List (Option Z)). slice_get (map (λ a. h (F a) (G a)) all) p ∷ xs)
-    (joined_at F G f g h all chosen ps (rest_of _ _ _ _ e1) (rest_of _ _ _ _ e2))
+    (joined_at F G f g h all chosen ps (tails _ _ _ _ e1) (tails _ _ _ _ e2))
 
 -- ---- the campaign
 

@@ -1,22 +1,23 @@
 -- Every site that is read keeps to the limits.
-use Rattle.std.proofs.Common.{◌≡◌, ℕ, suc, ◌+◌, ◌-◌, ◌^◌, ◌≤◌, List, [], ◌∷◌, ◌++◌, length, map, Bool, true, false, ◌&&◌, Option, Some, None, Result, Ok, Err, if◌then◌else◌, refl, sym, ap, subst, ◌∙◌, arith, nat_le, nat_lt, length-append}
+use Rattle.std.proofs.Common.{◌≡◌, ℕ, suc, ◌+◌, ◌-◌, ◌^◌, ◌≤◌, List, [], ◌∷◌, ◌++◌, length, map, Bool, true, false, Result, Ok, Err, if◌then◌else◌, refl, sym, ap, subst, ◌∙◌, arith, nat_le, nat_lt, length-append}
 use Rattle.std.specs.Prelude.{⊤, All, option_and_then}
-use Rattle.std.proofs.lemmas.Bool.{leb-true, ltb-false}
+use Rattle.std.proofs.lemmas.Bool.{ltb-false}
 use Rattle.std.proofs.lemmas.List.{length-map}
 use Rattle.std.proofs.lemmas.List.Elements.{All-map, All-nil, All-push, All-weaker}
 use Rattle.serde_json.specs.Data.{Data, Items, no_items, item}
 use Rattle.serde_json.specs.Find.{as_number, as_u64, get}
+use Rattle.site_files.proofs.SoundBoards.{good_number}
 use Rattle.update_log.specs.declared.facts.BootPlan.{BootPlan}
 use Rattle.client_scripts.specs.declared.item.Item.{Item}
 use Rattle.release_catalogue.specs.declared.word.Word.TheVariants as words
 use Rattle.release_catalogue.specs.declared.reason.Reason.{Reason}
-use Rattle.release_catalogue.specs.declared.reason.Reason.TheVariants.{WrongKind, TooMany}
+use Rattle.release_catalogue.specs.declared.reason.Reason.TheVariants.{TooMany}
 use Rattle.release_catalogue.specs.declared.spot.Level.{Level}
 use Rattle.release_catalogue.specs.declared.spot.Level.TheVariants.{First, Second, Third}
 use Rattle.release_catalogue.specs.declared.spot.Spot.{Spot}
 use Rattle.release_catalogue.specs.declared.spot.Fault.{Fault}
 use Rattle.release_catalogue.specs.Words.{word_text}
-use Rattle.release_catalogue.specs.Reading.{◌>>=◌, at_spot, each, entry_spot, field_of, maybe, needed, optional, or_fault, refuse_if, the}
+use Rattle.release_catalogue.specs.Reading.{at_spot, each, entry_spot, field_of, maybe, needed, optional, refuse_if, the}
 use Rattle.release_catalogue.specs.Kinds.{items_at, items_len, list_at, name_at, number_at, object_at, version_at}
 use Rattle.release_catalogue.specs.Components.{components_at}
 use Rattle.site_types.specs.declared.site.Site.{Site}
@@ -54,19 +55,6 @@ good_where P true spot reason r h = tt
 good_where P false spot reason r h = h refl
 
 -- ---- numbers
-
-good_tested : (n most : ℕ) (spot : Spot) (b : Bool) → (b ≡ true → n ≤ most) → Good (λ (n : ℕ). n ≤ most) (if b then Ok n else at_spot spot WrongKind)
-good_tested n most spot true h = h refl
-good_tested n most spot false h = tt
-
-both_true : (a b : Bool) → (a && b) ≡ true → b ≡ true
-both_true true b h = h
-both_true false b h = cc
-
-good_number : (least most : ℕ) (spot : Spot) (o : Option ℕ)
-    → Good (λ (n : ℕ). n ≤ most) (or_fault spot WrongKind o >>= λ n. if nat_le least n && nat_le n most then Ok n else at_spot spot WrongKind)
-good_number least most spot None = tt
-good_number least most spot (Some n) = good_tested n most spot (nat_le least n && nat_le n most) (λ h. leb-true n most (both_true (nat_le least n) (nat_le n most) h))
 
 number_within : (least most : ℕ) (spot : Spot) (d : Data) → Good (λ (n : ℕ). n ≤ most) (number_at least most spot d)
 number_within least most spot d = good_number least most spot (option_and_then as_u64 (as_number d))

@@ -6,6 +6,7 @@ use Rattle.std.proofs.lemmas.Bool.{or_right, or_left}
 use Rattle.std.specs.List.{list_any}
 use Rattle.std.specs.Prelude.{All, Some, slice_get, unwrap_or}
 use Rattle.history_keeper.specs.declared.row.Row.{Row}
+use Rattle.update_log.proofs.Lists.{by_test}
 use Rattle.update_log.specs.declared.event.Event.{Event}
 use Rattle.update_log.specs.declared.facts.BootPlan.{BootPlan}
 use Rattle.update_log.specs.declared.facts.Facts.{Facts}
@@ -40,10 +41,6 @@ played-told before now facts opening means of_boot past h p =
       order = p.order;
       idle = p.idle;
     }
-
-by_test : (b : Bool) (G : Type 0) → (b ≡ true → G) → (b ≡ false → G) → G
-by_test true G f g = f refl
-by_test false G f g = g refl
 
 earlier-told : (before now : Bool) (facts : Facts) (opening : List Row) (means : ℕ → Means) (scripts : List (List (List Item))) (past : List Event) → (before ≡ true → now ≡ true) → EarlierPlayed before facts opening means scripts past → EarlierPlayed now facts opening means scripts past
 earlier-told before now facts opening means scripts [] h p = tt

@@ -1,6 +1,6 @@
 -- The start of a boot.
-use Rattle.std.proofs.Common.{◌≡◌, ◌⊎◌, ℕ, ◌≤◌, Bool, true, false, List, [], ◌∷◌, length, zero, suc, refl, ap, sym, ◌∙◌, subst, inl, inr, arith}
-use Rattle.std.specs.Prelude.{MatchBool, Option, Some, Result, Ok, Err, slice_get}
+use Rattle.std.proofs.Common.{◌≡◌, ◌⊎◌, ◌≤◌, Bool, true, false, List, refl, ap, sym, ◌∙◌, subst, inl, inr}
+use Rattle.std.specs.Prelude.{MatchBool, Option, Result, Ok, Err}
 use Rattle.history_keeper.specs.declared.change.Change.{Change}
 use Rattle.history_keeper.specs.declared.row.Row.{Row}
 use Rattle.history_keeper.specs.Histories.{IsHistory}
@@ -19,21 +19,12 @@ use Rattle.daemon_core.specs.Housed.{Housed, Place, past, rows_taken}
 use Rattle.daemon_core.specs.Keeping.{last_faulted}
 use Rattle.daemon_core.specs.Reading.{AreTold}
 use Rattle.daemon_core.specs.Turns.{KeeperFared, Signs}
-use Rattle.daemon_core.proofs.Planned.{keeps-same, keeps-started}
+use Rattle.daemon_core.proofs.Planned.{keeps-same, keeps-started, get-other}
 use Rattle.campaign_runs.specs.declared.ending.Ending.{Ending}
 use Rattle.campaign_runs.specs.Planned.{IsPlanned}
 use Rattle.campaign_runs.specs.Runs.{HasBegun, NoneBegan, OpeningStays, StartedSo, ended_by}
 use Rattle.campaign_runs.proofs.OpeningLaws.{stays-refused, stays-same, stays-well}
 use Rattle.campaign_runs.proofs.Present.{started-present}
-
--- A list as long has something at the same place.
-get-other : {X Y : Type 0} (xs : List X) (ys : List Y) (n : ℕ) (y : Y) → length ys ≡ length xs → slice_get ys n ≡ Some y → (x : X) × (slice_get xs n ≡ Some x)
-get-other [] [] zero y e g = cc
-get-other [] [] (suc n) y e g = cc
-get-other [] (z ∷ ys) n y e g = absurd (omega arith)
-get-other (x ∷ xs) [] n y e g = absurd (omega arith)
-get-other (x ∷ xs) (z ∷ ys) zero y e g = (x, refl)
-get-other (x ∷ xs) (z ∷ ys) (suc n) y e g = get-other xs ys n y (omega arith) g
 
 -- The boot that was noted lists each board as planned.
 planned-so : (plan : BootPlan) (old new : List Place) (listed : List BoardSeen) → AllStarted plan old new listed → IsPlanned plan plan.time plan.limit listed

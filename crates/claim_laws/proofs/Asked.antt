@@ -1,10 +1,10 @@
 -- What a client holds whose last event is an ask that was answered with a hold.
-use Rattle.std.proofs.Common.{◌≡◌, ◌⊎◌, ℕ, Bool, true, false, not, List, [], ◌∷◌, ◌++◌, refl, ap, sym, ◌∙◌, subst}
+use Rattle.std.proofs.Common.{◌≡◌, ◌⊎◌, ℕ, true, false, not, List, [], ◌∷◌, refl, ap, sym, ◌∙◌, subst}
 use Rattle.std.proofs.lemmas.Option.{same_Some}
 use Rattle.std.specs.Prelude.{Option, Some, None, ◌==◌, find}
 use Rattle.release_catalogue.specs.declared.reference.ReleaseRef.{ReleaseRef}
 use Rattle.history_keeper.specs.declared.row.Row.{Row}
-use Rattle.update_log.proofs.Lists.{by_test, eqb-other, eqb-self, find-filter, find-filter_none, find-push_other}
+use Rattle.update_log.proofs.Lists.{by_test, eqb-other, eqb-self, find-filter, find-filter_none, find-push_other, find-push_new}
 use Rattle.update_log.specs.declared.answer.AskAnswer.{AskAnswer}
 use Rattle.update_log.specs.declared.answer.ClaimAnswer.{ClaimAnswer}
 use Rattle.update_log.specs.declared.decision.Stage.{Stage}
@@ -27,13 +27,6 @@ use Rattle.claim_laws.proofs.Takings.{CameWhole, came-whole, claim-came}
 abbrev pub asked_hold : ℕ → Request → Option ℕ → ℕ → ReleaseRef → Held
 asked_hold client request pending blocks release =
     record { client = client; request = request; pending = pending; blocks = blocks; release = release }
-
-find-last : {X : Type 0} (p : X → Bool) (xs : List X) (x : X) → find p xs ≡ None → p x ≡ true → find p (xs ++ x ∷ []) ≡ Some x
-find-last p [] x n h = rw h refl
-find-last p (y ∷ ys) x n h =
-    by_test (p y) _
-    (λ t. let bad : Some y ≡ None = rw t at n in cc)
-    (λ f. let rest : find p ys ≡ None = rw f at n in rw f (find-last p ys x rest h))
 
 -- A client's hold is found past those of another one.
 others : (other client : ℕ) (all : List Held) → (other == client) ≡ false → find (λ h. h.client == client) (without_client other all) ≡ find (λ h. h.client == client) all
@@ -73,7 +66,7 @@ asked-hold (event ∷ past) client request pending blocks release h =
 
     now : hold (ask ∷ past) client ≡ Some (asked_hold client request pending blocks release)
     now =
-        find-last (λ (x : Held). x.client == client) (without_client client (holds past)) (asked_hold client request pending blocks release)
+        find-push_new (λ (x : Held). x.client == client) (without_client client (holds past)) (asked_hold client request pending blocks release)
         (find-filter_none (λ (x : Held). x.client == client) (holds past)) (eqb-self client)
 
 -- The claim of an install takes an entry, where its payload came whole or the shelf failed.

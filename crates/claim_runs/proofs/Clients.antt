@@ -1,8 +1,8 @@
 -- What a client has out after a turn of its own, for callers.
-use Rattle.std.proofs.Common.{◌≡◌, ℕ, Bool, true, false, List, [], ◌∷◌, ◌++◌, refl, ap, sym, ◌∙◌, subst, inl, inr}
-use Rattle.std.specs.Prelude.{Option, Some, None, ◌==◌, find}
+use Rattle.std.proofs.Common.{◌≡◌, ℕ, false, List, ◌∷◌, ap, sym, ◌∙◌, subst, inl, inr}
+use Rattle.std.specs.Prelude.{Option, Some, None, ◌==◌}
 use Rattle.std.specs.List.{list_any}
-use Rattle.update_log.proofs.Lists.{by_test, eqb-self, find-filter_none}
+use Rattle.update_log.proofs.Lists.{eqb-self, find-filter_none, find-push_new}
 use Rattle.update_log.specs.declared.answer.AskAnswer.{AskAnswer}
 use Rattle.update_log.specs.declared.event.Event.{Event}
 use Rattle.update_log.specs.declared.live.Held.{Held}
@@ -21,13 +21,6 @@ use Rattle.shared_daemon.proofs.Others.{free-stays, hold-stays}
 use Rattle.shared_daemon.proofs.Seeing.{stays}
 use Rattle.claim_runs.proofs.Freed.{held-free}
 use Rattle.claim_runs.proofs.Kept.{past-added}
-
-find-last : {X : Type 0} (p : X → Bool) (xs : List X) (x : X) → find p xs ≡ None → p x ≡ true → find p (xs ++ x ∷ []) ≡ Some x
-find-last p [] x n h = rw h refl
-find-last p (y ∷ ys) x n h =
-    by_test (p y) _
-    (λ t. let bad : Some y ≡ None = rw t at n in cc)
-    (λ f. let rest : find p ys ≡ None = rw f at n in rw f (find-last p ys x rest h))
 
 held-as : (n blocks : ℕ) (request : Request) (h : Hold) → h.ticket.client ≡ n → h.ticket.request ≡ request → h.ticket.pending ≡ None
     → record { client = n; request = request; pending = None; blocks = blocks; release = h.ticket.release } ≡ held_by h.ticket blocks
@@ -80,7 +73,7 @@ module _ {did : List Entry → List Entry → Type 0} (name : Name) (lock : Lock
       let n : ℕ = old.number in
       let event : Event = Event.Ask n request None (AskAnswer.Hold h.blocks.count h.ticket.release) in
       let x : Held = record { client = n; request = request; pending = None; blocks = h.blocks.count; release = h.ticket.release } in
-      let last : hold (event ∷ past_seen t.met) n ≡ Some x = find-last (λ (y : Held). y.client == n) (without_client n (holds (past_seen t.met))) x (find-filter_none (λ (y : Held). y.client == n) (holds (past_seen t.met))) (eqb-self n) in
+      let last : hold (event ∷ past_seen t.met) n ≡ Some x = find-push_new (λ (y : Held). y.client == n) (without_client n (holds (past_seen t.met))) x (find-filter_none (λ (y : Held). y.client == n) (holds (past_seen t.met))) (eqb-self n) in
       ap (λ (i : ℕ). hold (past_seen new.seen) i) same
       ∙ ap (λ (w : List Event). hold w n) (past-added n event t.met new.seen a.1)
       ∙ last

@@ -8,6 +8,7 @@ use Rattle.emulated_boards.specs.Boards.{BoardState}
 use Rattle.plugin_trait.specs.Steps.{PluginSteps}
 use Rattle.outer_traits.specs.Faults.{Rose}
 use Rattle.history_keeper.specs.declared.row.Row.{Row}
+use Rattle.update_log.proofs.Lists.{by_test}
 use Rattle.update_log.specs.declared.event.Event.{Event}
 use Rattle.update_log.specs.declared.facts.Facts.{Facts}
 use Rattle.update_log.specs.declared.refusal.FetchNote.{FetchNote}
@@ -23,10 +24,6 @@ use Rattle.client_plays.specs.Moments.{Moment}
 use Rattle.client_plays.specs.Plays.{Alone, GivesBack, InstallPlays, Leaves, Plays, SchedulePlays, StepsPlay, TaskPlays, ToJudge, UpdatePlays}
 use Rattle.client_plays.specs.Scripts.{PlayedSo, PlaysAll, PlaysOne, PlaysUntil}
 use Rattle.client_plays.specs.Tools.{Means}
-
-by_test : (b : Bool) (G : Type 0) → (b ≡ true → G) → (b ≡ false → G) → G
-by_test true G f g = f refl
-by_test false G f g = g refl
 
 -- ---- counts
 

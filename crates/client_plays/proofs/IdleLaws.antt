@@ -3,8 +3,10 @@ use Rattle.std.proofs.Common.{◌≡◌, ◌⊎◌, ℕ, Bool, true, false, ◌|
 use Rattle.std.proofs.lemmas.Bool.{eqb-true, eq-eqb, or_parts}
 use Rattle.std.specs.Prelude.{Some, None, ◌==◌, find, not}
 use Rattle.std.specs.List.{list_any, AllByRecursion}
+use Rattle.daemon_core.proofs.ClaimOpen.{live-push}
 use Rattle.history_keeper.specs.declared.row.Row.{Row}
-use Rattle.update_log.proofs.Lists.{All-both, All-filter, All-map, All-push, by_test, eqb-other}
+use Rattle.update_log.proofs.CoreTraces.{turned}
+use Rattle.update_log.proofs.Lists.{All-both, All-filter, All-map, All-push, by_test}
 use Rattle.update_log.specs.declared.answer.ClaimAnswer.{ClaimAnswer}
 use Rattle.update_log.specs.declared.answer.ResumeAnswer.{ResumeAnswer}
 use Rattle.update_log.specs.declared.event.Back.{Back}
@@ -26,10 +28,6 @@ or-true false = refl
 
 -- ---- live entries
 
-live-push : (xs : List LiveEntry) (l : LiveEntry) (entry : ℕ) → is_live xs entry ≡ true → is_live (xs ++ l ∷ []) entry ≡ true
-live-push [] l entry e = cc
-live-push (x ∷ xs) l entry e = by_test (x.entry == entry) _ (λ t. rw t refl) (λ f. rw f (live-push xs l entry (rw f at e)))
-
 live-last : (xs : List LiveEntry) (l : LiveEntry) (entry : ℕ) → (l.entry == entry) ≡ true → is_live (xs ++ l ∷ []) entry ≡ true
 live-last [] l entry e = rw e refl
 live-last (x ∷ xs) l entry e = let rest : is_live (xs ++ l ∷ []) entry ≡ true = live-last xs l entry e in rw rest (or-true (x.entry == entry))
@@ -48,9 +46,6 @@ live-found (x ∷ xs) entry l e = by_test (x.entry == entry) _ (λ t. rw t refl)
 
 flip-eqb : (m n : ℕ) → (m == n) ≡ true → (n == m) ≡ true
 flip-eqb m n e = eq-eqb n m (sym (eqb-true m n e))
-
-flip-other : (m n : ℕ) → (m == n) ≡ false → (n == m) ≡ false
-flip-other m n e = eqb-other n m (λ s. let bad : true ≡ false = sym (eq-eqb m n (sym s)) ∙ e in cc)
 
 -- One event more: a live entry stays so, or the event finishes it, or gives it back in a boot that is off.
 abbrev LiveStep : Event → List Event → ℕ → Type 0
@@ -158,7 +153,7 @@ steps-after c opening past (Event.End client ended op outcome told seen) a k =
 steps-after c opening past (Event.Finish client done state stored) a k =
     let event = Event.Finish client done state stored in
     All-both (IsHeldStep past) (λ (s : OpenStep). (s.entry == done) ≡ false) (IsHeldStep (event ∷ past)) (open_steps past) k (none-found done (open_steps past) a.2.open_none)
-    (λ s h n. step-stays c opening past event s a refl (flip-other s.entry done n) h)
+    (λ s h n. step-stays c opening past event s a refl (turned s.entry done n) h)
 steps-after c opening past (Event.Judge client judged version state stored) a k = all-stay c opening past (Event.Judge client judged version state stored) a refl (λ entry. refl) k
 steps-after c opening past (Event.Unplug client device answer) a k = all-stay c opening past (Event.Unplug client device answer) a refl (λ entry. refl) k
 steps-after c opening past (Event.Plug client device answer) a k = all-stay c opening past (Event.Plug client device answer) a refl (λ entry. refl) k

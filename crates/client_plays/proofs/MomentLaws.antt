@@ -4,6 +4,7 @@ use Rattle.std.proofs.lemmas.Bool.{ne_eqb, or_parts, or_from}
 use Rattle.std.proofs.lemmas.List.Folds.{list_any-append}
 use Rattle.std.specs.List.{list_any}
 use Rattle.std.specs.Prelude.{Some, None}
+use Rattle.daemon_core.proofs.AnnalsKept.{boots-same}
 use Rattle.update_log.specs.declared.event.Event.{Event}
 use Rattle.update_log.specs.Pasts.{boots, client_of, is_boot, is_of, off, puts_off}
 use Rattle.client_plays.specs.Moments.{Did, Grew, Moment, at, began, mine}
@@ -27,9 +28,6 @@ mine-other client past event b o = rw (b, o) refl
 
 pub mine-boot : (client : ℕ) (past : List Event) (event : Event) → is_boot event ≡ true → mine client (event ∷ past) ≡ []
 mine-boot client past event b = rw b refl
-
-pub boots-same : (past : List Event) (event : Event) → is_boot event ≡ false → boots (event ∷ past) ≡ boots past
-boots-same past event b = rw b refl
 
 pub began-same : (past : List Event) (event : Event) → is_boot event ≡ false → began (event ∷ past) ≡ began past
 began-same past event b = rw b refl

@@ -62,7 +62,7 @@ so_far-nothing signs wanting client Play h i =
     record { moments = []; did = did-nothing client (past h); plays = refl; rest = rest-here signs h i }
 
 -- What was played is still played where memory is told to be wanting.
-still-played : {X : Type 0} (now wanting : Bool) (client : ℕ) (Play : X → List Moment → Type 0) (xs : List X) (moments : List Moment) → (now ≡ true) ⊎ (now ≡ wanting) → PlaysAll wanting client Play xs moments → PlaysAll now client Play xs moments
+pub still-played : {X : Type 0} (now wanting : Bool) (client : ℕ) (Play : X → List Moment → Type 0) (xs : List X) (moments : List Moment) → (now ≡ true) ⊎ (now ≡ wanting) → PlaysAll wanting client Play xs moments → PlaysAll now client Play xs moments
 still-played now wanting client Play xs moments h p =
     let P : Bool → Type 0 = λ b. PlaysAll b client Play xs moments in
     elim h [ inl e ↦ subst P (sym e) (all-more client Play xs moments wanting p) | inr e ↦ subst P (sym e) p ]

@@ -4,6 +4,7 @@ use Rattle.std.proofs.lemmas.Bool.{ne_eqb, or_parts}
 use Rattle.std.proofs.lemmas.Bool.Decides.{eqb_tells}
 use Rattle.std.specs.List.{list_any}
 use Rattle.std.specs.Prelude.{◌==◌, ◌&&◌, Option, Some, None, option_map, slice_get, unwrap_or, if◌then◌else◌}
+use Rattle.update_log.proofs.Lists.{by_test}
 use Rattle.update_log.specs.declared.event.Event.{Event}
 use Rattle.update_log.specs.Pasts.{client_of, is_boot, is_of}
 use Rattle.client_plays.specs.Faults.{Counted, FaultsTold, ShelvesCount, faults_in, is_of_shelf, shelf_faults, tells_shelf_fault}
@@ -11,10 +12,6 @@ use Rattle.client_plays.specs.Moments.{Grew, at, mine}
 use Rattle.client_plays.specs.Tools.{ShelfStays, ShelfTold, ShelvesStay, shelf_of}
 use Rattle.client_plays.proofs.FaultLaws.{count-both, count-less, faults-append, faults-one}
 use Rattle.client_plays.proofs.MomentLaws.{mine-other, mine-own}
-
-by_test : (b : Bool) (G : Type 0) → (b ≡ true → G) → (b ≡ false → G) → G
-by_test true G f g = f refl
-by_test false G f g = g refl
 
 -- ---- one event
 

@@ -7,7 +7,7 @@ pub shelves-here : (s : List ShelfTold) → ShelvesStay s s
 shelves-here [] = tt
 shelves-here (s ∷ rest) = (record { files = refl; counts = omega arith }, shelves-here rest)
 
-le-both : (a b c : ℕ) → a ≤ b → b ≤ c → a ≤ c
+pub le-both : (a b c : ℕ) → a ≤ b → b ≤ c → a ≤ c
 le-both a b c x y = omega arith
 
 pub shelves-both : (a b c : List ShelfTold) → ShelvesStay a b → ShelvesStay b c → ShelvesStay a c

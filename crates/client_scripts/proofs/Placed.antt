@@ -1,46 +1,17 @@
 -- Releases that match stand in the catalogue at their places, so that a place tells its release's line.
-use Rattle.std.proofs.Common.{◌≡◌, ℕ, true, false, zero, suc, ◌+◌, ◌-◌, ◌==◌, if◌then◌else◌, List, [], ◌∷◌, ◌++◌, length, take, map, filter, refl, sym, ap, ◌∙◌, append_assoc, length-append}
-use Rattle.std.specs.Prelude.{Option, Some, slice_get, flat_map}
-use Rattle.std.specs.List.{AllByRecursion, enumerate_from}
+use Rattle.std.proofs.Common.{◌≡◌, ℕ, true, false, zero, suc, ◌+◌, ◌-◌, ◌==◌, if◌then◌else◌, List, [], ◌∷◌, ◌++◌, length, take, map, filter, refl, ap, ◌∙◌}
+use Rattle.std.specs.Prelude.{Option, Some, flat_map}
+use Rattle.std.specs.List.{AllByRecursion}
 use Rattle.std.proofs.lemmas.List.{length-map}
 use Rattle.fw_facts.specs.declared.release.Component.{Component}
-use Rattle.fw_facts.specs.declared.release.Release.{Release}
 use Rattle.release_catalogue.specs.declared.reference.ReleaseRef.{ReleaseRef}
-use Rattle.release_catalogue.specs.Lookup.{Chosen, all_releases, matching, provides, releases_of}
-use Rattle.update_log.proofs.Lists.{All-append, All-filter, by_test}
-use Rattle.update_log.proofs.Placed.{IsPlaced, all_from}
+use Rattle.release_catalogue.specs.Lookup.{Chosen, all_releases, matching, provides}
+use Rattle.update_log.proofs.Lists.{All-filter, by_test}
+use Rattle.update_log.proofs.Placed.{IsPlaced, placed-all}
 use Rattle.fw_facts.specs.Views.{guids_of, version_of}
 use Rattle.fw_facts.specs.declared.view.DeviceView.{DeviceView}
 use Rattle.client_scripts.specs.Replies.{at_most_64, is_newer, left_out, none_listed, release_line, releases_shown, upgrades_shown}
 use Rattle.client_scripts.specs.Places.{is_newer_at, line_at, release_at}
-
-get-behind : {X : Type 0} (front : List X) (x : X) (rest : List X) → slice_get (front ++ x ∷ rest) (length front) ≡ Some x
-get-behind [] x rest = refl
-get-behind (y ∷ front) x rest = get-behind front x rest
-
-placed-from : (components : List Component) (n : ℕ) (c : Component) → slice_get components n ≡ Some c
-    → (k : ℕ) (front rs : List Release) → front ++ rs ≡ c.releases → length front ≡ k
-    → AllByRecursion (IsPlaced components)
-    (map (λ entry. record { at = record { component = n; release = entry.0 }; component = c; release = entry.1 }) (enumerate_from k rs))
-placed-from components n c h k front [] e l = tt
-placed-from components n c h k front (r ∷ rs) e l =
-    let next : (front ++ r ∷ []) ++ rs ≡ c.releases = append_assoc front (r ∷ []) rs ∙ e in
-    let more : length (front ++ r ∷ []) ≡ k + 1 = length-append front (r ∷ []) ∙ ap (λ (m : ℕ). m + 1) l in
-    let here : slice_get c.releases k ≡ Some r =
-    ap (λ (m : ℕ). slice_get c.releases m) (sym l) ∙ ap (λ (xs : List Release). slice_get xs (length front)) (sym e) ∙ get-behind front r rs in
-    (record { component = h; release = here }, placed-from components n c h (k + 1) (front ++ r ∷ []) rs next more)
-
-placed-all : (components : List Component) (n : ℕ) (front rest : List Component) → front ++ rest ≡ components → length front ≡ n
-    → AllByRecursion (IsPlaced components) (all_from n rest)
-placed-all components n front [] e l = tt
-placed-all components n front (c ∷ cs) e l =
-    let next : (front ++ c ∷ []) ++ cs ≡ components = append_assoc front (c ∷ []) cs ∙ e in
-    let more : length (front ++ c ∷ []) ≡ n + 1 = length-append front (c ∷ []) ∙ ap (λ (m : ℕ). m + 1) l in
-    let here : slice_get components n ≡ Some c =
-    ap (λ (m : ℕ). slice_get components m) (sym l) ∙ ap (λ (xs : List Component). slice_get xs (length front)) (sym e) ∙ get-behind front c cs in
-    All-append (IsPlaced components) (releases_of n c) (all_from (n + 1) cs)
-    (placed-from components n c here 0 [] c.releases refl refl)
-    (placed-all components (n + 1) (front ++ c ∷ []) cs next more)
 
 matching-placed : (components : List Component) (guids : List (List ℕ)) → AllByRecursion (IsPlaced components) (matching components guids)
 matching-placed components guids =

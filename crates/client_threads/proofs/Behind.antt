@@ -1,10 +1,11 @@
 -- All clients of a boot, by the log as the daemon closed.
-use Rattle.std.proofs.Common.{◌≡◌, ℕ, ◌<◌, ◌≤◌, ◌+◌, ◌-◌, zero, suc, Bool, true, false, ◌||◌, List, [], ◌∷◌, ◌++◌, All, map, length, get_or, refl, ap, sym, ◌∙◌, subst, ⊎_elim, arith}
+use Rattle.std.proofs.Common.{◌≡◌, ℕ, ◌<◌, ◌≤◌, ◌+◌, ◌-◌, suc, Bool, List, [], ◌∷◌, ◌++◌, All, map, length, get_or, refl, ap, sym, ◌∙◌, subst, ⊎_elim, arith}
 use Rattle.std.proofs.lemmas.Bool.{cases_lt}
 use Rattle.std.proofs.lemmas.List.{get_or-map, length-map}
 use Rattle.std.proofs.lemmas.List.Elements.{All-cons, All-head, All-nil, All-tail}
 use Rattle.std.proofs.lemmas.List.FromFn.{get_or-range_with_len}
 use Rattle.std.specs.List.{list_any, range_with_len}
+use Rattle.update_log.proofs.Lists.{any-here}
 use Rattle.update_log.specs.declared.event.Event.{Event}
 use Rattle.update_log.specs.Pasts.{off}
 use Rattle.client_scripts.specs.declared.item.Item.{Item}
@@ -44,16 +45,6 @@ pub each-lent : {A : Type 0} (Q : A → A → Type 0) (old lent given new : List
 each-lent {A = A} Q old lent given new e n each i d low =
     subst (λ (l : List A). Q (get_or l i d) (get_or new i d)) e
     (subst (λ (l : List A). Q (get_or lent i d) (get_or l i d)) (sym n) (each i d (subst (λ (l : List A). i < length l) (sym e) low)))
-
--- Whether one of all is told.
-told-one : {A : Type 0} (p : A → Bool) (xs : List A) (i : ℕ) (d : A) → i < length xs → p (get_or xs i d) ≡ true → list_any p xs ≡ true
-told-one p [] i d low e = absurd (omega arith)
-told-one p (x ∷ xs) zero d low e = rw e refl
-told-one p (x ∷ xs) (suc i) d low e = let rest : list_any p xs ≡ true = told-one p xs i d (omega arith) e in rw rest (or-true (p x))
-  where
-    or-true : (b : Bool) → (b || true) ≡ true
-    or-true true = refl
-    or-true false = refl
 
 -- The numbers of clients.
 abbrev number_of : PassView Entry → ℕ
@@ -165,7 +156,7 @@ module _ {P : Type 0} (files : P → Files) (plugins : ℕ → PluginSteps) (fau
         (mapped (IsFresh name.start) pass old (All-tail (IsFresh name.start) own (map pass old) a.dealt.fresh) i d low)
         (mapped (λ (p : PassView Entry). BeginsWith log p.seen) pass new (All-tail (λ (p : PassView Entry). BeginsWith log p.seen) own (map pass new) seen) i d (omega arith))
         (mapped (HasItsEntries maker_of name.start log) pass new (All-tail (HasItsEntries maker_of name.start log) own (map pass new) mine_are) i d (omega arith))
-        wanting (λ w. told-one (λ (c : Client P). c.wanting) new i d (omega arith) w)
+        wanting (λ w. any-here (λ (c : Client P). c.wanting) new i d (omega arith) w)
         (ap (λ (k : ℕ). mine k (past_seen name.start)) number ∙ none)))
 
     some : (client i : ℕ) (xs : List (Client P)) → xs ≡ old → client ≡ i + 1 → i < length old → mine client (past_seen name.start) ≡ []

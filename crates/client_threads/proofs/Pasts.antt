@@ -2,9 +2,13 @@
 use Rattle.std.proofs.Common.{◌≡◌, ℕ, ◌≤◌, ◌<◌, ◌+◌, Bool, true, false, ◌||◌, List, [], ◌∷◌, ◌++◌, reverse, refl, ap, sym, ◌∙◌, arith}
 use Rattle.std.proofs.lemmas.List.{reverse-append}
 use Rattle.std.specs.List.{list_any}
+use Rattle.daemon_core.proofs.AnnalsKept.{boots-same}
+use Rattle.daemon_core.proofs.LogLaws.{loaded-on}
+use Rattle.script_runs.proofs.OwnMoments.{one-more}
+use Rattle.shared_daemon.proofs.Others.{some-boots}
 use Rattle.update_log.proofs.Lists.{by_test}
 use Rattle.update_log.specs.declared.event.Event.{Event}
-use Rattle.update_log.specs.CoreFolds.{AllFaults, is_fault_boot}
+use Rattle.update_log.specs.CoreFolds.{AllFaults}
 use Rattle.update_log.specs.Pasts.{boots, is_boot, meets_fault, off, past_of, puts_off}
 use Rattle.daemon_core.specs.Keeping.{last_faulted}
 use Rattle.client_plays.specs.Moments.{Grew}
@@ -13,28 +17,15 @@ use Rattle.shared_daemon.specs.Entries.{events, past_seen}
 use Rattle.shared_daemon.specs.Names.{IsLogOf, Name}
 use Rattle.shared_daemon.proofs.Logs.{events-append}
 
--- Where there are as many boots, none is among the newer events.
-one-more : (past : List Event) (event : Event) → is_boot event ≡ true → boots (event ∷ past) ≡ boots past + 1
-one-more past event b = rw b refl
-
-some-boots : (newer past : List Event) → boots past ≤ boots (newer ++ past)
-some-boots [] past = omega arith
-some-boots (event ∷ newer) past =
-    let rest : boots past ≤ boots (newer ++ past) = some-boots newer past in
-    by_test (is_boot event) _ (λ t. rw t (omega arith)) (λ f. rw f rest)
-
 too-many : (a b c : ℕ) → b ≡ a + 1 → c ≤ a → b ≡ c → ⊥
 too-many a b c e l s = omega arith
-
-same-boots : (past : List Event) (event : Event) → is_boot event ≡ false → boots (event ∷ past) ≡ boots past
-same-boots past event b = rw b refl
 
 no-boots : (newer past : List Event) → boots (newer ++ past) ≡ boots past → list_any is_boot newer ≡ false
 no-boots [] past h = refl
 no-boots (event ∷ newer) past h =
     by_test (is_boot event) _
     (λ t. absurd (too-many (boots (newer ++ past)) (boots (event ∷ (newer ++ past))) (boots past) (one-more (newer ++ past) event t) (some-boots newer past) h))
-    (λ f. rw f (no-boots newer past (sym (same-boots (newer ++ past) event f) ∙ h)))
+    (λ f. rw f (no-boots newer past (sym (boots-same (newer ++ past) event f) ∙ h)))
 
 -- A log of a name grew since the daemon began, in one boot.
 pub log-grew : (name : Name) (log : List Entry) → IsLogOf name name.start → IsLogOf name log → Grew (past_seen name.start) (past_seen log)
@@ -48,23 +39,9 @@ log-grew name log s l =
       no_boot = no-boots more (past_seen name.start) (sym (ap boots turned) ∙ l.boots_are ∙ sym s.boots_are);
     }
 
--- A boot that couldn't read the history is off.
-fault-off : (event : Event) (past : List Event) → is_fault_boot event ≡ true → off (event ∷ past) ≡ true
-fault-off (Event.Boot number time limit found boards) past e = e
-fault-off _ past e = cc
-
-faults-off : (past : List Event) → AllFaults past → 0 < boots past → off past ≡ true
-faults-off [] a b = absurd (omega arith)
-faults-off (event ∷ past) a b = fault-off event past a.0
-
--- So where a boot runs that isn't off, one took the rows that it loaded.
-pub on-loaded : (loaded : Bool) (past : List Event) → (loaded ≡ false → AllFaults past) → 0 < boots past → off past ≡ false → loaded ≡ true
-on-loaded true past h b o = refl
-on-loaded false past h b o = let bad : true ≡ false = sym (faults-off past (h refl) b) ∙ o in cc
-
 -- And where none took them, the boot is off.
 pub on-unread : (loaded : Bool) (past : List Event) → (loaded ≡ false → AllFaults past) → 0 < boots past → off past ≡ false → loaded ≡ false → ⊥
-on-unread loaded past h b o u = let bad : true ≡ false = sym (on-loaded loaded past h b o) ∙ u in cc
+on-unread loaded past h b o u = let bad : true ≡ false = sym (loaded-on loaded past h b o) ∙ u in cc
 
 -- A boot that isn't off read the history.
 boot-met : (event : Event) → is_boot event ≡ true → puts_off event ≡ meets_fault event

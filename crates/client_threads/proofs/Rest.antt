@@ -1,5 +1,6 @@
 -- A house whose daemon begins, and one whose daemon closed.
 use Rattle.std.proofs.Common.{◌≡◌, ◌⊎◌, ℕ, ◌<◌, ◌≤◌, ◌+◌, ◌-◌, ◌^◌, Bool, true, false, List, [], refl, ap, sym, ◌∙◌, subst, inl, inr, arith}
+use Rattle.daemon_core.proofs.LogLaws.{loaded-on}
 use Rattle.emulated_boards.specs.declared.fault.PlannedFault.{PlannedFault}
 use Rattle.history_keeper.specs.declared.row.Row.{Row}
 use Rattle.update_log.specs.declared.event.Event.{Event}
@@ -29,7 +30,7 @@ use Rattle.shared_daemon.proofs.Seeing.{before-named}
 use Rattle.campaign_runs.specs.Runs.{ReadLast}
 use Rattle.client_threads.specs.Begins.{CanBegin, IsNameOf, name_of}
 use Rattle.client_threads.specs.Clients.{ClientsPlayed, PlayedBehind}
-use Rattle.client_threads.proofs.Pasts.{log-grew, on-loaded, on-read}
+use Rattle.client_threads.proofs.Pasts.{log-grew, on-read}
 use Rattle.client_threads.proofs.ShelfFaults.{count-closed}
 use Rattle.client_threads.proofs.Plays.{items-beyond, left-off, left-wanting, nothing-so}
 
@@ -37,7 +38,7 @@ module _ {K : Type 0} (signs : Signs K) where
   -- A daemon may begin round a house that was booted, and isn't off.
   pub can-begin : (h : Housed K) → IsAnnals h.annals → 0 < boots (past h) → off (past h) ≡ false → IsCounted signs h → IsIdle (past h) → ReadLast h → CanBegin signs h
   can-begin h k b o c i r =
-      record { loaded = on-loaded h.annals.loaded (past h) k.unloaded b o; reopened = r (on-read (past h) o); booted = b; counted = c; idle = i }
+      record { loaded = loaded-on h.annals.loaded (past h) k.unloaded b o; reopened = r (on-read (past h) o); booted = b; counted = c; idle = i }
 
   first-counted : (h : Housed K) → IsCounted signs h → (keeper_faults (past h) + (signs.faults h.keeper - keeper_faults (past h)) ≤ signs.faults h.keeper) ⊎ (2 ^ 64 - 1 ≤ signs.faults h.keeper)
   first-counted h (inl c) = inl (omega arith)

@@ -53,7 +53,7 @@ annals-blank a b few firsts s =
       timely = omega (arith, t);
     }
 
-shows-itself : (s : Seen) → ShowsFirst s s
+pub shows-itself : (s : Seen) → ShowsFirst s s
 shows-itself (Seen.Home raw mode) = refl
 shows-itself Seen.Gone = tt
 shows-itself Seen.Stranger = tt

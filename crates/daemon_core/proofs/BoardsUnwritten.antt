@@ -4,6 +4,7 @@ use Rattle.std.specs.Prelude.{Option, Some, None, ◌==◌, if◌then◌else◌,
 use Rattle.std.specs.List.{list_any}
 use Rattle.std.proofs.lemmas.Bool.{eqb-true, eq-eqb, or_parts, or_right, or_left, or_cases}
 use Rattle.std.proofs.lemmas.List.Folds.{list_any-append, list_any_at}
+use Rattle.daemon_core.proofs.Beginnings.{shows-itself}
 use Rattle.emulated_boards.specs.declared.mark.Mark.{Mark}
 use Rattle.fw_facts.specs.Views.{is_home}
 use Rattle.fw_facts.specs.declared.seen.Seen.{Seen}
@@ -182,11 +183,6 @@ pub record Unwritten (facts : Facts) (first : List Seen) (opening : List Row) (p
   pub home : ShowsFirst (home_before facts first opening past number) (first_of_board first number)
   pub shown : ShowsFirst (seen facts opening past number) (first_of_board first number)
 
-first-itself : (s : Seen) → ShowsFirst s s
-first-itself (Seen.Home raw mode) = refl
-first-itself Seen.Gone = tt
-first-itself Seen.Stranger = tt
-
 module _ (c : Campaign) (opening : List Row) (past : List Event) (event : Event) (number : ℕ) (legal : IsLegal c opening (event ∷ past)) (n : list_any is_began (told c.facts opening (event ∷ past) number) ≡ false) where
   none-before : list_any is_began (told c.facts opening past number) ≡ false
   none-before = (or_parts (list_any is_began (told c.facts opening past number)) (list_any is_began (told_by c.facts (rows c.facts opening past) event number)) (sym (list_any-append is_began (told c.facts opening past number) (told_by c.facts (rows c.facts opening past) event number)) ∙ n)).0
@@ -209,7 +205,7 @@ module _ (c : Campaign) (opening : List Row) (past : List Event) (event : Event)
     unwritten-at (Some shown) e = record { home = rw e (or-first shown _ (first-of shown e) before.home); shown = rw e (first-of shown e) }
 
 pub unwritten : (c : Campaign) (opening : List Row) (past : List Event) (number : ℕ) → IsLegal c opening past → list_any is_began (told c.facts opening past number) ≡ false → Unwritten c.facts c.first opening past number
-unwritten c opening [] number legal n = record { home = first-itself (first_of_board c.first number); shown = tt }
+unwritten c opening [] number legal n = record { home = shows-itself (first_of_board c.first number); shown = tt }
 unwritten c opening (event ∷ past) number legal n =
     unwritten-at c opening past event number legal n (unwritten c opening past number legal.0 (none-before c opening past event number legal n))
     (tells c.facts (live past) (known c.facts opening past) event number) refl

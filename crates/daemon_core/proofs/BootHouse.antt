@@ -37,12 +37,12 @@ use Rattle.daemon_core.specs.Keeping.{KeepsSo, still_reopened}
 pub take-front : {X : Type 0} (n : ℕ) (xs ys : List X) → n ≡ length xs → take n (xs ++ ys) ≡ xs
 take-front n xs ys e = rw e (take-append-le (length xs) xs ys (omega arith) ∙ take-length xs)
 
-prefix-shorter : {X : Type 0} (xs ys : List X) → IsPrefix xs ys → length xs ≤ length ys
+pub prefix-shorter : {X : Type 0} (xs ys : List X) → IsPrefix xs ys → length xs ≤ length ys
 prefix-shorter [] ys p = omega arith
 prefix-shorter (x ∷ xs) [] p = absurd p
 prefix-shorter (x ∷ xs) (y ∷ ys) p = let h = prefix-shorter xs ys p.1 in omega (arith, h)
 
-marks-few : (op : Op) (entry : ℕ) (digest : List ℕ) → length (marks op entry digest) ≤ 2
+pub marks-few : (op : Op) (entry : ℕ) (digest : List ℕ) → length (marks op entry digest) ≤ 2
 marks-few Op.Prepare entry digest = omega arith
 marks-few _ entry digest = omega arith
 

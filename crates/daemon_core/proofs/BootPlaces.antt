@@ -38,7 +38,7 @@ pub told-begins-so : (facts : Facts) (first : List Seen) (opening : List Row) (p
 told-begins-so facts first opening past n (c, f, s, legal) = subst (λ (x : Facts). BeginsToo (told x opening past n)) f (told-begins c opening past n legal)
 
 -- a board that is started is gone or home, as planned
-present : (absent : Bool) (c : Condition) → IsTrue (if absent then is_gone (view_of (booted absent c)) else is_home (view_of (booted absent c)))
+pub present : (absent : Bool) (c : Condition) → IsTrue (if absent then is_gone (view_of (booted absent c)) else is_home (view_of (booted absent c)))
 present true c = refl
 present false c = refl
 

@@ -22,6 +22,7 @@ use Rattle.update_log.proofs.Accepts.{accepts-target}
 use Rattle.update_log.proofs.Lists.{All-filter, All-find, by_test}
 use Rattle.update_log.proofs.Openings.{bytes-self}
 use Rattle.update_log.proofs.RowsKept.{is_kept, no-tag, not_kept}
+use Rattle.update_log.proofs.WaitsKept.{no-claim, no-live}
 use Rattle.update_log.specs.Boards.{Board, all_boards, board_with, devices, is_device, is_served, plugin_place}
 use Rattle.update_log.specs.Holding.{live}
 use Rattle.update_log.specs.Known.{Target, is_board_of, is_on, known, new_row, row_with_tag, rows, target, target_at, target_of, view_of, views}
@@ -32,7 +33,6 @@ use Rattle.update_log.specs.declared.decision.Stage.{Stage}
 use Rattle.update_log.specs.declared.event.Event.{Event}
 use Rattle.update_log.specs.declared.facts.Facts.{Facts}
 use Rattle.update_log.specs.declared.live.LiveEntry.{LiveEntry}
-use Rattle.update_log.specs.declared.refusal.Refusal.{Refusal}
 use Rattle.update_log.specs.declared.request.Request.{Request}
 use Rattle.daemon_core.proofs.Asking.{release-same, target-placed}
 use Rattle.daemon_core.proofs.ClaimAlone.{HasSheet, device-sheet, row-on, same-device}
@@ -93,17 +93,13 @@ none-on facts all device number (x ∷ xs) b h =
     let no : true ≡ false = sym bad ∙ t in cc)
     (λ u. rw (u, rest) refl))
 
-none-claimed : (o : Option LiveEntry) → option_map (λ l. l.entry) o ≡ None → o ≡ None
-none-claimed None h = refl
-none-claimed (Some l) h = cc
-
 -- The board of a device that isn't claimed is home.
 pub view-home : (facts : Facts) (opening : List Row) (past : List Event) (n : ℕ) (v : DeviceView) → slice_get (views facts opening past) n ≡ Some v → v.claim ≡ None → (number : ℕ) × DeviceHome facts opening past v.sheet.device number
 view-home facts opening past n v e c =
     let s = board-seen (view_of (live past) (known facts opening past)) (devices facts) n v e in
     let device : s.board.sheet.device ≡ v.sheet.device = ap (λ (x : DeviceView). x.sheet.device) s.view_is in
     let claim : option_map (λ l. l.entry) (find (is_on (rows facts opening past) s.board.sheet.device) (live past)) ≡ None = ap (λ (x : DeviceView). x.claim) s.view_is ∙ c in
-    let none : find (is_on (rows facts opening past) s.board.sheet.device) (live past) ≡ None = none-claimed _ claim in
+    let none : find (is_on (rows facts opening past) s.board.sheet.device) (live past) ≡ None = no-live _ claim in
     let board : board_with facts s.board.sheet.device ≡ Some s.other.number = ap (option_map (λ (b : Board). b.number)) s.found in
     let out : is_out facts opening past s.other.number ≡ false = none-on facts (rows facts opening past) s.board.sheet.device s.other.number (live past) board none in
     (s.other.number, record { board_is = ap (board_with facts) (sym device) ∙ board; home = out })
@@ -133,7 +129,7 @@ device-served facts device number h = at (find (λ b. bytes_eq b.sheet.device de
 -- ---- an accepted claim
 
 -- one release is at two places that are the same
-release-there : (catalogue : List Component) (a b : ReleaseRef) (release : Release) → is_release a b ≡ true → IsReleaseAt catalogue b release → IsReleaseAt catalogue a release
+pub release-there : (catalogue : List Component) (a b : ReleaseRef) (release : Release) → is_release a b ≡ true → IsReleaseAt catalogue b release → IsReleaseAt catalogue a release
 release-there catalogue a b release h k =
     let p = and_parts (a.component == b.component) _ h in
     record {
@@ -141,10 +137,6 @@ release-there catalogue a b release h k =
       component_is = ap (slice_get catalogue) (eqb-true a.component b.component p.0) ∙ k.component_is;
       release_is = ap (slice_get k.component.releases) (eqb-true a.release b.release p.1) ∙ k.release_is;
     }
-
-not-busy : (o : Option ℕ) → option_map (λ entry. Refusal.Busy entry) o ≡ None → o ≡ None
-not-busy None h = refl
-not-busy (Some n) h = cc
 
 -- What there is where a claim is accepted.
 pub record Claimable (facts : Facts) (opening : List Row) (past : List Event) (client : ℕ) (request : Request) (release : ReleaseRef) (t : Target) : Type 0 where
@@ -164,7 +156,7 @@ claimable facts opening past client request release a =
       record {
         found = h.1.found;
         that = (and_parts (is_release release t.chosen.at) _ h.1.that).0;
-        unclaimed = not-busy t.view.claim h.1.none.is_busy;
+        unclaimed = no-claim t.view.claim h.1.none.is_busy;
         few = fits-rows (length (rows facts opening past)) h.1.none.is_rows_full;
         suits = (refl, new-tag (rows facts opening past) (new_row (length (rows facts opening past) + 1) (time_of past) client request RowState.Begun t) (no-tag (rows facts opening past) request.tag k));
       },

@@ -4,6 +4,7 @@ use Rattle.std.proofs.lemmas.List.{append-nil}
 use Rattle.std.proofs.lemmas.Bool.{eqb-true}
 use Rattle.std.specs.Prelude.{Option, Some, None, ◌==◌, Contains, find, filter, option_map, unwrap_or}
 use Rattle.std.specs.List.{AllByRecursion, list_any}
+use Rattle.daemon_core.proofs.ClaimOpen.{live-found}
 use Rattle.emulated_boards.specs.Boards.{BoardState}
 use Rattle.emulated_boards.specs.declared.mark.Mark.{Mark}
 use Rattle.fw_facts.specs.declared.seen.Seen.{Seen}
@@ -111,11 +112,6 @@ each-live (x ∷ xs) = (
   All-map (λ l. is_live xs l.entry ≡ true) (λ l. is_live (x ∷ xs) l.entry ≡ true) xs (each-live xs) (λ l h. by_test (x.entry == l.entry) _ (λ t. rw t refl) (λ t. rw t h)),
 )
 
-found-is_live : (entries : List LiveEntry) (entry : ℕ) (l : LiveEntry) → find (λ x. x.entry == entry) entries ≡ Some l → is_live entries entry ≡ true
-found-is_live [] entry l h = cc
-found-is_live (x ∷ xs) entry l h =
-    by_test (x.entry == entry) _ (λ t. rw t refl) (λ t. rw t (found-is_live xs entry l (rw t at h)))
-
 -- Then the board of the entry is out no more.
 pub ends-out : (c : Campaign) (opening : List Row) (past : List Event) (event : Event) (entry number : ℕ) (l : LiveEntry) → IsHistory opening → IsLegal c opening past → Ends c.facts opening past event entry → live_entry past entry ≡ Some l → is_board_of c.facts (rows c.facts opening past) entry number ≡ true
     → is_out c.facts opening (event ∷ past) number ≡ false
@@ -128,7 +124,7 @@ ends-out c opening past event entry number l v legal k found own =
     none : (m : LiveEntry) → is_live (live past) m.entry ≡ true → not (m.entry == entry) ≡ true → is_board_of c.facts (rows c.facts opening past) m.entry number ≡ false
     none m lm d =
         by_test (is_board_of c.facts (rows c.facts opening past) m.entry number) _
-        (λ t. absurd (alone-on c opening past number m.entry entry v legal lm (found-is_live (live past) entry l found) t own
+        (λ t. absurd (alone-on c opening past number m.entry entry v legal lm (live-found (live past) entry l found) t own
         (λ s. let e : (m.entry == entry) ≡ true = rw s (eqb-self entry) in let bad : not true ≡ true = rw e at d in cc)))
         (λ t. t)
 

@@ -5,6 +5,7 @@ use Rattle.std.proofs.lemmas.List.{length-append}
 use Rattle.std.proofs.lemmas.Option.{slice_get_within}
 use Rattle.std.specs.Prelude.{Option, Some, None, slice_get, slice_set, Result, ◌==◌, find, option_and_then, unwrap_or}
 use Rattle.std.specs.List.{list_any}
+use Rattle.daemon_core.proofs.BootHouse.{prefix-shorter, marks-few}
 use Rattle.fw_facts.specs.declared.seen.Seen.{Seen}
 use Rattle.emulated_boards.specs.Boards.{BoardState}
 use Rattle.emulated_boards.specs.Conditions.{view_of}
@@ -107,18 +108,8 @@ end-place_own facts first opening past client entry op outcome ms shown number p
         let h : BoardIsHome facts first opening past number (Some b) = subst (BoardIsHome facts first opening past number) e p.home in
         let bad : true ≡ false = sym out ∙ h.0 in cc
 
--- The marks of a step are two at most.
-few-marks : (op : Op) (entry : ℕ) (digest : List ℕ) → length (marks op entry digest) ≤ 2
-few-marks Op.Prepare entry digest = omega arith
-few-marks _ entry digest = omega arith
-
-prefix-short : {X : Type 0} (xs ys : List X) → IsPrefix xs ys → length xs ≤ length ys
-prefix-short [] ys p = omega arith
-prefix-short (x ∷ xs) [] p = absurd p
-prefix-short (x ∷ xs) (y ∷ ys) p = let rest = prefix-short xs ys p.1 in omega (arith, rest)
-
 pub few-told : (op : Op) (entry : ℕ) (digest : List ℕ) (ms : List Mark) → IsPrefix ms (marks op entry digest) → length ms ≤ 2
-few-told op entry digest ms p = let a = prefix-short ms (marks op entry digest) p in let b = few-marks op entry digest in omega (arith, a, b)
+few-told op entry digest ms p = let a = prefix-shorter ms (marks op entry digest) p in let b = marks-few op entry digest in omega (arith, a, b)
 
 -- The step's end over annals.
 abbrev pub EndsIn : Annalled → ℕ → ℕ → Op → Result (Unit {0}) BoardFault → ℕ → BoardState → Type 0

@@ -2,6 +2,7 @@
 use Rattle.std.proofs.Common.{◌≡◌, ◌≢◌, ℕ, suc, ◌<◌, ◌≤◌, ◌+◌, true, false, List, [], ◌∷◌, length, refl, ap, sym, ◌∙◌, subst, arith, ◌⊎◌}
 use Rattle.std.specs.Prelude.{Option, Some, None, ◌==◌, Any}
 use Rattle.std.proofs.lemmas.Bool.{eqb-true}
+use Rattle.daemon_core.proofs.PuttingOff.{no-doubt}
 use Rattle.outer_traits.specs.Faults.{Rose}
 use Rattle.block_pool.specs.Views.{PoolCounts}
 use Rattle.emulated_boards.specs.Boards.{BoardState}
@@ -33,7 +34,7 @@ use Rattle.daemon_core.proofs.ClaimDone.{finish-ends}
 use Rattle.daemon_core.proofs.ClaimEnds.{length-set, own-board}
 use Rattle.daemon_core.proofs.ClaimHome.{HomeTo, home-places}
 use Rattle.daemon_core.proofs.ClaimHouse.{IsReady, runs-takes, spent-ready}
-use Rattle.daemon_core.proofs.CommitKept.{house-clear, on-no_doubt, stored-before, stored-keeps}
+use Rattle.daemon_core.proofs.CommitKept.{house-clear, stored-before, stored-keeps}
 use Rattle.daemon_core.proofs.Fared.{calm-stored, counted-more, fared-quiet, told-same}
 use Rattle.daemon_core.proofs.Held.{held-finished}
 use Rattle.daemon_core.proofs.HeldOnce.{out-once}
@@ -48,7 +49,7 @@ abbrev pub closing_change : Annalled → ℕ → RowState → Change
 closing_change a entry closed = Change.Advance entry closed (reason_of a.core.rows entry) (time_of (past_in a))
 
 -- A row of an entry is among the rows.
-any-row : (all : List Row) (entry : ℕ) (r : Row) → row_of all entry ≡ Some r → Any (λ row. row.entry ≡ entry) all
+pub any-row : (all : List Row) (entry : ℕ) (r : Row) → row_of all entry ≡ Some r → Any (λ row. row.entry ≡ entry) all
 any-row [] entry r h = cc
 any-row (x ∷ xs) entry r h =
     by_test (x.entry == entry) _
@@ -122,11 +123,6 @@ finish-held a client entry number l tail b blocks closed stored k s =
     let h = held-finished (past_in a) client entry (closing_stored closed stored) stored l (out-once w.0 (rows_before a) (past_in a) k.stands.history w.3) s.live in
     let e = s.blocks_are in omega (arith, h, e)
 
-pub finish-fits : {K : Type 0} (told : K → List Row → Type 0) (doubted : K → Option Change) (client entry number : ℕ) (l : LiveEntry) (tail : List Mark) (b : BoardState) (blocks : ℕ) (h : Housed K) → IsHouse told doubted h → IsAnnals h.annals → HomeTo h.annals client entry number l tail b blocks → h.pool.free + blocks ≤ h.pool.capacity
-finish-fits told doubted client entry number l tail b blocks h k o s =
-    let e = finish-held h.annals client entry number l tail b blocks RowState.Begun Stored.Unchanged o s in
-    let f = k.free in let c = k.capacity in omega (arith, e, f, c)
-
 -- After a finish.
 pub house-finished : {K : Type 0} (told : K → List Row → Type 0) (doubted : K → Option Change) (client entry number : ℕ) (l : LiveEntry) (tail : List Mark) (b : BoardState) (blocks : ℕ) (closed : RowState) (stored : Stored) (old : Housed K) (new : Annalled) (pool : PoolCounts) (keeper : K) → IsHouse told doubted old → IsAnnals old.annals → IsAnnals new
     → Appended client (finish_event client entry closed stored) old.annals new → old.annals.loaded ≡ true → off (past old) ≡ false → HomeTo old.annals client entry number l tail b blocks
@@ -136,7 +132,7 @@ house-finished told doubted client entry number l tail b blocks closed stored ol
     let clear = house-clear told doubted old h o loaded on in
     let all : List Row = rows old.annals.facts (rows_before old.annals) (past old) in
     let kept = after-closed told doubted old.keeper keeper old.annals.core.rows entry closed (reason_of old.annals.core.rows entry) (time_of (past old)) stored clear cs in
-    let none : doubt old.annals.facts (rows_before old.annals) (past old) ≡ None = on-no_doubt old.annals o on in
+    let none : doubt old.annals.facts (rows_before old.annals) (past old) ≡ None = no-doubt old.annals o on in
     house-next told doubted client (finish_event client entry closed stored) old (record { annals = new; places = places_with old.places number b; pool = pool; keeper = keeper }) h a k
     (record {
       count = length-set old.places number (record (place_at old.places number) { board = Some b });

@@ -1,5 +1,5 @@
 -- A house to which the board of a live entry comes home.
-use Rattle.std.proofs.Common.{◌≡◌, ◌≢◌, ℕ, ◌<◌, ◌≤◌, ◌+◌, ◌-◌, Bool, true, false, List, [], ◌∷◌, length, refl, ap, sym, ◌∙◌, subst, arith, ◌⊎◌, inl, inr, le_refl}
+use Rattle.std.proofs.Common.{◌≡◌, ◌≢◌, ℕ, ◌<◌, ◌≤◌, ◌+◌, ◌-◌, Bool, true, false, List, ◌∷◌, length, refl, ap, sym, ◌∙◌, subst, arith, ◌⊎◌, inl, inr, le_refl}
 use Rattle.std.specs.Prelude.{Option, Some, None, slice_get, unwrap_or, find, ◌==◌}
 use Rattle.fw_facts.specs.declared.seen.Seen.{Seen}
 use Rattle.block_pool.specs.Views.{PoolCounts}
@@ -7,6 +7,7 @@ use Rattle.emulated_boards.specs.Boards.{BoardState}
 use Rattle.emulated_boards.specs.declared.mark.Mark.{Mark}
 use Rattle.history_keeper.specs.declared.row.Row.{Row}
 use Rattle.history_keeper.specs.declared.change.Change.{Change}
+use Rattle.update_log.proofs.CoreOpenings.{faults-live}
 use Rattle.update_log.specs.declared.event.Back.{Back}
 use Rattle.update_log.specs.declared.event.Event.{Event}
 use Rattle.update_log.specs.declared.facts.Facts.{Facts}
@@ -24,7 +25,7 @@ use Rattle.daemon_core.specs.Housed.{Annalled, Housed, Place, past, past_in, row
 use Rattle.daemon_core.specs.Keeping.{KeepsSo}
 use Rattle.daemon_core.specs.Returns.{ComesHome, place_at, places_with}
 use Rattle.daemon_core.proofs.ClaimDone.{Ends, back-ends, ends-other, ends-own}
-use Rattle.daemon_core.proofs.ClaimEnds.{get-set, length-set, number-within, other-number, own-board, place-found}
+use Rattle.daemon_core.proofs.ClaimEnds.{get-set, length-set, number-within, other-number, place-found, own-board}
 use Rattle.daemon_core.proofs.ClaimHouse.{IsReady, spent-ready}
 use Rattle.daemon_core.proofs.Held.{held-given_entry}
 use Rattle.daemon_core.proofs.HeldOnce.{out-once}
@@ -118,14 +119,8 @@ house-back told doubted client entry number l tail b blocks old new pool h o k a
       free = (let e = back-held old.annals client entry number l tail b blocks o s in let f = h.free in omega (arith, pf, e, f));
     })
 
--- Where an entry is live, a boot took the rows that it loaded.
-live-faults : (past : List Event) → AllFaults past → live past ≡ []
-live-faults [] a = refl
-live-faults (Event.Boot number time limit found boards ∷ past) a = refl
-live-faults _ a = let e : false ≡ true = a.0 in cc
-
 pub loaded-live : (loaded : Bool) (past : List Event) (entry : ℕ) (l : LiveEntry) → (loaded ≡ false → AllFaults past) → live_entry past entry ≡ Some l → loaded ≡ true
 loaded-live true past entry l u f = refl
 loaded-live false past entry l u f =
-    let none : live_entry past entry ≡ None = ap (find (λ (x : LiveEntry). x.entry == entry)) (live-faults past (u refl)) in
+    let none : live_entry past entry ≡ None = ap (find (λ (x : LiveEntry). x.entry == entry)) (faults-live past (u refl)) in
     let bad : Some l ≡ None = sym f ∙ none in cc

@@ -23,14 +23,14 @@ AreLive entries steps = AllByRecursion (λ s. is_live entries s.entry ≡ true) 
 abbrev pub OpenLive : List Event → Type 0
 OpenLive past = off past ≡ false → AreLive (live past) (open_steps past)
 
-live-push : (entries : List LiveEntry) (l : LiveEntry) (entry : ℕ) → is_live entries entry ≡ true → is_live (entries ++ l ∷ []) entry ≡ true
+pub live-push : (entries : List LiveEntry) (l : LiveEntry) (entry : ℕ) → is_live entries entry ≡ true → is_live (entries ++ l ∷ []) entry ≡ true
 live-push [] l entry h = cc
 live-push (x ∷ xs) l entry h =
     by_test (x.entry == entry) _
     (λ t. rw t refl)
     (λ t. let h' : is_live xs entry ≡ true = rw t at h in rw t (live-push xs l entry h'))
 
-live-found : (entries : List LiveEntry) (entry : ℕ) (l : LiveEntry) → find (λ x. x.entry == entry) entries ≡ Some l → is_live entries entry ≡ true
+pub live-found : (entries : List LiveEntry) (entry : ℕ) (l : LiveEntry) → find (λ x. x.entry == entry) entries ≡ Some l → is_live entries entry ≡ true
 live-found [] entry l h = cc
 live-found (x ∷ xs) entry l h =
     by_test (x.entry == entry) _

@@ -1,10 +1,9 @@
 -- What a claim reads of the log.
-use Rattle.std.proofs.Common.{◌≡◌, ◌<◌, ◌≤◌, ◌+◌, ℕ, suc, true, false, cond, List, [], ◌∷◌, map, length, refl, ap, sym, ◌∙◌, subst, arith}
-use Rattle.std.specs.Prelude.{Some, None, find, nat_lt, option_map, option_and_then, slice_get}
+use Rattle.std.proofs.Common.{◌≡◌, ◌<◌, ◌+◌, ℕ, suc, true, false, List, [], ◌∷◌, map, length, refl, ap, sym, ◌∙◌, subst, arith}
+use Rattle.std.specs.Prelude.{Some, find, option_map, slice_get}
 use Rattle.std.specs.Str.{bytes_eq}
 use Rattle.std.specs.List.{position_or_len}
-use Rattle.std.proofs.lemmas.Option.{slice_get_past}
-use Rattle.std.proofs.lemmas.Bool.{ltb-false}
+use Rattle.device_list.proofs.GuidLaws.{bytes_eq-symm}
 use Rattle.device_list.specs.Lists.{names, place}
 use Rattle.device_list.specs.declared.selector.Selector.{Selector}
 use Rattle.fw_facts.specs.declared.view.DeviceView.{DeviceView}
@@ -13,8 +12,8 @@ use Rattle.history_keeper.specs.declared.change.Change.{Change}
 use Rattle.history_keeper.specs.declared.row.Row.{Row}
 use Rattle.history_keeper.specs.declared.row.RowState.{RowState}
 use Rattle.release_catalogue.specs.declared.reference.ReleaseRef.{ReleaseRef}
+use Rattle.update_log.proofs.CoreTells.{looked-up}
 use Rattle.update_log.proofs.Lists.{by_test}
-use Rattle.update_log.proofs.Openings.{bytes-same}
 use Rattle.update_log.proofs.Rows.{length-map}
 use Rattle.update_log.specs.Boards.{Board, board_with, devices}
 use Rattle.update_log.specs.Core.{Core, Stands}
@@ -34,14 +33,6 @@ use Rattle.daemon_core.proofs.ClaimAccepted.{claimable}
 
 -- ---- the board of a device's ID
 
-bytes-turned : (a b : List ℕ) → bytes_eq a b ≡ bytes_eq b a
-bytes-turned a b =
-    by_test (bytes_eq a b) _
-    (λ t. let e : a ≡ b = bytes-same a b t in rw e refl)
-    (λ f. by_test (bytes_eq b a) _
-    (λ t. let e : b ≡ a = bytes-same b a t in rw e refl)
-    (λ g. f ∙ sym g))
-
 abbrev numbers : List Board → List ℕ
 numbers boards = map (λ b. b.number) boards
 
@@ -52,17 +43,11 @@ at-place : (entries : List LiveEntry) (known : Known) (device : List ℕ) (board
 at-place entries known device [] = refl
 at-place entries known device (b ∷ boards) =
     by_test (bytes_eq device b.sheet.device) _
-    (λ t. let u : bytes_eq b.sheet.device device ≡ true = bytes-turned b.sheet.device device ∙ t in rw (t, u) refl)
-    (λ t. let u : bytes_eq b.sheet.device device ≡ false = bytes-turned b.sheet.device device ∙ t in
+    (λ t. let u : bytes_eq b.sheet.device device ≡ true = bytes_eq-symm b.sheet.device device ∙ t in rw (t, u) refl)
+    (λ t. let u : bytes_eq b.sheet.device device ≡ false = bytes_eq-symm b.sheet.device device ∙ t in
     let n : ℕ = position_or_len (names (Selector.Id device)) (map (view_of entries known) boards) in
     let e : 1 + n ≡ suc n = omega arith in
     rw (t, u) (ap (λ (k : ℕ). slice_get (numbers (b ∷ boards)) k) e ∙ at-place entries known device boards))
-
-looked-up : (all : List ℕ) (n len : ℕ) → length all ≡ len → option_and_then (slice_get all) (cond (nat_lt n len) (Some n) None) ≡ slice_get all n
-looked-up all n len h =
-    by_test (nat_lt n len) _
-    (λ t. rw t refl)
-    (λ t. let le : len ≤ n = ltb-false n len t in rw t (sym (slice_get_past all n (omega (arith, h, le)))))
 
 pub board-found : (facts : Facts) (opening : List Row) (core : Core) (device : List ℕ) → Stands facts opening core → board_on core.boards core.views (Selector.Id device) ≡ board_with facts device
 board-found facts opening core device s =

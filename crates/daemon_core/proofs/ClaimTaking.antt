@@ -1,29 +1,27 @@
 -- A board that goes out with an entry that is taken.
 use Rattle.std.proofs.Common.{◌≡◌, ◌≢◌, ℕ, ◌<◌, ◌≤◌, Bool, true, false, List, [], ◌∷◌, ◌++◌, length, refl, ap, sym, ◌∙◌, subst, ◌⊎◌, inl, inr}
 use Rattle.std.proofs.lemmas.List.{append-nil}
-use Rattle.std.proofs.lemmas.Bool.{eqb-true}
-use Rattle.std.specs.Prelude.{Option, Some, None, Contains, slice_get, unwrap_or, ◌==◌}
+use Rattle.std.specs.Prelude.{Some, None, Contains, slice_get, unwrap_or}
 use Rattle.std.specs.List.{list_any}
+use Rattle.daemon_core.proofs.MovesBack.{home-closed_so, prefix-none}
 use Rattle.emulated_boards.specs.Boards.{BoardState}
 use Rattle.emulated_boards.specs.declared.mark.Mark.{Mark}
 use Rattle.fw_facts.specs.declared.seen.Seen.{Seen}
 use Rattle.history_keeper.specs.Histories.{IsHistory}
 use Rattle.history_keeper.specs.declared.row.Row.{Row}
-use Rattle.update_log.proofs.Lists.{All-find, All-map, by_test, find-passes}
+use Rattle.update_log.proofs.Lists.{All-map, by_test}
 use Rattle.update_log.proofs.RowsKept.{GoesOn}
 use Rattle.update_log.proofs.StepsKept.{LiveKept}
-use Rattle.update_log.specs.Holding.{is_live, live, open_steps}
+use Rattle.update_log.specs.Holding.{live, open_steps}
 use Rattle.update_log.specs.Known.{board_of, is_board_of, known, rows, seen, tells}
-use Rattle.update_log.specs.Legal.{open_marks, open_on}
+use Rattle.update_log.specs.Legal.{open_marks}
 use Rattle.update_log.specs.Pasts.{boots, off}
 use Rattle.update_log.specs.Shows.{FreshShows, IsPrefix, RawAllowed, told, told_by}
 use Rattle.update_log.specs.declared.event.Event.{Event}
 use Rattle.update_log.specs.declared.facts.Facts.{Facts}
 use Rattle.update_log.specs.declared.live.LiveEntry.{LiveEntry}
-use Rattle.update_log.specs.declared.live.OpenStep.{OpenStep}
 use Rattle.daemon_core.proofs.BoardsQuiet.{any-same, goes-so, is-board-kept, kept-so, legal-before, open-kept, open-marks-kept, raws-stay}
-use Rattle.daemon_core.proofs.ClaimEnds.{any-found, get-set, other-number, own-board, place-found}
-use Rattle.daemon_core.proofs.ClaimOpen.{found-live, open-live}
+use Rattle.daemon_core.proofs.ClaimEnds.{get-set, other-number, place-found, own-board}
 use Rattle.daemon_core.proofs.PlacesKept.{SameOfBoard, place-same}
 use Rattle.daemon_core.specs.Annals.{IsLegalSo}
 use Rattle.daemon_core.specs.Boards.{BoardStands, PlaceStands, faulty_ends, is_faulty_end, is_out}
@@ -47,7 +45,7 @@ any-last : {X : Type 0} (p : X → Bool) (xs : List X) (x : X) → p x ≡ true 
 any-last p [] x h = rw h refl
 any-last p (y ∷ ys) x h = let rest : list_any p (ys ++ x ∷ []) ≡ true = any-last p ys x h in by_test (p y) _ (λ t. rw t refl) (λ t. rw t rest)
 
-any-but_last : {X : Type 0} (p : X → Bool) (xs : List X) (x : X) → p x ≡ false → list_any p (xs ++ x ∷ []) ≡ list_any p xs
+pub any-but_last : {X : Type 0} (p : X → Bool) (xs : List X) (x : X) → p x ≡ false → list_any p (xs ++ x ∷ []) ≡ list_any p xs
 any-but_last p [] x h = rw h refl
 any-but_last p (y ∷ ys) x h = let rest : list_any p (ys ++ x ∷ []) ≡ list_any p ys = any-but_last p ys x h in by_test (p y) _ (λ t. rw t refl) (λ t. rw t rest)
 
@@ -140,31 +138,8 @@ module _ (facts : Facts) (first : List Seen) (opening : List Row) (past : List E
           (takes-own (place_at places number) (stand number (place_at places number) (place-found places number within))))
       at (inr h) = takes-other m place h.0 (stand m place h.1)
 
--- A board at home has no untold mark, where the boot isn't off.
-tail-none : (tail ms : List Mark) → ms ≡ [] → IsPrefix tail ms → tail ≡ []
-tail-none [] ms e p = refl
-tail-none (x ∷ xs) [] e p = absurd p
-tail-none (x ∷ xs) (m ∷ ms) e p = cc
-
-any-none_found : (facts : Facts) (all : List Row) (entries : List LiveEntry) (number entry : ℕ) → list_any (λ x. is_board_of facts all x.entry number) entries ≡ false → is_live entries entry ≡ true → is_board_of facts all entry number ≡ true → ⊥
-any-none_found facts all entries number entry h l o =
-    let f = found-live entries entry l in
-    let same : f.0.entry ≡ entry = eqb-true f.0.entry entry (find-passes (λ x. x.entry == entry) entries f.0 f.1) in
-    let bad : true ≡ false = sym (any-found (λ x. is_board_of facts all x.entry number) entries entry f.0 f.1 (ap (λ (e : ℕ). is_board_of facts all e number) same ∙ o)) ∙ h in cc
-
--- No step is open on a board that is home, where the boot isn't off.
-pub home-closed : (facts : Facts) (first : List Seen) (opening : List Row) (past : List Event) (number : ℕ) → IsLegalSo facts first opening past → off past ≡ false → is_out facts opening past number ≡ false → open_on facts opening past number ≡ None
-home-closed facts first opening past number legal o h = at (open_on facts opening past number) refl
-  where
-    at : (x : Option OpenStep) → open_on facts opening past number ≡ x → x ≡ None
-    at None e = refl
-    at (Some s) e =
-        let l : is_live (live past) s.entry ≡ true = All-find (λ x. is_live (live past) x.entry ≡ true) (λ x. is_board_of facts (rows facts opening past) x.entry number) (open_steps past) s (open-live legal.0 opening past legal.3 o) e in
-        let w : is_board_of facts (rows facts opening past) s.entry number ≡ true = find-passes (λ x. is_board_of facts (rows facts opening past) x.entry number) (open_steps past) s e in
-        absurd (any-none_found facts (rows facts opening past) (live past) number s.entry h l w)
-
 pub home-tail : (facts : Facts) (first : List Seen) (opening : List Row) (past : List Event) (number : ℕ) (b : BoardState) (tail : List Mark) → IsLegalSo facts first opening past → off past ≡ false → is_out facts opening past number ≡ false → BoardStands facts first opening past number b tail → BoardStands facts first opening past number b []
 home-tail facts first opening past number b tail legal o h s =
-    let c = home-closed facts first opening past number legal o h in
+    let c = home-closed_so facts first opening past number legal o h in
     let none : open_marks facts opening past number ≡ [] = rw c refl in
-    subst (λ (t : List Mark). BoardStands facts first opening past number b t) (tail-none tail (open_marks facts opening past number) none s.fits.journal.tail_is) s
+    subst (λ (t : List Mark). BoardStands facts first opening past number b t) (prefix-none tail (open_marks facts opening past number) none s.fits.journal.tail_is) s

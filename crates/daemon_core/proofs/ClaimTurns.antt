@@ -1,5 +1,5 @@
 -- The turn of a claim.
-use Rattle.std.proofs.Common.{◌≡◌, ℕ, ◌<◌, ◌≤◌, ◌+◌, Bool, true, false, List, [], ◌∷◌, ◌++◌, length, refl, ap, sym, ◌∙◌, subst, arith, ◌⊎◌, inl}
+use Rattle.std.proofs.Common.{◌≡◌, ℕ, ◌<◌, ◌≤◌, ◌+◌, Bool, false, List, [], ◌∷◌, ◌++◌, length, refl, ap, sym, ◌∙◌, subst, arith, ◌⊎◌, inl}
 use Rattle.std.specs.Prelude.{Option, Some, None, find, option_and_then, unwrap_or, ◌==◌}
 use Rattle.std.specs.List.{AllByRecursion}
 use Rattle.std.proofs.lemmas.Option.{slice_get_within}
@@ -11,7 +11,7 @@ use Rattle.history_keeper.specs.Changes.{IsTimely, Suits}
 use Rattle.history_keeper.specs.declared.change.Change.{Change}
 use Rattle.history_keeper.specs.declared.row.Row.{Row}
 use Rattle.history_keeper.specs.declared.row.RowState.{RowState}
-use Rattle.update_log.proofs.Lists.{All-map, by_test, eqb-other, eqb-self}
+use Rattle.update_log.proofs.Lists.{All-map, eqb-other, eqb-self, find-push_new}
 use Rattle.update_log.proofs.RowsKept.{row_of-past}
 use Rattle.update_log.proofs.StepsKept.{LiveKept, fresh-closed}
 use Rattle.update_log.specs.Boards.{board_with}
@@ -63,7 +63,7 @@ pub answers-refused : (a : Annalled) (client : ℕ) (ticket : Ticket) (note : Fe
 answers-refused a client ticket note refusal e = subst (λ (d : Decision). ClaimAnswered note (target a.facts (views a.facts (rows_before a) (past_in a)) ticket.request) (next_entry a.facts (rows_before a) (past_in a)) d (ClaimAnswer.Refused refusal)) (sym e) refl
 
 -- One whose payload isn't whole is answered that.
-broken-fetched : (fetched : Fetched) (o : Option Target) → is_payload fetched ≡ false → is_fetched (note_of fetched) o ≡ false
+pub broken-fetched : (fetched : Fetched) (o : Option Target) → is_payload fetched ≡ false → is_fetched (note_of fetched) o ≡ false
 broken-fetched (Fetched.Whole payload) o h = cc
 broken-fetched (Fetched.Missing blocks) None h = refl
 broken-fetched (Fetched.Missing blocks) (Some t) h = refl
@@ -134,14 +134,7 @@ store-plan a client ticket row number w e n s t b =
 
 -- ---- the entry that is taken
 
-find-last : {X : Type 0} (p : X → Bool) (xs : List X) (x : X) → find p xs ≡ None → p x ≡ true → find p (xs ++ x ∷ []) ≡ Some x
-find-last p [] x n h = rw h refl
-find-last p (y ∷ ys) x n h =
-    by_test (p y) _
-    (λ t. let bad : Some y ≡ None = rw t at n in cc)
-    (λ t. let rest : find p (ys ++ x ∷ []) ≡ Some x = find-last p ys x (rw t at n) h in rw t rest)
-
-find-nothing : {X : Type 0} (p : X → Bool) (xs : List X) → AllByRecursion (λ x. p x ≡ false) xs → find p xs ≡ None
+pub find-nothing : {X : Type 0} (p : X → Bool) (xs : List X) → AllByRecursion (λ x. p x ≡ false) xs → find p xs ≡ None
 find-nothing p [] a = refl
 find-nothing p (x ∷ xs) a = let h : p x ≡ false = a.0 in rw h (find-nothing p xs a.1)
 
@@ -159,7 +152,7 @@ claim-takes_entry a client ticket payload row number k s =
     let new : rows a.facts (rows_before a) (takes_event client ticket payload row ∷ past_in a) ≡ all ++ row ∷ [] = ap (λ (x : Option Change). rows_by Fate.Made x all) s.added in
     let n : row.entry ≡ length (rows a.facts (rows_before a) (past_in a)) + 1 = entry-next a client ticket row number k s in
     let none : row_of all row.entry ≡ None = row_of-past 1 all row.entry w.rows_kept.valid.entries (omega (arith, n)) in
-    let found : row_of (all ++ row ∷ []) row.entry ≡ Some row = find-last (λ (r : Row). r.entry == row.entry) all row none (eqb-self row.entry) in
+    let found : row_of (all ++ row ∷ []) row.entry ≡ Some row = find-push_new (λ (r : Row). r.entry == row.entry) all row none (eqb-self row.entry) in
     record {
       taken = record { client = client; entry = row.entry; blocks = blocks_of (length payload.bytes) };
       taken_is = refl;
@@ -209,7 +202,7 @@ pub claim-live : (a : Annalled) (client : ℕ) (ticket : Ticket) (payload : Seal
 claim-live a client ticket payload row number k s =
     let w = kept-so a.facts a.first (rows_before a) (past_in a) k.stands.history k.legal in
     let n : row.entry ≡ length (rows a.facts (rows_before a) (past_in a)) + 1 = entry-next a client ticket row number k s in
-    find-last (λ (l : LiveEntry). l.entry == row.entry) (live (past_in a)) (record { client = client; entry = row.entry; blocks = blocks_of (length payload.bytes) })
+    find-push_new (λ (l : LiveEntry). l.entry == row.entry) (live (past_in a)) (record { client = client; entry = row.entry; blocks = blocks_of (length payload.bytes) })
     (find-nothing (λ (l : LiveEntry). l.entry == row.entry) (live (past_in a))
     (All-map (LiveKept a.facts (rows_before a) (past_in a)) (λ (l : LiveEntry). (l.entry == row.entry) ≡ false) (live (past_in a)) w.steps.live_is
     (λ l u. eqb-other l.entry row.entry (λ e. let le : l.entry ≤ length (rows a.facts (rows_before a) (past_in a)) = u.known in omega (arith, n, e, le)))))

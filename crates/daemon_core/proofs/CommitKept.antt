@@ -1,17 +1,15 @@
 -- A house, after an event that asks the keeper for a change.
 use Rattle.std.proofs.Common.{◌≡◌, ℕ, ◌+◌, true, false, List, [], ◌∷◌, refl, ap, sym, ◌∙◌, subst}
 use Rattle.std.specs.Prelude.{Option, Some, None}
+use Rattle.daemon_core.proofs.PuttingOff.{no-doubt}
 use Rattle.history_keeper.specs.declared.row.Row.{Row}
 use Rattle.history_keeper.specs.declared.change.Change.{Change}
-use Rattle.history_keeper.specs.Changes.{Suits, changed}
+use Rattle.history_keeper.specs.Changes.{changed}
 use Rattle.history_keeper.specs.Keepers.{StillTold, ToldWith}
-use Rattle.update_log.proofs.LegalOnce.{past-kept}
 use Rattle.update_log.specs.declared.event.Event.{Event}
 use Rattle.update_log.specs.declared.event.Stored.{Stored}
 use Rattle.update_log.specs.declared.facts.Facts.{Facts}
-use Rattle.update_log.specs.declared.live.Held.{Held}
-use Rattle.update_log.specs.declared.live.LiveEntry.{LiveEntry}
-use Rattle.update_log.specs.Holding.{blocks_out, held, holds, live, open_steps}
+use Rattle.update_log.specs.Holding.{holds, live, open_steps}
 use Rattle.update_log.specs.Known.{doubt, doubt_by, fate_stored, known, rows, rows_by, tells}
 use Rattle.update_log.specs.Pasts.{is_boot, off}
 use Rattle.update_log.specs.Shows.{told_by}
@@ -25,26 +23,15 @@ use Rattle.daemon_core.specs.Housed.{Annalled, Housed, past, past_in, rows_befor
 use Rattle.daemon_core.specs.Keeping.{HasRows, KeepsSo}
 use Rattle.daemon_core.specs.Turns.{ToldBefore}
 use Rattle.daemon_core.proofs.BoardsQuiet.{quiet-board}
-use Rattle.daemon_core.proofs.HouseKept.{house-next}
+use Rattle.daemon_core.proofs.HouseKept.{house-next, held-same}
 use Rattle.daemon_core.proofs.KeptSo.{so-clear, so-has}
 use Rattle.daemon_core.proofs.PlacesKept.{place-same}
-
--- A boot that isn't off has no doubt.
-pub on-no_doubt : (a : Annalled) → IsAnnals a → off (past_in a) ≡ false → doubt a.facts (rows_before a) (past_in a) ≡ None
-on-no_doubt a k o =
-    let l = k.legal in
-    subst (λ (f : Facts). doubt f (rows_before a) (past_in a) ≡ None) l.1
-    ((past-kept l.0 (rows_before a) (past_in a) k.stands.history l.3).rows_kept.doubt_off o)
 
 -- The keeper of a house whose boot isn't off has the rows of the log, and no doubt.
 pub house-clear : {K : Type 0} (told : K → List Row → Type 0) (doubted : K → Option Change) (h : Housed K) → IsHouse told doubted h → IsAnnals h.annals → h.annals.loaded ≡ true → off (past h) ≡ false → HasRows told doubted h.keeper h.annals.core.rows None
 house-clear told doubted h k a l o =
     so-clear h.annals.reopened told doubted h.keeper h.annals.core.rows
-    (subst (λ (d : Option Change). KeepsSo h.annals.reopened told doubted h.keeper h.annals.core.rows d) (a.stands.doubt ∙ on-no_doubt h.annals a o) (k.kept l))
-
--- So a change that suits the rows of the log suits those of the keeper.
-pub suits-told : (o : List Row → Type 0) (rows : List Row) (change : Change) → ((all : List Row) → o all → all ≡ rows) → Suits change rows → (all : List Row) → o all → Suits change all
-suits-told o rows change h s all t = subst (λ (r : List Row). Suits change r) (sym (h all t)) s
+    (subst (λ (d : Option Change). KeepsSo h.annals.reopened told doubted h.keeper h.annals.core.rows d) (a.stands.doubt ∙ no-doubt h.annals a o) (k.kept l))
 
 changed-told : (o p : List Row → Type 0) (rows : List Row) (change : Change) → ((all : List Row) → o all → all ≡ rows) → ToldWith change o p → (all : List Row) → p all → all ≡ changed change rows
 changed-told o p rows change h w all t = let before = w all t in before.2 ∙ ap (λ (l : List Row). changed change l) (h before.0 before.1)
@@ -66,7 +53,7 @@ house-unstored told doubted h b keeper e w k l o c =
     let l' : h.annals.loaded ≡ true = ap (λ (x : Annalled). x.loaded) e ∙ l in
     let o' : off (past h) ≡ false = ap (λ (x : Annalled). off (past_in x)) e ∙ o in
     let clear = house-clear told doubted h w k l' o' in
-    let d : h.annals.core.doubt ≡ None = k.stands.doubt ∙ on-no_doubt h.annals k o' in
+    let d : h.annals.core.doubt ≡ None = k.stands.doubt ∙ no-doubt h.annals k o' in
     record {
       count = w.count;
       places = w.places;
@@ -93,9 +80,6 @@ legal-after client event old new a k =
     (subst (λ (s : List Seen). IsLegalSo new.facts s (rows_before old) (event ∷ past_in old)) a.same.first
     (subst (λ (o : List Row). IsLegalSo new.facts new.first o (event ∷ past_in old)) (appended-before client event old new a)
     (subst (λ (es : List Event). IsLegalSo new.facts new.first (rows_before new) es) (appended-past client event old new a) k.legal)))
-
-held-same : (past other : List Event) → holds other ≡ holds past → live other ≡ live past → held other ≡ held past
-held-same past other h l = ap (λ (x : List Held). blocks_out x (live other)) h ∙ ap (λ (x : List LiveEntry). blocks_out (holds past) x) l
 
 -- The event asks for the change, and tells what became of it; it says nothing else of boards, holds and live entries.
 pub record AsksOnly (facts : Facts) (opening : List Row) (past : List Event) (event : Event) (change : Change) (stored : Stored) : Type 0 where
@@ -130,7 +114,7 @@ house-asked told doubted client event change stored old new keeper h o k a l on 
           so-has old.annals.reopened told doubted keeper (rows f b (event ∷ past old)) (doubt f b (event ∷ past old))
           (subst (λ (x : List Row). HasRows told doubted keeper x (doubt f b (event ∷ past old))) (ap (rows_by (fate_stored stored) (Some change)) o.stands.rows ∙ sym q.rows_are)
           (subst (λ (x : Option Change). HasRows told doubted keeper (rows_by (fate_stored stored) (Some change) old.annals.core.rows) x)
-          (ap (doubt_by (fate_stored stored) (Some change)) (sym (on-no_doubt old.annals o on)) ∙ sym q.doubt_is) kept));
+          (ap (doubt_by (fate_stored stored) (Some change)) (sym (no-doubt old.annals o on)) ∙ sym q.doubt_is) kept));
       capacity = refl;
       free = ap (λ (n : ℕ). old.pool.free + n) (held-same (past old) (event ∷ past old) q.same_holds q.same_live) ∙ h.free;
     })

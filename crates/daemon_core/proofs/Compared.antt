@@ -1,11 +1,12 @@
 -- Rows that are the same.
 use Rattle.std.proofs.Common.{◌≡◌, ℕ, zero, suc, true, false, ◌+◌, ◌<◌, ◌≤◌, List, [], ◌∷◌, refl, ap, sym, ◌∙◌, arith, length, take}
-use Rattle.std.proofs.lemmas.Bool.{eqb-true, eq-eqb, and_parts}
+use Rattle.std.proofs.lemmas.Bool.{eqb-true, and_parts}
 use Rattle.std.proofs.lemmas.Option.{slice_get_past}
 use Rattle.std.specs.Prelude.{Bool, Option, Some, None, ◌==◌, slice_get}
 use Rattle.std.specs.Str.{bytes_eq}
 use Rattle.history_keeper.specs.declared.row.Row.{Row}
 use Rattle.history_keeper.specs.declared.row.RowState.{RowState}
+use Rattle.update_log.proofs.Lists.{eqb-self}
 use Rattle.update_log.proofs.Openings.{bytes-same, bytes-self}
 use Rattle.daemon_core.specs.Comparing.{DifferFirstAt, number_of, same_optional, same_request, same_row, same_state, same_terms}
 
@@ -79,28 +80,25 @@ row-same a b h =
     ∙ ap (λ n. made b.entry b.tag b.client b.device b.component b.version_old b.version_new b.digest b.flags b.state b.reason b.time_added b.time_changed b.duration n a.retry_of) g2
     ∙ ap (λ n. made b.entry b.tag b.client b.device b.component b.version_old b.version_new b.digest b.flags b.state b.reason b.time_added b.time_changed b.duration b.protocol n) g3
 
-self-eqb : (n : ℕ) → (n == n) ≡ true
-self-eqb n = eq-eqb n n refl
-
 pub row-self : (a : Row) → same_row a a ≡ true
 row-self a =
     rw (
-      self-eqb a.entry,
+      eqb-self a.entry,
       bytes-self a.tag,
-      self-eqb a.client,
+      eqb-self a.client,
       bytes-self a.device,
       bytes-self a.component,
       bytes-self a.version_old,
       bytes-self a.version_new,
       bytes-self a.digest,
-      self-eqb a.flags,
-      self-eqb a.duration,
+      eqb-self a.flags,
+      eqb-self a.duration,
       optional-self bytes_eq bytes-self a.protocol,
-      optional-self (λ m n. m == n) self-eqb a.retry_of,
-      self-eqb (number_of a.state),
-      self-eqb a.reason,
-      self-eqb a.time_added,
-      self-eqb a.time_changed,
+      optional-self (λ m n. m == n) eqb-self a.retry_of,
+      eqb-self (number_of a.state),
+      eqb-self a.reason,
+      eqb-self a.time_added,
+      eqb-self a.time_changed,
     ) refl
 
 -- one more row that is the same

@@ -74,7 +74,7 @@ house-roomier told doubted old new h e =
     (record { count = h.count; places = h.places; unloaded = h.unloaded; kept = h.kept; capacity = h.capacity; free = h.free })
 
 -- The blocks that are held, where holds and live entries stay.
-held-same : (past other : List Event) → holds other ≡ holds past → live other ≡ live past → held other ≡ held past
+pub held-same : (past other : List Event) → holds other ≡ holds past → live other ≡ live past → held other ≡ held past
 held-same past other h l = ap (λ (x : List Held). blocks_out x (live other)) h ∙ ap (λ (x : List LiveEntry). blocks_out (holds past) x) l
 
 -- After a quiet event.

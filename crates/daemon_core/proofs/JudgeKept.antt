@@ -1,6 +1,8 @@
 -- Judgements.
-use Rattle.std.proofs.Common.{◌≡◌, ℕ, suc, ◌<◌, ◌≤◌, ◌+◌, ◌-◌, Bool, true, false, List, [], ◌∷◌, length, refl, ap, sym, ◌∙◌, subst, arith, ◌⊎◌, inl, inr}
-use Rattle.std.specs.Prelude.{Option, Some, None, if◌then◌else◌, ◌||◌, not, ◌==◌, option_map, Any}
+use Rattle.std.proofs.Common.{◌≡◌, ℕ, ◌<◌, ◌≤◌, ◌+◌, ◌-◌, Bool, true, false, List, ◌∷◌, length, refl, ap, sym, ◌∙◌, subst, arith, ◌⊎◌, inl, inr}
+use Rattle.std.specs.Prelude.{Option, Some, None, if◌then◌else◌, ◌||◌, not, option_map}
+use Rattle.daemon_core.proofs.ClaimFinish.{any-row}
+use Rattle.daemon_core.proofs.PuttingOff.{suits-told}
 use Rattle.fw_facts.specs.Views.{is_home, version_of, version_shown}
 use Rattle.fw_facts.specs.declared.seen.Seen.{Seen}
 use Rattle.fw_facts.specs.declared.view.DeviceView.{DeviceView}
@@ -10,8 +12,6 @@ use Rattle.history_keeper.specs.Histories.{is_unsettled}
 use Rattle.history_keeper.specs.declared.change.Change.{Change}
 use Rattle.history_keeper.specs.declared.row.Row.{Row}
 use Rattle.history_keeper.specs.declared.row.RowState.{RowState}
-use Rattle.std.proofs.lemmas.Bool.{eqb-true}
-use Rattle.update_log.proofs.Lists.{by_test}
 use Rattle.update_log.proofs.Rows.{length-map}
 use Rattle.update_log.specs.CoreSteps.{advance_on}
 use Rattle.update_log.specs.Holding.{is_live, live}
@@ -34,7 +34,7 @@ use Rattle.daemon_core.proofs.Fared.{calm-stored, counted-more, fared-quiet}
 use Rattle.daemon_core.specs.declared.judged.Standing.{Standing}
 use Rattle.daemon_core.proofs.AnnalsKept.{legal-next}
 use Rattle.daemon_core.proofs.ClaimHouse.{IsReady, runs-takes}
-use Rattle.daemon_core.proofs.CommitKept.{AsksOnly, house-asked, house-clear, stored-before, suits-told}
+use Rattle.daemon_core.proofs.CommitKept.{AsksOnly, house-asked, house-clear, stored-before}
 use Rattle.daemon_core.proofs.Owed.{adds-legal}
 
 -- What a row that is judged is, and the device that shows the version.
@@ -130,17 +130,9 @@ judge-asks a client entry version state stored k =
     subst (λ (rs : List Row). AsksOnly a.facts (rows_before a) (past_in a) (Event.Judge client entry version state stored) (advance_on (time_of (past_in a)) rs entry state) stored) (sym k.stands.rows)
     (record { no_boot = refl; told = λ n. refl; same_tells = λ n. refl; faulty = λ n. refl; same_live = refl; same_steps = refl; same_holds = refl; rows_are = refl; doubt_is = refl })
 
-found-any : (rows : List Row) (entry : ℕ) (row : Row) → row_of rows entry ≡ Some row → Any (λ r. r.entry ≡ entry) rows
-found-any [] entry row h = cc
-found-any (r ∷ rs) entry row h =
-    by_test (r.entry == entry) _
-    (λ t. (0, r, omega arith, refl, eqb-true r.entry entry t))
-    (λ f. let k = found-any rs entry row (rw f at h) in
-    let within = k.2 in (suc k.0, k.1, omega (arith, within), k.3, k.4))
-
 -- The advance suits the rows.
 pub judge-suits : (rows : List Row) (time entry : ℕ) (state : RowState) (row : Row) → row_of rows entry ≡ Some row → Suits (advance_on time rows entry state) rows
-judge-suits rows time entry state row h = found-any rows entry row h
+judge-suits rows time entry state row h = any-row rows entry row h
 
 -- There is room for it.
 pub judge-ready : (a : Annalled) (client entry : ℕ) (version : List ℕ) (state : RowState) (stored : Stored) → IsAnnals a → Runs a → 0 < boots (past_in a) → owed (past_in a) + 1 ≤ a.room → standing_of a entry ≡ Some (Standing.Judged version state) → (stored ≡ Stored.Yes) ⊎ (stored ≡ Stored.Fault)

@@ -17,6 +17,7 @@ use Rattle.fw_facts.specs.declared.view.DeviceView.{DeviceView}
 use Rattle.history_keeper.specs.declared.change.Change.{Change}
 use Rattle.history_keeper.specs.declared.row.Row.{Row}
 use Rattle.update_log.proofs.Lists.{All-find, find-passes}
+use Rattle.update_log.proofs.WorkedLogs.{same-raw}
 use Rattle.update_log.specs.Core.{Core}
 use Rattle.update_log.specs.Holding.{is_live, live, open_steps}
 use Rattle.update_log.specs.Known.{board_found, for_board, is_board_of, known, rows, seen, tells}
@@ -62,19 +63,16 @@ home-closed_so facts first opening past n (c, f, s, legal) on =
 abbrev pub back_event : ℕ → Selector → Seen → Event
 back_event client device shown = Event.Plug client device (PlugAnswer.Done shown)
 
-raw-is : (a b : ℕ) (m mode : Mode) → Seen.Home a m ≡ Seen.Home b mode → a ≡ b
-raw-is a b m mode e = cc
-
 -- A board that starts shows the raw version that it would show in its port, or that of the staged image.
 starts-as : (c : Condition) (o : Option Image) (raw : ℕ) (mode : Mode) → c.staged ≡ o → shown_of (booted false c) ≡ Seen.Home raw mode → HasRaw (shown_of (plugged c)) raw ⊎ ((image : Image) × (c.staged ≡ Some image) × (unwrap_or image.raw 0 ≡ raw))
 starts-as c None raw mode e h =
     let i : booted_image c ≡ c.image = ap (λ (o : Option Image). unwrap_or o c.image) e in
-    inl (ap (λ (x : Image). unwrap_or x.raw 0) (sym i) ∙ raw-is (unwrap_or (booted_image c).raw 0) raw (start_mode (booted_image c)) mode h)
+    inl (ap (λ (x : Image). unwrap_or x.raw 0) (sym i) ∙ same-raw (unwrap_or (booted_image c).raw 0) raw (start_mode (booted_image c)) mode h)
 starts-as c (Some image) raw mode e h =
     let i : booted_image c ≡ image = ap (λ (o : Option Image). unwrap_or o c.image) e in
-    inr (image, e, ap (λ (x : Image). unwrap_or x.raw 0) (sym i) ∙ raw-is (unwrap_or (booted_image c).raw 0) raw (start_mode (booted_image c)) mode h)
+    inr (image, e, ap (λ (x : Image). unwrap_or x.raw 0) (sym i) ∙ same-raw (unwrap_or (booted_image c).raw 0) raw (start_mode (booted_image c)) mode h)
 
-prefix-none : (ms all : List Mark) → all ≡ [] → IsPrefix ms all → ms ≡ []
+pub prefix-none : (ms all : List Mark) → all ≡ [] → IsPrefix ms all → ms ≡ []
 prefix-none [] all e p = refl
 prefix-none (m ∷ ms) [] e p = absurd p
 prefix-none (m ∷ ms) (x ∷ xs) e p = cc
@@ -122,7 +120,7 @@ module _ (facts : Facts) (first : List Seen) (opening : List Row) (past : List E
     plugs-again : FreshShows facts first opening (back_event client device shown ∷ past) n [] (shown_of (plugged b.condition))
     plugs-again =
         record {
-          raw = λ raw mode e. inl (subst (λ (x : Seen). HasRaw x raw) (sym home-back) (raw-is (unwrap_or b.condition.image.raw 0) raw (start_mode b.condition.image) mode e));
+          raw = λ raw mode e. inl (subst (λ (x : Seen). HasRaw x raw) (sym home-back) (same-raw (unwrap_or b.condition.image.raw 0) raw (start_mode b.condition.image) mode e));
           mode = (k.plugs closed).mode;
         }
 

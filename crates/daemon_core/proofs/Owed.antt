@@ -9,7 +9,7 @@ use Rattle.emulated_boards.specs.declared.mark.Mark.{Mark}
 use Rattle.fw_facts.specs.declared.seen.Seen.{Seen}
 use Rattle.history_keeper.specs.declared.row.Row.{Row}
 use Rattle.history_keeper.specs.Histories.{IsHistory}
-use Rattle.update_log.proofs.Lists.{by_test, eqb-self, find-passes}
+use Rattle.update_log.proofs.Lists.{by_test, eqb-self, find-passes, filter-short}
 use Rattle.update_log.specs.Holding.{blocks_fetched, blocks_fetched_if, hold, holds, live, live_entry}
 use Rattle.update_log.specs.Legal.{Allowed, BootTakes, IsLegal}
 use Rattle.update_log.specs.Once.{strokes}
@@ -24,7 +24,7 @@ use Rattle.update_log.specs.declared.event.Op.{Op}
 use Rattle.update_log.specs.declared.live.Held.{Held}
 use Rattle.update_log.specs.declared.live.LiveEntry.{LiveEntry}
 use Rattle.daemon_core.proofs.ClaimOpen.{open-entry_live}
-use Rattle.daemon_core.proofs.OwedLists.{filter-few, filter-takes, sum-below, sum-less, sum-takes}
+use Rattle.daemon_core.proofs.OwedLists.{filter-takes, sum-below, sum-less, sum-takes}
 use Rattle.daemon_core.proofs.OwedStrokes.{FewStrokes, few-strokes}
 use Rattle.daemon_core.specs.Owed.{entry_needs, hold_needs, owed}
 
@@ -120,7 +120,7 @@ owed-taken past event l o h v s =
     on-adds past event 15 o (owed-more past event 0 15 (omega (arith, h)) (omega (arith, sum, lives, pushed, most)))
 
 fewer : (client : ℕ) (hs : List Held) → length (filter (λ (h : Held). not (h.client == client)) hs) ≤ length hs
-fewer client hs = filter-few (λ (h : Held). not (h.client == client)) hs
+fewer client hs = filter-short (λ (h : Held). not (h.client == client)) hs
 
 no-more : (n : ℕ) → n ≤ n + 0
 no-more n = omega arith

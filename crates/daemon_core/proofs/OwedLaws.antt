@@ -1,7 +1,7 @@
 -- How much room is owed.
-use Rattle.std.proofs.Common.{ℕ, ◌≤◌, ◌+◌, ◌*◌, Bool, true, false, List, [], ◌∷◌, length, arith}
-use Rattle.std.specs.Prelude.{sum_by}
-use Rattle.std.proofs.lemmas.List.Sums.{sum_by-cons, sum_by-le}
+use Rattle.std.proofs.Common.{ℕ, ◌≤◌, ◌+◌, ◌*◌, Bool, true, false, List, ◌∷◌, length, arith}
+use Rattle.std.proofs.lemmas.List.Sums.{sum_by-le}
+use Rattle.daemon_core.proofs.OwedLists.{sum-below}
 use Rattle.update_log.specs.Holding.{holds, live}
 use Rattle.update_log.specs.Once.{strokes}
 use Rattle.update_log.specs.Pasts.{off}
@@ -25,14 +25,6 @@ entry-least : (b : Bool) (s : ℕ) → 1 ≤ entry_needs b s
 entry-least true s = omega arith
 entry-least false s = omega arith
 
--- Sums by terms of which each is at most the other.
-pub sums-rise : {X : Type 0} (f g : X → ℕ) (xs : List X) → ((x : X) → f x ≤ g x) → sum_by f xs ≤ sum_by g xs
-sums-rise f g [] h = omega arith
-sums-rise f g (x ∷ xs) h =
-    let rest = sums-rise f g xs h in
-    let here = h x in
-    rw (sum_by-cons f x xs, sum_by-cons g x xs) (omega (arith, rest, here))
-
 -- At most two events a hold are owed, and fifteen an entry.
 pub owed-most : (past : List Event) → owed past ≤ 2 * length (holds past) + 15 * length (live past)
 owed-most past =
@@ -44,5 +36,5 @@ owed-most past =
 pub owed-cut : (past : List Event) → owed (Event.Cut ∷ past) ≤ owed past
 owed-cut past =
     let a = holds-least (off past) (length (holds past)) in
-    let b = sums-rise (λ (l : LiveEntry). 1) (λ (l : LiveEntry). entry_needs (off past) (length (strokes l.entry past))) (live past) (λ l. entry-least (off past) (length (strokes l.entry past))) in
+    let b = sum-below (λ (l : LiveEntry). 1) (λ (l : LiveEntry). entry_needs (off past) (length (strokes l.entry past))) (live past) (λ l. entry-least (off past) (length (strokes l.entry past))) in
     omega (arith, a, b)

@@ -2,26 +2,20 @@
 use Rattle.std.proofs.Common.{◌≡◌, ℕ, Bool, true, false, not, List, [], ◌∷◌, refl, ap, ◌≤◌, ◌+◌, arith, length}
 use Rattle.std.specs.Prelude.{Some, None, find, filter, sum_by}
 use Rattle.std.proofs.lemmas.List.Sums.{sum_by-cons}
-use Rattle.update_log.proofs.Lists.{by_test}
-
-pub filter-few : {X : Type 0} (p : X → Bool) (xs : List X) → length (filter p xs) ≤ length xs
-filter-few p [] = omega arith
-filter-few p (x ∷ xs) =
-    let rest : length (filter p xs) ≤ length xs = filter-few p xs in
-    by_test (p x) _ (λ t. rw t (omega arith)) (λ t. rw t (omega arith))
+use Rattle.update_log.proofs.Lists.{by_test, filter-short}
 
 -- a filter takes away what is found
 pub filter-takes : {X : Type 0} (p : X → Bool) (xs : List X) (x : X) → find p xs ≡ Some x → length (filter (λ y. not (p y)) xs) + 1 ≤ length xs
 filter-takes p [] x h = cc
 filter-takes p (y ∷ ys) x h =
     by_test (p y) _
-    (λ t. let few : length (filter (λ z. not (p z)) ys) ≤ length ys = filter-few (λ z. not (p z)) ys in rw t (omega arith))
+    (λ t. let few : length (filter (λ z. not (p z)) ys) ≤ length ys = filter-short (λ z. not (p z)) ys in rw t (omega arith))
     (λ t. let rest : length (filter (λ z. not (p z)) ys) + 1 ≤ length ys = filter-takes p ys x (rw t at h) in rw t (omega arith))
 
-filter-yes : {X : Type 0} (p : X → Bool) (x : X) (xs : List X) → p x ≡ true → filter p (x ∷ xs) ≡ x ∷ filter p xs
+pub filter-yes : {X : Type 0} (p : X → Bool) (x : X) (xs : List X) → p x ≡ true → filter p (x ∷ xs) ≡ x ∷ filter p xs
 filter-yes p x xs t = rw t refl
 
-filter-no : {X : Type 0} (p : X → Bool) (x : X) (xs : List X) → p x ≡ false → filter p (x ∷ xs) ≡ filter p xs
+pub filter-no : {X : Type 0} (p : X → Bool) (x : X) (xs : List X) → p x ≡ false → filter p (x ∷ xs) ≡ filter p xs
 filter-no p x xs t = rw t refl
 
 pub sum-filter : {X : Type 0} (f : X → ℕ) (p : X → Bool) (xs : List X) → sum_by f (filter p xs) ≤ sum_by f xs

@@ -1,8 +1,9 @@
--- An entry has at most twelve strokes: six steps start and end.
+-- An entry has at most twelve strokes: op-six steps start and end.
 use Rattle.std.proofs.Common.{◌≡◌, ℕ, List, [], ◌∷◌, ◌≤◌, ◌+◌, ◌*◌, arith, length}
 use Rattle.history_keeper.specs.declared.row.Row.{Row}
 use Rattle.history_keeper.specs.Histories.{IsHistory}
 use Rattle.update_log.proofs.LegalOnce.{past-kept}
+use Rattle.update_log.proofs.StepsFew.{op-six}
 use Rattle.update_log.specs.declared.event.Event.{Event}
 use Rattle.update_log.specs.declared.event.Op.{Op}
 use Rattle.update_log.specs.Legal.{IsLegal}
@@ -16,10 +17,6 @@ Below [] = Unit {0}
 Below (Stroke.Started op ∷ rest) = length rest + 2 ≤ 2 * op_number op
 Below (Stroke.Ended op ∷ rest) = length rest + 1 ≤ 2 * op_number op
 
-six : (op : Op) → op_number op ≤ 6
-six Op.Prepare = omega arith
-six _ = omega arith
-
 below : (s : List Stroke) → InOrder s → Below s
 below [] i = tt
 below (Stroke.Started op ∷ []) i = let e : op ≡ Op.Prepare = i in rw e (omega arith)
@@ -32,8 +29,8 @@ below _ i = absurd i
 
 twelve : (s : List Stroke) → Below s → length s ≤ 12
 twelve [] b = omega arith
-twelve (Stroke.Started op ∷ rest) b = omega (arith, b, six op)
-twelve (Stroke.Ended op ∷ rest) b = omega (arith, b, six op)
+twelve (Stroke.Started op ∷ rest) b = omega (arith, b, op-six op)
+twelve (Stroke.Ended op ∷ rest) b = omega (arith, b, op-six op)
 
 -- Each entry of a past has so few.
 abbrev pub FewStrokes : List Event → Type 0

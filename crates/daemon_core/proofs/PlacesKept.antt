@@ -28,7 +28,7 @@ pub record SameOfBoard (facts : Facts) (first : List Seen) (opening : List Row) 
   pub raws : (entry raw : ℕ) → raw_of entry past ≡ Some raw → raw_of entry other ≡ Some raw
   pub faults : faulty_ends facts opening other number ≡ faulty_ends facts opening past number
 
-raw-same : (facts : Facts) (first : List Seen) (opening : List Row) (past other : List Event) (number : ℕ) (marks : List Mark) (raw : ℕ) → SameOfBoard facts first opening past other number
+pub raw-same : (facts : Facts) (first : List Seen) (opening : List Row) (past other : List Event) (number : ℕ) (marks : List Mark) (raw : ℕ) → SameOfBoard facts first opening past other number
     → RawAllowed facts first opening past number marks raw → RawAllowed facts first opening other number marks raw
 raw-same facts first opening past other number marks raw s (inl h) = inl (subst (λ (x : Seen). HasRaw x raw) (sym s.before) h)
 raw-same facts first opening past other number marks raw s (inr (inl h)) =

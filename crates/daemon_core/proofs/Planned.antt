@@ -161,7 +161,7 @@ pub keeps-same : (old new : List Place) → new ≡ old → KeepsPlans old new
 keeps-same old new e plans h = plans-same plans old new e h
 
 -- A list as long has something at the same place.
-get-other : {X Y : Type 0} (xs : List X) (ys : List Y) (n : ℕ) (y : Y) → length ys ≡ length xs → slice_get ys n ≡ Some y → (x : X) × (slice_get xs n ≡ Some x)
+pub get-other : {X Y : Type 0} (xs : List X) (ys : List Y) (n : ℕ) (y : Y) → length ys ≡ length xs → slice_get ys n ≡ Some y → (x : X) × (slice_get xs n ≡ Some x)
 get-other [] [] zero y e g = cc
 get-other [] [] (suc n) y e g = cc
 get-other [] (z ∷ ys) n y e g = absurd (omega arith)

@@ -5,6 +5,7 @@ use Rattle.std.specs.List.{list_any}
 use Rattle.std.specs.Str.{bytes_eq}
 use Rattle.std.proofs.lemmas.Bool.{leb-false}
 use Rattle.fw_facts.specs.declared.seen.Seen.{Seen}
+use Rattle.history_keeper.proofs.Following.{list_any-map}
 use Rattle.history_keeper.specs.Changes.{Suits, changed}
 use Rattle.history_keeper.specs.Keepers.{StillTold, ToldWith}
 use Rattle.history_keeper.specs.declared.change.Change.{Change}
@@ -66,13 +67,9 @@ any-false p [] i d h l = absurd (omega arith)
 any-false p (x ∷ xs) zero d h l = by_test (p x) _ (λ t. let e : true ≡ false = rw t at h in cc) (λ f. f)
 any-false p (x ∷ xs) (suc i) d h l = by_test (p x) _ (λ t. let e : true ≡ false = rw t at h in cc) (λ f. any-false p xs i d (rw f at h) (omega arith))
 
-any-mapped : {X Y : Type 0} (f : X → Y) (p : Y → Bool) (xs : List X) → list_any p (map f xs) ≡ list_any (λ x. p (f x)) xs
-any-mapped f p [] = refl
-any-mapped f p (x ∷ xs) = let rest : list_any p (map f xs) ≡ list_any (λ x. p (f x)) xs = any-mapped f p xs in rw rest refl
-
 pub new-tag : (rows : List Row) (row : Row) → list_any (bytes_eq row.tag) (map (λ r. r.tag) rows) ≡ false → All (λ other. other.tag ≢ row.tag) rows
 new-tag rows row h = λ i d l e.
-    let f : bytes_eq row.tag (get_or rows i d).tag ≡ false = any-false (λ (r : Row). bytes_eq row.tag r.tag) rows i d (sym (any-mapped (λ (r : Row). r.tag) (bytes_eq row.tag) rows) ∙ h) l in
+    let f : bytes_eq row.tag (get_or rows i d).tag ≡ false = any-false (λ (r : Row). bytes_eq row.tag r.tag) rows i d (sym (list_any-map (λ (r : Row). r.tag) (bytes_eq row.tag) rows) ∙ h) l in
     let g : true ≡ false = sym (bytes-self row.tag) ∙ ap (λ (t : List ℕ). bytes_eq row.tag t) (sym e) ∙ f in
     cc
 

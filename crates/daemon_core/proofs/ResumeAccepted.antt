@@ -1,47 +1,34 @@
 -- What a resumption has whose request is accepted.
-use Rattle.std.proofs.Common.{◌≡◌, ℕ, Bool, true, List, length, refl, ap, sym, ◌∙◌, subst}
-use Rattle.std.specs.Prelude.{Option, Some, None, nat_lt, position, slice_get, option_map, option_and_then, ◌==◌}
-use Rattle.std.specs.List.{position_or_len}
+use Rattle.std.proofs.Common.{◌≡◌, ℕ, true, List, length, refl, ap, sym, ◌∙◌, subst}
+use Rattle.std.specs.Prelude.{Option, Some, None, slice_get, option_map, option_and_then, ◌==◌}
 use Rattle.std.specs.Str.{bytes_eq}
-use Rattle.std.proofs.lemmas.Bool.{eq-eqb, eqb-true, and_parts}
-use Rattle.std.proofs.lemmas.List.Folds.{find_at}
+use Rattle.std.proofs.lemmas.Bool.{eq-eqb, and_parts}
 use Rattle.std.proofs.lemmas.Option.{same_Some}
 use Rattle.block_pool.specs.Views.{SealedBytes}
 use Rattle.device_list.specs.Lists.{names, place}
 use Rattle.device_list.specs.declared.selector.Selector.{Selector}
 use Rattle.fw_facts.specs.Views.{guids_of}
-use Rattle.fw_facts.specs.declared.release.Component.{Component}
 use Rattle.fw_facts.specs.declared.release.Release.{Release}
 use Rattle.fw_facts.specs.declared.view.DeviceView.{DeviceView}
 use Rattle.history_keeper.specs.declared.row.Row.{Row}
 use Rattle.release_catalogue.specs.Lookup.{Chosen, chosen}
 use Rattle.release_catalogue.specs.declared.reference.ReleaseRef.{ReleaseRef}
-use Rattle.update_log.proofs.Accepts.{accepts-target}
-use Rattle.update_log.proofs.Lists.{by_test, find-passes}
+use Rattle.update_log.proofs.Accepts.{accepts-target, found-passes}
 use Rattle.update_log.proofs.Openings.{bytes-same, bytes-self}
+use Rattle.update_log.proofs.WaitsKept.{no-claim}
 use Rattle.update_log.specs.Known.{Target, target, target_at, target_of, views}
 use Rattle.update_log.specs.Legal.{is_fetched}
 use Rattle.update_log.specs.Verdicts.{Case, case_of, is_release, verdict}
 use Rattle.update_log.specs.declared.decision.Stage.{Stage}
 use Rattle.update_log.specs.declared.event.Event.{Event}
 use Rattle.update_log.specs.declared.facts.Facts.{Facts}
-use Rattle.update_log.specs.declared.refusal.Refusal.{Refusal}
 use Rattle.update_log.specs.declared.request.Request.{Request}
 use Rattle.daemon_core.proofs.Asking.{release-same, target-placed}
-use Rattle.daemon_core.proofs.ClaimAccepted.{target-seen, view-home}
+use Rattle.daemon_core.proofs.ClaimAccepted.{target-seen, view-home, release-there}
 use Rattle.daemon_core.specs.Claims.{DeviceHome}
 use Rattle.daemon_core.specs.Fetches.{IsPayloadOf, whole_note}
 use Rattle.daemon_core.specs.Holds.{IsReleaseAt}
 use Rattle.daemon_core.specs.PutOff.{IsAccept}
-
--- What stands at the position passes the test.
-position-passes : {X : Type 0} (p : X → Bool) (xs : List X) (n : ℕ) (x : X) → position p xs ≡ Some n → slice_get xs n ≡ Some x → p x ≡ true
-position-passes p xs n x e s =
-    by_test (nat_lt (position_or_len p xs) (length xs)) _
-    (λ t. let q : Some (position_or_len p xs) ≡ Some n = rw t at e in
-    let same : position_or_len p xs ≡ n = cc in
-    find-passes p xs x (find_at p xs ∙ ap (slice_get xs) same ∙ s))
-    (λ f. let bad : None ≡ Some n = rw f at e in cc)
 
 -- The target of a request that names an ID is that device.
 pub target-device : (facts : Facts) (all : List DeviceView) (request : Request) (device : List ℕ) (t : Target) → target facts all request ≡ Some t → request.device ≡ Selector.Id device → t.view.sheet.device ≡ device
@@ -51,7 +38,7 @@ target-device facts all request device t h d = at (place request.device all) ref
     at-chosen n view None p s g = cc
     at-chosen n view (Some c) p s g =
         let same : record { place = n; view = view; chosen = c } ≡ t = same_Some (record { place = n; view = view; chosen = c }) t g in
-        let named : names request.device view ≡ true = position-passes (names request.device) all n view p s in
+        let named : names request.device view ≡ true = found-passes (names request.device) all n view p s in
         let id : bytes_eq device view.sheet.device ≡ true = subst (λ (x : Selector). names x view ≡ true) d named in
         sym (ap (λ (u : Target). u.view.sheet.device) same) ∙ sym (bytes-same device view.sheet.device id)
 
@@ -62,20 +49,6 @@ target-device facts all request device t h d = at (place request.device all) ref
     at : (o : Option ℕ) → place request.device all ≡ o → option_and_then (target_at facts all request.version) o ≡ Some t → t.view.sheet.device ≡ device
     at None p g = cc
     at (Some n) p g = at-view n (slice_get all n) p refl g
-
--- One release is at two places that are the same.
-release-there : (catalogue : List Component) (a b : ReleaseRef) (release : Release) → is_release a b ≡ true → IsReleaseAt catalogue b release → IsReleaseAt catalogue a release
-release-there catalogue a b release h k =
-    let p = and_parts (a.component == b.component) _ h in
-    record {
-      component = k.component;
-      component_is = ap (slice_get catalogue) (eqb-true a.component b.component p.0) ∙ k.component_is;
-      release_is = ap (slice_get k.component.releases) (eqb-true a.release b.release p.1) ∙ k.release_is;
-    }
-
-not-busy : (o : Option ℕ) → option_map (λ entry. Refusal.Busy entry) o ≡ None → o ≡ None
-not-busy None h = refl
-not-busy (Some n) h = cc
 
 -- What there is where a resumption is accepted.
 pub record Resumable (facts : Facts) (opening : List Row) (past : List Event) (request : Request) (release : ReleaseRef) (t : Target) : Type 0 where
@@ -88,7 +61,7 @@ resumable facts opening past entry request release a =
     let c : Case = case_of facts opening past 0 request (Stage.Resume entry release) in
     let h = accepts-target c a.0 a.2 a.1 a.3 in
     let t : Target = h.0 in
-    (t, record { found = h.1.found; that = (and_parts (is_release release t.chosen.at) _ h.1.that).0; unclaimed = not-busy t.view.claim h.1.none.is_busy })
+    (t, record { found = h.1.found; that = (and_parts (is_release release t.chosen.at) _ h.1.that).0; unclaimed = no-claim t.view.claim h.1.none.is_busy })
 
 -- A whole payload is that of the release that was found.
 pub whole-resumed : (facts : Facts) (opening : List Row) (past : List Event) (request : Request) (release : ReleaseRef) (t : Target) (payload : SealedBytes) → Resumable facts opening past request release t → IsPayloadOf facts release payload → is_fetched (whole_note payload) (target facts (views facts opening past) request) ≡ true

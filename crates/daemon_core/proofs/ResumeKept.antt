@@ -2,6 +2,7 @@
 use Rattle.std.proofs.Common.{◌≡◌, ℕ, ◌<◌, ◌≤◌, ◌+◌, List, ◌∷◌, length, refl, ap, sym, ◌∙◌, subst, arith}
 use Rattle.std.specs.Prelude.{Option, Some, None}
 use Rattle.block_pool.specs.Views.{PoolCounts}
+use Rattle.daemon_core.proofs.PuttingOff.{no-doubt, suits-told}
 use Rattle.history_keeper.specs.Changes.{Suits, with_state}
 use Rattle.history_keeper.specs.declared.change.Change.{Change}
 use Rattle.history_keeper.specs.declared.row.Row.{Row}
@@ -36,7 +37,7 @@ use Rattle.daemon_core.proofs.BoardsQuiet.{quiet-board}
 use Rattle.daemon_core.proofs.ClaimEnds.{length-set}
 use Rattle.daemon_core.proofs.ClaimHouse.{IsReady, runs-takes}
 use Rattle.daemon_core.proofs.ClaimTaking.{Takes, takes-places}
-use Rattle.daemon_core.proofs.CommitKept.{house-clear, legal-after, on-no_doubt, stored-keeps, suits-told}
+use Rattle.daemon_core.proofs.CommitKept.{house-clear, legal-after, stored-keeps}
 use Rattle.daemon_core.proofs.Held.{held-not_resumed, held-repeated}
 use Rattle.daemon_core.proofs.HeldOnce.{out-once}
 use Rattle.daemon_core.proofs.HouseKept.{house-next}
@@ -140,7 +141,7 @@ resume-keeps told doubted entry said answer stored h keeper w k m s =
     ap (λ (x : List Row). rows_by (fate_stored stored) (Some (resumption_on (time_of (past h)) x entry answer)) x) k.stands.rows ∙ sym (resumed-rows f b (past h) entry said answer stored) in
     let d : doubt_by (fate_stored stored) (Some (change_of h.annals entry answer)) None ≡ doubt f b (resumes entry said answer stored ∷ past h) =
     ap (λ (x : List Row). doubt_by (fate_stored stored) (Some (resumption_on (time_of (past h)) x entry answer)) None) k.stands.rows
-    ∙ ap (λ (x : Option Change). doubt_by (fate_stored stored) (Some (resumption_on (time_of (past h)) (rows f b (past h)) entry answer)) x) (sym (on-no_doubt h.annals k m.runs.on))
+    ∙ ap (λ (x : Option Change). doubt_by (fate_stored stored) (Some (resumption_on (time_of (past h)) (rows f b (past h)) entry answer)) x) (sym (no-doubt h.annals k m.runs.on))
     ∙ sym (resumed-doubt f b (past h) entry said answer stored) in
     subst (λ (x : List Row). HasRows told doubted keeper x (doubt f b (resumes entry said answer stored ∷ past h))) r
     (subst (λ (x : Option Change). HasRows told doubted keeper (rows_by (fate_stored stored) (Some (change_of h.annals entry answer)) h.annals.core.rows) x) d kept)

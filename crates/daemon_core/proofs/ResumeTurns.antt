@@ -1,7 +1,6 @@
 -- The turn of a resumption.
-use Rattle.std.proofs.Common.{◌≡◌, ℕ, ◌<◌, ◌≤◌, Bool, true, false, List, [], ◌∷◌, ◌++◌, length, refl, ap, sym, ◌∙◌, subst, arith, ◌⊎◌, inl, inr}
-use Rattle.std.specs.Prelude.{Option, Some, None, find, option_and_then, unwrap_or, ◌==◌}
-use Rattle.std.specs.List.{AllByRecursion}
+use Rattle.std.proofs.Common.{◌≡◌, ℕ, ◌<◌, ◌≤◌, true, false, List, [], ◌∷◌, length, refl, ap, sym, ◌∙◌, subst, arith, ◌⊎◌, inl, inr}
+use Rattle.std.specs.Prelude.{Option, Some, None, option_and_then, unwrap_or, ◌==◌}
 use Rattle.std.proofs.lemmas.Bool.{eqb-true}
 use Rattle.std.proofs.lemmas.Option.{slice_get_within}
 use Rattle.block_pool.specs.Views.{SealedBytes}
@@ -12,12 +11,12 @@ use Rattle.history_keeper.specs.declared.change.Change.{Change}
 use Rattle.history_keeper.specs.declared.row.Row.{Row}
 use Rattle.history_keeper.specs.declared.row.RowState.{RowState}
 use Rattle.update_log.proofs.LegalOnce.{live-others}
-use Rattle.update_log.proofs.Lists.{All-find, All-map, by_test, eqb-other, eqb-self, find-passes}
+use Rattle.update_log.proofs.Lists.{All-find, All-map, eqb-other, eqb-self, find-passes, find-push_new}
 use Rattle.update_log.proofs.RowsKept.{board-fixed, goes_on-fixed}
 use Rattle.update_log.specs.Boards.{board_with}
 use Rattle.update_log.specs.Holding.{blocks_of, held, hold, is_live, live, live_entry, open_steps, step_open}
-use Rattle.update_log.specs.Known.{Target, board_of, row_of, rows, target, views}
-use Rattle.update_log.specs.Legal.{ResumeAnswered, ResumeFetched, is_fetched}
+use Rattle.update_log.specs.Known.{board_of, row_of, rows, target, views}
+use Rattle.update_log.specs.Legal.{ResumeAnswered, ResumeFetched}
 use Rattle.update_log.specs.Once.{is_pending}
 use Rattle.update_log.specs.Steps.{first_trace, trace}
 use Rattle.update_log.specs.declared.answer.ResumeAnswer.{ResumeAnswer}
@@ -52,7 +51,7 @@ use Rattle.daemon_core.proofs.ClaimKept.{hold-sized}
 use Rattle.daemon_core.proofs.ClaimOpen.{found-live, open-live}
 use Rattle.daemon_core.proofs.ClaimRoom.{home-board}
 use Rattle.daemon_core.proofs.ClaimTaking.{Takes, home-tail, takes-stands}
-use Rattle.daemon_core.proofs.ClaimTurns.{claim-served}
+use Rattle.daemon_core.proofs.ClaimTurns.{claim-served, broken-fetched, find-nothing}
 use Rattle.daemon_core.proofs.Held.{held-resumed}
 use Rattle.daemon_core.proofs.HeldOnce.{out-once}
 use Rattle.daemon_core.proofs.ResumeAccepted.{resumable, resumed-home, whole-resumed}
@@ -72,17 +71,6 @@ pub resume-refused : (a : Annalled) (entry : ℕ) (ticket : Ticket) (note : Fetc
 resume-refused a entry ticket note refusal blocks h p e =
     fetched-so a entry ticket note (ResumeAnswer.Refused refusal) blocks h p
     (subst (λ (d : Decision). ResumeAnswered note (target a.facts (views a.facts (rows_before a) (past_in a)) ticket.request) d (ResumeAnswer.Refused refusal)) (sym e) refl)
-
-broken-fetched : (fetched : Fetched) (o : Option Target) → is_payload fetched ≡ false → is_fetched (note_of fetched) o ≡ false
-broken-fetched (Fetched.Whole payload) o h = cc
-broken-fetched (Fetched.Missing blocks) None h = refl
-broken-fetched (Fetched.Missing blocks) (Some t) h = refl
-broken-fetched (Fetched.Length found blocks) None h = refl
-broken-fetched (Fetched.Length found blocks) (Some t) h = refl
-broken-fetched (Fetched.Mismatch found blocks) None h = refl
-broken-fetched (Fetched.Mismatch found blocks) (Some t) h = refl
-broken-fetched (Fetched.ShelfFault blocks) None h = refl
-broken-fetched (Fetched.ShelfFault blocks) (Some t) h = refl
 
 -- One whose payload isn't whole is answered that.
 pub resume-broken : (a : Annalled) (entry : ℕ) (ticket : Ticket) (fetched : Fetched) (blocks : ℕ) → hold (past_in a) 0 ≡ Some (held_by ticket blocks) → ticket.pending ≡ Some entry → IsAccept (resume_verdict a entry ticket) → is_payload fetched ≡ false
@@ -136,17 +124,6 @@ resume-board told doubted entry ticket payload number h w k s =
     (b.0, b.1, home-tail h.annals.facts h.annals.first (rows_before h.annals) (past h) number b.0 b.2.0 k.legal s.may.runs.on s.board.home b.2.1)
 
 -- ---- the entry that is taken
-
-find-last : {X : Type 0} (p : X → Bool) (xs : List X) (x : X) → find p xs ≡ None → p x ≡ true → find p (xs ++ x ∷ []) ≡ Some x
-find-last p [] x n h = rw h refl
-find-last p (y ∷ ys) x n h =
-    by_test (p y) _
-    (λ t. let bad : Some y ≡ None = rw t at n in cc)
-    (λ t. let rest : find p (ys ++ x ∷ []) ≡ Some x = find-last p ys x (rw t at n) h in rw t rest)
-
-find-nothing : {X : Type 0} (p : X → Bool) (xs : List X) → AllByRecursion (λ x. p x ≡ false) xs → find p xs ≡ None
-find-nothing p [] a = refl
-find-nothing p (x ∷ xs) a = let h : p x ≡ false = a.0 in rw h (find-nothing p xs a.1)
 
 abbrev pub begins : ℕ → SealedBytes → Event
 begins entry payload = resumes entry (Some (whole_note payload)) ResumeAnswer.Begun Stored.Yes
@@ -225,7 +202,7 @@ resume-same_held a entry ticket payload k o =
 -- the live entry
 pub resume-live : (a : Annalled) (entry : ℕ) (payload : SealedBytes) → IsAnnals a → MayResume a entry → live_entry (begins entry payload ∷ past_in a) entry ≡ Some (record { client = 0; entry = entry; blocks = blocks_of (length payload.bytes) })
 resume-live a entry payload k m =
-    find-last (λ (l : LiveEntry). l.entry == entry) (live (past_in a)) (record { client = 0; entry = entry; blocks = blocks_of (length payload.bytes) }) (not-live a entry k m) (eqb-self entry)
+    find-push_new (λ (l : LiveEntry). l.entry == entry) (live (past_in a)) (record { client = 0; entry = entry; blocks = blocks_of (length payload.bytes) }) (not-live a entry k m) (eqb-self entry)
 
 -- its trace, which has no step
 resume-traced : (a : Annalled) (entry : ℕ) (ticket : Ticket) (payload : SealedBytes) (number : ℕ) (t : Trace) → IsToResume a entry ticket payload number → trace a.facts (rows_before a) entry (begins entry payload ∷ past_in a) ≡ Some t → t.steps ≡ []

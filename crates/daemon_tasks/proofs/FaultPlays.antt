@@ -2,6 +2,7 @@
 use Rattle.std.proofs.Common.{◌≡◌, ℕ, ◌≤◌, ◌+◌, Bool, false, List, [], ◌∷◌, ◌++◌, map, append-nil, refl, ap, sym, subst, arith}
 use Rattle.std.specs.Prelude.{Option, Some, None, Ok, Err}
 use Rattle.std.specs.List.{AllByRecursion}
+use Rattle.daemon_tasks.proofs.ResumePlays.{halted-resume}
 use Rattle.update_log.specs.declared.answer.ResumeAnswer.{ResumeAnswer}
 use Rattle.plugin_trait.specs.Steps.{PluginSteps}
 use Rattle.history_keeper.specs.declared.row.Row.{Row}
@@ -20,7 +21,7 @@ use Rattle.daemon_core.specs.declared.stop.Stop.{Stop}
 use Rattle.daemon_core.specs.Annals.{Appended}
 use Rattle.daemon_core.specs.Holds.{back_of}
 use Rattle.daemon_core.specs.Housed.{Annalled, Housed, past, past_in, rows_before}
-use Rattle.daemon_core.specs.Resumes.{ResumeTurned, StoppedBy, note_in}
+use Rattle.daemon_core.specs.Resumes.{ResumeTurned, note_in}
 use Rattle.daemon_core.specs.Turns.{Signs}
 use Rattle.client_plays.specs.declared.played.Played.{Played}
 use Rattle.client_plays.specs.Endings.{HouseWent, SoFar}
@@ -31,7 +32,7 @@ use Rattle.client_plays.specs.Tools.{Means}
 use Rattle.client_plays.proofs.FaultLaws.{TellsNone, faults-event, faults-same, quiet-all, quiet-ends, quiet-judge, quiet-one, quiet-so, quiet-update}
 use Rattle.daemon_tasks.specs.Ends.{TakenPlayed}
 use Rattle.daemon_tasks.specs.Resumed.{WasGivenUp}
-use Rattle.daemon_tasks.proofs.Turns.{Halted, IsOwn, did-appended, halted-did, halted-memory, halted-off}
+use Rattle.daemon_tasks.proofs.Turns.{Halted, IsOwn, did-appended, halted-did}
 
 -- How many they tell, in a past.
 abbrev told_in : List Event → ℕ
@@ -73,10 +74,6 @@ pub refused-told : (entry : ℕ) (held : Option (Ticket × Fetched)) (refusal : 
 refused-told entry held refusal old new t =
     more-same (faults_noted (note_in held)) (told_in (past_in old)) (told_in (past_in new)) (told_in (past_in new))
     (appended-noted (Event.Resume 0 entry (note_in held) (ResumeAnswer.Refused refusal) t.1.0) (note_in held) old new (record { no_boot = refl; own = refl }) refl t.1.2) refl
-
-halted-resume : (stop : Stop) (old new : Annalled) → StoppedBy stop old new → Halted stop old new
-halted-resume Stop.Off old new t = halted-off 0 old new t
-halted-resume Stop.NoMemory old new t = halted-memory old new t.1
 
 given-quiet : (kept : Option (Ticket × Fetched)) (old new : Annalled) → WasGivenUp kept old new → told_in (past_in new) ≡ told_in (past_in old)
 given-quiet None old new w = ap (λ (a : Annalled). told_in (past_in a)) w

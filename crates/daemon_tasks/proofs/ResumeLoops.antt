@@ -1,5 +1,5 @@
 -- Entries that are resumed, one after the other.
-use Rattle.std.proofs.Common.{◌≡◌, ◌⊎◌, ℕ, ◌<◌, ◌≤◌, ◌+◌, Bool, true, List, [], ◌∷◌, ◌++◌, map, suc, take, drop, length, get_or, ap, sym, ◌∙◌, subst, inl, inr, add-one, arith}
+use Rattle.std.proofs.Common.{◌≡◌, ◌⊎◌, ℕ, ◌<◌, ◌≤◌, ◌+◌, Bool, true, List, [], ◌∷◌, ◌++◌, map, suc, take, drop, length, get_or, ap, sym, ◌∙◌, subst, inl, inr, add-one}
 use Rattle.std.proofs.Math.Seq.{drop-cons}
 use Rattle.std.proofs.lemmas.List.{map-append, take_all}
 use Rattle.std.specs.Prelude.{Option, Some, None}
@@ -18,9 +18,6 @@ use Rattle.client_plays.proofs.RestLaws.{before-same, so_far-more, went-all, wen
 use Rattle.daemon_tasks.specs.Judged.{AllWait, WaitsIn}
 use Rattle.daemon_tasks.specs.Stays.{AreApart, OthersStay}
 use Rattle.daemon_tasks.proofs.TaskLists.{all-wait_others}
-
-pub le-both : (a b c : ℕ) → a ≤ b → b ≤ c → a ≤ c
-le-both a b c x y = omega arith
 
 -- What is still to come begins with the next.
 next-of : (entries : List ℕ) (i : ℕ) → i < length entries → drop i entries ≡ get_or entries i 0 ∷ drop (suc i) entries

@@ -1,6 +1,7 @@
 -- An entry that was put off: its ask, its resumption, and what follows.
-use Rattle.std.proofs.Common.{◌≡◌, ℕ, ◌<◌, ◌≤◌, Bool, true, false, List, [], ◌∷◌, length, refl, ap, sym, ◌∙◌, subst, arith}
+use Rattle.std.proofs.Common.{◌≡◌, ℕ, ◌<◌, ◌≤◌, Bool, true, false, List, [], ◌∷◌, length, refl, ap, sym, ◌∙◌, subst}
 use Rattle.std.specs.Prelude.{Option, Some, None, Ok, Err, unwrap_or}
+use Rattle.client_plays.proofs.ToolLaws.{le-both}
 use Rattle.emulated_boards.specs.Boards.{BoardState}
 use Rattle.emulated_boards.specs.declared.fault.PlannedFault.{PlannedFault}
 use Rattle.plugin_trait.specs.Steps.{PluginSteps}
@@ -60,9 +61,6 @@ use Rattle.daemon_tasks.proofs.Outs.{held-halted, idle-back, idle-free, no-hold,
 use Rattle.daemon_tasks.proofs.Rows.{others-appended, others-both, others-halted, rows-over}
 use Rattle.daemon_tasks.proofs.Turns.{Halted, boots-appended, faults-appended, halted-boots, halted-holds, halted-live, halted-memory, halted-off, played-back, played-behind, played-last, played-stopped, stopped-alone}
 use Rattle.daemon_core.proofs.Fared.{fared-both, fared-same}
-
-le-both : (a b c : ℕ) → a ≤ b → b ≤ c → a ≤ c
-le-both a b c x y = omega arith
 
 -- ---- what is out
 
@@ -193,7 +191,7 @@ refused-others entry held refusal old new t = others-appended 0 entry (Event.Res
 
 -- ---- one that was stopped
 
-halted-resume : (stop : Stop) (old new : Annalled) → StoppedBy stop old new → Halted stop old new
+pub halted-resume : (stop : Stop) (old new : Annalled) → StoppedBy stop old new → Halted stop old new
 halted-resume Stop.Off old new t = halted-off 0 old new t
 halted-resume Stop.NoMemory old new t = halted-memory old new t.1
 

@@ -1,7 +1,9 @@
 -- An event at the head of a play, the event that ends one, and a play that was stopped.
-use Rattle.std.proofs.Common.{◌≡◌, ℕ, ◌<◌, ◌≤◌, Bool, true, false, List, [], ◌∷◌, ◌++◌, refl, ap, sym, ◌∙◌, subst, inl, inr, arith}
+use Rattle.std.proofs.Common.{◌≡◌, ℕ, ◌<◌, ◌≤◌, Bool, true, false, List, [], ◌∷◌, ◌++◌, refl, ap, sym, ◌∙◌, subst, inl, inr}
 use Rattle.std.specs.Prelude.{Some, Err}
 use Rattle.std.specs.List.{list_any}
+use Rattle.client_plays.proofs.ToolLaws.{le-both}
+use Rattle.install_engine.proofs.RunHouse.{past-kept}
 use Rattle.update_log.specs.declared.event.Back.{Back}
 use Rattle.update_log.specs.declared.event.Event.{Event}
 use Rattle.update_log.specs.Holding.{holds, live}
@@ -21,12 +23,9 @@ use Rattle.client_plays.specs.Plays.{Leaves}
 use Rattle.client_plays.specs.Endings.{EndsSo, HousePlayed, IsIdle}
 use Rattle.client_plays.proofs.MomentLaws.{did-both, did-nobody, did-nothing, did-one}
 use Rattle.client_plays.proofs.RestLaws.{same-both}
-use Rattle.client_plays.proofs.TurnLaws.{counts-same, unmoved}
+use Rattle.client_plays.proofs.TurnLaws.{counts-same}
 use Rattle.daemon_tasks.specs.Ends.{stopped_by}
 use Rattle.daemon_core.proofs.Fared.{fared-both, fared-same}
-
-le-both : (a b c : ℕ) → a ≤ b → b ≤ c → a ≤ c
-le-both a b c x y = omega arith
 
 -- An event of a client that starts no boot.
 pub record IsOwn (client : ℕ) (event : Event) : Type 0 where
@@ -112,7 +111,7 @@ pub record Halted (stop : Stop) (old new : Annalled) : Type 0 where
 pub halted-off : (client : ℕ) (old new : Annalled) → WentOff client old new → Halted Stop.Off old new
 halted-off client old new w =
     elim w [
-      | inl was ↦ record { same = was.1.same; cut = false; past_is = unmoved old new was.1; is_off = λ e. ap off (unmoved old new was.1) ∙ was.0 }
+      | inl was ↦ record { same = was.1.same; cut = false; past_is = past-kept old new was.1; is_off = λ e. ap off (past-kept old new was.1) ∙ was.0 }
       | inr cut ↦
           record {
             same = cut.1.same;
@@ -123,7 +122,7 @@ halted-off client old new w =
     ]
 
 pub halted-memory : (old new : Annalled) → Unchanged old new → Halted Stop.NoMemory old new
-halted-memory old new u = record { same = u.same; cut = false; past_is = unmoved old new u; is_off = λ e. cc }
+halted-memory old new u = record { same = u.same; cut = false; past_is = past-kept old new u; is_off = λ e. cc }
 
 pub halted-turn : {A : Type 0} (client : ℕ) (event : A → Event) (stop : Stop) (old new : Annalled) → Turned client event (Err stop) old new → Halted stop old new
 halted-turn client event Stop.Off old new t = halted-off client old new t

@@ -1,7 +1,7 @@
 -- The daemon's own turns: what they leave out.
-use Rattle.std.proofs.Common.{◌≡◌, ℕ, ◌≤◌, ◌*◌, arith, length, Bool, true, List, [], ◌∷◌, ◌++◌, refl, ap, sym, ◌∙◌, subst}
-use Rattle.std.specs.Prelude.{Option, Some, None, Ok, ◌==◌, find}
-use Rattle.update_log.proofs.Lists.{by_test, eqb-self, find-filter_none}
+use Rattle.std.proofs.Common.{◌≡◌, ℕ, ◌≤◌, ◌*◌, arith, length, List, ◌∷◌, refl, ap, sym, ◌∙◌, subst}
+use Rattle.std.specs.Prelude.{Option, Some, None, Ok, ◌==◌}
+use Rattle.update_log.proofs.Lists.{eqb-self, find-filter_none, find-push_new}
 use Rattle.update_log.specs.declared.answer.AskAnswer.{AskAnswer}
 use Rattle.update_log.specs.declared.answer.ResumeAnswer.{ResumeAnswer}
 use Rattle.update_log.specs.declared.event.Event.{Event}
@@ -39,13 +39,6 @@ use Rattle.daemon_tests.specs.Waits.{IsPutOff}
 
 -- ---- the hold of a row that was put off
 
-find-last : {X : Type 0} (p : X → Bool) (xs : List X) (x : X) → find p xs ≡ None → p x ≡ true → find p (xs ++ x ∷ []) ≡ Some x
-find-last p [] x n h = rw h refl
-find-last p (y ∷ ys) x n h =
-    by_test (p y) _
-    (λ t. let bad : Some y ≡ None = rw t at n in cc)
-    (λ f. let rest : find p ys ≡ None = rw f at n in rw f (find-last p ys x rest h))
-
 held-as : (n blocks : ℕ) (request : Request) (pending : Option ℕ) (h : Hold) → h.ticket.client ≡ n → h.ticket.request ≡ request → h.ticket.pending ≡ pending
     → record { client = n; request = request; pending = pending; blocks = blocks; release = h.ticket.release } ≡ held_by h.ticket blocks
 held-as n blocks request pending h e f k =
@@ -63,7 +56,7 @@ pub pending-holds : (name : Name) (n : ℕ) (request : Request) (pending : Optio
 pending-holds name n request pending h met log is a =
     let event : Event = Event.Ask n request pending (AskAnswer.Hold h.blocks.count h.ticket.release) in
     let x : Held = record { client = n; request = request; pending = pending; blocks = h.blocks.count; release = h.ticket.release } in
-    let last : hold (event ∷ past_seen met) n ≡ Some x = find-last (λ (y : Held). y.client == n) (without_client n (holds (past_seen met))) x (find-filter_none (λ (y : Held). y.client == n) (holds (past_seen met))) (eqb-self n) in
+    let last : hold (event ∷ past_seen met) n ≡ Some x = find-push_new (λ (y : Held). y.client == n) (without_client n (holds (past_seen met))) x (find-filter_none (λ (y : Held). y.client == n) (holds (past_seen met))) (eqb-self n) in
     ap (λ (w : List Event). hold w n) (past-added n event met log a)
     ∙ last
     ∙ ap Some (held-as n h.blocks.count request pending h is.client_is is.request_is is.pending_is)

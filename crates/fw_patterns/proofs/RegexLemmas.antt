@@ -4,6 +4,7 @@ use Rattle.std.proofs.lemmas.Bool.{le-ltb}
 use Rattle.std.specs.Prelude.{◌↔◌, if◌then◌else◌, nat_lt}
 use Rattle.fw_patterns.proofs.WritingBranches.{branches-read}
 use Rattle.fw_patterns.proofs.WritingMarks.{first-none, marks-none, marks-say}
+use Rattle.fw_patterns.proofs.WritingMembers.{no_fault}
 use Rattle.fw_patterns.proofs.WritingSigns.{char_of, laid, signs-laid, signs-spell, whole}
 use Rattle.fw_patterns.specs.Reading.{Stream, branches, fault_or, first_fault, marks, most_bytes, pattern_of, regex_marks, regex_read, signs}
 use Rattle.fw_patterns.specs.Regexes.{InRegex, IsRegex, WritesBranches, WritesRegex}
@@ -14,9 +15,6 @@ use Rattle.fw_patterns.specs.declared.marks.Placed.{Placed}
 use Rattle.fw_patterns.specs.declared.order.Before.TheVariants.{BranchStart}
 use Rattle.fw_patterns.specs.declared.signs.Sign.{Sign}
 use Rattle.fw_patterns.specs.declared.syntax.Branch.{Branch}
-
-no_fault : {X : Type 0} {P : Type 0} (fault : PatternFault) (x : X) → Err fault ≡ Ok x → P
-no_fault fault x h = cc
 
 -- ---- what is written is read
 

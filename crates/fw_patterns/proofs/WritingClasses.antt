@@ -3,7 +3,7 @@ use Rattle.std.proofs.Common.{◌≡◌, ◌⊎◌, ℕ, suc, ◌+◌, ◌==◌,
 use Rattle.std.proofs.lemmas.Bool.{and_parts, and_from, and_right, not-true, not_from_false, or_right, true≢false}
 use Rattle.std.proofs.lemmas.List.{map-append}
 use Rattle.std.specs.List.{before_first, list_all, list_any, position_or_len}
-use Rattle.fw_patterns.proofs.WritingMembers.{at_place, all_members, mark-is, member-closes, members-closed, members-read, members-say}
+use Rattle.fw_patterns.proofs.WritingMembers.{at_place, all_members, mark-is, member-closes, members-closed, members-read, members-say, no_fault}
 use Rattle.fw_patterns.proofs.WritingSigns.{char_of, laid, laid-append, next, past}
 use Rattle.fw_patterns.specs.Reading.{as_class, class_at, class_end, class_of, closes, is_plain, marks, members, sign}
 use Rattle.fw_patterns.specs.Regexes.{Character, WritesAtom, WritesClass, WritesMembers, begins, by_itself, is_member, mark_if}
@@ -15,9 +15,6 @@ use Rattle.fw_patterns.specs.declared.signs.Sign.{Sign}
 use Rattle.fw_patterns.specs.declared.syntax.Atom.{Atom}
 use Rattle.fw_patterns.specs.declared.syntax.Atom.TheVariants.{Class}
 use Rattle.fw_patterns.specs.declared.syntax.ByteRange.{ByteRange}
-
-no_fault : {X : Type 0} {P : Type 0} (fault : PatternFault) (x : X) → Err fault ≡ Ok x → P
-no_fault fault x h = cc
 
 if-false : {X : Type 0} (test : Bool) (x y : X) → test ≡ false → (if test then x else y) ≡ y
 if-false true x y h = absurd (true≢false h)

@@ -3,7 +3,7 @@ use Rattle.std.proofs.Common.{◌≡◌, ℕ, ◌+◌, ◌==◌, Bool, true, fal
 use Rattle.std.proofs.lemmas.Bool.{and_parts, eqb-true, or_parts}
 use Rattle.std.proofs.lemmas.List.{map-append}
 use Rattle.fw_patterns.proofs.WritingClasses.{class-written, marks-past, no_close, same-tail}
-use Rattle.fw_patterns.proofs.WritingMembers.{mark-is}
+use Rattle.fw_patterns.proofs.WritingMembers.{mark-is, no_fault}
 use Rattle.fw_patterns.proofs.WritingSigns.{char_of, character}
 use Rattle.fw_patterns.specs.Reading.{Stream, ahead, branch, branches, class_at, class_step, closes, fault_after, first_fault, is_stray, last_fault, mark_of, mark_step, mark_then, marks, opens, placed, repeat_of, sign, step}
 use Rattle.fw_patterns.specs.Regexes.{Character, WritesAtom, WritesBranch, WritesBranches, WritesOthers, WritesPieces, by_itself, is_literal, mark_if, repeat_mark}
@@ -23,9 +23,6 @@ use Rattle.fw_patterns.specs.declared.syntax.Branch.{Branch}
 use Rattle.fw_patterns.specs.declared.syntax.Piece.{Piece}
 use Rattle.fw_patterns.specs.declared.syntax.Repeat.{Repeat}
 use Rattle.fw_patterns.specs.declared.syntax.Repeat.TheVariants.{Once, AnyTimes, SomeTimes, AtMostOnce}
-
-no_fault : {X : Type 0} {P : Type 0} (fault : PatternFault) (x : X) → Err fault ≡ Ok x → P
-no_fault fault x h = cc
 
 is_fault : {P : Type 0} (fault : PatternFault) → Some fault ≡ None → P
 is_fault fault h = cc

@@ -61,7 +61,7 @@ ok ranges = Ok ranges
 ok-same : (xs ys : List ByteRange) → ok xs ≡ ok ys → ys ≡ xs
 ok-same xs ys h = cc
 
-no_fault : {X : Type 0} {P : Type 0} (fault : PatternFault) (x : X) → Err fault ≡ Ok x → P
+pub no_fault : {X : Type 0} {P : Type 0} (fault : PatternFault) (x : X) → Err fault ≡ Ok x → P
 no_fault fault x h = cc
 
 -- ---- what is written is read

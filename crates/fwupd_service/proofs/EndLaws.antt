@@ -1,11 +1,12 @@
 -- What a status says of a campaign that was played, once its output was written.
-use Rattle.std.proofs.Common.{◌≡◌, ℕ, ◌<◌, ◌≤◌, ◌||◌, Bool, true, false, List, [], length, Option, refl, sym, subst, arith}
+use Rattle.std.proofs.Common.{◌≡◌, ℕ, ◌<◌, ◌≤◌, ◌||◌, Bool, false, List, [], length, Option, sym, subst, arith}
 use Rattle.std.proofs.lemmas.List.{append-nil}
 use Rattle.std.proofs.lemmas.Bool.{or_parts}
 use Rattle.emulated_boards.specs.Boards.{BoardState}
 use Rattle.history_keeper.specs.declared.change.Change.{Change}
 use Rattle.history_keeper.specs.declared.row.Row.{Row}
 use Rattle.outer_traits.specs.Sinks.{Took, TookFront}
+use Rattle.update_log.proofs.Lists.{by_test}
 use Rattle.update_log.specs.declared.event.Event.{Event}
 use Rattle.update_log.specs.Shows.{Campaign}
 use Rattle.client_scripts.specs.declared.item.Item.{Item}
@@ -19,10 +20,6 @@ use Rattle.fwupd_service.specs.declared.reporting.Written.TheVariants as writes
 use Rattle.fwupd_service.specs.Campaigns.{EndsAt, WasPlayed}
 use Rattle.fwupd_service.specs.Ends.{CampaignEnds, IsReported, WasWritten, WentSome, WentWhole, ending_status, played_status, written_status}
 use Rattle.fwupd_service.specs.Telling.{any_fault, any_want}
-
-by_test : (b : Bool) (G : Type 0) → (b ≡ true → G) → (b ≡ false → G) → G
-by_test true G f g = f refl
-by_test false G f g = g refl
 
 -- All of an output is a front of it.
 whole_front : (text : List ℕ) (before after : Option (List ℕ)) → Took text before after → TookFront text before after

@@ -1,17 +1,14 @@
 -- That a log tells no fault of a keeper that counted none.
-use Rattle.std.proofs.Common.{◌≡◌, ◌⊎◌, ℕ, ◌<◌, ◌≤◌, ◌+◌, Bool, true, false, List, [], ◌∷◌, refl, sym, ap, ◌∙◌, inl, inr, arith}
+use Rattle.std.proofs.Common.{◌≡◌, ◌⊎◌, ℕ, ◌<◌, ◌≤◌, ◌+◌, Bool, false, List, [], ◌∷◌, refl, sym, ap, ◌∙◌, inl, inr, arith}
 use Rattle.std.proofs.lemmas.List.Sorted.{IsPermutation-reverse, list_any-IsPermutation}
 use Rattle.std.proofs.lemmas.Bool.{or_from}
 use Rattle.std.specs.List.{list_any}
 use Rattle.std.specs.Prelude.{if◌then◌else◌}
+use Rattle.update_log.proofs.Lists.{by_test}
 use Rattle.update_log.specs.declared.event.Event.{Event}
 use Rattle.update_log.specs.Pasts.{meets_fault, past_of}
 use Rattle.daemon_core.specs.Keeping.{keeper_faults}
 use Rattle.fwupd_service.specs.Telling.{any_fault}
-
-by_test : (b : Bool) (G : Type 0) → (b ≡ true → G) → (b ≡ false → G) → G
-by_test true G f g = f refl
-by_test false G f g = g refl
 
 none-told : (past : List Event) → keeper_faults past ≡ 0 → list_any meets_fault past ≡ false
 none-told [] z = refl

@@ -8,6 +8,7 @@ use Rattle.history_keeper.specs.declared.change.Change.{Change}
 use Rattle.history_keeper.specs.declared.row.Row.{Row}
 use Rattle.history_keeper.specs.Histories.{IsHistory}
 use Rattle.history_keeper.specs.Keepers.{StillTold}
+use Rattle.update_log.proofs.Lists.{by_test}
 use Rattle.update_log.specs.declared.event.Event.{Event}
 use Rattle.update_log.specs.declared.facts.BootPlan.{BootPlan}
 use Rattle.update_log.specs.declared.facts.Facts.{Facts}
@@ -40,10 +41,6 @@ use Rattle.campaign_runs.specs.Runs.{CampaignRan, EndedSo, OpeningTold}
 use Rattle.campaign_runs.proofs.FaultBoots.{faults-earlier, faults-played}
 use Rattle.campaign_runs.proofs.LegalLaws.{legal-in}
 use Rattle.fwupd_service.specs.Campaigns.{EndsAt, IsBadHistory, IsOpening, IsTrueLog, IsUnread, IsUntouched, KeeperStands, WasPlayed}
-
-by_test : (b : Bool) (G : Type 0) → (b ≡ true → G) → (b ≡ false → G) → G
-by_test true G f g = f refl
-by_test false G f g = g refl
 
 -- The rows that a boot took are the opening.
 before-is : (a : Annalled) → a.loaded ≡ true → rows_before a ≡ a.opening

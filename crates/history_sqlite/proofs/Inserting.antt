@@ -31,7 +31,7 @@ use Rattle.history_sqlite.specs.Tables.{Layout, history_schema, rows_tree, store
 use Rattle.history_sqlite.proofs.Effects.{went, same_value, on_table}
 use Rattle.history_sqlite.proofs.Layouts.{rows_place, rows_table, rows_there, one_step_of, first_table, apart, terms, insert_is, insert_plain}
 
-either : (b : Bool) (x : Value) → cond b x x ≡ x
+pub either : (b : Bool) (x : Value) → cond b x x ≡ x
 either true x = refl
 either false x = refl
 

@@ -1,8 +1,8 @@
 -- What the statements do by which the rows of schema 1 are taken over.
-use Rattle.std.proofs.Common.{◌≡◌, ℕ, ℤ, pos, negsuc, List, [], ◌∷◌, map, Bool, true, false, cond, None, Result, Ok, Err, IsTrue, inl, inr, refl, sym, ap, subst, ◌∙◌, arith}
+use Rattle.std.proofs.Common.{◌≡◌, ℕ, ℤ, pos, negsuc, List, [], ◌∷◌, map, true, false, None, Result, Ok, Err, IsTrue, inl, inr, refl, sym, ap, subst, ◌∙◌, arith}
 use Rattle.std.specs.Ordering.{is_eq}
 use Rattle.std.specs.List.Sorted.{IsPermutation}
-use Rattle.sqlite.specs.declared.types.Value.{Value}
+use Rattle.history_sqlite.proofs.Inserting.{either}
 use Rattle.sqlite.specs.declared.types.Value.TheVariants.{Null, Int}
 use Rattle.sqlite.specs.Order.{Row as Values}
 use Rattle.sqlite_value.specs.Order.{value_cmp}
@@ -79,10 +79,6 @@ renumber_is = refl
 renumber_plain : IsPlain (understood taken_schema renumber_text)
 unfolding understood everything
 renumber_plain = (refl, refl)
-
-either : (b : Bool) (x : Value) → cond b x x ≡ x
-either true x = refl
-either false x = refl
 
 cast_integer : (n : ℤ) → cast Integer (Int n) ≡ Int n
 unfolding unary

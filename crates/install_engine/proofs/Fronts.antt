@@ -1,13 +1,10 @@
 -- The front of a file that was read into blocks.
-use Rattle.std.proofs.Common.{◌≡◌, ℕ, ◌+◌, ◌≤◌, List, ◌++◌, length, take, drop, Option, Some, None, IfSome, refl, ap, sym, subst, arith}
-use Rattle.std.proofs.lemmas.List.{take_at, length-take-le}
-use Rattle.std.proofs.Math.Seq.{take-append-add}
+use Rattle.std.proofs.Common.{◌≡◌, ℕ, ◌+◌, ◌≤◌, List, ◌++◌, length, take, drop, Option, Some, None, IfSome, ap, sym, subst, arith}
+use Rattle.std.proofs.lemmas.List.{length-take-le}
+use Rattle.block_pool.proofs.Written.{take-two}
 use Rattle.block_pool.specs.Bytes.{overwritten}
 use Rattle.outer_traits.specs.Shelves.{StandsAt}
 use Rattle.outer_traits.proofs.Stands.{stands_more}
-
-take-two : (a b c : List ℕ) (n : ℕ) → n ≡ length a + length b → take n (a ++ (b ++ c)) ≡ a ++ b
-take-two a b c n h = rw (h, take-append-add) (ap (λ x. a ++ x) (take_at b c (length b) refl))
 
 -- up to the end of a piece that was written stands what was there before it, and the piece
 pub take-overwritten : (bytes : List ℕ) (at : ℕ) (piece : List ℕ) → at ≤ length bytes → take (at + length piece) (overwritten bytes at piece) ≡ take at bytes ++ piece

@@ -12,6 +12,7 @@ use Rattle.emulated_boards.specs.declared.condition.Condition.{Condition}
 use Rattle.emulated_boards.specs.declared.image.Image.{Image}
 use Rattle.emulated_boards.specs.declared.mark.Mark.{Mark}
 use Rattle.history_keeper.specs.declared.row.Row.{Row}
+use Rattle.update_log.proofs.WorkedLogs.{same-raw, same-mode, fresh-gone}
 use Rattle.update_log.specs.declared.event.Event.{Event}
 use Rattle.update_log.specs.declared.facts.Facts.{Facts}
 use Rattle.update_log.specs.Known.{seen}
@@ -56,23 +57,14 @@ start-bad : (raw : Option ℕ) → (if is_some raw then Mode.Runtime else Mode.B
 start-bad None e = refl
 start-bad (Some n) e = let bad : Mode.Runtime ≡ Mode.Bootloader = e in cc
 
-pub home-raw : (a b : ℕ) (m n : Mode) → Seen.Home a m ≡ Seen.Home b n → a ≡ b
-home-raw a b m n e = cc
-
-pub home-mode : (a b : ℕ) (m n : Mode) → Seen.Home a m ≡ Seen.Home b n → m ≡ n
-home-mode a b m n e = cc
-
 -- A board that starts an image whose raw version is allowed.
 fresh-image : (facts : Facts) (first : List Seen) (opening : List Row) (past : List Event) (number : ℕ) (ms : List Mark) (image : Image) → RawAllowed facts first opening past number ms (number_of_image image)
     → FreshShows facts first opening past number ms (Seen.Home (number_of_image image) (start_mode image))
 fresh-image facts first opening past number ms image h =
     record {
-      raw = λ raw mode e. subst (λ (n : ℕ). RawAllowed facts first opening past number ms n) (home-raw (number_of_image image) raw (start_mode image) mode e) h;
-      mode = λ raw e. sym (home-raw (number_of_image image) raw (start_mode image) Mode.Bootloader e) ∙ start-bad image.raw (home-mode (number_of_image image) raw (start_mode image) Mode.Bootloader e);
+      raw = λ raw mode e. subst (λ (n : ℕ). RawAllowed facts first opening past number ms n) (same-raw (number_of_image image) raw (start_mode image) mode e) h;
+      mode = λ raw e. sym (same-raw (number_of_image image) raw (start_mode image) Mode.Bootloader e) ∙ start-bad image.raw (same-mode (number_of_image image) raw (start_mode image) Mode.Bootloader e);
     }
-
-fresh-gone : (facts : Facts) (first : List Seen) (opening : List Row) (past : List Event) (number : ℕ) (ms : List Mark) → FreshShows facts first opening past number ms Seen.Gone
-fresh-gone facts first opening past number ms = record { raw = λ raw mode e. cc; mode = λ raw e. cc }
 
 booted-raw : (facts : Facts) (first : List Seen) (opening : List Row) (past : List Event) (number : ℕ) (ms : List Mark) (c : Condition) (o : Option Image) → c.staged ≡ o → RawAllowed facts first opening past number ms (number_of_image c.image)
     → ((image : Image) → c.staged ≡ Some image → RawAllowed facts first opening past number ms (number_of_image image))

@@ -43,7 +43,7 @@ over P old new past s e p =
     (subst (λ (z : List Row). P old.facts old.first z (past_in new)) (sym (rows-same old new s))
     (subst (λ (w : List Event). P old.facts old.first (rows_before old) w) (sym e) p)))
 
-past-kept : (old new : Annalled) → Unchanged old new → past_in new ≡ past_in old
+pub past-kept : (old new : Annalled) → Unchanged old new → past_in new ≡ past_in old
 past-kept old new u = ap past_of u.log
 
 -- ---- the steps

@@ -20,6 +20,7 @@ use Rattle.emulated_boards.specs.declared.image.Image.{Image}
 use Rattle.emulated_boards.specs.declared.mark.Mark.{Mark}
 use Rattle.plugin_trait.specs.Steps.{IsAway, KeepsRules}
 use Rattle.history_keeper.specs.declared.row.Row.{Row}
+use Rattle.update_log.proofs.WorkedLogs.{same-raw, same-mode}
 use Rattle.update_log.specs.declared.event.Event.{Event}
 use Rattle.update_log.specs.declared.event.Op.{Op}
 use Rattle.update_log.specs.declared.facts.Facts.{Facts}
@@ -28,7 +29,7 @@ use Rattle.update_log.specs.Known.{known, seen, tells}
 use Rattle.update_log.specs.Once.{ShowsFirst}
 use Rattle.update_log.specs.Shows.{EndShows, HasMode, HasRaw, IsWritten, ModeAllowed, RawAllowed, began_since, first_of_board, home_before, home_or, is_alike, is_began, is_entered, is_left, raw_of, told}
 use Rattle.install_engine.specs.Runs.{StandsOut, number_of_image}
-use Rattle.install_engine.proofs.RunBoards.{home-mode, home-raw, raw-wider}
+use Rattle.install_engine.proofs.RunBoards.{raw-wider}
 use Rattle.install_engine.proofs.RunMarks.{ImageGave, ModeGave, StagedGave, StepGave}
 
 -- ---- presence
@@ -61,7 +62,7 @@ shows-itself c raw mode e = at (home-or_away c.presence)
     at : (c.presence ≡ present.Home) ⊎ IsAway c.presence → ShowsItself c raw mode
     at (inl h) =
         let s : Seen.Home (number_of_image c.image) c.mode ≡ Seen.Home raw mode = sym (view-home c h) ∙ e in
-        record { home = h; raw_is = home-raw (number_of_image c.image) raw c.mode mode s; mode_is = home-mode (number_of_image c.image) raw c.mode mode s }
+        record { home = h; raw_is = same-raw (number_of_image c.image) raw c.mode mode s; mode_is = same-mode (number_of_image c.image) raw c.mode mode s }
     at (inr a) = let bad : false ≡ true = sym (view-away c a) ∙ ap is_home e in cc
 
 -- ---- what the rules of a step say

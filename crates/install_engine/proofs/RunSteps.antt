@@ -1,9 +1,9 @@
 -- A claim over the start of a step, the plugin's step and its end.
-use Rattle.std.proofs.Common.{◌≡◌, ℕ, Bool, true, false, List, [], ◌∷◌, ◌++◌, length, drop, refl, ap, sym, ◌∙◌, subst}
+use Rattle.std.proofs.Common.{◌≡◌, ℕ, true, false, List, [], ◌∷◌, ◌++◌, length, drop, refl, ap, sym, ◌∙◌, subst}
 use Rattle.std.proofs.Math.Seq.{drop-append_seam}
 use Rattle.std.proofs.lemmas.List.{append-nil}
 use Rattle.std.proofs.lemmas.Bool.{eqb-true}
-use Rattle.std.specs.Prelude.{Option, Some, None, Result, ⊤, ◌==◌, find, option_and_then, option_map, unwrap_or}
+use Rattle.std.specs.Prelude.{Option, Some, None, Result, ⊤, ◌==◌, option_and_then, option_map, unwrap_or}
 use Rattle.std.specs.List.{AllByRecursion}
 use Rattle.fw_facts.specs.declared.seen.Seen.{Seen}
 use Rattle.block_pool.specs.Views.{SealedBytes}
@@ -13,7 +13,7 @@ use Rattle.emulated_boards.specs.Images.{payload_image}
 use Rattle.emulated_boards.specs.declared.fault.BoardFault.{BoardFault}
 use Rattle.emulated_boards.specs.declared.mark.Mark.{Mark}
 use Rattle.history_keeper.specs.declared.row.Row.{Row}
-use Rattle.update_log.proofs.Lists.{All-filter, All-map, All-push, by_test, eqb-self, find-filter_none}
+use Rattle.update_log.proofs.Lists.{All-filter, All-map, All-push, by_test, eqb-self, find-filter_none, find-push_new}
 use Rattle.update_log.specs.declared.event.Event.{Event}
 use Rattle.update_log.specs.declared.event.Op.{Op}
 use Rattle.update_log.specs.declared.facts.Facts.{Facts}
@@ -54,13 +54,6 @@ open-own facts opening past entry number own a =
         (λ t. ap (λ (e : ℕ). is_board_of facts (rows facts opening past) e number) (eqb-true s.entry entry t) ∙ own-board facts (rows facts opening past) entry number own ∙ sym t)
         (λ f. w f ∙ sym f)
 
-find-pushed : {X : Type 0} (p : X → Bool) (xs : List X) (x : X) → find p xs ≡ None → p x ≡ true → find p (xs ++ x ∷ []) ≡ Some x
-find-pushed p [] x n h = rw h refl
-find-pushed p (y ∷ ys) x n h =
-    by_test (p y) _
-    (λ t. let bad : Some y ≡ None = rw t at n in cc)
-    (λ f. let rest : find p ys ≡ None = rw f at n in rw f (find-pushed p ys x rest h))
-
 not-none : (s : OpenStep) (P : Type 0) → Some s ≡ None → P
 not-none s P e = cc
 
@@ -87,7 +80,7 @@ module _ (facts : Facts) (first : List Seen) (opening : List Row) (past : List E
         (λ f. let bad : true ≡ false = sym (eqb-self parts.entry) ∙ f in cc)
 
     open-pushed : step_open (Event.Start client parts.entry op ∷ past) parts.entry ≡ open_step client parts.entry (Some op)
-    open-pushed = find-pushed (λ s. s.entry == parts.entry) (open_steps past) (record { client = client; entry = parts.entry; op = op }) k.open_is (eqb-self parts.entry)
+    open-pushed = find-push_new (λ s. s.entry == parts.entry) (open_steps past) (record { client = client; entry = parts.entry; op = op }) k.open_is (eqb-self parts.entry)
 
     -- Then it is open, and all else is as before.
     pub claim-started : ClaimRuns facts first opening (Event.Start client parts.entry op ∷ past) client parts number l (Some op)

@@ -2,7 +2,7 @@
 use Rattle.std.proofs.Common.{◌≡◌, ℕ, ◌<◌, Bool, true, false, List, [], ◌∷◌, refl, ap, sym, ◌∙◌, subst}
 use Rattle.std.proofs.lemmas.Bool.{eqb-true}
 use Rattle.std.proofs.lemmas.Option.{same_Some}
-use Rattle.std.specs.Prelude.{Option, Some, None, ◌&&◌, ◌==◌, find, option_map, unwrap_or}
+use Rattle.std.specs.Prelude.{Option, Some, None, ◌&&◌, ◌==◌, option_map, unwrap_or}
 use Rattle.std.specs.List.{AllByRecursion}
 use Rattle.std.specs.Str.{bytes_eq}
 use Rattle.fw_facts.specs.declared.seen.Seen.{Seen}
@@ -32,7 +32,7 @@ use Rattle.update_log.specs.Shows.{Campaign, digest_of, raw_of}
 use Rattle.daemon_core.proofs.BoardsQuiet.{kept-so}
 use Rattle.daemon_core.proofs.ClaimAlone.{alone-on}
 use Rattle.daemon_core.proofs.ClaimEnds.{own-board}
-use Rattle.daemon_core.proofs.ClaimOpen.{open-live}
+use Rattle.daemon_core.proofs.ClaimOpen.{open-live, live-found}
 use Rattle.daemon_core.specs.Annals.{IsLegalSo}
 use Rattle.daemon_core.specs.Claims.{IsTaken}
 use Rattle.daemon_core.specs.Fetches.{raw_number, whole_note}
@@ -44,11 +44,6 @@ use Rattle.install_engine.proofs.RunSteps.{open-own}
 
 -- ---- no other entry has a step open on the board
 
-found-live : (entries : List LiveEntry) (entry : ℕ) (l : LiveEntry) → find (λ x. x.entry == entry) entries ≡ Some l → is_live entries entry ≡ true
-found-live [] entry l h = cc
-found-live (x ∷ xs) entry l h =
-    by_test (x.entry == entry) _ (λ t. rw t refl) (λ t. rw t (found-live xs entry l (rw t at h)))
-
 alone-in : (c : Campaign) (opening : List Row) (past : List Event) (entry number : ℕ) (l : LiveEntry) → IsHistory opening → IsLegal c opening past → off past ≡ false → live_entry past entry ≡ Some l → is_board_of c.facts (rows c.facts opening past) entry number ≡ true
     → AllByRecursion (IsOwnStep c.facts (rows c.facts opening past) entry number) (open_steps past)
 alone-in c opening past entry number l valid legal on f own =
@@ -57,7 +52,7 @@ alone-in c opening past entry number l valid legal on f own =
     each : (s : OpenStep) → is_live (live past) s.entry ≡ true → IsOwnStep c.facts (rows c.facts opening past) entry number s
     each s h other =
         by_test (is_board_of c.facts (rows c.facts opening past) s.entry number) _
-        (λ t. absurd (alone-on c opening past number s.entry entry valid legal h (found-live (live past) entry l f) t own
+        (λ t. absurd (alone-on c opening past number s.entry entry valid legal h (live-found (live past) entry l f) t own
         (λ e. let same : (s.entry == entry) ≡ true = ap (λ (x : ℕ). x == entry) e ∙ eqb-self entry in let bad : false ≡ true = sym other ∙ same in cc)))
         (λ t. t)
 

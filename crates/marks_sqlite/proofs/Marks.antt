@@ -1,5 +1,5 @@
 -- What the statements do to the table of marks.
-use Rattle.std.proofs.Common.{◌≡◌, inl, inr, ℕ, pos, negsuc, ◌+◌, ◌<◌, List, [], ◌∷◌, ◌++◌, length, map, drop, codes, true, false, None, Ok, IsTrue, refl, sym, ap, subst, subst₂, ◌∙◌, arith}
+use Rattle.std.proofs.Common.{◌≡◌, inl, inr, ℕ, pos, negsuc, ◌+◌, ◌<◌, List, [], ◌∷◌, ◌++◌, length, map, codes, true, false, None, Ok, IsTrue, refl, sym, ap, subst, subst₂, ◌∙◌, arith}
 use Rattle.std.specs.Result.{is_ok}
 use Rattle.std.specs.Prelude.{fold, ◌+ℤ◌}
 use Rattle.std.specs.List.{AllByRecursion}
@@ -7,6 +7,7 @@ use Rattle.std.specs.List.Sorted.{IsPermutation}
 use Rattle.std.specs.declared.cmp.Ordering.TheVariants.{Less}
 use Rattle.std.proofs.lemmas.Cmp.{on_total}
 use Rattle.std.proofs.lemmas.List.Concat.{flat_map_single}
+use Rattle.history_sqlite.proofs.Selecting.{drop_none}
 use Rattle.sqlite.specs.declared.types.Value.TheVariants.{Null, Int}
 use Rattle.sqlite.specs.declared.error.Error.{Error}
 use Rattle.sqlite.specs.Order.{Row as Values}
@@ -261,10 +262,6 @@ above_all low place entry (mark ∷ marks) less = (rw (lower low place less), ab
 in_order : (place : ℕ) (marks : List ℕ) → IsAscending (λ a b. output_cmp query a b ≡ Less) (outputs_from place marks)
 in_order place [] = tt
 in_order place (entry ∷ marks) = (above_all place (place + 1) entry marks (omega arith), in_order (place + 1) marks)
-
-drop_none : {X : Type 0} (xs : List X) → drop 0 xs ≡ xs
-drop_none [] = refl
-drop_none (x ∷ xs) = refl
 
 answered : (db : Trees) (marks : List ℕ) (all : List Values) → db 0 ≡ stored_from 1 marks → IsAnswer query (overlay db []) [] all → all ≡ map shown_of marks
 answered db marks all holds a =

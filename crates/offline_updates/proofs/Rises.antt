@@ -1,8 +1,9 @@
 -- Entries of a valid history rise, and are noted row by row.
-use Rattle.std.proofs.Common.{◌≡◌, ℕ, ◌+◌, ◌<◌, ◌≤◌, arith, Bool, true, false, List, [], ◌∷◌, ◌++◌, length, take, map, filter, get_or, if◌then◌else◌, refl, sym, ap, ◌∙◌}
+use Rattle.std.proofs.Common.{◌≡◌, ℕ, ◌+◌, ◌<◌, ◌≤◌, arith, Bool, List, [], ◌∷◌, ◌++◌, length, take, map, filter, get_or, if◌then◌else◌, refl, sym, ap, ◌∙◌}
 use Rattle.std.specs.Prelude.{AllPairs}
 use Rattle.std.proofs.lemmas.List.{get_or-map, take_all, take_more, length-map}
 use Rattle.std.proofs.lemmas.List.Kept.{AllPairs-filter}
+use Rattle.history_keeper.proofs.Numbered.{by_test}
 use Rattle.history_keeper.specs.declared.row.Row.{Row}
 use Rattle.history_keeper.specs.declared.row.RowState.{RowState}
 use Rattle.history_keeper.specs.Histories.{IsHistory}
@@ -29,10 +30,6 @@ pub entries_rise : (fits : RowState → Bool) (rows : List Row) → IsHistory ro
 entries_rise fits rows h =
     mapped_rise (filter (λ (r : Row). fits r.state) rows)
     (AllPairs-filter (λ (a b : Row). a.entry < b.entry) (λ (r : Row). fits r.state) rows (rows_rise rows h))
-
-by_test : (b : Bool) (G : Type 0) → (b ≡ true → G) → (b ≡ false → G) → G
-by_test true G t f = t refl
-by_test false G t f = f refl
 
 one_more : (fits : RowState → Bool) (xs : List Row) (y : Row) → entries_where fits (xs ++ y ∷ []) ≡ (if fits y.state then entries_where fits xs ++ y.entry ∷ [] else entries_where fits xs)
 one_more fits [] y = by_test (fits y.state) _ (λ t. rw t refl) (λ t. rw t refl)

@@ -42,7 +42,7 @@ gained-one client event a b p = record { same = p.same; log = p.log }
 regained : (xs ys : List Event) (a b : Annalled) → xs ≡ ys → Gained xs a b → Gained ys a b
 regained xs ys a b e g = subst (λ (l : List Event). Gained l a b) e g
 
-steps-append : (client entry : ℕ) (xs ys : List StepMade) → step_events client entry (xs ++ ys) ≡ step_events client entry xs ++ step_events client entry ys
+pub steps-append : (client entry : ℕ) (xs ys : List StepMade) → step_events client entry (xs ++ ys) ≡ step_events client entry xs ++ step_events client entry ys
 steps-append client entry [] ys = refl
 steps-append client entry (s ∷ rest) ys =
     ap (λ (l : List Event). Event.Start client entry s.op ∷ Event.End client entry s.op s.outcome s.told s.seen ∷ l) (steps-append client entry rest ys)

@@ -26,7 +26,7 @@ set_found P hs at new lt here old p h e =
       | inr n ↦ old p h (sym (get_or-set_other hs at p (Some new) None n.1) ∙ e)
     ]
 
-option_cases : (o : Option ℕ) → (o ≡ None) ⊎ ((h : ℕ) × (o ≡ Some h))
+pub option_cases : (o : Option ℕ) → (o ≡ None) ⊎ ((h : ℕ) × (o ≡ Some h))
 option_cases None = inl refl
 option_cases (Some h) = inr (h, refl)
 

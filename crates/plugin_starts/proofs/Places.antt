@@ -1,10 +1,8 @@
 -- The places of the plugins that run differ, and what stands there.
-use Rattle.std.proofs.Common.{◌≡◌, ℕ, ◌+◌, ◌<◌, ◌≤◌, inl, inr, Bool, true, false, cond, Option, Some, List, [], ◌∷◌, ◌++◌, suc, length, map, take, get_or, add-one, All, slice_get, slice_index_or, refl, sym, ap, ◌∙◌, subst, arith}
+use Rattle.std.proofs.Common.{◌≡◌, ℕ, ◌+◌, ◌<◌, ◌≤◌, inl, inr, Bool, true, false, cond, Option, Some, List, [], ◌∷◌, length, map, get_or, All, slice_get, slice_index_or, refl, sym, ap, ◌∙◌, subst, arith}
 use Rattle.std.specs.Prelude.{nat_eq, filter}
 use Rattle.std.specs.Option.{option_map}
 use Rattle.std.specs.List.{AllByRecursion, IsDistinct, range_with_len}
-use Rattle.std.proofs.Math.Seq.{take-suc}
-use Rattle.std.proofs.lemmas.List.{map_push}
 use Rattle.std.proofs.lemmas.Bool.Decides.{eqb_tells}
 use Rattle.std.proofs.lemmas.List.Elements.{All-filter}
 use Rattle.std.proofs.lemmas.List.FromFn.{length-range_with_len, get_or-range_with_len}
@@ -19,13 +17,6 @@ use Rattle.site_making.specs.Priorities.{AreEnabledOf, running}
 use Rattle.plugin_starts.specs.Chosen.{AreAt}
 
 -- ---- one more turn of a loop
-
-pub map_turn : {A B : Type 0} (f : A → B) (xs : List A) (i : ℕ) (x : A) (old new : List B) (y : B) → i < length xs → x ≡ get_or xs i x
-    → old ≡ map f (take i xs) → new ≡ old ++ y ∷ [] → y ≡ f x → new ≡ map f (take (i + 1) xs)
-map_turn f xs i x old new y lt is so_far pushed made =
-    let more : map f (take (suc i) xs) ≡ map f (take i xs) ++ f x ∷ [] =
-    ap (map f) (take-suc xs i x lt) ∙ map_push f (take i xs) (get_or xs i x) ∙ ap (λ (z : _). map f (take i xs) ++ f z ∷ []) (sym is) in
-    rw (add-one, more, pushed, so_far, made) refl
 
 -- ---- the places of those that run
 

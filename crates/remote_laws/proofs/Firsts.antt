@@ -1,5 +1,6 @@
 -- The first remote that offers a release keeps it.
 use Rattle.std.proofs.Common.{◌≡◌, ℕ, Bool, true, false, ◌||◌, ◌&&◌, cond, not, List, [], ◌∷◌, ◌++◌, map, refl, sym, ap, ◌∙◌, append_assoc}
+use Rattle.release_catalogue.proofs.Indexes.{or_false}
 use mathlib.Core.Path.{fun_ext}
 use Rattle.std.specs.Prelude.{filter, flat_map}
 use Rattle.std.specs.List.{list_any}
@@ -16,7 +17,7 @@ use Rattle.remote_set.specs.declared.remote.Remote.{Remote}
 use Rattle.remote_set.specs.Merged.{Placed, enabled_in_order, is_hidden, left_of, merged, offers, rank_of, without}
 use Rattle.remote_laws.specs.Firsts.{offered, offered_by, of_first}
 use Rattle.remote_laws.proofs.Equals.{has, hidden_alike}
-use Rattle.remote_laws.proofs.Order.{hidden_at, offering, or_false}
+use Rattle.remote_laws.proofs.Order.{hidden_at, offering}
 
 -- ---- what is left of a version
 

@@ -10,6 +10,7 @@ use Rattle.std.specs.Option.{option_map_or}
 use Rattle.std.specs.Ordering.{is_eq, nat_cmp, ordering_then}
 use Rattle.std.specs.Str.{bytes_eq}
 use Rattle.std.specs.declared.cmp.Ordering.TheVariants.{Less, Equal, Greater}
+use Rattle.release_catalogue.proofs.Indexes.{or_false, or_assoc}
 use Rattle.version_formats.specs.VersionOrder.{same_version, version_cmp}
 use Rattle.fw_facts.specs.declared.release.Component.{Component}
 use Rattle.fw_facts.specs.declared.release.Release.{Release}
@@ -22,14 +23,6 @@ use Rattle.remote_set.specs.Merged.{Placed, comes_before, offers, placed_from, r
 use Rattle.remote_set.proofs.Placing.{placed, placed_left}
 
 -- ---- tests
-
-pub or_false : (b : Bool) → (b || false) ≡ b
-or_false true = refl
-or_false false = refl
-
-pub or_assoc : (a b c : Bool) → ((a || b) || c) ≡ (a || (b || c))
-or_assoc true b c = refl
-or_assoc false b c = refl
 
 -- one more under one test
 pub under : (old test so_far here : Bool) → ((old || (test && so_far)) || (test && here)) ≡ (old || (test && (so_far || here)))

@@ -5,6 +5,7 @@ use Rattle.std.proofs.lemmas.List.{get_or-map, get_or-take, get_or_read, length-
 use Rattle.std.proofs.lemmas.List.Elements.{All-contains, All-contains_itself, All-filter, All-map, All-take, All-weaker, filter-append, filter_passes}
 use Rattle.std.proofs.lemmas.List.Kept.{AllPairs-filter}
 use Rattle.std.proofs.lemmas.Bool.{eq-eqb, and_parts}
+use Rattle.history_keeper.proofs.Numbered.{by_test}
 use Rattle.history_keeper.specs.declared.row.Row.{Row}
 use Rattle.history_keeper.specs.Histories.{IsHistory}
 use Rattle.history_keeper.proofs.Prefixes.{front-pairs}
@@ -24,10 +25,6 @@ pub found_all : (p : Row → Bool) (rows found : List Row) (i n : ℕ) → found
 found_all p rows found i n h le few =
     let all : found ≡ filter p rows = h ∙ ap (filter p) (take_all i rows le) in
     sym (ap (take n) (sym all) ∙ take_all n found few)
-
-by_test : (b : Bool) (G : Type 0) → (b ≡ true → G) → (b ≡ false → G) → G
-by_test true G t f = t refl
-by_test false G t f = f refl
 
 one_more : (p : Row → Bool) (rows : List Row) (row : Row) → filter p (rows ++ row ∷ []) ≡ (if p row then filter p rows ++ row ∷ [] else filter p rows)
 one_more p [] row = by_test (p row) _ (λ t. rw t refl) (λ t. rw t refl)

@@ -1,6 +1,7 @@
 -- Going through a list of things.
-use Rattle.std.proofs.Common.{◌≡◌, ◌⊎◌, ℕ, Bool, true, false, List, [], ◌∷◌, ◌++◌, refl, sym, subst, inl, inr}
+use Rattle.std.proofs.Common.{◌≡◌, ℕ, Bool, true, false, List, [], ◌∷◌, ◌++◌, refl, subst, inl, inr}
 use Rattle.std.specs.Prelude.{Option, Some, None}
+use Rattle.client_plays.proofs.RestLaws.{still-played, so-left}
 use Rattle.history_keeper.specs.declared.row.Row.{Row}
 use Rattle.update_log.specs.declared.facts.Facts.{Facts}
 use Rattle.update_log.specs.Pasts.{off}
@@ -9,10 +10,10 @@ use Rattle.client_plays.specs.declared.played.Played.{Played}
 use Rattle.client_plays.specs.Endings.{OnceMore}
 use Rattle.client_plays.specs.Moments.{Moment}
 use Rattle.client_plays.specs.Plays.{Plays}
-use Rattle.client_plays.specs.Scripts.{PlayedSo, PlaysAll, PlaysUntil}
+use Rattle.client_plays.specs.Scripts.{PlayedSo, PlaysUntil}
 use Rattle.client_plays.specs.Tools.{Files, means_of}
 use Rattle.plugin_trait.specs.Steps.{PluginSteps}
-use Rattle.client_plays.proofs.ScriptLaws.{all-more, all-push, so-all, until-left}
+use Rattle.client_plays.proofs.ScriptLaws.{all-push, so-all, until-left}
 use Rattle.turn_lock.specs.Shown.{PassView}
 use Rattle.shared_daemon.specs.declared.entry.Entry.{Entry}
 use Rattle.shared_daemon.specs.Closings.{IsFreePass}
@@ -35,12 +36,6 @@ more-off wanting Play old new p = record { moments = p.moments; did = p.did; mor
 pub so_far-nothing : {X : Type 0} (wanting : Bool) (Play : X → List Moment → Type 0) (pass : PassView Entry) → IsFreePass pass → SoFar wanting Play [] pass pass
 so_far-nothing wanting Play pass f = record { moments = []; did = did-nothing pass f; plays = refl }
 
--- What was played is still played where memory is told to be wanting.
-still-played : {X : Type 0} (now wanting : Bool) (client : ℕ) (Play : X → List Moment → Type 0) (xs : List X) (moments : List Moment) → (now ≡ true) ⊎ (now ≡ wanting) → PlaysAll wanting client Play xs moments → PlaysAll now client Play xs moments
-still-played now wanting client Play xs moments h p =
-    let P : Bool → Type 0 = λ b. PlaysAll b client Play xs moments in
-    elim h [ inl e ↦ subst P (sym e) (all-more client Play xs moments wanting p) | inr e ↦ subst P (sym e) p ]
-
 -- One thing more was played.
 pub so_far-more : {X : Type 0} (now wanting : Bool) (Play : X → List Moment → Type 0) (done : List X) (x : X) (old mid new : PassView Entry) → SoFar wanting Play done old mid → EndedMore (Some now) wanting (Play x) mid new → SoFar now Play (done ++ x ∷ []) old new
 so_far-more now wanting Play done x old mid new s m =
@@ -51,11 +46,6 @@ so_far-more now wanting Play done x old mid new s m =
       did = did-both s.moments m.moments old mid new s.did.own_are s.did.same m.did;
       plays = all-push now old.number Play done x s.moments m.moments (still-played now wanting old.number Play done s.moments more.0 s.plays) more.1;
     }
-
--- The next thing was left, in a boot that is off.
-so-left : {X : Type 0} (is_off wanting : Bool) (client : ℕ) (Play : X → List Moment → Type 0) (xs : List X) (moments : List Moment) → is_off ≡ true → PlaysUntil wanting client Play xs moments → PlayedSo is_off wanting client Play xs moments
-so-left true wanting client Play xs moments e p = p
-so-left false wanting client Play xs moments e p = cc
 
 pub went-left : {X : Type 0} (wanting : Bool) (Play : X → List Moment → Type 0) (done : List X) (x : X) (others all : List X) (old mid new : PassView Entry) → done ++ x ∷ others ≡ all → SoFar wanting Play done old mid → EndedMore None wanting (Play x) mid new → Went wanting Play all old new
 went-left wanting Play done x others all old mid new e s m =

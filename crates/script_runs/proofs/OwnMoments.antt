@@ -4,12 +4,15 @@ use Rattle.std.proofs.lemmas.List.{reverse-append, append_cancel_left}
 use Rattle.std.proofs.lemmas.List.Elements.{filter-append}
 use Rattle.std.specs.Prelude.{Option, Some, None, IfSome, ◌==◌, option_map, unwrap_or}
 use Rattle.std.specs.List.{AllByRecursion}
+use Rattle.daemon_core.proofs.AnnalsKept.{boots-same}
+use Rattle.daemon_core.proofs.OwedLists.{filter-yes, filter-no}
+use Rattle.shared_daemon.proofs.Others.{some-boots}
 use Rattle.update_log.proofs.Lists.{by_test}
 use Rattle.update_log.specs.declared.event.Event.{Event}
 use Rattle.update_log.specs.declared.event.Op.{Op}
 use Rattle.update_log.specs.Pasts.{boots, client_of, is_boot, is_of, past_of}
 use Rattle.client_plays.specs.Moments.{Moment, at, mine}
-use Rattle.client_plays.proofs.MomentLaws.{boots-same, is_of-own, mine-other, mine-own}
+use Rattle.client_plays.proofs.MomentLaws.{is_of-own, mine-other, mine-own}
 use Rattle.turn_lock.specs.Lists.{BeginsWith, beyond, made_by}
 use Rattle.turn_lock.specs.Shown.{LockId, PassView}
 use Rattle.shared_daemon.specs.declared.entry.Entry.{Entry}
@@ -22,21 +25,11 @@ use Rattle.claim_runs.specs.Ran.{Gained}
 use Rattle.claim_runs.proofs.Kept.{past-added}
 use Rattle.script_runs.specs.Passes.{own}
 
--- Lists that are picked from.
-filter-in : {X : Type 0} (p : X → Bool) (x : X) (xs : List X) → p x ≡ true → filter p (x ∷ xs) ≡ x ∷ filter p xs
-filter-in p x xs h = rw h refl
-
-filter-out : {X : Type 0} (p : X → Bool) (x : X) (xs : List X) → p x ≡ false → filter p (x ∷ xs) ≡ filter p xs
-filter-out p x xs h = rw h refl
-
 filter-cons : {X : Type 0} (p : X → Bool) (x : X) (xs ys : List X) → filter p xs ≡ filter p ys → filter p (x ∷ xs) ≡ filter p (x ∷ ys)
 filter-cons p x xs ys e =
     by_test (p x) _
-    (λ t. filter-in p x xs t ∙ ap (λ (l : List _). x ∷ l) e ∙ sym (filter-in p x ys t))
-    (λ f. filter-out p x xs f ∙ e ∙ sym (filter-out p x ys f))
-
-tail-same : {X : Type 0} (x : X) (xs ys : List X) → x ∷ xs ≡ x ∷ ys → xs ≡ ys
-tail-same x xs ys e = cc
+    (λ t. filter-yes p x xs t ∙ ap (λ (l : List _). x ∷ l) e ∙ sym (filter-yes p x ys t))
+    (λ f. filter-no p x xs f ∙ e ∙ sym (filter-no p x ys f))
 
 -- What a client gained as its own, between two pasts of one boot: moments, of those of these events that
 -- are its own.
@@ -51,14 +44,8 @@ turned event rest past =
     ap (λ (l : List Event). l ++ past) (reverse-append (event ∷ []) rest) ∙ append_assoc (reverse rest) (event ∷ []) past
 
 -- Where there are as many boots, none is among the newer events.
-one-more : (past : List Event) (event : Event) → is_boot event ≡ true → boots (event ∷ past) ≡ boots past + 1
+pub one-more : (past : List Event) (event : Event) → is_boot event ≡ true → boots (event ∷ past) ≡ boots past + 1
 one-more past event b = rw b refl
-
-some-boots : (newer past : List Event) → boots past ≤ boots (newer ++ past)
-some-boots [] past = omega arith
-some-boots (event ∷ newer) past =
-    let rest : boots past ≤ boots (newer ++ past) = some-boots newer past in
-    by_test (is_boot event) _ (λ t. rw t (omega arith)) (λ f. rw f rest)
 
 too-many : (a b c : ℕ) → b ≡ c + 1 → b ≤ a → a ≡ c → ⊥
 too-many a b c e l s = omega arith
@@ -83,12 +70,12 @@ grown client (event ∷ rest) past b =
       own_are = all
           ∙ ap (λ (l : List Moment). l ++ k.moments) (mine-own client past event b.0 t)
           ∙ append_assoc (mine client past) (at past event ∷ []) k.moments;
-      events_are = ap (λ (l : List Event). event ∷ l) k.events_are ∙ sym (filter-in (is_of client) event rest t);
+      events_are = ap (λ (l : List Event). event ∷ l) k.events_are ∙ sym (filter-yes (is_of client) event rest t);
     })
     (λ f. record {
       moments = k.moments;
       own_are = all ∙ ap (λ (l : List Moment). l ++ k.moments) (mine-other client past event b.0 f);
-      events_are = k.events_are ∙ sym (filter-out (is_of client) event rest f);
+      events_are = k.events_are ∙ sym (filter-no (is_of client) event rest f);
     })
 
 -- What a client didn't make is none of its own.
@@ -103,10 +90,10 @@ own-made client (x ∷ list) m =
     let rest : filter (is_of client) (events list) ≡ filter (is_of client) (events (made_by maker_of client list)) = own-made client list m.1 in
     by_test (x.maker == client) _
     (λ t. filter-cons (is_of client) x.event (events list) (events (made_by maker_of client list)) rest
-    ∙ sym (ap (λ (l : List Entry). filter (is_of client) (events l)) (filter-in p x list t)))
-    (λ f. filter-out (is_of client) x.event (events list) (not-made (client_of x.event) x.maker client m.0 f)
+    ∙ sym (ap (λ (l : List Entry). filter (is_of client) (events l)) (filter-yes p x list t)))
+    (λ f. filter-no (is_of client) x.event (events list) (not-made (client_of x.event) x.maker client m.0 f)
     ∙ rest
-    ∙ sym (ap (λ (l : List Entry). filter (is_of client) (events l)) (filter-out p x list f)))
+    ∙ sym (ap (λ (l : List Entry). filter (is_of client) (events l)) (filter-no p x list f)))
 
 events-made : (client : ℕ) (more : List Event) → events (map (entry_of client) more) ≡ more
 events-made client [] = refl
@@ -200,7 +187,7 @@ own-gained lock name old new more p q g =
 
 -- Which events of a run of a claim are the client's own: all but the cut.
 own-own : (client : ℕ) (event : Event) (rest : List Event) → client_of event ≡ Some client → filter (is_of client) (event ∷ rest) ≡ event ∷ filter (is_of client) rest
-own-own client event rest o = filter-in (is_of client) event rest (is_of-own client event o)
+own-own client event rest o = filter-yes (is_of client) event rest (is_of-own client event o)
 
 pub own-steps : (client entry : ℕ) (steps : List StepMade) → filter (is_of client) (step_events client entry steps) ≡ step_events client entry steps
 own-steps client entry [] = refl

@@ -1,10 +1,11 @@
 -- What a client knows of the log that it saw holds of the log that its next turn meets.
-use Rattle.std.proofs.Common.{◌≡◌, ◌≢◌, ℕ, ◌≤◌, ◌+◌, arith, Bool, true, false, ◌||◌, List, [], ◌∷◌, ◌++◌, length, drop, map, reverse, refl, ap, sym, ◌∙◌, subst, inl, inr}
+use Rattle.std.proofs.Common.{◌≡◌, ◌≢◌, ℕ, ◌≤◌, ◌+◌, arith, true, false, List, [], ◌∷◌, ◌++◌, length, drop, map, reverse, refl, ap, sym, ◌∙◌, subst}
 use Rattle.std.proofs.lemmas.Bool.{eqb-true}
 use Rattle.std.proofs.lemmas.List.{reverse-append}
-use Rattle.std.specs.Prelude.{Option, Some, None, Result, IfSome, IsSome, IsTrue, Contains, OnOk, ◌==◌, find, option_map, option_and_then, unwrap_or}
-use Rattle.std.specs.List.{AllByRecursion, list_any}
+use Rattle.std.specs.Prelude.{Option, Some, None, Result, IfSome, IsSome, IsTrue, OnOk, ◌==◌, find, option_map, option_and_then, unwrap_or}
+use Rattle.std.specs.List.{AllByRecursion}
 use Rattle.std.specs.Str.{bytes_eq}
+use Rattle.daemon_core.proofs.AnnalsKept.{boots-same}
 use Rattle.emulated_boards.specs.Boards.{BoardState}
 use Rattle.emulated_boards.specs.Conditions.{view_of as shown_of}
 use Rattle.emulated_boards.specs.declared.fault.BoardFault.{BoardFault}
@@ -21,7 +22,7 @@ use Rattle.update_log.specs.Holding.{hold, live, live_entry, step_open}
 use Rattle.update_log.specs.Known.{Known, board_of, is_board_of, known, row_of, rows, seen, view_of, views}
 use Rattle.update_log.specs.Legal.{EndAllowed, IsFree, IsLegal, StartAllowed, ToldWhole}
 use Rattle.update_log.specs.Pasts.{boots, client_of, is_boot, is_of, last_of, off, past_of, time_of}
-use Rattle.update_log.specs.Shows.{Campaign, EndShows, HasRaw, IsPrefix, ModeAllowed, RawAllowed, digest_of, is_alike, is_began, marks, told}
+use Rattle.update_log.specs.Shows.{Campaign, EndShows, IsPrefix, ModeAllowed, digest_of, is_alike, marks, told}
 use Rattle.update_log.specs.Steps.{closing, closing_at, closing_of, next_step, trace}
 use Rattle.update_log.specs.declared.event.Event.{Event}
 use Rattle.update_log.specs.declared.event.Op.{Op}
@@ -29,14 +30,14 @@ use Rattle.update_log.specs.declared.facts.Facts.{Facts}
 use Rattle.update_log.specs.declared.live.LiveEntry.{LiveEntry}
 use Rattle.update_log.specs.declared.trace.Trace.{Trace}
 use Rattle.daemon_core.proofs.BoardsQuiet.{goes-so}
-use Rattle.daemon_core.proofs.PlacesKept.{SameOfBoard, board-same}
+use Rattle.daemon_core.proofs.PlacesKept.{SameOfBoard, board-same, raw-same}
 use Rattle.daemon_core.specs.Annals.{IsLegalSo, MadeBy}
 use Rattle.daemon_core.specs.Boards.{BoardStands}
 use Rattle.daemon_core.specs.Finishes.{IsDone}
 use Rattle.daemon_core.specs.Returns.{ComesHome, StepEnds, new_marks, number_of}
 use Rattle.shared_daemon.proofs.OthersBoards.{own-board_same}
 use Rattle.shared_daemon.proofs.OthersEntries.{concerns, live-begun, live-same, step-same, trace-same, untouched}
-use Rattle.shared_daemon.proofs.OthersLists.{IsOther, boots-other, free-other, hold-other, last-other, off-other, time-other}
+use Rattle.shared_daemon.proofs.OthersLists.{IsOther, free-other, hold-other, last-other, off-other, time-other}
 use Rattle.shared_daemon.proofs.OthersRows.{concerns-none, row-same, some-goes_on, unadvanced}
 use Rattle.shared_daemon.specs.Others.{IsOwn, Others}
 
@@ -147,7 +148,7 @@ one-entry c opening past event client entry l v legal o own =
 one-stays : (c : Campaign) (opening : List Row) (past : List Event) (event : Event) (client : ℕ) → IsHistory opening → IsLegal c opening (event ∷ past) → IsOther client event → Stays c.facts c.first opening client past (event ∷ past)
 one-stays c opening past event client v legal o =
     record {
-      booted = boots-other past event o.no_boot;
+      booted = boots-same past event o.no_boot;
       timed = time-other past event o.no_boot;
       is_off = off-other past event o.no_boot;
       last = last-other past event client o;
@@ -167,7 +168,7 @@ many-stay c opening client (event ∷ newer) past v legal o =
     (one-stays c opening (newer ++ past) event client v legal o.0)
 
 -- Where there are as many boots, none is among them.
-some-boots : (newer past : List Event) → boots past ≤ boots (newer ++ past)
+pub some-boots : (newer past : List Event) → boots past ≤ boots (newer ++ past)
 some-boots [] past = omega arith
 some-boots (event ∷ newer) past =
     let rest : boots past ≤ boots (newer ++ past) = some-boots newer past in
@@ -214,14 +215,6 @@ others-stay facts first opening client seen more o =
         (many-stay c opening client (reverse more) (past_of seen) o.history legal all))
 
 -- What a step's end may show, where two pasts say the same of its board.
-
-raw-same : (facts : Facts) (first : List Seen) (opening : List Row) (past other : List Event) (number : ℕ) (told_now : List Mark) (raw : ℕ) → SameOfBoard facts first opening past other number
-    → RawAllowed facts first opening past number told_now raw → RawAllowed facts first opening other number told_now raw
-raw-same facts first opening past other number told_now raw s (inl h) = inl (subst (λ (x : Seen). HasRaw x raw) (sym s.before) h)
-raw-same facts first opening past other number told_now raw s (inr (inl h)) =
-    inr (inl (h.0, subst (λ (x : Bool). IsTrue (list_any is_began told_now || x)) (sym s.began) h.1))
-raw-same facts first opening past other number told_now raw s (inr (inr w)) =
-    inr (inr (w.0, w.1, subst (λ (x : List Mark). Contains (x ++ told_now) (Mark.Ended w.0 w.1)) (sym s.told) w.2, s.raws w.0 raw w.3))
 
 shows-same : (facts : Facts) (first : List Seen) (opening : List Row) (past other : List Event) (number : ℕ) (told_now : List Mark) (outcome : Result (Unit {0}) BoardFault) (shown : Seen) → SameOfBoard facts first opening past other number
     → EndShows facts first opening past number told_now outcome shown → EndShows facts first opening other number told_now outcome shown

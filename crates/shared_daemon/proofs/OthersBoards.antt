@@ -3,6 +3,7 @@ use Rattle.std.proofs.Common.{◌≡◌, ◌≢◌, ℕ, true, false, List, [], 
 use Rattle.std.proofs.lemmas.List.{append-nil}
 use Rattle.std.proofs.lemmas.Bool.{eq-eqb}
 use Rattle.std.specs.Prelude.{Option, Some, None, ◌==◌, if◌then◌else◌, option_map, unwrap_or}
+use Rattle.daemon_core.proofs.AnnalsKept.{boots-same}
 use Rattle.device_list.specs.declared.selector.Selector.{Selector}
 use Rattle.fw_facts.specs.Views.{is_home}
 use Rattle.fw_facts.specs.declared.seen.Seen.{Seen}
@@ -23,13 +24,12 @@ use Rattle.daemon_core.proofs.BoardsQuiet.{open-kept, open-marks-kept, raws-stay
 use Rattle.daemon_core.proofs.ClaimAlone.{alone-on}
 use Rattle.daemon_core.proofs.ClaimBoards.{end-passes}
 use Rattle.daemon_core.proofs.ClaimEnds.{any-found, own-board}
-use Rattle.daemon_core.proofs.ClaimOpen.{open-entry_live}
+use Rattle.daemon_core.proofs.ClaimOpen.{open-entry_live, live-found}
 use Rattle.daemon_core.proofs.Moves.{for-other, found-board, free-home}
 use Rattle.daemon_core.proofs.PlacesKept.{SameOfBoard}
 use Rattle.daemon_core.specs.Annals.{IsLegalSo}
 use Rattle.daemon_core.specs.Boards.{is_faulty_end, is_out}
-use Rattle.shared_daemon.proofs.OthersEntries.{concerns, live-is}
-use Rattle.shared_daemon.proofs.OthersLists.{boots-other}
+use Rattle.shared_daemon.proofs.OthersEntries.{concerns}
 
 -- Of a board nothing is told, and the same step is open on it.
 record TellsNone (facts : Facts) (opening : List Row) (past : List Event) (event : Event) (number : ℕ) : Type 0 where
@@ -79,7 +79,7 @@ module _ (c : Campaign) (opening : List Row) (past : List Event) (event : Event)
   off-board : (e : ℕ) (m : LiveEntry) → live_entry past e ≡ Some m → (e == entry) ≡ false → is_board_of c.facts (rows c.facts opening past) e number ≡ false
   off-board e m f n =
       by_test (is_board_of c.facts (rows c.facts opening past) e number) _
-      (λ t. absurd (alone-on c opening past number e entry valid legal.0 (live-is (live past) e m f) (live-is (live past) entry l found) t (own-board c.facts (rows c.facts opening past) entry number board)
+      (λ t. absurd (alone-on c opening past number e entry valid legal.0 (live-found (live past) e m f) (live-found (live past) entry l found) t (own-board c.facts (rows c.facts opening past) entry number board)
       (λ s. let yes : (e == entry) ≡ true = eq-eqb e entry s in let bad : true ≡ false = sym yes ∙ n in cc)))
       (λ f. f)
 
@@ -155,7 +155,7 @@ own-board_same c opening past event entry number l v legal b n f s bd f' bd' =
       out = own-out c.facts opening (event ∷ past) entry number l f' s bd' ∙ sym (own-out c.facts opening past entry number l f s bd);
       opened = t.opened;
       marks = open-marks-kept c.facts c.first opening past event v so number t.opened;
-      booted = λ h. rw (boots-other past event b) at h;
+      booted = λ h. rw (boots-same past event b) at h;
       seen = rw t.same_tells refl;
       before = rw t.same_tells refl;
       began = rw (t.same_tells, t.told) refl;

@@ -3,6 +3,7 @@ use Rattle.std.proofs.Common.{◌≡◌, ◌≢◌, ℕ, Bool, true, false, not,
 use Rattle.std.specs.Prelude.{Some, None, ◌==◌, find, option_map}
 use Rattle.std.specs.List.{AllByRecursion}
 use Rattle.std.proofs.lemmas.Bool.{eqb-true}
+use Rattle.daemon_core.proofs.ClaimOpen.{live-found}
 use Rattle.history_keeper.specs.declared.row.Row.{Row}
 use Rattle.history_keeper.specs.declared.row.RowState.{RowState}
 use Rattle.history_keeper.specs.Histories.{IsHistory}
@@ -115,10 +116,6 @@ live-begun c opening past entry l v legal h =
 pub live-known : (c : Campaign) (opening : List Row) (past : List Event) (entry : ℕ) (l : LiveEntry) → IsHistory opening → IsLegal c opening past → live_entry past entry ≡ Some l → entry ≤ length (rows c.facts opening past)
 live-known c opening past entry l v legal h = let k = past-kept c opening past v legal in let w = live-of c.facts opening past entry l k.steps.live_is h in w.known
 
-pub live-is : (entries : List LiveEntry) (entry : ℕ) (l : LiveEntry) → find (λ x. x.entry == entry) entries ≡ Some l → is_live entries entry ≡ true
-live-is [] entry l h = cc
-live-is (x ∷ xs) entry l h = by_test (x.entry == entry) _ (λ t. rw t refl) (λ f. rw f (live-is xs entry l (rw f at h)))
-
 not-judged : (past : List Event) (state : RowState) (entry : ℕ) → state ≡ RowState.Begun → is_live (live past) entry ≡ true → may_judge past state entry ≡ true → ⊥
 not-judged past state entry s l m =
     let n : not (is_live (live past) entry) ≡ true = subst (λ (x : RowState). may_judge past x entry ≡ true) s m in
@@ -169,7 +166,7 @@ untouched c opening past event client entry l v legal a o own = at event a o.not
         eqb-other e entry (λ s. let f : state_of (rows c.facts opening past) e ≡ Some b.0.state = ap (option_map (λ (r : Row). r.state)) j.row_is in
         let g : Some RowState.Begun ≡ Some b.0.state = sym begun ∙ ap (state_of (rows c.facts opening past)) (sym s) ∙ f in
         let st : b.0.state ≡ RowState.Begun = cc in
-        let is : is_live (live past) e ≡ true = ap (is_live (live past)) s ∙ live-is (live past) entry l own.live in
+        let is : is_live (live past) e ≡ true = ap (is_live (live past)) s ∙ live-found (live past) entry l own.live in
         not-judged past b.0.state e st is j.waits)
     at (Event.GiveBack other (Back.Entry e)) b n = apart e other b.0 n b.1 b.2
     at _ b n = refl

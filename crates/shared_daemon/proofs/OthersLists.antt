@@ -1,12 +1,13 @@
 -- What an event of another client leaves of what a client has out.
-use Rattle.std.proofs.Common.{◌≡◌, ℕ, Bool, true, false, ◌||◌, not, List, [], ◌∷◌, ◌++◌, refl, ap, sym, ◌∙◌}
+use Rattle.std.proofs.Common.{◌≡◌, ℕ, Bool, true, false, not, List, [], ◌∷◌, ◌++◌, refl, ap, sym, ◌∙◌}
 use Rattle.std.specs.Prelude.{Some, ◌==◌, find, filter}
 use Rattle.std.specs.List.{list_any}
 use Rattle.std.proofs.lemmas.Bool.{eqb-true, or_right}
+use Rattle.daemon_core.proofs.ClaimTaking.{any-but_last}
 use Rattle.update_log.proofs.Lists.{by_test, eqb-self, find-filter, find-push_other}
 use Rattle.update_log.specs.Holding.{blocks_fetched, blocks_fetched_if, hold, holds, live, without_client}
 use Rattle.update_log.specs.Legal.{IsFree}
-use Rattle.update_log.specs.Pasts.{boots, is_boot, is_of, last_of, off, puts_off, time_of}
+use Rattle.update_log.specs.Pasts.{is_boot, is_of, last_of, off, puts_off, time_of}
 use Rattle.update_log.specs.declared.answer.AskAnswer.{AskAnswer}
 use Rattle.update_log.specs.declared.answer.ClaimAnswer.{ClaimAnswer}
 use Rattle.update_log.specs.declared.answer.ResumeAnswer.{ResumeAnswer}
@@ -27,10 +28,6 @@ find-grown p (y ∷ rest) ys x h =
     by_test (p y) _
     (λ t. let h' : Some y ≡ Some x = rw t at h in rw t h')
     (λ f. rw f (find-grown p rest ys x (rw f at h)))
-
-pub any-grown : {X : Type 0} (p : X → Bool) (xs : List X) (x : X) → p x ≡ false → list_any p (xs ++ x ∷ []) ≡ list_any p xs
-any-grown p [] x h = rw h refl
-any-grown p (y ∷ ys) x h = ap (λ (b : Bool). p y || b) (any-grown p ys x h)
 
 pub any-fewer : {X : Type 0} (p q : X → Bool) (xs : List X) → list_any p xs ≡ false → list_any p (filter q xs) ≡ false
 any-fewer p q [] h = refl
@@ -66,9 +63,9 @@ hold-other past _ client o = refl
 pub none-other : (past : List Event) (event : Event) (client : ℕ) → IsOther client event → list_any (λ l. l.client == client) (live past) ≡ false → list_any (λ l. l.client == client) (live (event ∷ past)) ≡ false
 none-other past (Event.Boot number time limit found boards) client o h = refl
 none-other past (Event.Claim other request fetched (ClaimAnswer.Entry entry)) client o h =
-    any-grown (λ l. l.client == client) (live past) (record { client = other; entry = entry; blocks = blocks_fetched fetched }) o.not_of ∙ h
+    any-but_last (λ l. l.client == client) (live past) (record { client = other; entry = entry; blocks = blocks_fetched fetched }) o.not_of ∙ h
 none-other past (Event.Resume other entry fetched ResumeAnswer.Begun stored) client o h =
-    any-grown (λ l. l.client == client) (live past) (record { client = other; entry = entry; blocks = blocks_fetched_if fetched }) o.not_of ∙ h
+    any-but_last (λ l. l.client == client) (live past) (record { client = other; entry = entry; blocks = blocks_fetched_if fetched }) o.not_of ∙ h
 none-other past (Event.Finish other entry state stored) client o h = any-fewer (λ l. l.client == client) (λ l. not (l.entry == entry)) (live past) h
 none-other past (Event.GiveBack other (Back.Entry entry)) client o h = any-fewer (λ l. l.client == client) (λ l. not (l.entry == entry)) (live past) h
 none-other past _ client o h = h
@@ -78,9 +75,6 @@ free-other past event client o f = record { hold = hold-other past event client 
 
 pub last-other : (past : List Event) (event : Event) (client : ℕ) → IsOther client event → last_of client (event ∷ past) ≡ last_of client past
 last-other past event client o = rw (o.no_boot, o.not_of) refl
-
-pub boots-other : (past : List Event) (event : Event) → is_boot event ≡ false → boots (event ∷ past) ≡ boots past
-boots-other past event b = rw b refl
 
 pub time-other : (past : List Event) (event : Event) → is_boot event ≡ false → time_of (event ∷ past) ≡ time_of past
 time-other past event b = time-same event (time_of past) b

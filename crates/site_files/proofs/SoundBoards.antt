@@ -27,15 +27,15 @@ use Rattle.site_files.proofs.GoodReadings.{Good, good_after, good_default, good_
 
 -- ---- numbers
 
-good_tested : (n most : ℕ) (spot : Spot) (b : Bool) → (b ≡ true → n ≤ most) → Good (λ (n : ℕ). n ≤ most) (if b then Ok n else at_spot spot WrongKind)
+pub good_tested : (n most : ℕ) (spot : Spot) (b : Bool) → (b ≡ true → n ≤ most) → Good (λ (n : ℕ). n ≤ most) (if b then Ok n else at_spot spot WrongKind)
 good_tested n most spot true h = h refl
 good_tested n most spot false h = tt
 
-both : (a b : Bool) → (a && b) ≡ true → b ≡ true
+pub both : (a b : Bool) → (a && b) ≡ true → b ≡ true
 both true b h = h
 both false b h = cc
 
-good_number : (least most : ℕ) (spot : Spot) (o : Option ℕ)
+pub good_number : (least most : ℕ) (spot : Spot) (o : Option ℕ)
     → Good (λ (n : ℕ). n ≤ most) (or_fault spot WrongKind o >>= λ n. if nat_le least n && nat_le n most then Ok n else at_spot spot WrongKind)
 good_number least most spot None = tt
 good_number least most spot (Some n) = good_tested n most spot (nat_le least n && nat_le n most) (λ h. leb-true n most (both (nat_le least n) (nat_le n most) h))

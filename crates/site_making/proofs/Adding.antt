@@ -1,5 +1,5 @@
 -- What the names of the plugins that run add, said of the sheets of all plugins.
-use Rattle.std.proofs.Common.{◌≡◌, ℕ, ◌+◌, ◌<◌, ◌≤◌, ◌⊎◌, inl, inr, Bool, true, false, not, Option, Some, None, List, [], length, get_or, slice_index, slice_index_or, All, refl, sym, ap, ◌∙◌, subst, arith, ◌∷◌, map}
+use Rattle.std.proofs.Common.{◌≡◌, ℕ, ◌+◌, ◌<◌, ◌≤◌, inl, inr, Bool, true, false, not, Option, Some, None, List, [], length, get_or, slice_index, slice_index_or, All, refl, sym, ap, ◌∙◌, subst, arith, ◌∷◌, map}
 use Rattle.std.specs.Prelude.{nat_eq, nat_lt, bytes_eq, filter, position}
 use Rattle.std.specs.List.{Any, Contains, list_any, position_or_len, range_with_len}
 use Rattle.std.proofs.lemmas.Bool.{eq-eqb, eqb-true, lt-ltb}
@@ -13,6 +13,7 @@ use Rattle.std.proofs.lemmas.List.Sorted.{Contains-permutation, length_permutati
 use Rattle.std.proofs.lemmas.List.Sums.{prefix_len_passes}
 use Rattle.std.proofs.lemmas.Map.Views.{any-filter_same}
 use Rattle.std.proofs.lemmas.Slice.Eq.{bytes_eq-Decides}
+use Rattle.plugin_order.proofs.Found.{option_cases}
 use Rattle.plugin_order.specs.declared.sheet.PluginSheet.{PluginSheet}
 use Rattle.plugin_order.specs.declared.arrangement.Arrangement.{Arrangement}
 use Rattle.plugin_order.specs.Sheets.{name_at}
@@ -86,10 +87,6 @@ at_place : (sheets : List PluginSheet) (arrangement : Arrangement) (names : List
     → (at : ℕ) → at < length (running arrangement) → get_or names at [] ≡ name_at sheets (get_or (running arrangement) at 0)
 at_place sheets arrangement names are at lt =
     ap (λ (xs : List (List ℕ)). get_or xs at []) are.named ∙ get_or-map (name_at sheets) (running arrangement) at 0 [] lt
-
-option_cases : (o : Option ℕ) → (o ≡ None) ⊎ ((at : ℕ) × (o ≡ Some at))
-option_cases None = inl refl
-option_cases (Some at) = inr (at, refl)
 
 -- what a name adds where none of those that run has it
 adds_nothing : (sheets : List PluginSheet) (arrangement : Arrangement) (names : List (List ℕ)) → AreEnabledOf sheets arrangement names

@@ -139,7 +139,7 @@ target-matches facts views request t h = at (place request.device views) h
     at (Some place) g = at-view place (slice_get views place) g
 
 -- What is found in a list at the first place that passes a test passes it.
-found-passes : {X : Type 0} (p : X → Bool) (xs : List X) (i : ℕ) (x : X) → position p xs ≡ Some i → slice_get xs i ≡ Some x → p x ≡ true
+pub found-passes : {X : Type 0} (p : X → Bool) (xs : List X) (i : ℕ) (x : X) → position p xs ≡ Some i → slice_get xs i ≡ Some x → p x ≡ true
 found-passes p xs i x at h =
     let first : find p xs ≡ slice_get xs (position_or_len p xs) = find_at p xs in
     by_test (nat_lt (position_or_len p xs) (length xs)) _

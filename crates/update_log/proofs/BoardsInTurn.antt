@@ -12,7 +12,7 @@ use Rattle.update_log.specs.declared.facts.Facts.{Facts}
 use Rattle.update_log.specs.Boards.{Board, boards_from, all_boards, is_beaten, is_device, devices}
 use Rattle.update_log.specs.CoreBoards.{board, first_view}
 use Rattle.std.proofs.lemmas.List.{map-append}
-use Rattle.update_log.proofs.Lists.{by_test, eqb-other, All-map, All-filter, All-both}
+use Rattle.update_log.proofs.Lists.{by_test, eqb-other, All-map, All-filter, All-both, any-here, filter-short}
 use Rattle.update_log.proofs.Devices.{IsIn, IsOne, apart, each-in, one-of}
 use Rattle.update_log.proofs.Openings.{bytes-differ}
 
@@ -34,13 +34,6 @@ any-next p (x ∷ xs) (suc i) d lt h g =
     by_test (p x) _
     (λ t. let bad : true ≡ false = rw t at h in cc)
     (λ f. rw f (any-next p xs i d (omega arith) (rw f at h) g))
-
--- A test that this one passes.
-pub any-here : {X : Type 0} (p : X → Bool) (xs : List X) (i : ℕ) (d : X) → i < length xs → p (get_or xs i d) ≡ true → list_any p xs ≡ true
-any-here p [] i d lt g = absurd (omega arith)
-any-here p (x ∷ xs) zero d lt g = rw g refl
-any-here p (x ∷ xs) (suc i) d lt g =
-    by_test (p x) _ (λ t. rw t refl) (λ f. rw f (any-here p xs i d (omega arith) g))
 
 pub take-whole : {X : Type 0} (xs : List X) (i : ℕ) → length xs ≤ i → take i xs ≡ xs
 take-whole [] zero h = refl
@@ -172,18 +165,11 @@ pub kept-whole : {Y : Type 0} (f : Board → Y) (facts : Facts) (items : List Sh
 kept-whole f facts items i now n le h = h ∙ ap (λ bs. map f (filter (is_device facts) bs)) (whole-boards facts items i n le)
 
 -- There are no more devices than sheets.
-kept-short : {X : Type 0} (p : X → Bool) (xs : List X) → length (filter p xs) ≤ length xs
-kept-short p [] = omega arith
-kept-short p (x ∷ xs) =
-    by_test (p x) _
-    (λ t. rw t (let h = kept-short p xs in omega (arith, h)))
-    (λ f. rw f (let h = kept-short p xs in omega (arith, h)))
-
 pub few-devices : {Y : Type 0} (f : Board → Y) (facts : Facts) (found : List Y) → length facts.sheets ≤ 256 → found ≡ map f (devices facts) → length found ≤ 256
 few-devices f facts found few h =
     let m = ap length h in
     let n = length-mapped f (devices facts) in
-    let k = kept-short (is_device facts) (all_boards facts) in
+    let k = filter-short (is_device facts) (all_boards facts) in
     let l = length-from 0 facts.sheets in
     omega (arith, m, n, k, l, few)
 

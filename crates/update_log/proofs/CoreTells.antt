@@ -5,11 +5,11 @@ use Rattle.std.specs.Str.{bytes_eq}
 use Rattle.std.proofs.lemmas.Option.{slice_get-map, slice_get_past}
 use Rattle.std.proofs.lemmas.Bool.{ltb-false}
 use Rattle.std.specs.List.{position_or_len}
+use Rattle.device_list.proofs.GuidLaws.{bytes_eq-symm}
 use Rattle.device_list.specs.Lists.{names, place}
 use Rattle.device_list.specs.declared.selector.Selector.{Selector}
 use Rattle.history_keeper.specs.declared.row.Row.{Row}
 use Rattle.update_log.proofs.Lists.{by_test}
-use Rattle.update_log.proofs.Openings.{bytes-same}
 use Rattle.update_log.proofs.Rows.{length-map}
 use Rattle.update_log.specs.Boards.{Board, board_at, board_with, devices}
 use Rattle.update_log.specs.CoreSteps.{board_of_entry, board_on, tells_on}
@@ -18,14 +18,6 @@ use Rattle.update_log.specs.declared.answer.PlugAnswer.{PlugAnswer}
 use Rattle.update_log.specs.declared.event.Event.{Event}
 use Rattle.update_log.specs.declared.facts.Facts.{Facts}
 use Rattle.update_log.specs.declared.live.LiveEntry.{LiveEntry}
-
-bytes-turned : (a b : List ℕ) → bytes_eq a b ≡ bytes_eq b a
-bytes-turned a b =
-    by_test (bytes_eq a b) _
-    (λ t. let e : a ≡ b = bytes-same a b t in rw e refl)
-    (λ f. by_test (bytes_eq b a) _
-    (λ t. let e : b ≡ a = bytes-same b a t in rw e refl)
-    (λ g. f ∙ sym g))
 
 -- The numbers of these boards.
 abbrev numbers : List Board → List ℕ
@@ -38,14 +30,14 @@ at-place : (entries : List LiveEntry) (known : Known) (device : List ℕ) (board
 at-place entries known device [] = refl
 at-place entries known device (b ∷ boards) =
     by_test (bytes_eq device b.sheet.device) _
-    (λ t. let u : bytes_eq b.sheet.device device ≡ true = bytes-turned b.sheet.device device ∙ t in rw (t, u) refl)
-    (λ t. let u : bytes_eq b.sheet.device device ≡ false = bytes-turned b.sheet.device device ∙ t in
+    (λ t. let u : bytes_eq b.sheet.device device ≡ true = bytes_eq-symm b.sheet.device device ∙ t in rw (t, u) refl)
+    (λ t. let u : bytes_eq b.sheet.device device ≡ false = bytes_eq-symm b.sheet.device device ∙ t in
     let n : ℕ = position_or_len (names (Selector.Id device)) (map (view_of entries known) boards) in
     let e : 1 + n ≡ suc n = omega arith in
     rw (t, u) (ap (λ (k : ℕ). slice_get (numbers (b ∷ boards)) k) e ∙ at-place entries known device boards))
 
 -- A place that is looked up, or there is none.
-looked-up : (numbers : List ℕ) (n len : ℕ) → length numbers ≡ len → option_and_then (slice_get numbers) (cond (nat_lt n len) (Some n) None) ≡ slice_get numbers n
+pub looked-up : (numbers : List ℕ) (n len : ℕ) → length numbers ≡ len → option_and_then (slice_get numbers) (cond (nat_lt n len) (Some n) None) ≡ slice_get numbers n
 looked-up numbers n len h =
     by_test (nat_lt n len) _
     (λ t. rw t refl)

@@ -68,7 +68,7 @@ tied-taken f g traces entries l o t h same e is =
 abbrev pub with_end : ℕ → TraceStep → (ℕ → Option Trace) → ℕ → Option Trace
 with_end entry step f e = if entry == e then option_map (with_step step) (f e) else f e
 
-turned : (a b : ℕ) → (a == b) ≡ false → (b == a) ≡ false
+pub turned : (a b : ℕ) → (a == b) ≡ false → (b == a) ≡ false
 turned a b h = eqb-other b a (λ s. let t : (a == b) ≡ true = rw s (eqb-self a) in cc)
 
 one-stepped : (entry : ℕ) (step : TraceStep) (f : ℕ → Option Trace) (t : Traced) (l : LiveEntry) → trace_kept t ≡ said f l → trace_kept (stepped entry step t) ≡ said (with_end entry step f) l

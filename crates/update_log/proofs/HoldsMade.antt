@@ -30,14 +30,14 @@ IsOfRow all h = IfSome h.pending (RowMade all h.request)
 abbrev pub HoldsMade : Facts → List Row → List Event → Type 0
 HoldsMade facts opening past = AllByRecursion (IsOfRow (rows facts opening past)) (holds past)
 
-grows : (old new : List Row) → GoesOn old new → length old ≤ length new
-grows old new (inl e) = omega (arith, ap length e)
-grows old new (inr g) = omega (arith, changed-grows g.0 old, ap length g.2)
+pub goes_on-grows : (old new : List Row) → GoesOn old new → length old ≤ length new
+goes_on-grows old new (inl e) = omega (arith, ap length e)
+goes_on-grows old new (inr g) = omega (arith, changed-grows g.0 old, ap length g.2)
 
 made-on : (old new : List Row) (request : Request) (o : Option ℕ) → GoesOn old new → IfSome o (RowMade old request) → IfSome o (RowMade new request)
 made-on old new request None g k = tt
 made-on old new request (Some e) g k =
-    let more = grows old new g in
+    let more = goes_on-grows old new g in
     let le = k.0 in
     (omega (arith, more, le), (k.1.0, goes_on-fixed old new e g k.0 ∙ k.1.1, k.1.2))
 

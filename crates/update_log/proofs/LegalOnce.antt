@@ -10,14 +10,14 @@ use Rattle.history_keeper.specs.Histories.{IsHistory}
 use Rattle.history_keeper.specs.declared.change.Change.{Change}
 use Rattle.history_keeper.specs.declared.row.Row.{Row}
 use Rattle.history_keeper.specs.declared.row.RowState.{RowState}
-use Rattle.update_log.proofs.HoldsMade.{HoldsMade, holds-step}
+use Rattle.update_log.proofs.HoldsMade.{HoldsMade, holds-step, row-within, goes_on-grows}
 use Rattle.update_log.proofs.Lists.{All-append, All-both, All-filter, All-map, by_test, eqb-other, eqb-self}
 use Rattle.update_log.proofs.MarksKept.{MarkKept, MarkOf, MarksKept, OpenMarks, how_many-append, marks-boot, marks-end, marks-none, marks-quiet, marks-start, open-marks}
 use Rattle.update_log.proofs.Openings.{distinct-tags, entries-from, tags-differ}
 use Rattle.update_log.proofs.RowsKept.{RowsKept, RowsStep, closed-settled, fixed, judged-settled, rows-step-on}
 use Rattle.update_log.proofs.StepsKept.{StepsKept, not-fresh, open-started, steps-boot, steps-claim, steps-end, steps-none, steps-quiet, steps-resumed, steps-start}
 use Rattle.update_log.proofs.StrokeFacts.{few-writes, writes}
-use Rattle.update_log.proofs.TakenKept.{Taken, TakenKept, WaitingKept, goes_on-grows, row_of-known, taken-at_most, taken-boot, taken-claim, taken-end, taken-none, taken-quiet, taken-resume, taken-schedule, taken-start, untaken-unstarted, waiting-advanced, waiting-boot, waiting-claim, waiting-none, waiting-resume, waiting-same, waiting-schedule}
+use Rattle.update_log.proofs.TakenKept.{Taken, TakenKept, WaitingKept, taken-at_most, taken-boot, taken-claim, taken-end, taken-none, taken-quiet, taken-resume, taken-schedule, taken-start, untaken-unstarted, waiting-advanced, waiting-boot, waiting-claim, waiting-none, waiting-resume, waiting-same, waiting-schedule}
 use Rattle.update_log.specs.Holding.{live, open_steps}
 use Rattle.update_log.specs.Known.{Fate, board_of, doubt, fate, fate_stored, reason_of, refusal_number, row_of, rows, rows_by, seen}
 use Rattle.update_log.specs.Legal.{Allowed, BootRuns, IsLegal, IsLegalUnlimited, ResumeAllowed, closing_stored}
@@ -88,7 +88,7 @@ past-resume facts opening past client entry fetched ResumeAnswer.Begun stored ro
       rows_kept = r.kept;
       steps = steps-resumed facts opening past client entry fetched stored k.steps
           (goes_on-grows (rows facts opening past) _ r.goes_on)
-          (row_of-known (rows facts opening past) entry row k.rows_kept.valid.entries a.row_is)
+          (row-within (rows facts opening past) entry row k.rows_kept.valid.entries a.row_is)
           (untaken-unstarted facts opening past entry none (k.taken.begun entry))
           (live-others facts opening past entry none k.taken.live_taken);
       taken = taken-resume facts opening past client entry fetched ResumeAnswer.Begun stored row made k.rows_kept k.taken k.waiting r.goes_on a;

@@ -11,13 +11,13 @@ use Rattle.history_keeper.specs.declared.change.Change.{Change}
 use Rattle.history_keeper.specs.declared.row.Row.{Row}
 use Rattle.history_keeper.specs.declared.row.RowState.{RowState}
 use Rattle.update_log.proofs.Accepts.{NoneRefuses, accepts-target}
+use Rattle.update_log.proofs.HoldsMade.{row-within}
 use Rattle.update_log.proofs.LegalOnce.{past-kept, past-kept-on}
 use Rattle.update_log.proofs.LinksOnce.{AllLinked, KeepsFailures, KeepsLinks, TriedOnce, all-linked, by-failures, by-links, by-tried, failure-of, failure_of, found-failures, found-links, found-tried, tried-once}
 use Rattle.update_log.proofs.Lists.{All-find, by_test, find-passes}
 use Rattle.update_log.proofs.Openings.{EntriesFrom, bytes-same, entries-from}
 use Rattle.update_log.proofs.Rows.{accepted-claim, rows_by-refused}
 use Rattle.update_log.proofs.RowsKept.{RowsKept}
-use Rattle.update_log.proofs.TakenKept.{row_of-known}
 use Rattle.update_log.proofs.Unlimited.{boot-runs, unlimited}
 use Rattle.update_log.proofs.WaitsKept.{IsAccepted, WaitKept, accepted-schedule, asks, decided-not, doubted-claim, doubted-schedule, wait-kept, wait-kept-on}
 use Rattle.update_log.proofs.WaitsOnce.{only-state, state_of}
@@ -93,7 +93,7 @@ can-try c t entry r own v is h =
     let device : r.device ≡ t.view.sheet.device = bytes-same r.device t.view.sheet.device (where-none (bytes_eq r.device t.view.sheet.device) RetryFault.OtherDevice one.0) in
     let failed : is_failed r.state ≡ true = where-none (is_failed r.state) (RetryFault.NotFailed r.state) two.0 in
     let alone : find (is_retry c entry) c.rows ≡ None = map-none (λ (x : Row). RetryFault.Retried x.entry) (find (is_retry c entry) c.rows) three.0 in
-    let known_is : entry ≤ length c.rows = row_of-known c.rows entry r v is in (
+    let known_is : entry ≤ length c.rows = row-within c.rows entry r v is in (
       omega (arith, known_is),
       failure-of c.rows entry r is failed ∙ ap Some device,
       none-found (tries entry) (is_own c) c.rows (λ x. ap (λ o. unwrap_or (option_map (λ n. n == x.entry) o) false) own) alone,

@@ -1,7 +1,7 @@
 -- Facts of lists that the induction over a log uses.
-use Rattle.std.proofs.Common.{◌≡◌, ◌≢◌, ℕ, Bool, true, false, cond, not, List, [], ◌∷◌, ◌++◌, refl, ap, subst}
+use Rattle.std.proofs.Common.{◌≡◌, ◌≢◌, ℕ, zero, suc, ◌<◌, ◌≤◌, Bool, true, false, cond, not, List, [], ◌∷◌, ◌++◌, length, get_or, refl, ap, subst, arith}
 use Rattle.std.specs.Prelude.{Some, None, ◌==◌, is_some, find, filter}
-use Rattle.std.specs.List.{AllByRecursion}
+use Rattle.std.specs.List.{AllByRecursion, list_any}
 use Rattle.std.proofs.lemmas.Bool.{eqb-true, eq-eqb}
 
 -- a choice by a test, with what the test says
@@ -78,3 +78,26 @@ All-append P (x ∷ xs) ys h g = (h.0, All-append P xs ys h.1 g)
 pub All-both : {X : Type 0} (P Q R : X → Type 0) (xs : List X) → AllByRecursion P xs → AllByRecursion Q xs → ((x : X) → P x → Q x → R x) → AllByRecursion R xs
 All-both P Q R [] p q h = tt
 All-both P Q R (x ∷ xs) p q h = (h x p.0 q.0, All-both P Q R xs p.1 q.1 h)
+
+-- a look-up that only the element at the end meets
+pub find-push_new : {X : Type 0} (p : X → Bool) (xs : List X) (x : X) → find p xs ≡ None → p x ≡ true → find p (xs ++ x ∷ []) ≡ Some x
+find-push_new p [] x n t = rw t refl
+find-push_new p (y ∷ ys) x n t =
+    by_test (p y) _
+    (λ u. let bad : Some y ≡ None = rw u at n in cc)
+    (λ u. let rest : find p ys ≡ None = rw u at n in rw (u, find-push_new p ys x rest t) refl)
+
+-- an element that passes a test is one of the list
+pub any-here : {X : Type 0} (p : X → Bool) (xs : List X) (i : ℕ) (d : X) → i < length xs → p (get_or xs i d) ≡ true → list_any p xs ≡ true
+any-here p [] i d lt g = absurd (omega arith)
+any-here p (x ∷ xs) zero d lt g = rw g refl
+any-here p (x ∷ xs) (suc i) d lt g =
+    by_test (p x) _ (λ t. rw t refl) (λ f. rw f (any-here p xs i d (omega arith) g))
+
+-- a filter keeps no more than there are
+pub filter-short : {X : Type 0} (p : X → Bool) (xs : List X) → length (filter p xs) ≤ length xs
+filter-short p [] = omega arith
+filter-short p (x ∷ xs) =
+    by_test (p x) _
+    (λ t. rw t (let h = filter-short p xs in omega (arith, h)))
+    (λ f. rw f (let h = filter-short p xs in omega (arith, h)))

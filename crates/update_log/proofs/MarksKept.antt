@@ -8,11 +8,12 @@ use Rattle.emulated_boards.specs.declared.fault.BoardFault.{BoardFault}
 use Rattle.emulated_boards.specs.declared.mark.Mark.{Mark}
 use Rattle.fw_facts.specs.declared.seen.Seen.{Seen}
 use Rattle.history_keeper.specs.declared.row.Row.{Row}
+use Rattle.update_log.proofs.HoldsMade.{goes_on-grows}
 use Rattle.update_log.proofs.Lists.{All-append, All-find, All-map, by_test, find-passes}
 use Rattle.update_log.proofs.RowsKept.{GoesOn, board-fixed, fixed, fixed_row, goes_on-fixed}
 use Rattle.update_log.proofs.StepsKept.{OpenKept, StepsKept, not-fresh, open-started}
 use Rattle.update_log.proofs.StrokeFacts.{writes}
-use Rattle.update_log.proofs.TakenKept.{Taken, TakenKept, goes_on-grows}
+use Rattle.update_log.proofs.TakenKept.{Taken, TakenKept}
 use Rattle.update_log.specs.Holding.{open_steps}
 use Rattle.update_log.specs.Known.{board_of, is_board_of, row_of, rows, seen}
 use Rattle.update_log.specs.Legal.{BoardListed, BootAllowed, EndAllowed, open_marks, open_on}

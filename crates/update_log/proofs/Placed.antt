@@ -3,6 +3,7 @@ use Rattle.std.proofs.Common.{◌≡◌, ℕ, List, [], ◌∷◌, ◌++◌, map
 use Rattle.std.specs.Prelude.{Option, Some, None, flat_map, slice_get, option_map}
 use Rattle.std.specs.List.{AllByRecursion, enumerate_from}
 use Rattle.std.proofs.lemmas.Option.{slice_get_within}
+use Rattle.device_list.proofs.GuidLaws.{slice_get-seam}
 use Rattle.fw_facts.specs.declared.release.Component.{Component}
 use Rattle.fw_facts.specs.declared.release.Release.{Release}
 use Rattle.release_catalogue.specs.declared.reference.ReleaseRef.{ReleaseRef}
@@ -20,11 +21,7 @@ pub record IsPlaced (components : List Component) (c : Chosen) : Type 0 where
   pub component : slice_get components c.at.component ≡ Some c.component
   pub release : slice_get c.component.releases c.at.release ≡ Some c.release
 
-get-behind : {X : Type 0} (front : List X) (x : X) (rest : List X) → slice_get (front ++ x ∷ rest) (length front) ≡ Some x
-get-behind [] x rest = refl
-get-behind (y ∷ front) x rest = get-behind front x rest
-
-placed-from : (components : List Component) (n : ℕ) (c : Component) → slice_get components n ≡ Some c
+pub placed-from : (components : List Component) (n : ℕ) (c : Component) → slice_get components n ≡ Some c
     → (k : ℕ) (front rs : List Release) → front ++ rs ≡ c.releases → length front ≡ k
     → AllByRecursion (IsPlaced components)
     (map (λ entry. record { at = record { component = n; release = entry.0 }; component = c; release = entry.1 }) (enumerate_from k rs))
@@ -33,17 +30,17 @@ placed-from components n c h k front (r ∷ rs) e l =
     let next : (front ++ r ∷ []) ++ rs ≡ c.releases = append_assoc front (r ∷ []) rs ∙ e in
     let more : length (front ++ r ∷ []) ≡ k + 1 = length-append front (r ∷ []) ∙ ap (λ (m : ℕ). m + 1) l in
     let here : slice_get c.releases k ≡ Some r =
-    ap (λ (m : ℕ). slice_get c.releases m) (sym l) ∙ ap (λ (xs : List Release). slice_get xs (length front)) (sym e) ∙ get-behind front r rs in
+    ap (λ (m : ℕ). slice_get c.releases m) (sym l) ∙ ap (λ (xs : List Release). slice_get xs (length front)) (sym e) ∙ slice_get-seam front r rs in
     (record { component = h; release = here }, placed-from components n c h (k + 1) (front ++ r ∷ []) rs next more)
 
-placed-all : (components : List Component) (n : ℕ) (front rest : List Component) → front ++ rest ≡ components → length front ≡ n
+pub placed-all : (components : List Component) (n : ℕ) (front rest : List Component) → front ++ rest ≡ components → length front ≡ n
     → AllByRecursion (IsPlaced components) (all_from n rest)
 placed-all components n front [] e l = tt
 placed-all components n front (c ∷ cs) e l =
     let next : (front ++ c ∷ []) ++ cs ≡ components = append_assoc front (c ∷ []) cs ∙ e in
     let more : length (front ++ c ∷ []) ≡ n + 1 = length-append front (c ∷ []) ∙ ap (λ (m : ℕ). m + 1) l in
     let here : slice_get components n ≡ Some c =
-    ap (λ (m : ℕ). slice_get components m) (sym l) ∙ ap (λ (xs : List Component). slice_get xs (length front)) (sym e) ∙ get-behind front c cs in
+    ap (λ (m : ℕ). slice_get components m) (sym l) ∙ ap (λ (xs : List Component). slice_get xs (length front)) (sym e) ∙ slice_get-seam front c cs in
     All-append (IsPlaced components) (releases_of n c) (all_from (n + 1) cs)
     (placed-from components n c here 0 [] c.releases refl refl)
     (placed-all components (n + 1) (front ++ c ∷ []) cs next more)

@@ -48,7 +48,7 @@ op-positive : (op : Op) → 0 < op_number op
 op-positive Op.Prepare = omega arith
 op-positive _ = omega arith
 
-op-six : (op : Op) → op_number op ≤ 6
+pub op-six : (op : Op) → op_number op ≤ 6
 op-six Op.Prepare = omega arith
 op-six _ = omega arith
 

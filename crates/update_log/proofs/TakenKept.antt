@@ -1,8 +1,8 @@
 -- What each past keeps of the events that took its entries.
 use Rattle.std.proofs.Common.{◌≡◌, ◌≢◌, ℕ, Bool, true, false, List, [], ◌∷◌, ◌++◌, map, refl, ap, sym, ◌∙◌, ◌<◌, ◌≤◌, ◌+◌, arith, ◌⊎◌, inl, inr, length, subst}
 use Rattle.std.proofs.lemmas.List.{length_push}
-use Rattle.std.proofs.lemmas.Bool.{eqb-true, eq-eqb, leb-true, leb-false, and_parts}
-use Rattle.std.specs.Prelude.{Option, Some, None, Result, IfSome, ◌==◌, option_map, find, MatchBool, nat_le, unwrap_or}
+use Rattle.std.proofs.lemmas.Bool.{eqb-true, eq-eqb, and_parts}
+use Rattle.std.specs.Prelude.{Option, Some, None, Result, IfSome, ◌==◌, option_map, find, MatchBool, unwrap_or}
 use Rattle.std.specs.List.{AllByRecursion}
 use Rattle.std.specs.Str.{bytes_eq}
 use Rattle.emulated_boards.specs.declared.fault.BoardFault.{BoardFault}
@@ -14,10 +14,10 @@ use Rattle.history_keeper.specs.declared.row.Row.{Row}
 use Rattle.history_keeper.specs.declared.row.RowState.{RowState}
 use Rattle.release_catalogue.specs.declared.reference.ReleaseRef.{ReleaseRef}
 use Rattle.update_log.proofs.Accepts.{accepts-target, target-device, target-matches, target-met}
-use Rattle.update_log.proofs.HoldsMade.{HoldsMade, IsOfRow, request-made}
-use Rattle.update_log.proofs.Lists.{All-find, All-map, All-push, by_test, eqb-other, eqb-self, find-passes, find-push_other}
+use Rattle.update_log.proofs.HoldsMade.{HoldsMade, IsOfRow, request-made, row-within, goes_on-grows}
+use Rattle.update_log.proofs.Lists.{All-find, All-map, All-push, by_test, eqb-other, eqb-self, find-passes, find-push_other, find-push_new}
 use Rattle.update_log.proofs.Openings.{EntriesFrom, bytes-same}
-use Rattle.update_log.proofs.Rows.{accepted-claim, changed-grows, rows_by-refused}
+use Rattle.update_log.proofs.Rows.{accepted-claim, rows_by-refused}
 use Rattle.update_log.proofs.RowsKept.{GoesOn, NextChange, RowsKept, claim-not_kept, fixed, fixed_row, goes_on-fixed, no-tag, not_kept, row_of-past, schedule-not_kept, with_state-fixed}
 use Rattle.update_log.specs.Holding.{blocks_fetched, blocks_fetched_if, held, holds, live, request_held}
 use Rattle.update_log.specs.Known.{Fate, Target, doubt, fate_stored, new_row, reason_of, refusal_number, row_of, row_with_tag, rows, rows_by, rows_found, seen, target, views}
@@ -58,10 +58,6 @@ pub record TakenKept (facts : Facts) (opening : List Row) (past : List Event) : 
   pub live_taken : AllByRecursion (λ l. Taken facts opening past l.entry) (live past)
   pub begun : (entry : ℕ) → (strokes entry past ≡ []) ⊎ Taken facts opening past entry
   pub each : (entry : ℕ) → (how_many (takes entry) past ≡ 0) ⊎ Taken facts opening past entry
-
-pub goes_on-grows : (old new : List Row) → GoesOn old new → length old ≤ length new
-goes_on-grows old new (inl e) = omega (arith, ap length e)
-goes_on-grows old new (inr g) = omega (arith, changed-grows g.0 old, ap length g.2)
 
 -- it stays taken at an event that takes and accepts another, or none
 pub taken-on : (facts : Facts) (opening : List Row) (past : List Event) (event : Event) (entry : ℕ) → GoesOn (rows facts opening past) (rows facts opening (event ∷ past)) → takes entry event ≡ false → accepts entry (doubt facts opening past) event ≡ false → Taken facts opening past entry → Taken facts opening (event ∷ past) entry
@@ -116,13 +112,6 @@ taken-boot facts opening past number time limit found boards r k g =
     (λ e h. boot-accepts number time limit found boards (doubt facts opening past) (rows facts opening past) e r.doubt_next (inr h))
     (inr tt)
     k.begun
-
-pub find-push_new : {X : Type 0} (p : X → Bool) (xs : List X) (x : X) → find p xs ≡ None → p x ≡ true → find p (xs ++ x ∷ []) ≡ Some x
-find-push_new p [] x n t = rw t refl
-find-push_new p (y ∷ ys) x n t =
-    by_test (p y) _
-    (λ u. let bad : Some y ≡ None = rw u at n in cc)
-    (λ u. let rest : find p ys ≡ None = rw u at n in rw (u, find-push_new p ys x rest t) refl)
 
 pub whole-of : (note : FetchNote) (o : Option Target) (t : Target) → o ≡ Some t → is_fetched note o ≡ true → is_whole note t.chosen ≡ true
 whole-of note None t e h = cc
@@ -235,13 +224,6 @@ pub record WaitingKept (facts : Facts) (opening : List Row) (past : List Event) 
   pub untaken : (e : ℕ) (row : Row) → row_of (rows facts opening past) e ≡ Some row → is_pending row.state ≡ true → how_many (takes e) past ≡ 0
   pub accepted_once : (e : ℕ) (row : Row) → row_of (rows facts opening past) e ≡ Some row → is_pending row.state ≡ true → accepted facts opening e past ≡ 1
 
--- a row of an entry is within the rows
-pub row_of-known : (rows : List Row) (e : ℕ) (row : Row) → EntriesFrom 1 rows → row_of rows e ≡ Some row → e ≤ length rows
-row_of-known rows e row v h =
-    by_test (nat_le e (length rows)) _
-    (λ t. leb-true e (length rows) t)
-    (λ f. let n : row_of rows e ≡ None = row_of-past 1 rows e v (omega (arith, leb-false e (length rows) f)) in let bad : Some row ≡ None = sym h ∙ n in cc)
-
 -- the change advances the row of that entry
 abbrev pub advances : Change → ℕ → Bool
 advances (Change.Add row) e = false
@@ -304,9 +286,9 @@ pub waiting-same : (facts : Facts) (opening : List Row) (past : List Event) (eve
 waiting-same facts opening past event k v r t a =
     record {
       untaken = λ e row f p. let f' : row_of (rows facts opening past) e ≡ Some row = rw (← r) f in
-          rw (t e (row_of-known (rows facts opening past) e row v f')) (k.untaken e row f' p);
+          rw (t e (row-within (rows facts opening past) e row v f')) (k.untaken e row f' p);
       accepted_once = λ e row f p. let f' : row_of (rows facts opening past) e ≡ Some row = rw (← r) f in
-          rw (a e (row_of-known (rows facts opening past) e row v f')) (k.accepted_once e row f' p);
+          rw (a e (row-within (rows facts opening past) e row v f')) (k.accepted_once e row f' p);
     }
 
 -- an event that makes a change
@@ -323,7 +305,7 @@ waiting-changed facts opening past event change k t v r n tk ac new =
 
     at : (e : ℕ) (row : Row) → is_pending row.state ≡ true → CameAbout change (rows facts opening past) e row → (how_many (takes e) (event ∷ past) ≡ 0) × (accepted facts opening e (event ∷ past) ≡ 1)
     at e row p (inl c) =
-        let known : e ≤ length (rows facts opening past) = row_of-known (rows facts opening past) e row v c.0 in
+        let known : e ≤ length (rows facts opening past) = row-within (rows facts opening past) e row v c.0 in
         (rw (tk e known c.1) (k.untaken e row c.0 p), rw (ac e known) (k.accepted_once e row c.0 p))
     at e row p (inr c) =
         let m = new row c.0 p in
@@ -509,7 +491,7 @@ taken-resumed facts opening past client entry fetched stored row made r k q g a 
     found = a.row_is
 
     known : entry ≤ length (rows facts opening past)
-    known = row_of-known (rows facts opening past) entry row r.valid.entries found
+    known = row-within (rows facts opening past) entry row r.valid.entries found
 
     none : how_many (takes entry) past ≡ 0
     none = q.untaken entry row found pending

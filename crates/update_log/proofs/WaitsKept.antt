@@ -16,11 +16,10 @@ use Rattle.release_catalogue.specs.Lookup.{Chosen, chosen}
 use Rattle.release_catalogue.specs.declared.reference.ReleaseRef.{ReleaseRef}
 use Rattle.update_log.proofs.Accepts.{HasTarget, NoneRefuses, accepts-target}
 use Rattle.update_log.proofs.LegalOnce.{past-kept-on}
-use Rattle.update_log.proofs.Lists.{All-both, All-filter, All-find, All-map, All-push, by_test, eqb-other, find-passes}
+use Rattle.update_log.proofs.Lists.{All-both, All-filter, All-find, All-map, All-push, by_test, eqb-other, find-passes, find-push_new}
 use Rattle.update_log.proofs.Openings.{EntriesFrom}
 use Rattle.update_log.proofs.Rows.{accepted-claim, rows_by-refused}
 use Rattle.update_log.proofs.RowsKept.{RowsKept, row_of-past}
-use Rattle.update_log.proofs.TakenKept.{find-push_new}
 use Rattle.update_log.proofs.Unlimited.{unlimited}
 use Rattle.update_log.proofs.WaitsOnce.{KeepsOnce, WaitOnce, by-once, found-once, found-own, only-waits, push-state, state-by, state-made, state_of, waits-once, waits_on}
 use Rattle.update_log.specs.Boards.{Board, devices}
@@ -116,11 +115,11 @@ target-claim facts entries k request t h = at (place request.device (views_in fa
     at None e = cc
     at (Some p) e = at-view p (slice_get (views_in facts entries k) p) refl e
 
-no-claim : (o : Option ℕ) → option_map (λ entry. Refusal.Busy entry) o ≡ None → o ≡ None
+pub no-claim : (o : Option ℕ) → option_map (λ entry. Refusal.Busy entry) o ≡ None → o ≡ None
 no-claim None h = refl
 no-claim (Some entry) h = cc
 
-no-live : (o : Option LiveEntry) → option_map (λ l. l.entry) o ≡ None → o ≡ None
+pub no-live : (o : Option LiveEntry) → option_map (λ l. l.entry) o ≡ None → o ≡ None
 no-live None h = refl
 no-live (Some l) h = cc
 

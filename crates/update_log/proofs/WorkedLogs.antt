@@ -74,10 +74,10 @@ each-of-two Fact x y f g zero z e = subst (Fact 0) (same_Some x z e) f
 each-of-two Fact x y f g (suc zero) z e = subst (Fact 1) (same_Some y z e) g
 each-of-two Fact x y f g (suc (suc n)) z e = cc
 
-same-raw : (raw other : ℕ) (mode other_mode : Mode) → Seen.Home raw mode ≡ Seen.Home other other_mode → raw ≡ other
+pub same-raw : (raw other : ℕ) (mode other_mode : Mode) → Seen.Home raw mode ≡ Seen.Home other other_mode → raw ≡ other
 same-raw raw other mode other_mode e = cc
 
-same-mode : (raw other : ℕ) (mode other_mode : Mode) → Seen.Home raw mode ≡ Seen.Home other other_mode → mode ≡ other_mode
+pub same-mode : (raw other : ℕ) (mode other_mode : Mode) → Seen.Home raw mode ≡ Seen.Home other other_mode → mode ≡ other_mode
 same-mode raw other mode other_mode e = cc
 
 -- A board is shown as it was before, in runtime mode.
@@ -89,7 +89,7 @@ fresh-same facts first opening past board marks raw h =
     }
 
 -- A board is gone.
-fresh-gone : (facts : Facts) (first : List Seen) (opening : List Row) (past : List Event) (board : ℕ) (marks : List Mark) → FreshShows facts first opening past board marks Seen.Gone
+pub fresh-gone : (facts : Facts) (first : List Seen) (opening : List Row) (past : List Event) (board : ℕ) (marks : List Mark) → FreshShows facts first opening past board marks Seen.Gone
 fresh-gone facts first opening past board marks = record { raw = λ r m e. cc; mode = λ r e. cc }
 
 -- A write of it began, and it shows a bad image.

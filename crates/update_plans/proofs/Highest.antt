@@ -11,7 +11,7 @@ use Rattle.release_catalogue.specs.declared.reference.ReleaseRef.{ReleaseRef}
 use Rattle.release_catalogue.specs.Lookup.{Chosen, all_releases, releases_of}
 use Rattle.version_formats.specs.VersionOrder.{version_cmp}
 use Rattle.update_log.specs.Verdicts.{is_release}
-use Rattle.update_log.proofs.Lists.{All-filter, All-find, All-map, by_test, eqb-self}
+use Rattle.update_log.proofs.Lists.{All-filter, All-find, All-map, by_test, eqb-self, All-append}
 use Rattle.update_plans.specs.Choosing.{comes_before}
 use Rattle.update_plans.specs.Plans.{highest}
 
@@ -22,13 +22,9 @@ abbrev pub Ordered : List Chosen → Type 0
 Ordered [] = Unit {0}
 Ordered (x ∷ xs) = AllByRecursion (λ y. comes_before x.at y.at ≡ true) xs × Ordered xs
 
-all-append : {X : Type 0} (P : X → Type 0) (xs ys : List X) → AllByRecursion P xs → AllByRecursion P ys → AllByRecursion P (xs ++ ys)
-all-append P [] ys a b = b
-all-append P (x ∷ xs) ys a b = (a.0, all-append P xs ys a.1 b)
-
 ordered-append : (xs ys : List Chosen) → Ordered xs → Ordered ys → AllByRecursion (λ x. AllByRecursion (λ y. comes_before x.at y.at ≡ true) ys) xs → Ordered (xs ++ ys)
 ordered-append [] ys a b h = b
-ordered-append (x ∷ xs) ys a b h = (all-append (λ y. comes_before x.at y.at ≡ true) xs ys a.0 h.0, ordered-append xs ys a.1 b h.1)
+ordered-append (x ∷ xs) ys a b h = (All-append (λ y. comes_before x.at y.at ≡ true) xs ys a.0 h.0, ordered-append xs ys a.1 b h.1)
 
 abbrev entries : ℕ → Component → ℕ → List Release → List Chosen
 entries n c k rs =
@@ -64,7 +60,7 @@ entries-ordered n c k (r ∷ rs) = (
 from-at : (n : ℕ) (components : List Component) → AllByRecursion (λ x. n ≤ x.at.component) (all_from n components)
 from-at n [] = tt
 from-at n (c ∷ components) =
-    all-append (λ x. n ≤ x.at.component) (releases_of n c) (all_from (n + 1) components)
+    All-append (λ x. n ≤ x.at.component) (releases_of n c) (all_from (n + 1) components)
     (All-map (StandsAt n 0) (λ x. n ≤ x.at.component) (releases_of n c) (entries-at n c 0 c.releases) (λ x h. let e = h.component in omega (arith, e)))
     (All-map (λ x. n + 1 ≤ x.at.component) (λ x. n ≤ x.at.component) (all_from (n + 1) components) (from-at (n + 1) components) (λ x h. omega (arith, h)))
 

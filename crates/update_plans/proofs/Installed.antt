@@ -39,11 +39,10 @@ use Rattle.update_log.specs.Shows.{Campaign}
 use Rattle.update_log.specs.Steps.{all_ops, closing, closing_at, closing_of, may_be_next, judge_shown, mode_of, next_step, trace, view_of_row, waits_for_boot}
 use Rattle.update_log.specs.Verdicts.{need, verdict}
 use Rattle.update_log.proofs.LegalOnce.{PastKept, past-kept-on}
-use Rattle.update_log.proofs.Lists.{All-find, eqb-self, find-passes}
+use Rattle.update_log.proofs.Lists.{All-find, eqb-self, find-passes, find-push_new}
 use Rattle.update_log.proofs.Openings.{bytes-same, bytes-self}
 use Rattle.update_log.proofs.RowsKept.{row_of-past}
 use Rattle.update_log.proofs.StepsKept.{OpenKept}
-use Rattle.update_log.proofs.TakenKept.{find-push_new}
 use Rattle.update_plans.specs.declared.course.Course.{Course}
 use Rattle.update_plans.specs.declared.plan.PlanStep.{PlanStep}
 use Rattle.update_plans.specs.Courses.{course_step, ends_so, ends_well, shows_version, trace_begun}

@@ -25,8 +25,7 @@ use Rattle.update_log.specs.Legal.{IsLegalUnlimited, ToldWhole}
 use Rattle.update_log.specs.Pasts.{boots, off}
 use Rattle.update_log.specs.Shows.{Campaign, EndShows, HasMode, HasRaw, IsPrefix, ModeAllowed, RawAllowed, digest_of, home_before, marks, raw_of as raw_taken, told, is_alike}
 use Rattle.update_log.specs.Steps.{is_op, mode_of, next_op, next_step, op_number, trace, with_step}
-use Rattle.update_log.proofs.Lists.{eqb-self, find-filter_none}
-use Rattle.update_log.proofs.TakenKept.{find-push_new}
+use Rattle.update_log.proofs.Lists.{eqb-self, find-filter_none, find-push_new}
 use Rattle.update_plans.specs.declared.course.Course.{Course}
 use Rattle.update_plans.specs.declared.plan.PlanStep.{PlanStep}
 use Rattle.update_plans.specs.Courses.{course_step, course_with, shows_next}

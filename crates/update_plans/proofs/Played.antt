@@ -28,8 +28,7 @@ use Rattle.update_log.specs.Legal.{next_entry}
 use Rattle.update_log.specs.Pasts.{off, time_of}
 use Rattle.update_log.specs.Shows.{marks}
 use Rattle.update_log.specs.Steps.{closing, closing_at, closing_of, first_trace, next_op, trace, view_of_row, with_step}
-use Rattle.update_log.proofs.Lists.{eqb-self}
-use Rattle.update_log.proofs.TakenKept.{find-push_new}
+use Rattle.update_log.proofs.Lists.{eqb-self, find-push_new}
 use Rattle.update_plans.specs.Following.{is_step_of}
 use Rattle.update_plans.specs.Plans.{Scene, is_next, request_of, seen_of, shown_after, waits_for_boot, with_op}
 use Rattle.update_plans.specs.declared.plan.PlanStep.{PlanStep}

@@ -55,11 +55,6 @@ digest-of (Some chosen) release e = ap (λ (r : Release). Some r.digest) (same_S
 
 -- ---- the state
 
--- what stands for a log doesn't rest on the room that there is
-pub stands-same : (facts : Facts) (opening : List Row) (old new : Core) → new ≡ record old { room = new.room; row_room = new.row_room } → Stands facts opening old → Stands facts opening new
-stands-same facts opening old new e s =
-    subst (Stands facts opening) (sym e) (record { history = s.history; rows = s.rows; views = s.views; boards = s.boards; traces = s.traces; doubt = s.doubt })
-
 -- rows that an event leaves have room
 pub rows-fit : (facts : Facts) (opening : List Row) (core : Core) → Stands facts opening core → length (rows facts opening (past_of core.log)) ≤ length core.rows + core.row_room
 rows-fit facts opening core s = let e = ap (λ (rs : List Row). length rs) s.rows in omega (arith, e)

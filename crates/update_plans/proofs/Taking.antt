@@ -1,7 +1,7 @@
 -- What the loops find and leave that make plans and check them.
 use Rattle.std.proofs.Common.{◌≡◌, ◌≢◌, ℕ, zero, suc, ◌+◌, ◌-◌, ◌<◌, ◌≤◌, Bool, true, false, List, [], ◌∷◌, ◌++◌, length, map, drop, take, get_or, refl, sym, ap, ◌∙◌, subst, arith, add-one, drop-cons}
 use Rattle.std.proofs.Math.Seq.{take-suc}
-use Rattle.std.proofs.lemmas.Option.{same_Some}
+use Rattle.std.proofs.lemmas.Option.{same_Some, slice_get_read}
 use Rattle.std.specs.Prelude.{AllPairs, Option, Some, None, find, is_some, slice_get, option_map, if◌then◌else◌}
 use Rattle.std.specs.Option.{option_map_or}
 use Rattle.std.specs.Ordering.{is_gt}
@@ -34,9 +34,7 @@ use Rattle.update_plans.proofs.Within.{AllBelow, as-many}
 -- ---- places
 
 pub got_at : {X : Type 0} (xs : List X) (at : ℕ) (x : X) → at < length xs → x ≡ get_or xs at x → slice_get xs at ≡ Some x
-got_at [] at x within e = absurd (omega (arith, within))
-got_at {X} (y ∷ xs) zero x within e = ap (λ (z : X). Some z) (sym e)
-got_at (y ∷ xs) (suc at) x within e = got_at xs at x (omega (arith, within)) e
+got_at xs at x within e = slice_get_read xs (length xs) at x refl within e
 
 record IsAt {X : Type 0} (xs : List X) (at : ℕ) (x d : X) : Type 0 where
   within : at < length xs

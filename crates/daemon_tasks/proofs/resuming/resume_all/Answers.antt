@@ -1,9 +1,10 @@
 use Rattle.std.proofs.Common.{◌≤◌, ◌∙◌, map, take, get_or, length, refl, subst, sym, arith}
 use Rattle.std.specs.Prelude.{Some, None}
+use Rattle.client_plays.proofs.ToolLaws.{le-both}
 use Rattle.update_log.specs.declared.facts.Facts.{Facts}
 use Rattle.client_plays.specs.Plays.{TaskPlays, ToResume}
 use Rattle.client_plays.proofs.RestLaws.{so_far-nothing, still-booted}
-use Rattle.daemon_tasks.proofs.ResumeLoops.{apart-later, le-both, resumed-end, resumed-off, resumed-turn, same-task, told-more, waits-later, waits-next}
+use Rattle.daemon_tasks.proofs.ResumeLoops.{apart-later, resumed-end, resumed-off, resumed-turn, same-task, told-more, waits-later, waits-next}
 use Rattle.daemon_core.specs.Housed.{past, rows_before}
 use Rattle.daemon_core.specs.Turns.{signs_of}
 use Rattle.client_plays.specs.Tools.{means_of}

@@ -1,5 +1,5 @@
 use Rattle.std.proofs.Common.{◌<◌, length, arith}
-use Rattle.plugin_starts.proofs.Places.{map_turn}
+use Rattle.site_making.proofs.Turns.{map_turn}
 use Rattle.plugin_starts.proofs.sheets.sheets_of.Goals as goal
 
 pub loop-plugin-preserved : goal.loop-plugin-preserved

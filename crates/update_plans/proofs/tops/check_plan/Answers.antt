@@ -1,17 +1,17 @@
 use Rattle.std.proofs.Common.{◌≡◌, ◌≤◌, ◌⊎◌, ℕ, List, length, MatchResult, None, Some, sym, subst}
+use Rattle.update_log.proofs.FirstSteps.{stands-reserved}
 use Rattle.update_log.specs.Core.{Core}
 use Rattle.update_log.specs.Pasts.{past_of}
 use Rattle.update_plans.specs.Following.{IsQuiet}
 use Rattle.update_plans.specs.Plans.{first_bad, scene}
 use Rattle.update_plans.specs.declared.plan.PlanStep.{PlanStep}
 use Rattle.update_plans.specs.declared.plan.PlanStop.TheVariants as stops
-use Rattle.update_plans.proofs.Puts.{stands-same}
 use Rattle.update_plans.proofs.tops.check_plan.Goals as goal
 
 pub check_all-requires : goal.check_all-requires
 check_all-requires g c =
     let s = scene c.args.facts.now g.opening c.args.client c.args.plan.now.tag in
-    (c.requires.0, (subst (λ (steps : List PlanStep). length steps ≤ 8192) (sym c.items.ensures) c.requires.1.0, (stands-same s.facts s.opening c.args.state.now c.in_ok-own.own c.in_ok-own.ensures c.requires.1.1.0, (subst (λ (core : Core). IsQuiet s (past_of core.log)) (sym c.in_ok-own.ensures) c.requires.1.1.1))))
+    (c.requires.0, (subst (λ (steps : List PlanStep). length steps ≤ 8192) (sym c.items.ensures) c.requires.1.0, (stands-reserved s.facts s.opening c.args.state.now c.in_ok-own.own c.in_ok-own.ensures c.requires.1.1.0, (subst (λ (core : Core). IsQuiet s (past_of core.log)) (sym c.in_ok-own.ensures) c.requires.1.1.1))))
 
 pub returns : goal.returns
 returns g c =

@@ -1,17 +1,17 @@
 use Rattle.std.proofs.Common.{◌≡◌, ap, sym, ◌∙◌, subst, length, ◌≤◌, List, None}
+use Rattle.update_log.proofs.FirstSteps.{stands-reserved}
 use Rattle.update_log.specs.Core.{Core}
 use Rattle.update_log.specs.Pasts.{past_of}
 use Rattle.update_plans.specs.Following.{IsQuiet}
 use Rattle.update_plans.specs.Plans.{first_bad, plan, scene}
 use Rattle.update_plans.specs.declared.plan.PlanStep.{PlanStep}
 use Rattle.update_plans.proofs.Planned.{plan-few, plan-good}
-use Rattle.update_plans.proofs.Puts.{stands-same}
 use Rattle.update_plans.proofs.tops.make_plan.Goals as goal
 
 pub plan_all-requires : goal.plan_all-requires
 plan_all-requires g c =
     let s = scene c.args.facts.now g.opening c.args.client c.args.tag.now in
-    (c.requires.0, (stands-same s.facts s.opening c.args.state.now c.in_ok-own.own c.in_ok-own.ensures c.requires.1.0, (subst (λ (core : Core). IsQuiet s (past_of core.log)) (sym c.in_ok-own.ensures) c.requires.1.1)))
+    (c.requires.0, (stands-reserved s.facts s.opening c.args.state.now c.in_ok-own.own c.in_ok-own.ensures c.requires.1.0, (subst (λ (core : Core). IsQuiet s (past_of core.log)) (sym c.in_ok-own.ensures) c.requires.1.1)))
 
 pub returns-clause-planned : goal.returns-clause-planned
 returns-clause-planned g c =

@@ -12,8 +12,8 @@ use Rattle.daemon_core.specs.Housed.{Annalled, Housed, Place, past, past_in, row
 use Rattle.daemon_core.specs.Returns.{number_of, places_with}
 use Rattle.daemon_core.specs.Turns.{KeeperFared, signs_of}
 use Rattle.daemon_core.proofs.AnnalsKept.{appended-past}
-use Rattle.daemon_core.proofs.ClaimFinish.{DoneIn, close-suits, closed-unchanged, closing_change, finish-fared, finish-fits, finish-ready, house-finished}
-use Rattle.daemon_core.proofs.ClaimHome.{HomePlan, HomeTo, home-plan}
+use Rattle.daemon_core.proofs.ClaimFinish.{DoneIn, close-suits, closed-unchanged, closing_change, finish-fared, finish-ready, house-finished}
+use Rattle.daemon_core.proofs.ClaimHome.{HomePlan, HomeTo, home-plan, back-fits}
 use Rattle.daemon_core.proofs.ClaimHouse.{IsReady}
 use Rattle.daemon_core.proofs.CommitKept.{house-clear}
 use Rattle.daemon_core.proofs.house.House.close.Goals as goal
@@ -76,7 +76,7 @@ put-requires g c = (plan g c).home.within
 
 pub give-requires : goal.give-requires
 give-requires g c =
-    let fits = finish-fits _ _ c.args.client c.args.entry c.requires.comes.0 c.requires.comes.1 [] c.args.board c.args.payload.count
+    let fits = back-fits _ _ c.args.client c.args.entry c.requires.comes.0 c.requires.comes.1 [] c.args.board c.args.payload.count
     (record { annals = c.self.inside.annals; places = c.self.inside.places.items; pool = c.self.inside.pool; keeper = c.self.inside.keeper })
     c.self.invariant c.known.ensures (plan g c.before.before.before).comes in
     let e = c.into_blocks.ensures.count in omega (arith, fits, e)

@@ -1,10 +1,11 @@
 use Rattle.std.proofs.Common.{◌≡◌, ◌+◌, ℕ, List, length, ap, ◌∙◌, arith}
 use Rattle.history_keeper.specs.declared.row.Row.{Row}
+use Rattle.update_log.proofs.FirstSteps.{stands-reserved}
 use Rattle.update_log.specs.Core.{Core}
 use Rattle.update_log.specs.Known.{rows}
 use Rattle.update_log.specs.Pasts.{past_of}
 use Rattle.update_plans.specs.Plans.{release_at, request_of, scene}
-use Rattle.update_plans.proofs.Puts.{digest-of, few-good, stands-same}
+use Rattle.update_plans.proofs.Puts.{digest-of, few-good}
 use Rattle.update_plans.proofs.planner.Asker.put.Goals as goal
 
 pub overflow_cast-entry : goal.overflow_cast-entry
@@ -30,7 +31,7 @@ take-requires g c =
       (
         record {
           before_is = ap (λ (core : Core). past_of core.log) c.in_ok-reserve.ensures.same ∙ c.requires.1.1.1.0;
-          stands = stands-same s.facts s.opening c.args.state.now c.reserve.new.self c.in_ok-reserve.ensures.same c.requires.1.1.1.1.0;
+          stands = stands-reserved s.facts s.opening c.args.state.now c.reserve.new.self c.in_ok-reserve.ensures.same c.requires.1.1.1.1.0;
           quiet = c.requires.1.1.1.1.1.0;
           good = c.requires.1.1.1.1.1.1.0;
           release_is = c.requires.1.1.1.1.1.1.1;
