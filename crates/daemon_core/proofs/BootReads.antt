@@ -6,9 +6,8 @@ use Rattle.history_keeper.specs.declared.change.Change.{Change}
 use Rattle.history_keeper.specs.declared.row.Row.{Row}
 use Rattle.history_keeper.specs.Keepers.{with_doubt}
 use Rattle.update_log.proofs.CoreOpenings.{faults-doubt}
-use Rattle.std.proofs.lemmas.List.{length_push}
+use Rattle.std.proofs.lemmas.List.{length_push, length-map}
 use Rattle.history_keeper.specs.Changes.{changed, with_state}
-use Rattle.update_log.proofs.Rows.{length-map}
 use Rattle.update_log.specs.Legal.{FoundAllowed}
 use Rattle.update_log.specs.Pasts.{is_found_fault}
 use Rattle.update_log.proofs.Lists.{by_test}
@@ -46,7 +45,7 @@ found-none _ _ a w = refl
 -- it adds one row at most
 changed-one : (change : Change) (rows : List Row) → length (changed change rows) ≤ length rows + 1
 changed-one (Change.Add row) rows = omega (arith, length_push rows row)
-changed-one (Change.Advance entry state reason time) rows = omega (arith, length-map (with_state entry state reason time) rows)
+changed-one (Change.Advance entry state reason time) rows = omega (arith, length-map rows (with_state entry state reason time))
 
 found-one : (found : Found) (change : Option Change) (rows : List Row) → length (rows_found found change rows) ≤ length rows + 1
 found-one Found.Kept (Some change) rows = changed-one change rows

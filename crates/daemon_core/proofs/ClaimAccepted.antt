@@ -19,10 +19,9 @@ use Rattle.history_keeper.specs.declared.row.RowState.{RowState}
 use Rattle.release_catalogue.specs.Lookup.{Chosen, chosen}
 use Rattle.release_catalogue.specs.declared.reference.ReleaseRef.{ReleaseRef}
 use Rattle.update_log.proofs.Accepts.{accepts-target}
-use Rattle.update_log.proofs.Lists.{All-filter, All-find, by_test}
+use Rattle.update_log.proofs.Lists.{All-filter, All-find, by_test, map-none}
 use Rattle.update_log.proofs.Openings.{bytes-self}
 use Rattle.update_log.proofs.RowsKept.{is_kept, no-tag, not_kept}
-use Rattle.update_log.proofs.WaitsKept.{no-claim, no-live}
 use Rattle.update_log.specs.Boards.{Board, all_boards, board_with, devices, is_device, is_served, plugin_place}
 use Rattle.update_log.specs.Holding.{live}
 use Rattle.update_log.specs.Known.{Target, is_board_of, is_on, known, new_row, row_with_tag, rows, target, target_at, target_of, view_of, views}
@@ -33,6 +32,7 @@ use Rattle.update_log.specs.declared.decision.Stage.{Stage}
 use Rattle.update_log.specs.declared.event.Event.{Event}
 use Rattle.update_log.specs.declared.facts.Facts.{Facts}
 use Rattle.update_log.specs.declared.live.LiveEntry.{LiveEntry}
+use Rattle.update_log.specs.declared.refusal.Refusal.{Refusal}
 use Rattle.update_log.specs.declared.request.Request.{Request}
 use Rattle.daemon_core.proofs.Asking.{release-same, target-placed}
 use Rattle.daemon_core.proofs.ClaimAlone.{HasSheet, device-sheet, row-on, same-device}
@@ -99,7 +99,7 @@ view-home facts opening past n v e c =
     let s = board-seen (view_of (live past) (known facts opening past)) (devices facts) n v e in
     let device : s.board.sheet.device ≡ v.sheet.device = ap (λ (x : DeviceView). x.sheet.device) s.view_is in
     let claim : option_map (λ l. l.entry) (find (is_on (rows facts opening past) s.board.sheet.device) (live past)) ≡ None = ap (λ (x : DeviceView). x.claim) s.view_is ∙ c in
-    let none : find (is_on (rows facts opening past) s.board.sheet.device) (live past) ≡ None = no-live _ claim in
+    let none : find (is_on (rows facts opening past) s.board.sheet.device) (live past) ≡ None = map-none (λ (l : LiveEntry). l.entry) _ claim in
     let board : board_with facts s.board.sheet.device ≡ Some s.other.number = ap (option_map (λ (b : Board). b.number)) s.found in
     let out : is_out facts opening past s.other.number ≡ false = none-on facts (rows facts opening past) s.board.sheet.device s.other.number (live past) board none in
     (s.other.number, record { board_is = ap (board_with facts) (sym device) ∙ board; home = out })
@@ -156,7 +156,7 @@ claimable facts opening past client request release a =
       record {
         found = h.1.found;
         that = (and_parts (is_release release t.chosen.at) _ h.1.that).0;
-        unclaimed = no-claim t.view.claim h.1.none.is_busy;
+        unclaimed = map-none (λ entry. Refusal.Busy entry) t.view.claim h.1.none.is_busy;
         few = fits-rows (length (rows facts opening past)) h.1.none.is_rows_full;
         suits = (refl, new-tag (rows facts opening past) (new_row (length (rows facts opening past) + 1) (time_of past) client request RowState.Begun t) (no-tag (rows facts opening past) request.tag k));
       },

@@ -2,6 +2,7 @@
 use Rattle.std.proofs.Common.{◌≡◌, ◌≢◌, ℕ, suc, ◌<◌, ◌≤◌, ◌+◌, true, false, List, [], ◌∷◌, length, refl, ap, sym, ◌∙◌, subst, arith, ◌⊎◌}
 use Rattle.std.specs.Prelude.{Option, Some, None, ◌==◌, Any}
 use Rattle.std.proofs.lemmas.Bool.{eqb-true}
+use Rattle.std.proofs.lemmas.List.{length-map}
 use Rattle.daemon_core.proofs.PuttingOff.{no-doubt}
 use Rattle.outer_traits.specs.Faults.{Rose}
 use Rattle.block_pool.specs.Views.{PoolCounts}
@@ -12,7 +13,6 @@ use Rattle.history_keeper.specs.declared.row.RowState.{RowState}
 use Rattle.history_keeper.specs.declared.change.Change.{Change}
 use Rattle.history_keeper.specs.Changes.{with_state}
 use Rattle.update_log.proofs.Lists.{by_test}
-use Rattle.update_log.proofs.Rows.{length-map}
 use Rattle.update_log.specs.declared.event.Event.{Event}
 use Rattle.update_log.specs.declared.event.Stored.{Stored}
 use Rattle.update_log.specs.declared.facts.Facts.{Facts}
@@ -100,7 +100,7 @@ abbrev pub finish_event : ℕ → ℕ → RowState → Stored → Event
 finish_event client entry closed stored = Event.Finish client entry (closing_stored closed stored) stored
 
 advanced-length : (stored : Stored) (entry : ℕ) (state : RowState) (reason time : ℕ) (all : List Row) → length (rows_by (fate_stored stored) (Some (Change.Advance entry state reason time)) all) ≤ length all
-advanced-length Stored.Yes entry state reason time all = let e = length-map (with_state entry state reason time) all in omega (arith, e)
+advanced-length Stored.Yes entry state reason time all = let e = length-map all (with_state entry state reason time) in omega (arith, e)
 advanced-length _ entry state reason time all = omega arith
 
 pub finish-ready : (a : Annalled) (client entry number : ℕ) (l : LiveEntry) (tail : List Mark) (b : BoardState) (blocks : ℕ) (closed : RowState) (stored : Stored) → IsAnnals a → Runs a → 0 < boots (past_in a) → HomeTo a client entry number l tail b blocks → DoneIn a entry closed → UnchangedExactly closed stored → IsReady a (finish_event client entry closed stored)

@@ -1,5 +1,6 @@
 -- What a claim reads of the log.
 use Rattle.std.proofs.Common.{◌≡◌, ◌<◌, ◌+◌, ℕ, suc, true, false, List, [], ◌∷◌, map, length, refl, ap, sym, ◌∙◌, subst, arith}
+use Rattle.std.proofs.lemmas.List.{length-map}
 use Rattle.std.specs.Prelude.{Some, find, option_map, slice_get}
 use Rattle.std.specs.Str.{bytes_eq}
 use Rattle.std.specs.List.{position_or_len}
@@ -14,7 +15,6 @@ use Rattle.history_keeper.specs.declared.row.RowState.{RowState}
 use Rattle.release_catalogue.specs.declared.reference.ReleaseRef.{ReleaseRef}
 use Rattle.update_log.proofs.CoreTells.{looked-up}
 use Rattle.update_log.proofs.Lists.{by_test}
-use Rattle.update_log.proofs.Rows.{length-map}
 use Rattle.update_log.specs.Boards.{Board, board_with, devices}
 use Rattle.update_log.specs.Core.{Core, Stands}
 use Rattle.update_log.specs.CoreSteps.{addition_on, board_on}
@@ -55,7 +55,7 @@ board-found facts opening core device s =
     ap (λ (bs : List ℕ). board_on bs core.views (Selector.Id device)) s.boards
     ∙ ap (λ (vs : List DeviceView). board_on (map (λ b. b.number) (devices facts)) vs (Selector.Id device)) s.views
     ∙ looked-up (numbers (devices facts)) (position_or_len (names (Selector.Id device)) (map (view_of (live past) (known facts opening past)) (devices facts))) (length (map (view_of (live past) (known facts opening past)) (devices facts)))
-    (length-map (λ (b : Board). b.number) (devices facts) ∙ sym (length-map (view_of (live past) (known facts opening past)) (devices facts)))
+    (length-map (devices facts) (λ (b : Board). b.number) ∙ sym (length-map (devices facts) (view_of (live past) (known facts opening past))))
     ∙ at-place (live past) (known facts opening past) device (devices facts)
 
 -- ---- the row of a claim

@@ -1,5 +1,6 @@
 -- Judgements.
 use Rattle.std.proofs.Common.{◌≡◌, ℕ, ◌<◌, ◌≤◌, ◌+◌, ◌-◌, Bool, true, false, List, ◌∷◌, length, refl, ap, sym, ◌∙◌, subst, arith, ◌⊎◌, inl, inr}
+use Rattle.std.proofs.lemmas.List.{length-map}
 use Rattle.std.specs.Prelude.{Option, Some, None, if◌then◌else◌, ◌||◌, not, option_map}
 use Rattle.daemon_core.proofs.ClaimFinish.{any-row}
 use Rattle.daemon_core.proofs.PuttingOff.{suits-told}
@@ -12,7 +13,6 @@ use Rattle.history_keeper.specs.Histories.{is_unsettled}
 use Rattle.history_keeper.specs.declared.change.Change.{Change}
 use Rattle.history_keeper.specs.declared.row.Row.{Row}
 use Rattle.history_keeper.specs.declared.row.RowState.{RowState}
-use Rattle.update_log.proofs.Rows.{length-map}
 use Rattle.update_log.specs.CoreSteps.{advance_on}
 use Rattle.update_log.specs.Holding.{is_live, live}
 use Rattle.update_log.specs.Known.{row_of, rows, views}
@@ -151,7 +151,7 @@ judge-ready a client entry version state stored k r b room h s =
     }
   where
     same-many : (a : Annalled) (entry : ℕ) (state : RowState) (stored : Stored) → length (rows a.facts (rows_before a) (Event.Judge client entry version state stored ∷ past_in a)) ≡ length (rows a.facts (rows_before a) (past_in a))
-    same-many a entry state Stored.Yes = length-map _ (rows a.facts (rows_before a) (past_in a))
+    same-many a entry state Stored.Yes = length-map (rows a.facts (rows_before a) (past_in a)) _
     same-many a entry state Stored.Fault = refl
     same-many a entry state Stored.NoMemory = refl
     same-many a entry state Stored.Unchanged = refl

@@ -2,7 +2,7 @@
 use Rattle.std.proofs.Common.{◌≡◌, ℕ, Bool, true, false, not, List, [], ◌∷◌, ◌++◌, refl, ap, sym, ◌≤◌, ◌+◌, ◌*◌, arith, length, subst, le_refl}
 use Rattle.std.specs.Prelude.{Some, Result, ◌==◌, filter, sum_by}
 use Rattle.std.proofs.lemmas.List.{length_push}
-use Rattle.std.proofs.lemmas.List.Sums.{sum_by_push}
+use Rattle.std.proofs.lemmas.List.Sums.{sum_by_push, sum_by-le-sum_by}
 use Rattle.std.proofs.lemmas.Bool.{eqb-true}
 use Rattle.emulated_boards.specs.declared.fault.BoardFault.{BoardFault}
 use Rattle.emulated_boards.specs.declared.mark.Mark.{Mark}
@@ -24,7 +24,7 @@ use Rattle.update_log.specs.declared.event.Op.{Op}
 use Rattle.update_log.specs.declared.live.Held.{Held}
 use Rattle.update_log.specs.declared.live.LiveEntry.{LiveEntry}
 use Rattle.daemon_core.proofs.ClaimOpen.{open-entry_live}
-use Rattle.daemon_core.proofs.OwedLists.{filter-takes, sum-below, sum-less, sum-takes}
+use Rattle.daemon_core.proofs.OwedLists.{filter-takes, sum-less, sum-takes}
 use Rattle.daemon_core.proofs.OwedStrokes.{FewStrokes, few-strokes}
 use Rattle.daemon_core.specs.Owed.{entry_needs, hold_needs, owed}
 
@@ -57,7 +57,7 @@ entry_off past l = entry_needs true (length (strokes l.entry past))
 -- a boot that goes off owes no more
 pub off-within : (past : List Event) → owed_by true past ≤ owed_by false past
 off-within past =
-    let sum : sum_by (entry_off past) (live past) ≤ sum_by (entry_on past) (live past) = sum-below (entry_off past) (entry_on past) (live past) (λ l. omega arith) in
+    let sum : sum_by (entry_off past) (live past) ≤ sum_by (entry_on past) (live past) = sum_by-le-sum_by (entry_off past) (entry_on past) (live past) (λ l. omega arith) in
     omega arith
 
 pub off-less_live : (past : List Event) (entry : ℕ) (l : LiveEntry) → live_entry past entry ≡ Some l → owed_by true past + 1 ≤ owed_by false past
@@ -105,7 +105,7 @@ owed-start past event entry l f h v found grows more =
 owed-quiet : (past : List Event) (event : Event) → off past ≡ false → length (holds (event ∷ past)) ≤ length (holds past) → live (event ∷ past) ≡ live past → ((e : ℕ) → strokes e (event ∷ past) ≡ strokes e past) → owed (event ∷ past) ≤ owed past + 0
 owed-quiet past event o h v s =
     let sum : sum_by (entry_on (event ∷ past)) (live past) ≤ sum_by (entry_on past) (live past) =
-    sum-below (entry_on (event ∷ past)) (entry_on past) (live past) (λ x. let g = ap length (s x.entry) in omega (arith, g)) in
+    sum_by-le-sum_by (entry_on (event ∷ past)) (entry_on past) (live past) (λ x. let g = ap length (s x.entry) in omega (arith, g)) in
     let lives : sum_by (entry_on (event ∷ past)) (live (event ∷ past)) ≡ sum_by (entry_on (event ∷ past)) (live past) = ap (sum_by (entry_on (event ∷ past))) v in
     on-adds past event 0 o (owed-more past event 0 0 (omega (arith, h)) (omega (arith, sum, lives)))
 
@@ -113,7 +113,7 @@ owed-quiet past event o h v s =
 owed-taken : (past : List Event) (event : Event) (l : LiveEntry) → off past ≡ false → length (holds (event ∷ past)) ≤ length (holds past) → live (event ∷ past) ≡ live past ++ l ∷ [] → ((e : ℕ) → strokes e (event ∷ past) ≡ strokes e past) → owed (event ∷ past) ≤ owed past + 15
 owed-taken past event l o h v s =
     let sum : sum_by (entry_on (event ∷ past)) (live past) ≤ sum_by (entry_on past) (live past) =
-    sum-below (entry_on (event ∷ past)) (entry_on past) (live past) (λ x. let g = ap length (s x.entry) in omega (arith, g)) in
+    sum_by-le-sum_by (entry_on (event ∷ past)) (entry_on past) (live past) (λ x. let g = ap length (s x.entry) in omega (arith, g)) in
     let lives : sum_by (entry_on (event ∷ past)) (live (event ∷ past)) ≡ sum_by (entry_on (event ∷ past)) (live past ++ l ∷ []) = ap (sum_by (entry_on (event ∷ past))) v in
     let pushed = sum_by_push (entry_on (event ∷ past)) (live past) l in
     let most : entry_on (event ∷ past) l ≤ 15 = omega arith in
@@ -191,11 +191,11 @@ back-hold past event client h e o hs l s =
     let takes = filter-takes (λ (x : Held). x.client == client) (holds past) h e in
     let held : length (holds (event ∷ past)) ≡ length (filter (λ (h : Held). not (h.client == client)) (holds past)) = ap length hs in
     let sum : sum_by (entry_on (event ∷ past)) (live past) ≤ sum_by (entry_on past) (live past) =
-    sum-below (entry_on (event ∷ past)) (entry_on past) (live past) (λ x. let g = ap length (s x.entry) in omega (arith, g)) in
+    sum_by-le-sum_by (entry_on (event ∷ past)) (entry_on past) (live past) (λ x. let g = ap length (s x.entry) in omega (arith, g)) in
     let lives : sum_by (entry_on (event ∷ past)) (live (event ∷ past)) ≡ sum_by (entry_on (event ∷ past)) (live past) = ap (sum_by (entry_on (event ∷ past))) l in
     let lives' : sum_by (entry_off (event ∷ past)) (live (event ∷ past)) ≡ sum_by (entry_off (event ∷ past)) (live past) = ap (sum_by (entry_off (event ∷ past))) l in
     let sum' : sum_by (entry_off (event ∷ past)) (live past) ≤ sum_by (entry_off past) (live past) =
-    sum-below (entry_off (event ∷ past)) (entry_off past) (live past) (λ x. omega arith) in
+    sum_by-le-sum_by (entry_off (event ∷ past)) (entry_off past) (live past) (λ x. omega arith) in
     back-less past event o (on-parts past event (omega (arith, takes, held, sum, lives))) (off-parts past event (omega (arith, takes, held, sum', lives')))
 
 -- an entry that is done
@@ -203,7 +203,7 @@ gone-sum : (past : List Event) (event : Event) (f g : LiveEntry → ℕ) (entry 
 gone-sum past event f g entry l found lives less one =
     let takes = sum-takes g (λ (x : LiveEntry). x.entry == entry) (live past) l found in
     let left : List LiveEntry = filter (λ (x : LiveEntry). not (x.entry == entry)) (live past) in
-    let sum : sum_by f (filter (λ (x : LiveEntry). not (x.entry == entry)) (live past)) ≤ sum_by g (filter (λ (x : LiveEntry). not (x.entry == entry)) (live past)) = sum-below f g (filter (λ (x : LiveEntry). not (x.entry == entry)) (live past)) less in
+    let sum : sum_by f (filter (λ (x : LiveEntry). not (x.entry == entry)) (live past)) ≤ sum_by g (filter (λ (x : LiveEntry). not (x.entry == entry)) (live past)) = sum_by-le-sum_by f g (filter (λ (x : LiveEntry). not (x.entry == entry)) (live past)) less in
     let e : sum_by f (live (event ∷ past)) ≡ sum_by f (filter (λ (x : LiveEntry). not (x.entry == entry)) (live past)) = ap (sum_by f) lives in
     omega (arith, takes, sum, e, one)
 

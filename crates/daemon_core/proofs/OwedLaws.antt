@@ -1,7 +1,6 @@
 -- How much room is owed.
 use Rattle.std.proofs.Common.{ℕ, ◌≤◌, ◌+◌, ◌*◌, Bool, true, false, List, ◌∷◌, length, arith}
-use Rattle.std.proofs.lemmas.List.Sums.{sum_by-le}
-use Rattle.daemon_core.proofs.OwedLists.{sum-below}
+use Rattle.std.proofs.lemmas.List.Sums.{sum_by-le, sum_by-le-sum_by}
 use Rattle.update_log.specs.Holding.{holds, live}
 use Rattle.update_log.specs.Once.{strokes}
 use Rattle.update_log.specs.Pasts.{off}
@@ -36,5 +35,5 @@ owed-most past =
 pub owed-cut : (past : List Event) → owed (Event.Cut ∷ past) ≤ owed past
 owed-cut past =
     let a = holds-least (off past) (length (holds past)) in
-    let b = sum-below (λ (l : LiveEntry). 1) (λ (l : LiveEntry). entry_needs (off past) (length (strokes l.entry past))) (live past) (λ l. entry-least (off past) (length (strokes l.entry past))) in
+    let b = sum_by-le-sum_by (λ (l : LiveEntry). 1) (λ (l : LiveEntry). entry_needs (off past) (length (strokes l.entry past))) (live past) (λ l. entry-least (off past) (length (strokes l.entry past))) in
     omega (arith, a, b)

@@ -1,7 +1,7 @@
 -- Sums and lengths of lists from which elements go.
 use Rattle.std.proofs.Common.{◌≡◌, ℕ, Bool, true, false, not, List, [], ◌∷◌, refl, ap, ◌≤◌, ◌+◌, arith, length}
 use Rattle.std.specs.Prelude.{Some, None, find, filter, sum_by}
-use Rattle.std.proofs.lemmas.List.Sums.{sum_by-cons}
+use Rattle.std.proofs.lemmas.List.Sums.{sum_by-cons, sum_by-le-sum_by}
 use Rattle.update_log.proofs.Lists.{by_test, filter-short}
 
 -- a filter takes away what is found
@@ -43,12 +43,6 @@ sum-takes f p (y ∷ ys) x h =
     let k = ap (sum_by f) (filter-yes (λ z. not (p z)) y ys n) in
     omega (arith, k, sum_by-cons f y ys, sum_by-cons f y (filter (λ z. not (p z)) ys)))
 
-pub sum-below : {X : Type 0} (f g : X → ℕ) (xs : List X) → ((x : X) → f x ≤ g x) → sum_by f xs ≤ sum_by g xs
-sum-below f g [] h = omega arith
-sum-below f g (x ∷ xs) h =
-    let rest : sum_by f xs ≤ sum_by g xs = sum-below f g xs h in
-    omega (arith, h x, sum_by-cons f x xs, sum_by-cons g x xs)
-
 -- less, where it is less of one that is found
 pub sum-less : {X : Type 0} (f g : X → ℕ) (p : X → Bool) (xs : List X) (x : X) → ((y : X) → f y ≤ g y) → find p xs ≡ Some x → f x + 1 ≤ g x → sum_by f xs + 1 ≤ sum_by g xs
 sum-less f g p [] x h e k = cc
@@ -58,7 +52,7 @@ sum-less f g p (y ∷ ys) x h e k =
     let s : y ≡ x = cc in
     let a : f y ≡ f x = ap f s in
     let b : g y ≡ g x = ap g s in
-    omega (arith, sum-below f g ys h, sum_by-cons f y ys, sum_by-cons g y ys))
+    omega (arith, sum_by-le-sum_by f g ys h, sum_by-cons f y ys, sum_by-cons g y ys))
     (λ t. let rest : sum_by f ys + 1 ≤ sum_by g ys = sum-less f g p ys x h (rw t at e) k in
     omega (arith, h y, sum_by-cons f y ys, sum_by-cons g y ys))
 

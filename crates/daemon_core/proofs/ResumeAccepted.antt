@@ -14,14 +14,15 @@ use Rattle.history_keeper.specs.declared.row.Row.{Row}
 use Rattle.release_catalogue.specs.Lookup.{Chosen, chosen}
 use Rattle.release_catalogue.specs.declared.reference.ReleaseRef.{ReleaseRef}
 use Rattle.update_log.proofs.Accepts.{accepts-target, found-passes}
+use Rattle.update_log.proofs.Lists.{map-none}
 use Rattle.update_log.proofs.Openings.{bytes-same, bytes-self}
-use Rattle.update_log.proofs.WaitsKept.{no-claim}
 use Rattle.update_log.specs.Known.{Target, target, target_at, target_of, views}
 use Rattle.update_log.specs.Legal.{is_fetched}
 use Rattle.update_log.specs.Verdicts.{Case, case_of, is_release, verdict}
 use Rattle.update_log.specs.declared.decision.Stage.{Stage}
 use Rattle.update_log.specs.declared.event.Event.{Event}
 use Rattle.update_log.specs.declared.facts.Facts.{Facts}
+use Rattle.update_log.specs.declared.refusal.Refusal.{Refusal}
 use Rattle.update_log.specs.declared.request.Request.{Request}
 use Rattle.daemon_core.proofs.Asking.{release-same, target-placed}
 use Rattle.daemon_core.proofs.ClaimAccepted.{target-seen, view-home, release-there}
@@ -61,7 +62,7 @@ resumable facts opening past entry request release a =
     let c : Case = case_of facts opening past 0 request (Stage.Resume entry release) in
     let h = accepts-target c a.0 a.2 a.1 a.3 in
     let t : Target = h.0 in
-    (t, record { found = h.1.found; that = (and_parts (is_release release t.chosen.at) _ h.1.that).0; unclaimed = no-claim t.view.claim h.1.none.is_busy })
+    (t, record { found = h.1.found; that = (and_parts (is_release release t.chosen.at) _ h.1.that).0; unclaimed = map-none (λ entry. Refusal.Busy entry) t.view.claim h.1.none.is_busy })
 
 -- A whole payload is that of the release that was found.
 pub whole-resumed : (facts : Facts) (opening : List Row) (past : List Event) (request : Request) (release : ReleaseRef) (t : Target) (payload : SealedBytes) → Resumable facts opening past request release t → IsPayloadOf facts release payload → is_fetched (whole_note payload) (target facts (views facts opening past) request) ≡ true

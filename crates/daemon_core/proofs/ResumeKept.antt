@@ -1,5 +1,6 @@
 -- A house after a resumption.
 use Rattle.std.proofs.Common.{◌≡◌, ℕ, ◌<◌, ◌≤◌, ◌+◌, List, ◌∷◌, length, refl, ap, sym, ◌∙◌, subst, arith}
+use Rattle.std.proofs.lemmas.List.{length-map}
 use Rattle.std.specs.Prelude.{Option, Some, None}
 use Rattle.block_pool.specs.Views.{PoolCounts}
 use Rattle.daemon_core.proofs.PuttingOff.{no-doubt, suits-told}
@@ -8,7 +9,6 @@ use Rattle.history_keeper.specs.declared.change.Change.{Change}
 use Rattle.history_keeper.specs.declared.row.Row.{Row}
 use Rattle.history_keeper.specs.declared.row.RowState.{RowState}
 use Rattle.update_log.proofs.Lists.{by_test}
-use Rattle.update_log.proofs.Rows.{length-map}
 use Rattle.update_log.specs.CoreSteps.{resumption_on}
 use Rattle.update_log.specs.Holding.{held, hold}
 use Rattle.update_log.specs.Known.{Fate, doubt, doubt_by, fate_stored, reason_of, refusal_number, row_of, rows, rows_by}
@@ -72,7 +72,7 @@ resumed-suits all time entry (ResumeAnswer.Refused refusal) row f =
 
 -- It adds none.
 advanced-many : (fate : Fate) (entry : ℕ) (state : RowState) (reason time : ℕ) (all : List Row) → length (rows_by fate (Some (Change.Advance entry state reason time)) all) ≤ length all
-advanced-many Fate.Made entry state reason time all = let e = length-map (with_state entry state reason time) all in omega (arith, e)
+advanced-many Fate.Made entry state reason time all = let e = length-map all (with_state entry state reason time) in omega (arith, e)
 advanced-many Fate.Doubtful entry state reason time all = omega arith
 advanced-many Fate.Dropped entry state reason time all = omega arith
 

@@ -3,6 +3,7 @@ use Rattle.std.proofs.Common.{◌≡◌, ◌⊎◌, ℕ, ◌<◌, ◌≤◌, ◌
 use Rattle.std.proofs.lemmas.List.{map-append, take_all}
 use Rattle.std.proofs.lemmas.List.Folds.{list_any-append}
 use Rattle.std.proofs.lemmas.Bool.{or_parts}
+use Rattle.std.proofs.lemmas.List.Elements.{filter-append}
 use Rattle.std.specs.Prelude.{Option, Some, None, ◌==◌, not, filter, option_map, unwrap_or}
 use Rattle.std.specs.List.{list_any}
 use Rattle.fw_facts.specs.Views.{is_home}
@@ -63,12 +64,6 @@ so-after true wanting told client Play xs ys moments more h p q = until-append t
 so-after false wanting told client Play xs ys moments more h p q = all-append told client Play xs ys moments more (so-told false wanting told client Play xs moments h p) q
 
 -- ---- the tasks of a list of entries
-
-filter-append : {X : Type 0} (p : X → Bool) (xs ys : List X) → filter p (xs ++ ys) ≡ filter p xs ++ filter p ys
-filter-append p [] ys = refl
-filter-append p (x ∷ xs) ys =
-    let rest : filter p (xs ++ ys) ≡ filter p xs ++ filter p ys = filter-append p xs ys in
-    by_test (p x) _ (λ t. rw t (ap (λ (l : List _). x ∷ l) rest)) (λ t. rw t rest)
 
 pub judge-append : (facts : Facts) (opening : List Row) (past : List Event) (xs ys : List ℕ) → to_judge facts opening past (xs ++ ys) ≡ to_judge facts opening past xs ++ to_judge facts opening past ys
 judge-append facts opening past xs ys =

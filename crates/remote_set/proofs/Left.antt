@@ -1,10 +1,10 @@
 -- What is left of components.
-use Rattle.std.proofs.Common.{◌≡◌, ℕ, suc, ◌+◌, ◌≤◌, Bool, true, false, not, List, [], ◌∷◌, All, length, map, refl, ap, ◌∙◌, arith}
+use Rattle.std.proofs.Common.{◌≡◌, ℕ, ◌+◌, ◌≤◌, Bool, not, List, [], ◌∷◌, All, length, map, ap, ◌∙◌, arith}
 use mathlib.Core.Path.{fun_ext}
 use Rattle.std.specs.Prelude.{filter, flat_map}
 use Rattle.std.proofs.lemmas.List.Elements.{All-map}
 use Rattle.std.proofs.lemmas.List.Folds.{flat_map-map}
-use Rattle.std.proofs.lemmas.List.Sums.{sum_by-cons}
+use Rattle.std.proofs.lemmas.List.Sums.{sum_by-cons, length-filter, count_by-le-length}
 use Rattle.fw_facts.specs.declared.release.Component.{Component}
 use Rattle.release_catalogue.specs.Components.{releases_in}
 use Rattle.remote_set.specs.declared.remote.Remote.{Remote}
@@ -14,12 +14,7 @@ use Rattle.remote_set.specs.Pieces.{Piece, piece_of}
 use Rattle.remote_set.proofs.Orders.{in_order-map}
 
 filter-fewer : {X : Type 0} (p : X → Bool) (xs : List X) → length (filter p xs) ≤ length xs
-filter-fewer p [] = omega arith
-filter-fewer p (x ∷ xs) = by (p x) refl (filter-fewer p xs)
-  where
-    by : (b : Bool) → p x ≡ b → length (filter p xs) ≤ length xs → length (filter p (x ∷ xs)) ≤ suc (length xs)
-    by true e h = rw e (omega arith)
-    by false e h = rw e (omega arith)
+filter-fewer p xs = rw (length-filter p xs) (count_by-le-length p xs)
 
 pub fewer_releases : (hides : List ℕ → List ℕ → Bool) (components : List Component) → releases_in (map (without hides) components) ≤ releases_in components
 fewer_releases hides [] = omega arith

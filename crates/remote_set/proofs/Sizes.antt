@@ -1,9 +1,9 @@
 -- How much is merged: no more than the remotes have.
-use Rattle.std.proofs.Common.{◌≡◌, ℕ, suc, ◌+◌, ◌≤◌, Bool, true, false, List, [], ◌∷◌, length, refl, sym, ap, ◌∙◌, arith, length-append}
+use Rattle.std.proofs.Common.{◌≡◌, ℕ, suc, ◌+◌, ◌≤◌, Bool, true, false, List, [], ◌∷◌, length, refl, sym, ap, ◌∙◌, arith}
 use Rattle.std.specs.Prelude.{flat_map, nat_lt}
 use Rattle.std.specs.List.{sum_by}
 use Rattle.std.proofs.lemmas.List.{length-map}
-use Rattle.std.proofs.lemmas.List.Concat.{flat_map-cons}
+use Rattle.std.proofs.lemmas.List.Concat.{flat_map-cons, length-flat_map}
 use Rattle.std.proofs.lemmas.List.Sums.{sum_by-append, sum_by-cons}
 use Rattle.fw_facts.specs.declared.release.Component.{Component}
 use Rattle.release_catalogue.specs.Components.{releases_in}
@@ -34,12 +34,6 @@ sum-in_order f order test (x ∷ xs) = order_step f order test x xs (test x) ref
 
 -- ---- one behind the other
 
-length-flat : {X Y : Type 0} (g : X → List Y) (xs : List X) → length (flat_map g xs) ≡ sum_by (λ x. length (g x)) xs
-length-flat g [] = refl
-length-flat {X} g (x ∷ xs) =
-    ap length (flat_map-cons g x xs) ∙ length-append (g x) (flat_map g xs)
-    ∙ ap (λ (n : ℕ). length (g x) + n) (length-flat g xs) ∙ sym (sum_by-cons (λ (x : X). length (g x)) x xs)
-
 releases-flat : {X : Type 0} (g : X → List Component) (xs : List X) → releases_in (flat_map g xs) ≡ sum_by (λ x. releases_in (g x)) xs
 releases-flat g [] = refl
 releases-flat {X} g (x ∷ xs) =
@@ -66,7 +60,7 @@ few_merged remotes =
     let fewer : (at : Placed) → own at ≤ all at = λ at. omega (arith, length-map at.remote.catalogue (without (is_hidden remotes (rank_of at)))) in
     omega (
       arith,
-      length-flat (left_of remotes) (enabled_in_order remotes),
+      length-flat_map (left_of remotes) (enabled_in_order remotes),
       sum-in_order own (λ at. at.remote.order) (λ at. at.remote.enabled) (placed_from 0 remotes),
       sum-fewer own all fewer (placed_from 0 remotes),
       sum-placed (λ r. length r.catalogue) 0 remotes,

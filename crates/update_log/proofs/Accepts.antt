@@ -14,7 +14,7 @@ use Rattle.history_keeper.specs.declared.row.Row.{Row}
 use Rattle.release_catalogue.specs.Lookup.{Chosen, all_releases, chosen, provides}
 use Rattle.release_catalogue.specs.declared.reference.ReleaseRef.{ReleaseRef}
 use Rattle.requirements.specs.declared.unmet.Unmet.{Unmet}
-use Rattle.update_log.proofs.Lists.{by_test, find-passes}
+use Rattle.update_log.proofs.Lists.{by_test, find-passes, map-none}
 use Rattle.update_log.proofs.Openings.{bytes-same}
 use Rattle.update_log.specs.Known.{Target, target, target_at, target_of, views}
 use Rattle.update_log.specs.Verdicts.{Case, busy, client_for, decided, first_refusal, first_unmet_for, hindered, installed, is_that_release, kept, locked, need, no_room, not_updatable, older, on_found, on_kept, on_present, on_target, out_of_size, present, refusals, refused_or, retry, rows_full, unmet, unsettled, vetoed}
@@ -68,10 +68,6 @@ pub or-accept : (o : Option Refusal) (device blocks device' blocks' : ℕ) (rele
 or-accept None device blocks device' blocks' release release' h = refl
 or-accept (Some r) device blocks device' blocks' release release' h = cc
 
-pub no-unmet : (o : Option Unmet) → option_map (λ u. Refusal.Unmet u) o ≡ None → o ≡ None
-no-unmet None h = refl
-no-unmet (Some u) h = cc
-
 -- The target of an accepted request: its release is that of the ask and of the row, and no refusal
 -- stands against it.
 pub record HasTarget (c : Case) (t : Target) : Type 0 where
@@ -81,7 +77,7 @@ pub record HasTarget (c : Case) (t : Target) : Type 0 where
 
 -- Its requirements hold.
 pub target-met : (c : Case) (t : Target) → NoneRefuses c t → first_unmet_for c.facts (client_for c) c.views t ≡ None
-target-met c t n = no-unmet (first_unmet_for c.facts (client_for c) c.views t) n.is_unmet
+target-met c t n = map-none (λ u. Refusal.Unmet u) (first_unmet_for c.facts (client_for c) c.views t) n.is_unmet
 
 pub accepts-target : (c : Case) (device blocks : ℕ) (release : ReleaseRef) → decided c ≡ Decision.Accept device release blocks → (t : Target) × HasTarget c t
 accepts-target c device blocks release h = at-kept (kept c) h

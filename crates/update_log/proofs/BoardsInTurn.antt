@@ -11,7 +11,7 @@ use Rattle.device_list.specs.Lists.{names, place, refused}
 use Rattle.update_log.specs.declared.facts.Facts.{Facts}
 use Rattle.update_log.specs.Boards.{Board, boards_from, all_boards, is_beaten, is_device, devices}
 use Rattle.update_log.specs.CoreBoards.{board, first_view}
-use Rattle.std.proofs.lemmas.List.{map-append}
+use Rattle.std.proofs.lemmas.List.{map-append, length-map, take_all}
 use Rattle.update_log.proofs.Lists.{by_test, eqb-other, All-map, All-filter, All-both, any-here, filter-short}
 use Rattle.update_log.proofs.Devices.{IsIn, IsOne, apart, each-in, one-of}
 use Rattle.update_log.proofs.Openings.{bytes-differ}
@@ -34,12 +34,6 @@ any-next p (x ∷ xs) (suc i) d lt h g =
     by_test (p x) _
     (λ t. let bad : true ≡ false = rw t at h in cc)
     (λ f. rw f (any-next p xs i d (omega arith) (rw f at h) g))
-
-pub take-whole : {X : Type 0} (xs : List X) (i : ℕ) → length xs ≤ i → take i xs ≡ xs
-take-whole [] zero h = refl
-take-whole [] (suc i) h = refl
-take-whole (x ∷ xs) zero h = absurd (omega arith)
-take-whole (x ∷ xs) (suc i) h = ap (λ ys. x ∷ ys) (take-whole xs i (omega arith))
 
 -- The boards before a place have lower numbers.
 before-below : (n : ℕ) (sheets : List Sheet) (i : ℕ) → AllByRecursion (λ b. b.number < n + i) (take i (boards_from n sheets))
@@ -92,10 +86,6 @@ few-kept p (x ∷ xs) (suc i) =
     (λ t. rw t (let h = few-kept p xs i in omega (arith, h)))
     (λ f. rw f (let h = few-kept p xs i in omega (arith, h)))
 
-pub length-mapped : {X Y : Type 0} (f : X → Y) (xs : List X) → length (map f xs) ≡ length xs
-length-mapped f [] = refl
-length-mapped f (x ∷ xs) = ap suc (length-mapped f xs)
-
 pub board-here : (facts : Facts) (i : ℕ) (s d : Sheet) → i < length facts.sheets → s ≡ get_or facts.sheets i d → get_or (all_boards facts) i (board i s) ≡ board i s
 board-here facts i s d lt e = board-from 0 i facts.sheets i d (board i s) (omega arith) lt ∙ ap (λ x. board i x) (sym e)
 
@@ -110,7 +100,7 @@ free-next facts i s d few lt e t =
     let other : AllByRecursion (λ b. b.sheet.device ≢ s.device) (filter (is_device facts) (take i (all_boards facts))) =
     All-map (IsBefore facts i) (λ b. b.sheet.device ≢ s.device) _ (devices-before facts i) (λ b h. apart facts b (board i s) h.0 own h.1) in
     let short : length (map first_view (filter (is_device facts) (take i (all_boards facts)))) ≤ i =
-    rw (length-mapped first_view (filter (is_device facts) (take i (all_boards facts)))) (few-kept (is_device facts) (all_boards facts) i) in
+    rw (length-map (filter (is_device facts) (take i (all_boards facts))) first_view) (few-kept (is_device facts) (all_boards facts) i) in
     let room : (length (map first_view (filter (is_device facts) (take i (all_boards facts)))) == 256) ≡ false = eqb-other _ 256 (λ k. omega (arith, k, short, few, lt)) in
     rw (unnamed s.device (filter (is_device facts) (take i (all_boards facts))) other, room) refl
 
@@ -144,7 +134,7 @@ beaten-next facts b items i s r n lt e c t h =
 
 whole-boards : (facts : Facts) (items : List Sheet) (i : ℕ) → items ≡ facts.sheets → length items ≤ i → take i (all_boards facts) ≡ all_boards facts
 whole-boards facts items i n le =
-    take-whole (all_boards facts) i (let m = length-from 0 facts.sheets in let k = ap length n in omega (arith, m, k, le))
+    take_all i (all_boards facts) (let m = length-from 0 facts.sheets in let k = ap length n in omega (arith, m, k, le))
 
 pub beaten-none : (facts : Facts) (b : Board) (items : List Sheet) (i : ℕ) → items ≡ facts.sheets → length items ≤ i
     → list_any (is_beaten facts b) (take i (all_boards facts)) ≡ false → false ≡ list_any (is_beaten facts b) (all_boards facts)
@@ -168,11 +158,11 @@ kept-whole f facts items i now n le h = h ∙ ap (λ bs. map f (filter (is_devic
 pub few-devices : {Y : Type 0} (f : Board → Y) (facts : Facts) (found : List Y) → length facts.sheets ≤ 256 → found ≡ map f (devices facts) → length found ≤ 256
 few-devices f facts found few h =
     let m = ap length h in
-    let n = length-mapped f (devices facts) in
+    let n = length-map (devices facts) f in
     let k = filter-short (is_device facts) (all_boards facts) in
     let l = length-from 0 facts.sheets in
     omega (arith, m, n, k, l, few)
 
 pub as-many : (facts : Facts) (views : List DeviceView) (boards : List ℕ) → views ≡ map first_view (devices facts) → boards ≡ map (λ b. b.number) (devices facts) → length boards ≡ length views
 as-many facts views boards v b =
-    ap length b ∙ length-mapped (λ (x : Board). x.number) (devices facts) ∙ sym (length-mapped first_view (devices facts)) ∙ sym (ap length v)
+    ap length b ∙ length-map (devices facts) (λ (x : Board). x.number) ∙ sym (length-map (devices facts) first_view) ∙ sym (ap length v)

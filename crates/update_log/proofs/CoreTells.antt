@@ -4,13 +4,13 @@ use Rattle.std.specs.Prelude.{Option, Some, None, find, nat_lt, option_map, opti
 use Rattle.std.specs.Str.{bytes_eq}
 use Rattle.std.proofs.lemmas.Option.{slice_get-map, slice_get_past}
 use Rattle.std.proofs.lemmas.Bool.{ltb-false}
+use Rattle.std.proofs.lemmas.List.{length-map}
 use Rattle.std.specs.List.{position_or_len}
 use Rattle.device_list.proofs.GuidLaws.{bytes_eq-symm}
 use Rattle.device_list.specs.Lists.{names, place}
 use Rattle.device_list.specs.declared.selector.Selector.{Selector}
 use Rattle.history_keeper.specs.declared.row.Row.{Row}
 use Rattle.update_log.proofs.Lists.{by_test}
-use Rattle.update_log.proofs.Rows.{length-map}
 use Rattle.update_log.specs.Boards.{Board, board_at, board_with, devices}
 use Rattle.update_log.specs.CoreSteps.{board_of_entry, board_on, tells_on}
 use Rattle.update_log.specs.Known.{Known, board_found, board_of, for_board, row_of, tells, view_of, views_in}
@@ -48,7 +48,7 @@ with-device : (entries : List LiveEntry) (known : Known) (device : List ℕ) (bo
     ≡ option_map (λ b. b.number) (find (λ b. bytes_eq b.sheet.device device) boards)
 with-device entries known device boards =
     looked-up (numbers boards) (position_or_len (names (Selector.Id device)) (map (view_of entries known) boards)) (length (map (view_of entries known) boards))
-    (length-map (λ (b : Board). b.number) boards ∙ sym (length-map (view_of entries known) boards))
+    (length-map boards (λ (b : Board). b.number) ∙ sym (length-map boards (view_of entries known)))
     ∙ at-place entries known device boards
 
 found-board : (facts : Facts) (entries : List LiveEntry) (known : Known) (selector : Selector)

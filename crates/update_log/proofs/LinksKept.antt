@@ -14,7 +14,7 @@ use Rattle.update_log.proofs.Accepts.{NoneRefuses, accepts-target}
 use Rattle.update_log.proofs.HoldsMade.{row-within}
 use Rattle.update_log.proofs.LegalOnce.{past-kept, past-kept-on}
 use Rattle.update_log.proofs.LinksOnce.{AllLinked, KeepsFailures, KeepsLinks, TriedOnce, all-linked, by-failures, by-links, by-tried, failure-of, failure_of, found-failures, found-links, found-tried, tried-once}
-use Rattle.update_log.proofs.Lists.{All-find, by_test, find-passes}
+use Rattle.update_log.proofs.Lists.{All-find, by_test, find-passes, map-none}
 use Rattle.update_log.proofs.Openings.{EntriesFrom, bytes-same, entries-from}
 use Rattle.update_log.proofs.Rows.{accepted-claim, rows_by-refused}
 use Rattle.update_log.proofs.RowsKept.{RowsKept}
@@ -61,10 +61,6 @@ or-none (Some x) b h = cc
 where-none : (b : Bool) (fault : RetryFault) → fault_where (not b) fault ≡ None → b ≡ true
 where-none true fault h = refl
 where-none false fault h = cc
-
-map-none : {X Y : Type 0} (f : X → Y) (o : Option X) → option_map f o ≡ None → o ≡ None
-map-none f None h = refl
-map-none f (Some x) h = cc
 
 and-not : (a b : Bool) → (a && not b) ≡ false → b ≡ false → a ≡ false
 and-not false b h g = refl

@@ -1,8 +1,9 @@
 -- Facts of lists that the induction over a log uses.
 use Rattle.std.proofs.Common.{◌≡◌, ◌≢◌, ℕ, zero, suc, ◌<◌, ◌≤◌, Bool, true, false, cond, not, List, [], ◌∷◌, ◌++◌, length, get_or, refl, ap, subst, arith}
-use Rattle.std.specs.Prelude.{Some, None, ◌==◌, is_some, find, filter}
+use Rattle.std.specs.Prelude.{Option, Some, None, ◌==◌, is_some, find, filter, option_map}
 use Rattle.std.specs.List.{AllByRecursion, list_any}
 use Rattle.std.proofs.lemmas.Bool.{eqb-true, eq-eqb}
+use Rattle.std.proofs.lemmas.List.Sums.{length-filter, count_by-le-length}
 
 -- a choice by a test, with what the test says
 pub by_test : (b : Bool) (G : Type 0) → (b ≡ true → G) → (b ≡ false → G) → G
@@ -94,10 +95,11 @@ any-here p (x ∷ xs) zero d lt g = rw g refl
 any-here p (x ∷ xs) (suc i) d lt g =
     by_test (p x) _ (λ t. rw t refl) (λ f. rw f (any-here p xs i d (omega arith) g))
 
+-- of nothing nothing is made
+pub map-none : {X Y : Type 0} (f : X → Y) (o : Option X) → option_map f o ≡ None → o ≡ None
+map-none f None h = refl
+map-none f (Some x) h = cc
+
 -- a filter keeps no more than there are
 pub filter-short : {X : Type 0} (p : X → Bool) (xs : List X) → length (filter p xs) ≤ length xs
-filter-short p [] = omega arith
-filter-short p (x ∷ xs) =
-    by_test (p x) _
-    (λ t. rw t (let h = filter-short p xs in omega (arith, h)))
-    (λ f. rw f (let h = filter-short p xs in omega (arith, h)))
+filter-short p xs = rw (length-filter p xs) (count_by-le-length p xs)

@@ -1,6 +1,6 @@
 -- How the rows grow.
-use Rattle.std.proofs.Common.{◌≡◌, ℕ, suc, Bool, true, false, List, [], ◌∷◌, map, refl, ap, ◌≤◌, arith, ◌⊎◌, inl, inr, length}
-use Rattle.std.proofs.lemmas.List.{length_push}
+use Rattle.std.proofs.Common.{◌≡◌, ℕ, Bool, true, false, List, refl, ◌≤◌, arith, ◌⊎◌, inl, inr, length}
+use Rattle.std.proofs.lemmas.List.{length_push, length-map}
 use Rattle.std.specs.Prelude.{Option, Some, if◌then◌else◌, MatchBool}
 use Rattle.history_keeper.specs.Changes.{changed, with_state}
 use Rattle.history_keeper.specs.declared.change.Change.{Change}
@@ -14,13 +14,9 @@ use Rattle.update_log.specs.declared.event.Found.{Found}
 use Rattle.update_log.specs.declared.refusal.FetchNote.{FetchNote}
 use Rattle.update_log.specs.declared.refusal.Refusal.{Refusal}
 
-pub length-map : {X Y : Type 0} (f : X → Y) (xs : List X) → length (map f xs) ≡ length xs
-length-map f [] = refl
-length-map f (x ∷ xs) = ap suc (length-map f xs)
-
 pub changed-grows : (change : Change) (rows : List Row) → length rows ≤ length (changed change rows)
 changed-grows (Change.Add row) rows = omega (arith, length_push rows row)
-changed-grows (Change.Advance entry state reason time) rows = omega (arith, length-map (with_state entry state reason time) rows)
+changed-grows (Change.Advance entry state reason time) rows = omega (arith, length-map rows (with_state entry state reason time))
 
 pub found-grows : (found : Found) (doubt : Option Change) (rows : List Row) → length rows ≤ length (rows_found found doubt rows)
 found-grows Found.Kept (Some change) rows = changed-grows change rows

@@ -16,7 +16,7 @@ use Rattle.release_catalogue.specs.Lookup.{Chosen, chosen}
 use Rattle.release_catalogue.specs.declared.reference.ReleaseRef.{ReleaseRef}
 use Rattle.update_log.proofs.Accepts.{HasTarget, NoneRefuses, accepts-target}
 use Rattle.update_log.proofs.LegalOnce.{past-kept-on}
-use Rattle.update_log.proofs.Lists.{All-both, All-filter, All-find, All-map, All-push, by_test, eqb-other, find-passes, find-push_new}
+use Rattle.update_log.proofs.Lists.{All-both, All-filter, All-find, All-map, All-push, by_test, eqb-other, find-passes, find-push_new, map-none}
 use Rattle.update_log.proofs.Openings.{EntriesFrom}
 use Rattle.update_log.proofs.Rows.{accepted-claim, rows_by-refused}
 use Rattle.update_log.proofs.RowsKept.{RowsKept, row_of-past}
@@ -115,18 +115,6 @@ target-claim facts entries k request t h = at (place request.device (views_in fa
     at None e = cc
     at (Some p) e = at-view p (slice_get (views_in facts entries k) p) refl e
 
-pub no-claim : (o : Option ℕ) → option_map (λ entry. Refusal.Busy entry) o ≡ None → o ≡ None
-no-claim None h = refl
-no-claim (Some entry) h = cc
-
-pub no-live : (o : Option LiveEntry) → option_map (λ l. l.entry) o ≡ None → o ≡ None
-no-live None h = refl
-no-live (Some l) h = cc
-
-no-row : (o : Option Row) → option_map (λ r. Refusal.Unsettled r.entry) o ≡ None → o ≡ None
-no-row None h = refl
-no-row (Some r) h = cc
-
 waits-or : (w l o : Bool) → (w && not l && not o) ≡ false → l ≡ false → o ≡ false → w ≡ false
 waits-or false l o h a b = refl
 waits-or true true o h a b = cc
@@ -137,14 +125,14 @@ accepted-free : (facts : Facts) (opening : List Row) (past : List Event) (client
 accepted-free facts opening past client request stage t own v has =
     let c : Case = case_of facts opening past client request stage in
     let n : NoneRefuses c t = has.none in
-    let claim : t.view.claim ≡ None = no-claim t.view.claim n.is_busy in
+    let claim : t.view.claim ≡ None = map-none (λ entry. Refusal.Busy entry) t.view.claim n.is_busy in
     let none : find (is_on (rows facts opening past) t.view.sheet.device) (live past) ≡ None =
-    no-live (find (is_on (rows facts opening past) t.view.sheet.device) (live past))
+    map-none (λ (l : LiveEntry). l.entry) (find (is_on (rows facts opening past) t.view.sheet.device) (live past))
     (sym (target-claim facts (live past) (known facts opening past) request t has.found) ∙ claim) in
     no-way (rows facts opening past) t.view.sheet.device (live past) (is_in_the_way c t) (rows facts opening past)
     (λ r w l. waits-or (waits_on t.view.sheet.device r) (is_live (live past) r.entry) (is_own c r) w l (ap (λ o. unwrap_or (option_map (λ entry. entry == r.entry) o) false) own))
     (found-own 1 (rows facts opening past) v)
-    (no-row (find (is_in_the_way c t) (rows facts opening past)) n.is_unsettled)
+    (map-none (λ (r : Row). Refusal.Unsettled r.entry) (find (is_in_the_way c t) (rows facts opening past)) n.is_unsettled)
     none
 
 -- No request is refused for the history's fault before its commit.

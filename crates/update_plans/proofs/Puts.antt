@@ -4,6 +4,7 @@ use Rattle.std.specs.Prelude.{Ok, Option, Some, None, IsSome, find, option_map, 
 use Rattle.std.specs.Option.{option_map_or}
 use Rattle.std.proofs.lemmas.Bool.{ltb-true}
 use Rattle.std.proofs.lemmas.Option.{same_Some}
+use Rattle.std.proofs.lemmas.List.{length-map}
 use Rattle.emulated_boards.specs.declared.mark.Mark.{Mark}
 use Rattle.fw_facts.specs.declared.flags.DeviceFlag.{DeviceFlag}
 use Rattle.fw_facts.specs.declared.release.Release.{Release}
@@ -32,7 +33,6 @@ use Rattle.update_log.specs.Shows.{marks}
 use Rattle.update_log.specs.Steps.{all_ops, next_op, next_step, trace}
 use Rattle.history_keeper.specs.Changes.{with_state}
 use Rattle.update_log.proofs.Pasts.{past-push}
-use Rattle.update_log.proofs.Rows.{length-map}
 use Rattle.update_plans.specs.Following.{IsQuiet}
 use Rattle.update_plans.specs.Plans.{Scene, asked, done, end_of, installed, installed_with, is_good, is_good_with, is_next, release_at, request_of, seen_of, shown_after, taken, view_of, waits_for_boot, with_some}
 use Rattle.update_plans.specs.Putting.{Begins, IsPutting, Making, end_on, ops_before, shown_on}
@@ -339,4 +339,4 @@ module _ (s : Scene) (step : PlanStep) (at : Making) (core : Core) (p : IsPuttin
 -- a finish adds no row
 pub rows-finished : (facts : Facts) (opening : List Row) (past : List Event) (client entry : ℕ) (state : RowState) → length (rows facts opening (Event.Finish client entry state Stored.Yes ∷ past)) ≡ length (rows facts opening past)
 rows-finished facts opening past client entry state =
-    length-map (with_state entry state (reason_of (rows facts opening past) entry) (time_of past)) (rows facts opening past)
+    length-map (rows facts opening past) (with_state entry state (reason_of (rows facts opening past) entry) (time_of past))

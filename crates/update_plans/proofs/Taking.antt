@@ -202,12 +202,6 @@ below-at n (p ∷ places) (suc i) a within = below-at n places i a.1 (omega (ari
 
 -- ---- the whole plan
 
-pub take-whole : {X : Type 0} (n : ℕ) (xs : List X) → length xs ≤ n → take n xs ≡ xs
-take-whole zero [] h = refl
-take-whole zero (x ∷ xs) h = absurd (omega (arith, h))
-take-whole (suc n) [] h = refl
-take-whole {X} (suc n) (x ∷ xs) h = ap (λ (ys : List X). x ∷ ys) (take-whole n xs (omega (arith, h)))
-
 pub chains-nil : (s : Scene) (before : List Event) → [] ≡ chains s [] 8192 1 before
 unfolding chains
 chains-nil s before = refl
@@ -219,12 +213,6 @@ after-nil s before = refl
 pub plan-is : (s : Scene) (before : List Event) → plan s before ≡ chains s (map (device_at (views s.facts s.opening before)) (walk (views s.facts s.opening before))) 8192 1 before
 unfolding plan
 plan-is s before = refl
-
-pub drop-whole : {X : Type 0} (n : ℕ) (xs : List X) → length xs ≤ n → drop n xs ≡ []
-drop-whole zero [] h = refl
-drop-whole zero (x ∷ xs) h = absurd (omega (arith, h))
-drop-whole (suc n) [] h = refl
-drop-whole (suc n) (x ∷ xs) h = drop-whole n xs (omega (arith, h))
 
 -- ---- what stands at a place
 

@@ -1,5 +1,6 @@
 -- Each place of the walk is a device's.
 use Rattle.std.proofs.Common.{◌≡◌, ℕ, zero, suc, ◌+◌, ◌<◌, ◌≤◌, Bool, true, false, List, [], ◌∷◌, ◌++◌, length, sym, ◌∙◌, arith}
+use Rattle.std.proofs.lemmas.List.{length-map}
 use Rattle.std.specs.Prelude.{flat_map, if◌then◌else◌}
 use Rattle.std.specs.List.{AllByRecursion}
 use Rattle.fw_facts.specs.declared.view.DeviceView.{DeviceView}
@@ -8,7 +9,6 @@ use Rattle.update_log.specs.Boards.{devices}
 use Rattle.update_log.specs.Holding.{live}
 use Rattle.update_log.specs.Known.{known, view_of, views}
 use Rattle.update_log.proofs.Lists.{All-append}
-use Rattle.update_log.proofs.Rows.{length-map}
 use Rattle.update_plans.specs.Plans.{Scene}
 use Rattle.update_plans.specs.Walks.{is_child, is_root, kin_of, places_from, related, visit, walk}
 use Rattle.update_plans.specs.declared.walk.Kin.{Kin}
@@ -40,7 +40,7 @@ visit-within kin n few (suc generations) at h =
 
 pub walk-within : (all : List DeviceView) → AllBelow (length all) (walk all)
 walk-within all =
-    let same : length (related all) ≡ length all = length-map (kin_of all) all in
+    let same : length (related all) ≡ length all = length-map all (kin_of all) in
     visits-within (length all) (visit (related all) (length (related all))) (places_from is_root 0 (related all))
     (places-within is_root 0 (related all) (length all) (omega (arith, same)))
     (λ p b. visit-within (related all) (length all) (omega (arith, same)) (length (related all)) p b)
@@ -48,4 +48,4 @@ walk-within all =
 -- There are as many devices, whatever happens.
 pub as-many : (s : Scene) (past now : List Event) → length (views s.facts s.opening now) ≡ length (views s.facts s.opening past)
 as-many s past now =
-    length-map (view_of (live now) (known s.facts s.opening now)) (devices s.facts) ∙ sym (length-map (view_of (live past) (known s.facts s.opening past)) (devices s.facts))
+    length-map (devices s.facts) (view_of (live now) (known s.facts s.opening now)) ∙ sym (length-map (devices s.facts) (view_of (live past) (known s.facts s.opening past)))

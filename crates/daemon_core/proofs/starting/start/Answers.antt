@@ -1,11 +1,11 @@
 use Rattle.std.proofs.Common.{◌≡◌, ◌-◌, ℕ, List, refl, ap, sym, ◌∙◌, arith, drop, take, length, length-drop}
-use Rattle.update_log.proofs.BoardsInTurn.{take-whole}
+use Rattle.std.proofs.lemmas.List.{take_all}
 use Rattle.emulated_boards.specs.declared.mark.Mark.{Mark}
 use Rattle.daemon_core.specs.Housed.{Place}
 use Rattle.daemon_core.proofs.starting.start.Goals as goal
 
 all-untold : (marks : List Mark) (k : ℕ) → take (length marks - k) (drop k marks) ≡ drop k marks
-all-untold marks k = take-whole (drop k marks) (length marks - k) (omega (arith, length-drop k marks))
+all-untold marks k = take_all (length marks - k) (drop k marks) (omega (arith, length-drop k marks))
 
 pub returns : goal.returns
 returns c =

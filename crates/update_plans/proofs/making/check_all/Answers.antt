@@ -1,10 +1,11 @@
 use Rattle.std.proofs.Common.{◌+◌, List, inr, refl, sym, ap, ◌∙◌, subst, arith}
+use Rattle.std.proofs.Math.ListN.{drop_of_length-le}
 use Rattle.update_log.specs.Pasts.{past_of}
 use Rattle.update_plans.specs.Following.{IsQuiet}
 use Rattle.update_plans.specs.Plans.{first_bad, scene}
 use Rattle.update_plans.specs.declared.plan.PlanStep.{PlanStep}
 use Rattle.update_plans.proofs.Chained.{first_bad-nil, quiet-on}
-use Rattle.update_plans.proofs.Taking.{bad-got, drop-whole, good-got}
+use Rattle.update_plans.proofs.Taking.{bad-got, good-got}
 use Rattle.update_plans.proofs.making.check_all.Goals as goal
 
 pub install-requires : goal.install-requires
@@ -36,5 +37,5 @@ pub returns : goal.returns
 returns g c =
     let s = scene c.args.asker.now.facts.now g.opening c.args.asker.now.client c.args.asker.now.tag.now in
     sym c.loop-index.invariant.so_far
-    ∙ ap (λ (steps : List PlanStep). first_bad s (c.loop-index.index + 1) steps (past_of c.loop-index.state.log)) (drop-whole c.loop-index.index c.args.steps.now (omega (arith, c.loop-index-test.false)))
+    ∙ ap (λ (steps : List PlanStep). first_bad s (c.loop-index.index + 1) steps (past_of c.loop-index.state.log)) (drop_of_length-le c.args.steps.now {i = c.loop-index.index} (omega (arith, c.loop-index-test.false)))
     ∙ first_bad-nil s (c.loop-index.index + 1) (past_of c.loop-index.state.log)

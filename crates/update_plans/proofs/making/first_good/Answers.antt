@@ -1,9 +1,10 @@
 use Rattle.std.proofs.Common.{◌≡◌, ◌+◌, None, drop, sym, ap, ◌∙◌, arith, rules}
+use Rattle.std.proofs.Math.ListN.{drop_of_length-le}
 use Rattle.std.specs.Prelude.{is_some}
 use Rattle.update_log.specs.Pasts.{past_of}
 use Rattle.update_plans.specs.Choosing.{tried}
 use Rattle.update_plans.specs.Plans.{scene}
-use Rattle.update_plans.proofs.Taking.{drop-whole, first-is, first-none, first-tried, none-there, not-above, tried-got}
+use Rattle.update_plans.proofs.Taking.{first-is, first-none, first-tried, none-there, not-above, tried-got}
 use Rattle.update_plans.proofs.making.first_good.Goals as goal
 
 pub returns-in_err-version : goal.returns-in_err-version
@@ -55,4 +56,4 @@ pub returns : goal.returns
 returns c = λ opening stands quiet.
     let s = scene c.args.asker.now.facts.now opening c.args.asker.now.client c.args.asker.now.tag.now in
     let past = past_of c.args.state.now.log in
-    ap (tried s c.args.number c.args.view.now c.args.shown.now past) (sym (drop-whole c.loop-index.index c.args.releases.now (omega (arith, c.loop-index-test.false)))) ∙ c.loop-index.invariant opening stands quiet
+    ap (tried s c.args.number c.args.view.now c.args.shown.now past) (sym (drop_of_length-le c.args.releases.now {i = c.loop-index.index} (omega (arith, c.loop-index-test.false)))) ∙ c.loop-index.invariant opening stands quiet

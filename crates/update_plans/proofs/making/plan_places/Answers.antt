@@ -1,8 +1,9 @@
 use Rattle.std.proofs.Common.{◌≡◌, ◌+◌, ◌-◌, ◌++◌, ℕ, List, [], length, map, get_or, sym, ap, ◌∙◌, arith, take}
+use Rattle.std.proofs.lemmas.List.{take_all}
 use Rattle.update_log.specs.Pasts.{past_of}
 use Rattle.update_plans.specs.Plans.{after, chain, chains, device_at, scene}
 use Rattle.update_plans.specs.declared.plan.PlanStep.{PlanStep}
-use Rattle.update_plans.proofs.Taking.{after-nil, below-at, chains-nil, device-kept, mapped-more, places-kept, take-whole, turn-after, turn-chains}
+use Rattle.update_plans.proofs.Taking.{after-nil, below-at, chains-nil, device-kept, mapped-more, places-kept, turn-after, turn-chains}
 use Rattle.update_plans.proofs.making.plan_places.Goals as goal
 
 pub plan_device-requires : goal.plan_device-requires
@@ -54,4 +55,4 @@ pub returns : goal.returns
 returns g c =
     let s = scene c.args.asker.now.facts.now g.opening c.args.asker.now.client c.args.asker.now.tag.now in
     c.loop-at.invariant.steps_are
-    ∙ ap (λ (places : List ℕ). chains s (map (device_at c.args.state.now.views) places) 8192 1 (past_of c.args.state.now.log)) (take-whole c.loop-at.at-index c.args.places.now (omega (arith, c.loop-at-test.false)))
+    ∙ ap (λ (places : List ℕ). chains s (map (device_at c.args.state.now.views) places) 8192 1 (past_of c.args.state.now.log)) (take_all c.loop-at.at-index c.args.places.now (omega (arith, c.loop-at-test.false)))
