@@ -41,39 +41,26 @@ play_all-requires-clause-may g c κs within =
     may-play c.args.daemon.id g.N.Naming.name c.args.of_boot.now c.deal_out-own.result c.deal_out-own.new.clients.items c.requires.nothing
     (dealt-so c.args.daemon.id g.N.Naming.name c.args.of_boot.now c.deal_out-own.result c.deal_out-own.new.clients.items c.args.passes.items c.deal_out-own.ensures.passes c.requires.numbers c.requires.passes c.requires.fresh)
 
-pub close-house-requires-clause-numbers : goal.close-house-requires-clause-numbers
-close-house-requires-clause-numbers g c =
+pub close-house-requires : goal.close-house-requires
+close-house-requires g c =
     let a : AllPlayed g.P.Shelf.files (steps_at (λ b. (goal.Plugin-dyn g (b.vtable, b.value)).steps b.value) c.args.plugins.now) g.P.Shelf.faults c.args.daemon.id g.N.Naming.name c.args.of_boot.now c.deal_out-own.result c.deal_out-own.new.clients.items c.play_all.new.clients.items =
     record {
       dealt = dealt-so c.args.daemon.id g.N.Naming.name c.args.of_boot.now c.deal_out-own.result c.deal_out-own.new.clients.items c.args.passes.items c.deal_out-own.ensures.passes c.requires.numbers c.requires.passes c.requires.fresh;
       count = c.play_all.ensures.count;
       played = c.play_all.ensures.played;
     } in
-    ap (map (λ (p : PassView Entry). p.number)) c.take_back-wanting.ensures.passes
-    ∙ closing-numbers g.P.Shelf.files (steps_at (λ b. (goal.Plugin-dyn g (b.vtable, b.value)).steps b.value) c.args.plugins.now) g.P.Shelf.faults c.args.daemon.id g.N.Naming.name c.args.of_boot.now c.deal_out-own.result c.deal_out-own.new.clients.items c.play_all.new.clients.items a
-    ∙ ap (range_with_len 0) (sym c.requires.seats)
-
-pub close-house-requires-clause-passes : goal.close-house-requires-clause-passes
-close-house-requires-clause-passes g c =
-    let a : AllPlayed g.P.Shelf.files (steps_at (λ b. (goal.Plugin-dyn g (b.vtable, b.value)).steps b.value) c.args.plugins.now) g.P.Shelf.faults c.args.daemon.id g.N.Naming.name c.args.of_boot.now c.deal_out-own.result c.deal_out-own.new.clients.items c.play_all.new.clients.items =
     record {
-      dealt = dealt-so c.args.daemon.id g.N.Naming.name c.args.of_boot.now c.deal_out-own.result c.deal_out-own.new.clients.items c.args.passes.items c.deal_out-own.ensures.passes c.requires.numbers c.requires.passes c.requires.fresh;
-      count = c.play_all.ensures.count;
-      played = c.play_all.ensures.played;
-    } in
-    subst (λ (l : List (PassView Entry)). All (IsPass c.args.daemon.id g.N.Naming.name) l) (sym c.take_back-wanting.ensures.passes)
-    (closing-passes g.P.Shelf.files (steps_at (λ b. (goal.Plugin-dyn g (b.vtable, b.value)).steps b.value) c.args.plugins.now) g.P.Shelf.faults c.args.daemon.id g.N.Naming.name c.args.of_boot.now c.deal_out-own.result c.deal_out-own.new.clients.items c.play_all.new.clients.items a)
-
-pub close-house-requires-clause-free : goal.close-house-requires-clause-free
-close-house-requires-clause-free g c =
-    let a : AllPlayed g.P.Shelf.files (steps_at (λ b. (goal.Plugin-dyn g (b.vtable, b.value)).steps b.value) c.args.plugins.now) g.P.Shelf.faults c.args.daemon.id g.N.Naming.name c.args.of_boot.now c.deal_out-own.result c.deal_out-own.new.clients.items c.play_all.new.clients.items =
-    record {
-      dealt = dealt-so c.args.daemon.id g.N.Naming.name c.args.of_boot.now c.deal_out-own.result c.deal_out-own.new.clients.items c.args.passes.items c.deal_out-own.ensures.passes c.requires.numbers c.requires.passes c.requires.fresh;
-      count = c.play_all.ensures.count;
-      played = c.play_all.ensures.played;
-    } in
-    subst (λ (l : List (PassView Entry)). All IsFreePass l) (sym c.take_back-wanting.ensures.passes)
-    (closing-free g.P.Shelf.files (steps_at (λ b. (goal.Plugin-dyn g (b.vtable, b.value)).steps b.value) c.args.plugins.now) g.P.Shelf.faults c.args.daemon.id g.N.Naming.name c.args.of_boot.now c.deal_out-own.result c.deal_out-own.new.clients.items c.play_all.new.clients.items a c.requires.nothing)
+      numbers =
+          ap (map (λ (p : PassView Entry). p.number)) c.take_back-wanting.ensures.passes
+          ∙ closing-numbers g.P.Shelf.files (steps_at (λ b. (goal.Plugin-dyn g (b.vtable, b.value)).steps b.value) c.args.plugins.now) g.P.Shelf.faults c.args.daemon.id g.N.Naming.name c.args.of_boot.now c.deal_out-own.result c.deal_out-own.new.clients.items c.play_all.new.clients.items a
+          ∙ ap (range_with_len 0) (sym c.requires.seats);
+      passes =
+          subst (λ (l : List (PassView Entry)). All (IsPass c.args.daemon.id g.N.Naming.name) l) (sym c.take_back-wanting.ensures.passes)
+          (closing-passes g.P.Shelf.files (steps_at (λ b. (goal.Plugin-dyn g (b.vtable, b.value)).steps b.value) c.args.plugins.now) g.P.Shelf.faults c.args.daemon.id g.N.Naming.name c.args.of_boot.now c.deal_out-own.result c.deal_out-own.new.clients.items c.play_all.new.clients.items a);
+      free =
+          subst (λ (l : List (PassView Entry)). All IsFreePass l) (sym c.take_back-wanting.ensures.passes)
+          (closing-free g.P.Shelf.files (steps_at (λ b. (goal.Plugin-dyn g (b.vtable, b.value)).steps b.value) c.args.plugins.now) g.P.Shelf.faults c.args.daemon.id g.N.Naming.name c.args.of_boot.now c.deal_out-own.result c.deal_out-own.new.clients.items c.play_all.new.clients.items a c.requires.nothing);
+    }
 
 pub returns-clause-played : goal.returns-clause-played
 returns-clause-played g c =

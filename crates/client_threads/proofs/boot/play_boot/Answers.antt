@@ -24,9 +24,26 @@ returns-then-is_off-clause-kept g c = shelves-here (shelves_told g.P.Shelf.files
 pub returns-then-is_off-clause-told : goal.returns-then-is_off-clause-told
 returns-then-is_off-clause-told g c = shelves-count_here (past c.args.house) (shelves_told g.P.Shelf.files g.P.Shelf.faults c.args.shelves.now.items)
 
-pub returns-clause-unread : goal.returns-clause-unread
-returns-clause-unread g c = λ u.
-    absurd (on-unread c.args.house.annals.loaded (past c.args.house) c.known.ensures.annals.unloaded c.requires.booted (sym c.is_off-is_off.ensures ∙ c.if-is_off.false) u)
+pub returns : goal.returns
+returns g c = record {
+  unread =
+      λ u.
+      absurd (on-unread c.args.house.annals.loaded (past c.args.house) c.known.ensures.annals.unloaded c.requires.booted (sym c.is_off-is_off.ensures ∙ c.if-is_off.false) u);
+  played =
+      let told = means_for (steps_at (λ b. (goal.Plugin-dyn g (b.vtable, b.value)).steps b.value) c.args.plugins.now) (shelves_told g.P.Shelf.files g.P.Shelf.faults c.args.shelves.now.items) in
+      let then = means_for (steps_at (λ b. (goal.Plugin-dyn g (b.vtable, b.value)).steps b.value) c.args.plugins.now) (shelves_told g.P.Shelf.files g.P.Shelf.faults c.do_tasks_first-now.new.shelves.items) in
+      subst (λ (w : Bool). HouseBootPlayed (signs_of g.K.Keeper.tells g.K.Keeper.faults) w told c.args.of_boot.now c.args.house c.play_clients-house.result.0) (sym c.either.ensures)
+      (boot-played (signs_of g.K.Keeper.tells g.K.Keeper.faults) c.do_tasks_first-now.result (told 0) c.args.house c.do_tasks_first-now.new.house c.do_tasks_first-now.ensures.went c.play_clients-house.result.1 told then c.args.of_boot.now c.play_clients-house.result.0 c.requires.fresh refl
+      (λ client. ap (λ (f : Files). means_of f (steps_at (λ b. (goal.Plugin-dyn g (b.vtable, b.value)).steps b.value) c.args.plugins.now)) (files-stay (shelves_told g.P.Shelf.files g.P.Shelf.faults c.args.shelves.now.items) (shelves_told g.P.Shelf.files g.P.Shelf.faults c.do_tasks_first-now.new.shelves.items) c.do_tasks_first-now.ensures.kept client))
+      c.play_clients-house.ensures.played c.known-2.ensures.annals.legal.0 (rows_before c.play_clients-house.result.0.annals) c.known-2.ensures.annals.legal.3);
+  kept =
+      shelves-both (shelves_told g.P.Shelf.files g.P.Shelf.faults c.args.shelves.now.items) (shelves_told g.P.Shelf.files g.P.Shelf.faults c.do_tasks_first-now.new.shelves.items) (shelves_told g.P.Shelf.files g.P.Shelf.faults c.play_clients-house.new.shelves.items)
+      c.do_tasks_first-now.ensures.kept c.play_clients-house.ensures.kept;
+  told =
+      shelves-count_both (past c.args.house) (past c.do_tasks_first-now.new.house) (past c.play_clients-house.result.0)
+      (shelves_told g.P.Shelf.files g.P.Shelf.faults c.args.shelves.now.items) (shelves_told g.P.Shelf.files g.P.Shelf.faults c.do_tasks_first-now.new.shelves.items) (shelves_told g.P.Shelf.files g.P.Shelf.faults c.play_clients-house.new.shelves.items)
+      c.do_tasks_first-now.ensures.kept c.play_clients-house.ensures.kept c.do_tasks_first-now.ensures.told c.play_clients-house.ensures.told;
+}
 
 pub play_clients-house-requires-clause-booted : goal.play_clients-house-requires-clause-booted
 play_clients-house-requires-clause-booted g c κs within =
@@ -51,23 +68,3 @@ play_clients-house-requires-clause-none g c κs within =
 pub play_clients-house-requires-clause-shelves : goal.play_clients-house-requires-clause-shelves
 play_clients-house-requires-clause-shelves g c κs within =
     enough-stay g.P.Shelf.files g.P.Shelf.faults c.args.shelves.now.items c.do_tasks_first-now.new.shelves.items (length c.args.of_boot.now) c.requires.serves.shelf c.do_tasks_first-now.ensures.kept
-
-pub returns-clause-played : goal.returns-clause-played
-returns-clause-played g c =
-    let told = means_for (steps_at (λ b. (goal.Plugin-dyn g (b.vtable, b.value)).steps b.value) c.args.plugins.now) (shelves_told g.P.Shelf.files g.P.Shelf.faults c.args.shelves.now.items) in
-    let then = means_for (steps_at (λ b. (goal.Plugin-dyn g (b.vtable, b.value)).steps b.value) c.args.plugins.now) (shelves_told g.P.Shelf.files g.P.Shelf.faults c.do_tasks_first-now.new.shelves.items) in
-    subst (λ (w : Bool). HouseBootPlayed (signs_of g.K.Keeper.tells g.K.Keeper.faults) w told c.args.of_boot.now c.args.house c.play_clients-house.result.0) (sym c.either.ensures)
-    (boot-played (signs_of g.K.Keeper.tells g.K.Keeper.faults) c.do_tasks_first-now.result (told 0) c.args.house c.do_tasks_first-now.new.house c.do_tasks_first-now.ensures.went c.play_clients-house.result.1 told then c.args.of_boot.now c.play_clients-house.result.0 c.requires.fresh refl
-    (λ client. ap (λ (f : Files). means_of f (steps_at (λ b. (goal.Plugin-dyn g (b.vtable, b.value)).steps b.value) c.args.plugins.now)) (files-stay (shelves_told g.P.Shelf.files g.P.Shelf.faults c.args.shelves.now.items) (shelves_told g.P.Shelf.files g.P.Shelf.faults c.do_tasks_first-now.new.shelves.items) c.do_tasks_first-now.ensures.kept client))
-    c.play_clients-house.ensures.played c.known-2.ensures.annals.legal.0 (rows_before c.play_clients-house.result.0.annals) c.known-2.ensures.annals.legal.3)
-
-pub returns-clause-kept : goal.returns-clause-kept
-returns-clause-kept g c =
-    shelves-both (shelves_told g.P.Shelf.files g.P.Shelf.faults c.args.shelves.now.items) (shelves_told g.P.Shelf.files g.P.Shelf.faults c.do_tasks_first-now.new.shelves.items) (shelves_told g.P.Shelf.files g.P.Shelf.faults c.play_clients-house.new.shelves.items)
-    c.do_tasks_first-now.ensures.kept c.play_clients-house.ensures.kept
-
-pub returns-clause-told : goal.returns-clause-told
-returns-clause-told g c =
-    shelves-count_both (past c.args.house) (past c.do_tasks_first-now.new.house) (past c.play_clients-house.result.0)
-    (shelves_told g.P.Shelf.files g.P.Shelf.faults c.args.shelves.now.items) (shelves_told g.P.Shelf.files g.P.Shelf.faults c.do_tasks_first-now.new.shelves.items) (shelves_told g.P.Shelf.files g.P.Shelf.faults c.play_clients-house.new.shelves.items)
-    c.do_tasks_first-now.ensures.kept c.play_clients-house.ensures.kept c.do_tasks_first-now.ensures.told c.play_clients-house.ensures.told

@@ -18,12 +18,12 @@ returns-then-is_empty-clause-played g c =
 pub returns-then-is_empty-clause-kept : goal.returns-then-is_empty-clause-kept
 returns-then-is_empty-clause-kept g c = shelves-here (shelves_told g.P.Shelf.files g.P.Shelf.faults c.args.shelves.now.items)
 
-pub returns-then-is_off-clause-played : goal.returns-then-is_off-clause-played
-returns-then-is_off-clause-played g c =
-    clients-off (signs_of g.K.Keeper.tells g.K.Keeper.faults) (means_for (steps_at (λ b. (goal.Plugin-dyn g (b.vtable, b.value)).steps b.value) c.args.plugins.now) (shelves_told g.P.Shelf.files g.P.Shelf.faults c.args.shelves.now.items)) c.args.of_boot.now c.args.house c.requires.idle c.requires.none false (sym c.is_off.ensures ∙ c.if-is_off.true)
-
-pub returns-then-is_off-clause-kept : goal.returns-then-is_off-clause-kept
-returns-then-is_off-clause-kept g c = shelves-here (shelves_told g.P.Shelf.files g.P.Shelf.faults c.args.shelves.now.items)
+pub returns-then-is_off : goal.returns-then-is_off
+returns-then-is_off g c = record {
+  played = clients-off (signs_of g.K.Keeper.tells g.K.Keeper.faults) (means_for (steps_at (λ b. (goal.Plugin-dyn g (b.vtable, b.value)).steps b.value) c.args.plugins.now) (shelves_told g.P.Shelf.files g.P.Shelf.faults c.args.shelves.now.items)) c.args.of_boot.now c.args.house c.requires.idle c.requires.none false (sym c.is_off.ensures ∙ c.if-is_off.true);
+  kept = shelves-here (shelves_told g.P.Shelf.files g.P.Shelf.faults c.args.shelves.now.items);
+  told = shelves-count_here (past c.args.house) (shelves_told g.P.Shelf.files g.P.Shelf.faults c.args.shelves.now.items);
+}
 
 pub play_named-requires-clause-name : goal.play_named-requires-clause-name
 play_named-requires-clause-name g c κs within = its-name (signs_of g.K.Keeper.tells g.K.Keeper.faults) c.args.house
@@ -34,6 +34,3 @@ play_named-requires-clause-begins g c κs within =
 
 pub returns-then-is_empty-clause-told : goal.returns-then-is_empty-clause-told
 returns-then-is_empty-clause-told g c = shelves-count_here (past c.args.house) (shelves_told g.P.Shelf.files g.P.Shelf.faults c.args.shelves.now.items)
-
-pub returns-then-is_off-clause-told : goal.returns-then-is_off-clause-told
-returns-then-is_off-clause-told g c = shelves-count_here (past c.args.house) (shelves_told g.P.Shelf.files g.P.Shelf.faults c.args.shelves.now.items)

@@ -13,12 +13,12 @@ use Rattle.client_threads.proofs.Rest.{begins-named, clients-left, clients-playe
 use Rattle.client_plays.proofs.ShelfCounts.{shelves-count_here}
 use Rattle.client_threads.proofs.boot.play_named.Goals as goal
 
-pub returns-in_default-clause-played : goal.returns-in_default-clause-played
-returns-in_default-clause-played g c =
-    clients-left (signs_of g.K.Keeper.tells g.K.Keeper.faults) (means_for (steps_at (λ b. (goal.Plugin-dyn g (b.vtable, b.value)).steps b.value) c.args.plugins.now) (shelves_told g.P.Shelf.files g.P.Shelf.faults c.args.shelves.now.items)) c.args.of_boot.now c.args.house c.requires.begins.idle c.requires.none
-
-pub returns-in_default-clause-kept : goal.returns-in_default-clause-kept
-returns-in_default-clause-kept g c = shelves-here (shelves_told g.P.Shelf.files g.P.Shelf.faults c.args.shelves.now.items)
+pub returns-in_default : goal.returns-in_default
+returns-in_default g c = record {
+  played = clients-left (signs_of g.K.Keeper.tells g.K.Keeper.faults) (means_for (steps_at (λ b. (goal.Plugin-dyn g (b.vtable, b.value)).steps b.value) c.args.plugins.now) (shelves_told g.P.Shelf.files g.P.Shelf.faults c.args.shelves.now.items)) c.args.of_boot.now c.args.house c.requires.begins.idle c.requires.none;
+  kept = shelves-here (shelves_told g.P.Shelf.files g.P.Shelf.faults c.args.shelves.now.items);
+  told = shelves-count_here (past c.args.house) (shelves_told g.P.Shelf.files g.P.Shelf.faults c.args.shelves.now.items);
+}
 
 pub begin-requires-clause-name : goal.begin-requires-clause-name
 begin-requires-clause-name g c = begins-named (signs_of g.K.Keeper.tells g.K.Keeper.faults) g.N.Naming.name c.args.house c.requires.name c.requires.begins
@@ -45,9 +45,6 @@ returns-in-Err-clause-played g c =
 
 pub returns-in-Err-clause-kept : goal.returns-in-Err-clause-kept
 returns-in-Err-clause-kept g c = shelves-here (shelves_told g.P.Shelf.files g.P.Shelf.faults c.args.shelves.now.items)
-
-pub returns-in_default-clause-told : goal.returns-in_default-clause-told
-returns-in_default-clause-told g c = shelves-count_here (past c.args.house) (shelves_told g.P.Shelf.files g.P.Shelf.faults c.args.shelves.now.items)
 
 pub returns-in-Ok-begin-clause-told : goal.returns-in-Ok-begin-clause-told
 returns-in-Ok-begin-clause-told g c =

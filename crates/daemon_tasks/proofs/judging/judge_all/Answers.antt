@@ -11,18 +11,15 @@ use Rattle.daemon_core.specs.Turns.{signs_of}
 pub loop-entry-init : goal.loop-entry-init
 loop-entry-init g c = record { so_far = λ facts opening files. judged-none (signs_of g.K.Keeper.tells g.K.Keeper.faults) facts opening (files_alone files) false c.args.house.now c.requires.idle }
 
-pub judge_next-requires-clause-booted : goal.judge_next-requires-clause-booted
-judge_next-requires-clause-booted g c =
-    let facts = c.args.house.now.annals.facts in
-    still-booted (signs_of g.K.Keeper.tells g.K.Keeper.faults) c.loop-entry.wanting 0 (TaskPlays facts [] (files_alone None)) (to_judge_in c.args.house.now.annals (take c.loop-entry.entry-index c.args.entries.now)) c.args.house.now c.loop-entry.house
-    (c.loop-entry.invariant.so_far facts [] None).so_far c.requires.booted
-
-pub judge_next-requires-clause-idle : goal.judge_next-requires-clause-idle
-judge_next-requires-clause-idle g c = (c.loop-entry.invariant.so_far c.args.house.now.annals.facts [] None).so_far.rest.idle
-
-pub judge_next-requires-clause-row : goal.judge_next-requires-clause-row
-judge_next-requires-clause-row g c =
-    known-turn c.args.entries.now c.loop-entry.entry-index c.args.house.now.annals c.loop-entry.house.annals c.loop-entry-test.true c.requires.apart c.requires.rows (c.loop-entry.invariant.so_far c.args.house.now.annals.facts [] None).stays
+pub judge_next-requires : goal.judge_next-requires
+judge_next-requires g c = record {
+  booted =
+      let facts = c.args.house.now.annals.facts in
+      still-booted (signs_of g.K.Keeper.tells g.K.Keeper.faults) c.loop-entry.wanting 0 (TaskPlays facts [] (files_alone None)) (to_judge_in c.args.house.now.annals (take c.loop-entry.entry-index c.args.entries.now)) c.args.house.now c.loop-entry.house
+      (c.loop-entry.invariant.so_far facts [] None).so_far c.requires.booted;
+  idle = (c.loop-entry.invariant.so_far c.args.house.now.annals.facts [] None).so_far.rest.idle;
+  row = known-turn c.args.entries.now c.loop-entry.entry-index c.args.house.now.annals c.loop-entry.house.annals c.loop-entry-test.true c.requires.apart c.requires.rows (c.loop-entry.invariant.so_far c.args.house.now.annals.facts [] None).stays;
+}
 
 pub returns-in-None : goal.returns-in-None
 returns-in-None g c facts opening files =

@@ -36,24 +36,24 @@ pub resume_next-requires-clause-served : goal.resume_next-requires-clause-served
 resume_next-requires-clause-served g c =
     subst (λ (f : Facts). length f.vetoes ≤ length c.args.plugins.now) (sym c.loop-entry.invariant.so_far.rest.same.facts) c.requires.served
 
-pub returns-in-None-clause-more : goal.returns-in-None-clause-more
-returns-in-None-clause-more g c =
-    let v = c.loop-entry.invariant in
-    let i = c.loop-entry.entry-index in
-    let a = c.args.house.now.annals in
-    let files = g.P.Shelf.files c.args.shelf.now in
-    let plugins = (steps_at (λ b. (goal.Plugin-dyn g (b.vtable, b.value)).steps b.value) c.args.plugins.now) in
-    resumed-off (signs_of g.K.Keeper.tells g.K.Keeper.faults) (TaskPlays a.facts (rows_before a) (means_of files plugins)) c.args.before c.loop-entry.wanting c.args.entries.now i c.args.house.now c.loop-entry.house c.resume_next.new.house
-    c.loop-entry-test.true v.told v.so_far
-    (same-task (signs_of g.K.Keeper.tells g.K.Keeper.faults) None c.loop-entry.wanting (ToResume (get_or c.args.entries.now i 0)) plugins a c.loop-entry.house.annals files (g.P.Shelf.files c.loop-entry.shelf) c.loop-entry.house c.resume_next.new.house
-    v.so_far.rest.same v.files c.in-None.ensures.more)
-
-pub returns-in-None-clause-files : goal.returns-in-None-clause-files
-returns-in-None-clause-files g c = c.in-None.ensures.files ∙ c.loop-entry.invariant.files
-
-pub returns-in-None-clause-counts : goal.returns-in-None-clause-counts
-returns-in-None-clause-counts g c =
-    le-both (g.P.Shelf.faults c.args.shelf.now) (g.P.Shelf.faults c.loop-entry.shelf) (g.P.Shelf.faults c.resume_next.new.shelf) c.loop-entry.invariant.counts c.in-None.ensures.counts
+pub returns-in-None : goal.returns-in-None
+returns-in-None g c = record {
+  more =
+      let v = c.loop-entry.invariant in
+      let i = c.loop-entry.entry-index in
+      let a = c.args.house.now.annals in
+      let files = g.P.Shelf.files c.args.shelf.now in
+      let plugins = (steps_at (λ b. (goal.Plugin-dyn g (b.vtable, b.value)).steps b.value) c.args.plugins.now) in
+      resumed-off (signs_of g.K.Keeper.tells g.K.Keeper.faults) (TaskPlays a.facts (rows_before a) (means_of files plugins)) c.args.before c.loop-entry.wanting c.args.entries.now i c.args.house.now c.loop-entry.house c.resume_next.new.house
+      c.loop-entry-test.true v.told v.so_far
+      (same-task (signs_of g.K.Keeper.tells g.K.Keeper.faults) None c.loop-entry.wanting (ToResume (get_or c.args.entries.now i 0)) plugins a c.loop-entry.house.annals files (g.P.Shelf.files c.loop-entry.shelf) c.loop-entry.house c.resume_next.new.house
+      v.so_far.rest.same v.files c.in-None.ensures.more);
+  files = c.in-None.ensures.files ∙ c.loop-entry.invariant.files;
+  counts = le-both (g.P.Shelf.faults c.args.shelf.now) (g.P.Shelf.faults c.loop-entry.shelf) (g.P.Shelf.faults c.resume_next.new.shelf) c.loop-entry.invariant.counts c.in-None.ensures.counts;
+  told =
+      told-both (mine 0 (past c.args.house.now)) (mine 0 (past c.loop-entry.house)) (mine 0 (past c.resume_next.new.house)) (g.P.Shelf.faults c.args.shelf.now) (g.P.Shelf.faults c.loop-entry.shelf) (g.P.Shelf.faults c.resume_next.new.shelf)
+      c.loop-entry.invariant.counted c.in-None.ensures.told c.in-None.ensures.counts;
+}
 
 pub loop-entry-preserved : goal.loop-entry-preserved
 loop-entry-preserved g c =
@@ -78,11 +78,6 @@ loop-entry-preserved g c =
 pub returns-clause-more : goal.returns-clause-more
 returns-clause-more g c =
     resumed-end (signs_of g.K.Keeper.tells g.K.Keeper.faults) (TaskPlays c.args.house.now.annals.facts (rows_before c.args.house.now.annals) (means_of (g.P.Shelf.files c.args.shelf.now) (steps_at (λ b. (goal.Plugin-dyn g (b.vtable, b.value)).steps b.value) c.args.plugins.now))) c.args.before c.loop-entry.wanting c.args.entries.now c.loop-entry.entry-index c.args.house.now c.loop-entry.house c.loop-entry-test.false c.loop-entry.invariant.told c.loop-entry.invariant.so_far
-
-pub returns-in-None-clause-told : goal.returns-in-None-clause-told
-returns-in-None-clause-told g c =
-    told-both (mine 0 (past c.args.house.now)) (mine 0 (past c.loop-entry.house)) (mine 0 (past c.resume_next.new.house)) (g.P.Shelf.faults c.args.shelf.now) (g.P.Shelf.faults c.loop-entry.shelf) (g.P.Shelf.faults c.resume_next.new.shelf)
-    c.loop-entry.invariant.counted c.in-None.ensures.told c.in-None.ensures.counts
 
 pub returns-clause-told : goal.returns-clause-told
 returns-clause-told g c = c.loop-entry.invariant.counted

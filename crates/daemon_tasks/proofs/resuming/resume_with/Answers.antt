@@ -6,29 +6,15 @@ use Rattle.daemon_tasks.proofs.FaultPlays.{refused-told, resumed-told, stopped-t
 use Rattle.daemon_tasks.proofs.resuming.resume_with.Goals as goal
 use Rattle.daemon_core.specs.Turns.{signs_of}
 
-pub run_taken-requires-clause-runs : goal.run_taken-requires-clause-runs
-run_taken-requires-clause-runs g c =
-    resumed-runs c.args.entry c.args.held c.in-Ok-Taken.taken c.args.house.now c.resume.new.self (rw c.in-Ok-Taken.field-0-is at c.in-Ok-Taken.ensures.turn) (rw c.in-Ok-Taken.field-0-is at c.in-Ok-Taken.ensures.gave) c.known.ensures.annals c.requires.booted
-
-pub run_taken-requires-clause-no_steps : goal.run_taken-requires-clause-no_steps
-run_taken-requires-clause-no_steps g c =
-    resumed-new c.args.entry c.args.held c.in-Ok-Taken.taken c.args.house.now c.resume.new.self (rw c.in-Ok-Taken.field-0-is at c.in-Ok-Taken.ensures.turn) (rw c.in-Ok-Taken.field-0-is at c.in-Ok-Taken.ensures.gave)
-
-pub run_taken-requires-clause-marks : goal.run_taken-requires-clause-marks
-run_taken-requires-clause-marks g c =
-    resumed-marks c.args.entry c.args.held c.in-Ok-Taken.taken c.args.house.now c.resume.new.self (rw c.in-Ok-Taken.field-0-is at c.in-Ok-Taken.ensures.turn) (rw c.in-Ok-Taken.field-0-is at c.in-Ok-Taken.ensures.gave)
-
-pub run_taken-requires-clause-served : goal.run_taken-requires-clause-served
-run_taken-requires-clause-served g c =
-    resumed-plugin c.args.entry c.args.held c.in-Ok-Taken.taken c.args.house.now c.resume.new.self (rw c.in-Ok-Taken.field-0-is at c.in-Ok-Taken.ensures.turn) (rw c.in-Ok-Taken.field-0-is at c.in-Ok-Taken.ensures.gave) (length c.args.plugins.now) c.requires.served
-
-pub run_taken-requires-clause-own : goal.run_taken-requires-clause-own
-run_taken-requires-clause-own g c =
-    resumed-own c.args.entry c.args.held c.in-Ok-Taken.taken c.args.house.now c.resume.new.self (rw c.in-Ok-Taken.field-0-is at c.in-Ok-Taken.ensures.turn) (rw c.in-Ok-Taken.field-0-is at c.in-Ok-Taken.ensures.gave)
-
-pub run_taken-requires-clause-alone : goal.run_taken-requires-clause-alone
-run_taken-requires-clause-alone g c =
-    resumed-alone c.args.entry c.args.held c.in-Ok-Taken.taken c.args.house.now c.resume.new.self (rw c.in-Ok-Taken.field-0-is at c.in-Ok-Taken.ensures.turn) (rw c.in-Ok-Taken.field-0-is at c.in-Ok-Taken.ensures.gave) c.requires.out
+pub run_taken-requires : goal.run_taken-requires
+run_taken-requires g c = record {
+  runs = resumed-runs c.args.entry c.args.held c.in-Ok-Taken.taken c.args.house.now c.resume.new.self (rw c.in-Ok-Taken.field-0-is at c.in-Ok-Taken.ensures.turn) (rw c.in-Ok-Taken.field-0-is at c.in-Ok-Taken.ensures.gave) c.known.ensures.annals c.requires.booted;
+  no_steps = resumed-new c.args.entry c.args.held c.in-Ok-Taken.taken c.args.house.now c.resume.new.self (rw c.in-Ok-Taken.field-0-is at c.in-Ok-Taken.ensures.turn) (rw c.in-Ok-Taken.field-0-is at c.in-Ok-Taken.ensures.gave);
+  marks = resumed-marks c.args.entry c.args.held c.in-Ok-Taken.taken c.args.house.now c.resume.new.self (rw c.in-Ok-Taken.field-0-is at c.in-Ok-Taken.ensures.turn) (rw c.in-Ok-Taken.field-0-is at c.in-Ok-Taken.ensures.gave);
+  served = resumed-plugin c.args.entry c.args.held c.in-Ok-Taken.taken c.args.house.now c.resume.new.self (rw c.in-Ok-Taken.field-0-is at c.in-Ok-Taken.ensures.turn) (rw c.in-Ok-Taken.field-0-is at c.in-Ok-Taken.ensures.gave) (length c.args.plugins.now) c.requires.served;
+  own = resumed-own c.args.entry c.args.held c.in-Ok-Taken.taken c.args.house.now c.resume.new.self (rw c.in-Ok-Taken.field-0-is at c.in-Ok-Taken.ensures.turn) (rw c.in-Ok-Taken.field-0-is at c.in-Ok-Taken.ensures.gave);
+  alone = resumed-alone c.args.entry c.args.held c.in-Ok-Taken.taken c.args.house.now c.resume.new.self (rw c.in-Ok-Taken.field-0-is at c.in-Ok-Taken.ensures.turn) (rw c.in-Ok-Taken.field-0-is at c.in-Ok-Taken.ensures.gave) c.requires.out;
+}
 
 pub unreachable-requires : goal.unreachable-requires
 unreachable-requires g c = rw c.in-Ok-Kept.field-0-is at c.in-Ok-Kept.ensures.turn
@@ -41,13 +27,12 @@ pub give_up-requires-clause-out : goal.give_up-requires-clause-out
 give_up-requires-clause-out g c =
     stopped-out c.args.entry c.args.held c.in-Err.stopped c.args.house.now c.resume.new.self c.in-Err.ensures.turn c.in-Err.ensures.gave c.requires.out
 
-pub returns-in-Ok-Taken-clause-played : goal.returns-in-Ok-Taken-clause-played
-returns-in-Ok-Taken-clause-played g c files asked f =
-    resume-played c.args.entry c.args.held c.in-Ok-Taken.taken c.args.house.now c.resume.new.self (rw c.in-Ok-Taken.field-0-is at c.in-Ok-Taken.ensures.turn) (rw c.in-Ok-Taken.field-0-is at c.in-Ok-Taken.ensures.gave) (signs_of g.K.Keeper.tells g.K.Keeper.faults) (means_of files (steps_at (λ b. (goal.Plugin-dyn g (b.vtable, b.value)).steps b.value) c.args.plugins.now)) asked c.run_taken.result c.run_taken.new.house f c.resume.ensures.fared c.resume.ensures.counts c.run_taken.ensures.played
-
-pub returns-in-Ok-Taken-clause-others : goal.returns-in-Ok-Taken-clause-others
-returns-in-Ok-Taken-clause-others g c =
-    resume-others c.args.entry c.args.held c.in-Ok-Taken.taken c.args.house.now c.resume.new.self (rw c.in-Ok-Taken.field-0-is at c.in-Ok-Taken.ensures.turn) (rw c.in-Ok-Taken.field-0-is at c.in-Ok-Taken.ensures.gave) c.run_taken.new.house c.run_taken.ensures.others
+pub returns-in-Ok-Taken : goal.returns-in-Ok-Taken
+returns-in-Ok-Taken g c = record {
+  played = λ files asked f. resume-played c.args.entry c.args.held c.in-Ok-Taken.taken c.args.house.now c.resume.new.self (rw c.in-Ok-Taken.field-0-is at c.in-Ok-Taken.ensures.turn) (rw c.in-Ok-Taken.field-0-is at c.in-Ok-Taken.ensures.gave) (signs_of g.K.Keeper.tells g.K.Keeper.faults) (means_of files (steps_at (λ b. (goal.Plugin-dyn g (b.vtable, b.value)).steps b.value) c.args.plugins.now)) asked c.run_taken.result c.run_taken.new.house f c.resume.ensures.fared c.resume.ensures.counts c.run_taken.ensures.played;
+  others = resume-others c.args.entry c.args.held c.in-Ok-Taken.taken c.args.house.now c.resume.new.self (rw c.in-Ok-Taken.field-0-is at c.in-Ok-Taken.ensures.turn) (rw c.in-Ok-Taken.field-0-is at c.in-Ok-Taken.ensures.gave) c.run_taken.new.house c.run_taken.ensures.others;
+  told = resumed-told (signs_of g.K.Keeper.tells g.K.Keeper.faults) (steps_at (λ b. (goal.Plugin-dyn g (b.vtable, b.value)).steps b.value) c.args.plugins.now) c.args.entry c.args.held c.in-Ok-Taken.taken c.run_taken.result c.args.house.now c.resume.new.self c.run_taken.new.house (rw c.in-Ok-Taken.field-0-is at c.in-Ok-Taken.ensures.turn) c.run_taken.ensures.played;
+}
 
 pub returns-in-Ok-Refused-clause-played : goal.returns-in-Ok-Refused-clause-played
 returns-in-Ok-Refused-clause-played g c files asked f =
@@ -59,24 +44,17 @@ returns-in-Ok-Refused-clause-others g c =
     let a = c.in-Ok-Refused in
     refused-others c.args.entry c.args.held a.field-0-0 c.args.house.now.annals c.resume.new.self.annals (rw a.field-0-is at a.ensures.turn)
 
-pub returns-in-Err-clause-played : goal.returns-in-Err-clause-played
-returns-in-Err-clause-played g c files asked f =
-    resume-stopped c.args.entry c.args.held c.in-Err.stopped c.args.house.now c.resume.new.self c.in-Err.ensures.turn c.in-Err.ensures.gave (signs_of g.K.Keeper.tells g.K.Keeper.faults) (means_of files (steps_at (λ b. (goal.Plugin-dyn g (b.vtable, b.value)).steps b.value) c.args.plugins.now)) asked c.give_up.result c.give_up.new.house f c.give_up.ensures.told c.requires.out c.resume.ensures.fared c.resume.ensures.counts
-    c.give_up.ensures.given c.give_up.ensures.keeper c.give_up.ensures.places
-
-pub returns-in-Err-clause-others : goal.returns-in-Err-clause-others
-returns-in-Err-clause-others g c =
-    stopped-others c.args.entry c.args.held c.in-Err.stopped c.args.house.now c.resume.new.self c.in-Err.ensures.turn c.in-Err.ensures.gave c.give_up.new.house c.give_up.ensures.given
-
-pub returns-in-Ok-Taken-clause-told : goal.returns-in-Ok-Taken-clause-told
-returns-in-Ok-Taken-clause-told g c =
-    resumed-told (signs_of g.K.Keeper.tells g.K.Keeper.faults) (steps_at (λ b. (goal.Plugin-dyn g (b.vtable, b.value)).steps b.value) c.args.plugins.now) c.args.entry c.args.held c.in-Ok-Taken.taken c.run_taken.result c.args.house.now c.resume.new.self c.run_taken.new.house (rw c.in-Ok-Taken.field-0-is at c.in-Ok-Taken.ensures.turn) c.run_taken.ensures.played
+pub returns-in-Err : goal.returns-in-Err
+returns-in-Err g c = record {
+  played =
+      λ files asked f.
+      resume-stopped c.args.entry c.args.held c.in-Err.stopped c.args.house.now c.resume.new.self c.in-Err.ensures.turn c.in-Err.ensures.gave (signs_of g.K.Keeper.tells g.K.Keeper.faults) (means_of files (steps_at (λ b. (goal.Plugin-dyn g (b.vtable, b.value)).steps b.value) c.args.plugins.now)) asked c.give_up.result c.give_up.new.house f c.give_up.ensures.told c.requires.out c.resume.ensures.fared c.resume.ensures.counts
+      c.give_up.ensures.given c.give_up.ensures.keeper c.give_up.ensures.places;
+  others = stopped-others c.args.entry c.args.held c.in-Err.stopped c.args.house.now c.resume.new.self c.in-Err.ensures.turn c.in-Err.ensures.gave c.give_up.new.house c.give_up.ensures.given;
+  told = stopped-told c.args.entry c.args.held c.in-Err.stopped c.args.house.now.annals c.resume.new.self.annals c.give_up.new.house.annals c.in-Err.ensures.turn c.give_up.ensures.given;
+}
 
 pub returns-in-Ok-Refused-clause-told : goal.returns-in-Ok-Refused-clause-told
 returns-in-Ok-Refused-clause-told g c =
     let a = c.in-Ok-Refused in
     refused-told c.args.entry c.args.held a.field-0-0 c.args.house.now.annals c.resume.new.self.annals (rw a.field-0-is at a.ensures.turn)
-
-pub returns-in-Err-clause-told : goal.returns-in-Err-clause-told
-returns-in-Err-clause-told g c =
-    stopped-told c.args.entry c.args.held c.in-Err.stopped c.args.house.now.annals c.resume.new.self.annals c.give_up.new.house.annals c.in-Err.ensures.turn c.give_up.ensures.given

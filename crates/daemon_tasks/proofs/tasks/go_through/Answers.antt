@@ -24,31 +24,24 @@ judge_all-requires-clause-rows g c = all-known c.args.house.now.annals c.known.e
 pub judge_all-requires-clause-apart : goal.judge_all-requires-clause-apart
 judge_all-requires-clause-apart g c = all-apart c.args.house.now.annals c.known.ensures.annals is_to_judge c.args.judged.now c.requires.judged
 
--- What was judged, by the log as the boot began: it needs no plugin.
-pub resume_all-requires-clause-booted : goal.resume_all-requires-clause-booted
-resume_all-requires-clause-booted g c =
-    let a = c.args.house.now.annals in
-    let files = g.P.Shelf.files c.args.shelf.now in
-    still-booted (signs_of g.K.Keeper.tells g.K.Keeper.faults) c.in-Through.wanting 0 (TaskPlays a.facts (rows_before a) (files_alone files)) (to_judge_in a c.args.judged.now) c.args.house.now c.judge_all.new.house (c.in-Through.ensures a.facts (rows_before a) files).0 c.requires.booted
-
-pub resume_all-requires-clause-idle : goal.resume_all-requires-clause-idle
-resume_all-requires-clause-idle g c =
-    let a = c.args.house.now.annals in (c.in-Through.ensures a.facts (rows_before a) (g.P.Shelf.files c.args.shelf.now)).0.rest.idle
-
-pub resume_all-requires-clause-waits : goal.resume_all-requires-clause-waits
-resume_all-requires-clause-waits g c =
-    let a = c.args.house.now.annals in
-    let k = c.known.ensures.annals in
-    all-wait_still c.args.judged.now a c.judge_all.new.house.annals c.args.waiting.now (c.in-Through.ensures a.facts (rows_before a) (g.P.Shelf.files c.args.shelf.now)).1
-    (none-both a k c.args.judged.now c.args.waiting.now c.requires.judged c.requires.waiting) (all-wait a k c.args.waiting.now c.requires.waiting)
-
-pub resume_all-requires-clause-apart : goal.resume_all-requires-clause-apart
-resume_all-requires-clause-apart g c = all-apart c.args.house.now.annals c.known.ensures.annals is_pending c.args.waiting.now c.requires.waiting
-
-pub resume_all-requires-clause-served : goal.resume_all-requires-clause-served
-resume_all-requires-clause-served g c =
-    let a = c.args.house.now.annals in
-    subst (λ (f : Facts). length f.vetoes ≤ length c.args.plugins.now) (sym (c.in-Through.ensures a.facts (rows_before a) (g.P.Shelf.files c.args.shelf.now)).0.rest.same.facts) c.requires.served
+pub resume_all-requires : goal.resume_all-requires
+resume_all-requires g c = record {
+  -- What was judged, by the log as the boot began: it needs no plugin.
+  booted =
+      let a = c.args.house.now.annals in
+      let files = g.P.Shelf.files c.args.shelf.now in
+      still-booted (signs_of g.K.Keeper.tells g.K.Keeper.faults) c.in-Through.wanting 0 (TaskPlays a.facts (rows_before a) (files_alone files)) (to_judge_in a c.args.judged.now) c.args.house.now c.judge_all.new.house (c.in-Through.ensures a.facts (rows_before a) files).0 c.requires.booted;
+  idle = let a = c.args.house.now.annals in (c.in-Through.ensures a.facts (rows_before a) (g.P.Shelf.files c.args.shelf.now)).0.rest.idle;
+  waits =
+      let a = c.args.house.now.annals in
+      let k = c.known.ensures.annals in
+      all-wait_still c.args.judged.now a c.judge_all.new.house.annals c.args.waiting.now (c.in-Through.ensures a.facts (rows_before a) (g.P.Shelf.files c.args.shelf.now)).1
+      (none-both a k c.args.judged.now c.args.waiting.now c.requires.judged c.requires.waiting) (all-wait a k c.args.waiting.now c.requires.waiting);
+  apart = all-apart c.args.house.now.annals c.known.ensures.annals is_pending c.args.waiting.now c.requires.waiting;
+  served =
+      let a = c.args.house.now.annals in
+      subst (λ (f : Facts). length f.vetoes ≤ length c.args.plugins.now) (sym (c.in-Through.ensures a.facts (rows_before a) (g.P.Shelf.files c.args.shelf.now)).0.rest.same.facts) c.requires.served;
+}
 
 pub returns-in-Through-clause-went : goal.returns-in-Through-clause-went
 returns-in-Through-clause-went g c =

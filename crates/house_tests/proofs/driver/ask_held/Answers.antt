@@ -12,22 +12,16 @@ use Rattle.house_tests.proofs.driver.ask_held.Goals as goal
 pub ask-requires-clause-free : goal.ask-requires-clause-free
 ask-requires-clause-free g c = idle-free c.args.client (past c.args.house.now) c.requires.idle
 
-pub returns-clause-booted : goal.returns-clause-booted
-returns-clause-booted g c =
+pub returns : goal.returns
+returns g c =
     let a = c.in-Ok-Held in
     let t = rw a.field-0-is at a.ensures.turn in
-    boots-appended c.args.client (Event.Ask c.args.client c.args.request.now None (answer_of (Asked.Held a.hold))) c.args.house.now.annals c.ask.new.self.annals refl t.1 c.requires.booted
-
-pub returns-clause-held : goal.returns-clause-held
-returns-clause-held g c =
-    let a = c.in-Ok-Held in
-    let t = rw a.field-0-is at a.ensures.turn in
-    let h = rw a.field-0-is at a.ensures.holds in
-    ask-holds c.args.house.now.annals.facts c.args.client c.args.request.now None a.hold c.args.house.now.annals c.ask.new.self.annals h c.requires.idle t.1
-
-pub returns-clause-hold : goal.returns-clause-hold
-returns-clause-hold g c =
-    let a = c.in-Ok-Held in
-    let t = rw a.field-0-is at a.ensures.turn in
-    let h = rw a.field-0-is at a.ensures.holds in
-    subst (λ (f : Facts). IsHoldFor f c.args.client c.args.request.now None a.hold) (sym t.1.same.facts) h
+    record {
+      booted = boots-appended c.args.client (Event.Ask c.args.client c.args.request.now None (answer_of (Asked.Held a.hold))) c.args.house.now.annals c.ask.new.self.annals refl t.1 c.requires.booted;
+      held =
+          let h = rw a.field-0-is at a.ensures.holds in
+          ask-holds c.args.house.now.annals.facts c.args.client c.args.request.now None a.hold c.args.house.now.annals c.ask.new.self.annals h c.requires.idle t.1;
+      hold =
+          let h = rw a.field-0-is at a.ensures.holds in
+          subst (λ (f : Facts). IsHoldFor f c.args.client c.args.request.now None a.hold) (sym t.1.same.facts) h;
+    }

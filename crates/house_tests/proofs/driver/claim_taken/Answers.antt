@@ -25,27 +25,15 @@ claim-requires-clause-whole g c =
     let f = c.fetch-ticket in
     fetched-whole c.args.house.now.annals.facts c.args.client c.args.request.now None c.args.hold f.result.0 f.result.1 c.requires.hold f.ensures.ticket f.ensures.digest f.ensures.size
 
-pub returns-clause-runs : goal.returns-clause-runs
-returns-clause-runs g c =
+pub returns : goal.returns
+returns g c =
     let f = c.fetch-ticket in
     let a = c.in-Ok-Taken in
-    claimed-runs c.args.client f.result.0 f.result.1 a.taken c.args.house.now c.claim.new.self (rw a.field-0-is at a.ensures.turn) (rw a.field-0-is at a.ensures.gave) c.known.ensures.annals c.requires.booted
-
-pub returns-clause-no_steps : goal.returns-clause-no_steps
-returns-clause-no_steps g c =
-    let f = c.fetch-ticket in
-    let a = c.in-Ok-Taken in
-    claimed-new c.args.client f.result.0 f.result.1 a.taken c.args.house.now c.claim.new.self (rw a.field-0-is at a.ensures.turn) (rw a.field-0-is at a.ensures.gave)
-
-pub returns-clause-marks : goal.returns-clause-marks
-returns-clause-marks g c =
-    let f = c.fetch-ticket in
-    let a = c.in-Ok-Taken in
-    claimed-marks c.args.client f.result.0 f.result.1 a.taken c.args.house.now c.claim.new.self (rw a.field-0-is at a.ensures.turn) (rw a.field-0-is at a.ensures.gave)
-
-pub returns-clause-alone : goal.returns-clause-alone
-returns-clause-alone g c =
-    let f = c.fetch-ticket in
-    let a = c.in-Ok-Taken in
-    claimed-alone c.args.client f.result.0 f.result.1 a.taken c.args.house.now c.claim.new.self (rw a.field-0-is at a.ensures.turn) (rw a.field-0-is at a.ensures.gave)
-    (still-held c.args.client c.args.hold f.result.0 f.result.1 (past c.args.house.now) f.ensures.ticket f.ensures.blocks c.requires.held)
+    record {
+      runs = claimed-runs c.args.client f.result.0 f.result.1 a.taken c.args.house.now c.claim.new.self (rw a.field-0-is at a.ensures.turn) (rw a.field-0-is at a.ensures.gave) c.known.ensures.annals c.requires.booted;
+      no_steps = claimed-new c.args.client f.result.0 f.result.1 a.taken c.args.house.now c.claim.new.self (rw a.field-0-is at a.ensures.turn) (rw a.field-0-is at a.ensures.gave);
+      marks = claimed-marks c.args.client f.result.0 f.result.1 a.taken c.args.house.now c.claim.new.self (rw a.field-0-is at a.ensures.turn) (rw a.field-0-is at a.ensures.gave);
+      alone =
+          claimed-alone c.args.client f.result.0 f.result.1 a.taken c.args.house.now c.claim.new.self (rw a.field-0-is at a.ensures.turn) (rw a.field-0-is at a.ensures.gave)
+          (still-held c.args.client c.args.hold f.result.0 f.result.1 (past c.args.house.now) f.ensures.ticket f.ensures.blocks c.requires.held);
+    }

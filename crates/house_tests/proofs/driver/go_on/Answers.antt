@@ -32,30 +32,18 @@ claim-requires-clause-whole g c =
     let f = c.fetch-ticket in
     fetched-whole c.args.house.now.annals.facts c.args.client c.args.request.now None c.args.hold f.result.0 f.result.1 c.requires.hold f.ensures.ticket f.ensures.digest f.ensures.size
 
-pub run-requires-clause-runs : goal.run-requires-clause-runs
-run-requires-clause-runs g c =
+pub run-requires : goal.run-requires
+run-requires g c =
     let f = c.fetch-ticket in
     let a = c.in-Ok-Taken in
-    claimed-runs c.args.client f.result.0 f.result.1 a.taken c.args.house.now c.claim.new.self (rw a.field-0-is at a.ensures.turn) (rw a.field-0-is at a.ensures.gave) c.known.ensures.annals c.requires.booted
-
-pub run-requires-clause-no_steps : goal.run-requires-clause-no_steps
-run-requires-clause-no_steps g c =
-    let f = c.fetch-ticket in
-    let a = c.in-Ok-Taken in
-    claimed-new c.args.client f.result.0 f.result.1 a.taken c.args.house.now c.claim.new.self (rw a.field-0-is at a.ensures.turn) (rw a.field-0-is at a.ensures.gave)
-
-pub run-requires-clause-marks : goal.run-requires-clause-marks
-run-requires-clause-marks g c =
-    let f = c.fetch-ticket in
-    let a = c.in-Ok-Taken in
-    claimed-marks c.args.client f.result.0 f.result.1 a.taken c.args.house.now c.claim.new.self (rw a.field-0-is at a.ensures.turn) (rw a.field-0-is at a.ensures.gave)
-
-pub run-requires-clause-alone : goal.run-requires-clause-alone
-run-requires-clause-alone g c =
-    let f = c.fetch-ticket in
-    let a = c.in-Ok-Taken in
-    claimed-alone c.args.client f.result.0 f.result.1 a.taken c.args.house.now c.claim.new.self (rw a.field-0-is at a.ensures.turn) (rw a.field-0-is at a.ensures.gave)
-    (still-held c.args.client c.args.hold f.result.0 f.result.1 (past c.args.house.now) f.ensures.ticket f.ensures.blocks c.requires.held)
+    record {
+      runs = claimed-runs c.args.client f.result.0 f.result.1 a.taken c.args.house.now c.claim.new.self (rw a.field-0-is at a.ensures.turn) (rw a.field-0-is at a.ensures.gave) c.known.ensures.annals c.requires.booted;
+      no_steps = claimed-new c.args.client f.result.0 f.result.1 a.taken c.args.house.now c.claim.new.self (rw a.field-0-is at a.ensures.turn) (rw a.field-0-is at a.ensures.gave);
+      marks = claimed-marks c.args.client f.result.0 f.result.1 a.taken c.args.house.now c.claim.new.self (rw a.field-0-is at a.ensures.turn) (rw a.field-0-is at a.ensures.gave);
+      alone =
+          claimed-alone c.args.client f.result.0 f.result.1 a.taken c.args.house.now c.claim.new.self (rw a.field-0-is at a.ensures.turn) (rw a.field-0-is at a.ensures.gave)
+          (still-held c.args.client c.args.hold f.result.0 f.result.1 (past c.args.house.now) f.ensures.ticket f.ensures.blocks c.requires.held);
+    }
 
 pub give_up-requires-clause-booted : goal.give_up-requires-clause-booted
 give_up-requires-clause-booted g c =
@@ -81,35 +69,29 @@ returns-in-Ok-Taken-clause-boots g c =
     let a = c.in-Ok-Taken in
     c.run.ensures.boots ∙ claimed-boots c.args.client f.result.0 f.result.1 a.taken c.args.house.now c.claim.new.self (rw a.field-0-is at a.ensures.turn) (rw a.field-0-is at a.ensures.gave)
 
-pub returns-in-Ok-Kept-clause-idle : goal.returns-in-Ok-Kept-clause-idle
-returns-in-Ok-Kept-clause-idle g c =
+pub returns-in-Ok-Kept : goal.returns-in-Ok-Kept
+returns-in-Ok-Kept g c =
     let f = c.fetch-ticket in
     let a = c.in-Ok-Kept in
     let t = rw a.field-0-is at a.ensures.turn in
-    idle-ended c.args.client f.result.0 (block_count f.result.1) (Event.Claim c.args.client f.result.0.request (note_of f.result.1) (ClaimAnswer.Kept a.entry a.state)) c.args.house.now.annals c.claim.new.self.annals (λ b. refl) (λ b. refl) t.1
-    (still-held c.args.client c.args.hold f.result.0 f.result.1 (past c.args.house.now) f.ensures.ticket f.ensures.blocks c.requires.held)
+    record {
+      idle =
+          idle-ended c.args.client f.result.0 (block_count f.result.1) (Event.Claim c.args.client f.result.0.request (note_of f.result.1) (ClaimAnswer.Kept a.entry a.state)) c.args.house.now.annals c.claim.new.self.annals (λ b. refl) (λ b. refl) t.1
+          (still-held c.args.client c.args.hold f.result.0 f.result.1 (past c.args.house.now) f.ensures.ticket f.ensures.blocks c.requires.held);
+      boots = boots-after c.args.client (Event.Claim c.args.client f.result.0.request (note_of f.result.1) (ClaimAnswer.Kept a.entry a.state)) c.args.house.now.annals c.claim.new.self.annals refl t.1;
+    }
 
-pub returns-in-Ok-Kept-clause-boots : goal.returns-in-Ok-Kept-clause-boots
-returns-in-Ok-Kept-clause-boots g c =
-    let f = c.fetch-ticket in
-    let a = c.in-Ok-Kept in
-    let t = rw a.field-0-is at a.ensures.turn in
-    boots-after c.args.client (Event.Claim c.args.client f.result.0.request (note_of f.result.1) (ClaimAnswer.Kept a.entry a.state)) c.args.house.now.annals c.claim.new.self.annals refl t.1
-
-pub returns-in-Ok-Refused-clause-idle : goal.returns-in-Ok-Refused-clause-idle
-returns-in-Ok-Refused-clause-idle g c =
+pub returns-in-Ok-Refused : goal.returns-in-Ok-Refused
+returns-in-Ok-Refused g c =
     let f = c.fetch-ticket in
     let a = c.in-Ok-Refused in
     let t = rw a.field-0-is at a.ensures.turn in
-    idle-ended c.args.client f.result.0 (block_count f.result.1) (Event.Claim c.args.client f.result.0.request (note_of f.result.1) (ClaimAnswer.Refused a.refusal)) c.args.house.now.annals c.claim.new.self.annals (λ b. refl) (λ b. refl) t.1
-    (still-held c.args.client c.args.hold f.result.0 f.result.1 (past c.args.house.now) f.ensures.ticket f.ensures.blocks c.requires.held)
-
-pub returns-in-Ok-Refused-clause-boots : goal.returns-in-Ok-Refused-clause-boots
-returns-in-Ok-Refused-clause-boots g c =
-    let f = c.fetch-ticket in
-    let a = c.in-Ok-Refused in
-    let t = rw a.field-0-is at a.ensures.turn in
-    boots-after c.args.client (Event.Claim c.args.client f.result.0.request (note_of f.result.1) (ClaimAnswer.Refused a.refusal)) c.args.house.now.annals c.claim.new.self.annals refl t.1
+    record {
+      idle =
+          idle-ended c.args.client f.result.0 (block_count f.result.1) (Event.Claim c.args.client f.result.0.request (note_of f.result.1) (ClaimAnswer.Refused a.refusal)) c.args.house.now.annals c.claim.new.self.annals (λ b. refl) (λ b. refl) t.1
+          (still-held c.args.client c.args.hold f.result.0 f.result.1 (past c.args.house.now) f.ensures.ticket f.ensures.blocks c.requires.held);
+      boots = boots-after c.args.client (Event.Claim c.args.client f.result.0.request (note_of f.result.1) (ClaimAnswer.Refused a.refusal)) c.args.house.now.annals c.claim.new.self.annals refl t.1;
+    }
 
 pub returns-in-Err-clause-boots : goal.returns-in-Err-clause-boots
 returns-in-Err-clause-boots g c =

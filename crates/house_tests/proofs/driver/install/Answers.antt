@@ -15,25 +15,19 @@ use Rattle.house_tests.proofs.driver.install.Goals as goal
 pub ask-requires-clause-free : goal.ask-requires-clause-free
 ask-requires-clause-free g c = idle-free c.args.client (past c.args.house.now) c.requires.idle
 
-pub go_on-requires-clause-booted : goal.go_on-requires-clause-booted
-go_on-requires-clause-booted g c =
+pub go_on-requires : goal.go_on-requires
+go_on-requires g c =
     let a = c.in-Ok-Held in
     let t = rw a.field-0-is at a.ensures.turn in
-    boots-appended c.args.client (Event.Ask c.args.client c.args.request.now None (answer_of (Asked.Held a.hold))) c.args.house.now.annals c.ask.new.self.annals refl t.1 c.requires.booted
-
-pub go_on-requires-clause-held : goal.go_on-requires-clause-held
-go_on-requires-clause-held g c =
-    let a = c.in-Ok-Held in
-    let t = rw a.field-0-is at a.ensures.turn in
-    let h = rw a.field-0-is at a.ensures.holds in
-    ask-holds c.args.house.now.annals.facts c.args.client c.args.request.now None a.hold c.args.house.now.annals c.ask.new.self.annals h c.requires.idle t.1
-
-pub go_on-requires-clause-hold : goal.go_on-requires-clause-hold
-go_on-requires-clause-hold g c =
-    let a = c.in-Ok-Held in
-    let t = rw a.field-0-is at a.ensures.turn in
-    let h = rw a.field-0-is at a.ensures.holds in
-    subst (λ (f : Facts). IsHoldFor f c.args.client c.args.request.now None a.hold) (sym t.1.same.facts) h
+    record {
+      booted = boots-appended c.args.client (Event.Ask c.args.client c.args.request.now None (answer_of (Asked.Held a.hold))) c.args.house.now.annals c.ask.new.self.annals refl t.1 c.requires.booted;
+      held =
+          let h = rw a.field-0-is at a.ensures.holds in
+          ask-holds c.args.house.now.annals.facts c.args.client c.args.request.now None a.hold c.args.house.now.annals c.ask.new.self.annals h c.requires.idle t.1;
+      hold =
+          let h = rw a.field-0-is at a.ensures.holds in
+          subst (λ (f : Facts). IsHoldFor f c.args.client c.args.request.now None a.hold) (sym t.1.same.facts) h;
+    }
 
 pub returns-in-Ok-Held-clause-boots : goal.returns-in-Ok-Held-clause-boots
 returns-in-Ok-Held-clause-boots g c =
@@ -41,38 +35,29 @@ returns-in-Ok-Held-clause-boots g c =
     let t = rw a.field-0-is at a.ensures.turn in
     c.go_on.ensures.boots ∙ boots-after c.args.client (Event.Ask c.args.client c.args.request.now None (answer_of (Asked.Held a.hold))) c.args.house.now.annals c.ask.new.self.annals refl t.1
 
-pub returns-in-Ok-Kept-clause-idle : goal.returns-in-Ok-Kept-clause-idle
-returns-in-Ok-Kept-clause-idle g c =
+pub returns-in-Ok-Kept : goal.returns-in-Ok-Kept
+returns-in-Ok-Kept g c =
     let a = c.in-Ok-Kept in
     let t = rw a.field-0-is at a.ensures.turn in
-    idle-after c.args.client (Event.Ask c.args.client c.args.request.now None (AskAnswer.Kept a.entry a.state)) c.args.house.now.annals c.ask.new.self.annals (λ b. refl) (λ b. refl) t.1 c.requires.idle
+    record {
+      idle = idle-after c.args.client (Event.Ask c.args.client c.args.request.now None (AskAnswer.Kept a.entry a.state)) c.args.house.now.annals c.ask.new.self.annals (λ b. refl) (λ b. refl) t.1 c.requires.idle;
+      boots = boots-after c.args.client (Event.Ask c.args.client c.args.request.now None (AskAnswer.Kept a.entry a.state)) c.args.house.now.annals c.ask.new.self.annals refl t.1;
+    }
 
-pub returns-in-Ok-Kept-clause-boots : goal.returns-in-Ok-Kept-clause-boots
-returns-in-Ok-Kept-clause-boots g c =
-    let a = c.in-Ok-Kept in
-    let t = rw a.field-0-is at a.ensures.turn in
-    boots-after c.args.client (Event.Ask c.args.client c.args.request.now None (AskAnswer.Kept a.entry a.state)) c.args.house.now.annals c.ask.new.self.annals refl t.1
-
-pub returns-in-Ok-Refused-clause-idle : goal.returns-in-Ok-Refused-clause-idle
-returns-in-Ok-Refused-clause-idle g c =
+pub returns-in-Ok-Refused : goal.returns-in-Ok-Refused
+returns-in-Ok-Refused g c =
     let a = c.in-Ok-Refused in
     let t = rw a.field-0-is at a.ensures.turn in
-    idle-after c.args.client (Event.Ask c.args.client c.args.request.now None (AskAnswer.Refused a.refusal)) c.args.house.now.annals c.ask.new.self.annals (λ b. refl) (λ b. refl) t.1 c.requires.idle
+    record {
+      idle = idle-after c.args.client (Event.Ask c.args.client c.args.request.now None (AskAnswer.Refused a.refusal)) c.args.house.now.annals c.ask.new.self.annals (λ b. refl) (λ b. refl) t.1 c.requires.idle;
+      boots = boots-after c.args.client (Event.Ask c.args.client c.args.request.now None (AskAnswer.Refused a.refusal)) c.args.house.now.annals c.ask.new.self.annals refl t.1;
+    }
 
-pub returns-in-Ok-Refused-clause-boots : goal.returns-in-Ok-Refused-clause-boots
-returns-in-Ok-Refused-clause-boots g c =
-    let a = c.in-Ok-Refused in
-    let t = rw a.field-0-is at a.ensures.turn in
-    boots-after c.args.client (Event.Ask c.args.client c.args.request.now None (AskAnswer.Refused a.refusal)) c.args.house.now.annals c.ask.new.self.annals refl t.1
-
-pub returns-in-Err-Off-clause-idle : goal.returns-in-Err-Off-clause-idle
-returns-in-Err-Off-clause-idle g c =
+pub returns-in-Err-Off : goal.returns-in-Err-Off
+returns-in-Err-Off g c =
     let a = c.in-Err-Off in
     let t = rw a.field-0-is at a.ensures.turn in
-    idle-halted Stop.Off c.args.house.now.annals c.ask.new.self.annals (halted-off c.args.client c.args.house.now.annals c.ask.new.self.annals t) c.requires.idle
-
-pub returns-in-Err-Off-clause-boots : goal.returns-in-Err-Off-clause-boots
-returns-in-Err-Off-clause-boots g c =
-    let a = c.in-Err-Off in
-    let t = rw a.field-0-is at a.ensures.turn in
-    boots-halted Stop.Off c.args.house.now.annals c.ask.new.self.annals (halted-off c.args.client c.args.house.now.annals c.ask.new.self.annals t)
+    record {
+      idle = idle-halted Stop.Off c.args.house.now.annals c.ask.new.self.annals (halted-off c.args.client c.args.house.now.annals c.ask.new.self.annals t) c.requires.idle;
+      boots = boots-halted Stop.Off c.args.house.now.annals c.ask.new.self.annals (halted-off c.args.client c.args.house.now.annals c.ask.new.self.annals t);
+    }

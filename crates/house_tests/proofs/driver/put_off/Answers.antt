@@ -11,50 +11,38 @@ use Rattle.house_tests.proofs.driver.put_off.Goals as goal
 pub schedule-requires-clause-free : goal.schedule-requires-clause-free
 schedule-requires-clause-free g c = idle-free c.args.client (past c.args.house.now) c.requires.idle
 
-pub returns-in-Ok-Entry-clause-idle : goal.returns-in-Ok-Entry-clause-idle
-returns-in-Ok-Entry-clause-idle g c =
+pub returns-in-Ok-Entry : goal.returns-in-Ok-Entry
+returns-in-Ok-Entry g c =
     let a = c.in-Ok-Entry in
     let t = rw a.field-0-is at a.ensures.turn in
-    idle-after c.args.client (Event.Schedule c.args.client c.args.request.now (ClaimAnswer.Entry a.entry)) c.args.house.now.annals c.schedule.new.self.annals (λ b. refl) (λ b. refl) t.1 c.requires.idle
+    record {
+      idle = idle-after c.args.client (Event.Schedule c.args.client c.args.request.now (ClaimAnswer.Entry a.entry)) c.args.house.now.annals c.schedule.new.self.annals (λ b. refl) (λ b. refl) t.1 c.requires.idle;
+      boots = boots-after c.args.client (Event.Schedule c.args.client c.args.request.now (ClaimAnswer.Entry a.entry)) c.args.house.now.annals c.schedule.new.self.annals refl t.1;
+    }
 
-pub returns-in-Ok-Entry-clause-boots : goal.returns-in-Ok-Entry-clause-boots
-returns-in-Ok-Entry-clause-boots g c =
-    let a = c.in-Ok-Entry in
-    let t = rw a.field-0-is at a.ensures.turn in
-    boots-after c.args.client (Event.Schedule c.args.client c.args.request.now (ClaimAnswer.Entry a.entry)) c.args.house.now.annals c.schedule.new.self.annals refl t.1
-
-pub returns-in-Ok-Kept-clause-idle : goal.returns-in-Ok-Kept-clause-idle
-returns-in-Ok-Kept-clause-idle g c =
+pub returns-in-Ok-Kept : goal.returns-in-Ok-Kept
+returns-in-Ok-Kept g c =
     let a = c.in-Ok-Kept in
     let t = rw a.field-0-is at a.ensures.turn in
-    idle-after c.args.client (Event.Schedule c.args.client c.args.request.now (ClaimAnswer.Kept a.entry a.state)) c.args.house.now.annals c.schedule.new.self.annals (λ b. refl) (λ b. refl) t.1 c.requires.idle
+    record {
+      idle = idle-after c.args.client (Event.Schedule c.args.client c.args.request.now (ClaimAnswer.Kept a.entry a.state)) c.args.house.now.annals c.schedule.new.self.annals (λ b. refl) (λ b. refl) t.1 c.requires.idle;
+      boots = boots-after c.args.client (Event.Schedule c.args.client c.args.request.now (ClaimAnswer.Kept a.entry a.state)) c.args.house.now.annals c.schedule.new.self.annals refl t.1;
+    }
 
-pub returns-in-Ok-Kept-clause-boots : goal.returns-in-Ok-Kept-clause-boots
-returns-in-Ok-Kept-clause-boots g c =
-    let a = c.in-Ok-Kept in
-    let t = rw a.field-0-is at a.ensures.turn in
-    boots-after c.args.client (Event.Schedule c.args.client c.args.request.now (ClaimAnswer.Kept a.entry a.state)) c.args.house.now.annals c.schedule.new.self.annals refl t.1
-
-pub returns-in-Ok-Refused-clause-idle : goal.returns-in-Ok-Refused-clause-idle
-returns-in-Ok-Refused-clause-idle g c =
+pub returns-in-Ok-Refused : goal.returns-in-Ok-Refused
+returns-in-Ok-Refused g c =
     let a = c.in-Ok-Refused in
     let t = rw a.field-0-is at a.ensures.turn in
-    idle-after c.args.client (Event.Schedule c.args.client c.args.request.now (ClaimAnswer.Refused a.refusal)) c.args.house.now.annals c.schedule.new.self.annals (λ b. refl) (λ b. refl) t.1 c.requires.idle
+    record {
+      idle = idle-after c.args.client (Event.Schedule c.args.client c.args.request.now (ClaimAnswer.Refused a.refusal)) c.args.house.now.annals c.schedule.new.self.annals (λ b. refl) (λ b. refl) t.1 c.requires.idle;
+      boots = boots-after c.args.client (Event.Schedule c.args.client c.args.request.now (ClaimAnswer.Refused a.refusal)) c.args.house.now.annals c.schedule.new.self.annals refl t.1;
+    }
 
-pub returns-in-Ok-Refused-clause-boots : goal.returns-in-Ok-Refused-clause-boots
-returns-in-Ok-Refused-clause-boots g c =
-    let a = c.in-Ok-Refused in
-    let t = rw a.field-0-is at a.ensures.turn in
-    boots-after c.args.client (Event.Schedule c.args.client c.args.request.now (ClaimAnswer.Refused a.refusal)) c.args.house.now.annals c.schedule.new.self.annals refl t.1
-
-pub returns-in-Err-Off-clause-idle : goal.returns-in-Err-Off-clause-idle
-returns-in-Err-Off-clause-idle g c =
+pub returns-in-Err-Off : goal.returns-in-Err-Off
+returns-in-Err-Off g c =
     let a = c.in-Err-Off in
     let t = rw a.field-0-is at a.ensures.turn in
-    idle-halted Stop.Off c.args.house.now.annals c.schedule.new.self.annals (halted-off c.args.client c.args.house.now.annals c.schedule.new.self.annals t) c.requires.idle
-
-pub returns-in-Err-Off-clause-boots : goal.returns-in-Err-Off-clause-boots
-returns-in-Err-Off-clause-boots g c =
-    let a = c.in-Err-Off in
-    let t = rw a.field-0-is at a.ensures.turn in
-    boots-halted Stop.Off c.args.house.now.annals c.schedule.new.self.annals (halted-off c.args.client c.args.house.now.annals c.schedule.new.self.annals t)
+    record {
+      idle = idle-halted Stop.Off c.args.house.now.annals c.schedule.new.self.annals (halted-off c.args.client c.args.house.now.annals c.schedule.new.self.annals t) c.requires.idle;
+      boots = boots-halted Stop.Off c.args.house.now.annals c.schedule.new.self.annals (halted-off c.args.client c.args.house.now.annals c.schedule.new.self.annals t);
+    }

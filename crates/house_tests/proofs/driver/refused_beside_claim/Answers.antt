@@ -14,14 +14,11 @@ ask-requires-clause-free g c =
     free-beside_claim c.args.holder c.args.client c.args.taken.now.entry (past c.args.house.now) c.requires.another c.requires.alone
     (alone-client a.facts a.first (rows_before a) (past c.args.house.now) c.args.holder (parts_taken c.args.taken.now) r.number r.l r.runs c.requires.alone)
 
-pub returns-clause-runs : goal.returns-clause-runs
-returns-clause-runs g c =
+pub returns : goal.returns
+returns g c =
     let a = c.in-Ok-Refused in
     let t = rw a.field-0-is at a.ensures.turn in
-    runs-beside c.args.client c.args.holder c.args.request.now (AskAnswer.Refused a.refusal) (parts_taken c.args.taken.now) c.args.house.now.annals c.ask.new.self.annals c.known.ensures.annals t.1 c.requires.runs
-
-pub returns-clause-alone : goal.returns-clause-alone
-returns-clause-alone g c =
-    let a = c.in-Ok-Refused in
-    let t = rw a.field-0-is at a.ensures.turn in
-    alone-beside c.args.client c.args.taken.now.entry c.args.request.now a.refusal c.args.house.now.annals c.ask.new.self.annals t.1 c.requires.alone
+    record {
+      runs = runs-beside c.args.client c.args.holder c.args.request.now (AskAnswer.Refused a.refusal) (parts_taken c.args.taken.now) c.args.house.now.annals c.ask.new.self.annals c.known.ensures.annals t.1 c.requires.runs;
+      alone = alone-beside c.args.client c.args.taken.now.entry c.args.request.now a.refusal c.args.house.now.annals c.ask.new.self.annals t.1 c.requires.alone;
+    }

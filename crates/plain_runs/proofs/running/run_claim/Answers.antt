@@ -9,40 +9,28 @@ use Rattle.plain_runs.proofs.Planned.{home-behind, home-of}
 use Rattle.plain_runs.proofs.running.run_claim.Goals as goal
 use Rattle.daemon_core.specs.Turns.{signs_of}
 
-pub returns-in-Ok-clause-ran : goal.returns-in-Ok-clause-ran
-returns-in-Ok-clause-ran g c =
-    let b = c.index-plugins-plugin.result in
-    ran-at _ _ c.args.client c.args.taken.entry c.finish.result c.new-claim.result (parts_taken c.args.taken) c.args.house.now.annals c.finish.new.house.annals
-    (steps-at (λ d. (goal.Plugin-dyn g (d.vtable, d.value)).steps d.value) c.args.plugins.now c.args.taken.plugin b c.requires.served c.index-plugins-plugin.is ∙ sym (ap (λ v. (goal.Plugin-dyn g v).steps v.1) c.deref_box-1.ensures.1)) c.new-claim.ensures.parts
-    (ran-after _ c.args.client c.args.taken.entry c.finish.result c.new-claim.result c.in-Ok.claim c.args.house.now.annals c.make_steps.new.house.annals c.finish.new.house.annals c.in-Ok.ensures.made c.finish.ensures.closed)
+pub returns-in-Ok : goal.returns-in-Ok
+returns-in-Ok g c = record {
+  ran =
+      let b = c.index-plugins-plugin.result in
+      ran-at _ _ c.args.client c.args.taken.entry c.finish.result c.new-claim.result (parts_taken c.args.taken) c.args.house.now.annals c.finish.new.house.annals
+      (steps-at (λ d. (goal.Plugin-dyn g (d.vtable, d.value)).steps d.value) c.args.plugins.now c.args.taken.plugin b c.requires.served c.index-plugins-plugin.is ∙ sym (ap (λ v. (goal.Plugin-dyn g v).steps v.1) c.deref_box-1.ensures.1)) c.new-claim.ensures.parts
+      (ran-after _ c.args.client c.args.taken.entry c.finish.result c.new-claim.result c.in-Ok.claim c.args.house.now.annals c.make_steps.new.house.annals c.finish.new.house.annals c.in-Ok.ensures.made c.finish.ensures.closed);
+  home =
+      home-of c.args.taken.entry c.new-claim.result.board c.args.taken.board c.args.house.now c.finish.new.house (ap (λ (p : Parts). p.board) c.new-claim.ensures.parts)
+      (home-behind c.args.taken.entry c.new-claim.result.board c.in-Ok.claim.board c.args.house.now c.make_steps.new.house c.finish.new.house c.in-Ok.ensures.planned c.finish.ensures.home);
+  fared = ran-counted (signs_of g.K.Keeper.tells g.K.Keeper.faults) _ c.args.client c.args.taken.entry c.new-claim.result c.in-Ok.claim c.args.house.now c.make_steps.new.house c.finish.new.house c.in-Ok.ensures.made c.in-Ok.ensures.keeper c.finish.ensures.fared c.finish.ensures.counts;
+  counts = ran-counts (signs_of g.K.Keeper.tells g.K.Keeper.faults) c.args.house.now c.make_steps.new.house c.finish.new.house c.in-Ok.ensures.keeper c.finish.ensures.counts;
+}
 
-pub returns-in-Err-clause-ran : goal.returns-in-Err-clause-ran
-returns-in-Err-clause-ran g c =
-    let b = c.index-plugins-plugin.result in
-    ran-at _ _ c.args.client c.args.taken.entry Outcome.Off c.new-claim.result (parts_taken c.args.taken) c.args.house.now.annals c.make_steps.new.house.annals
-    (steps-at (λ d. (goal.Plugin-dyn g (d.vtable, d.value)).steps d.value) c.args.plugins.now c.args.taken.plugin b c.requires.served c.index-plugins-plugin.is ∙ sym (ap (λ v. (goal.Plugin-dyn g v).steps v.1) c.deref_box-1.ensures.1)) c.new-claim.ensures.parts
-    c.in-Err.ensures.gone
-
-pub returns-in-Ok-clause-fared : goal.returns-in-Ok-clause-fared
-returns-in-Ok-clause-fared g c =
-    ran-counted (signs_of g.K.Keeper.tells g.K.Keeper.faults) _ c.args.client c.args.taken.entry c.new-claim.result c.in-Ok.claim c.args.house.now c.make_steps.new.house c.finish.new.house c.in-Ok.ensures.made c.in-Ok.ensures.keeper c.finish.ensures.fared c.finish.ensures.counts
-
-pub returns-in-Ok-clause-counts : goal.returns-in-Ok-clause-counts
-returns-in-Ok-clause-counts g c =
-    ran-counts (signs_of g.K.Keeper.tells g.K.Keeper.faults) c.args.house.now c.make_steps.new.house c.finish.new.house c.in-Ok.ensures.keeper c.finish.ensures.counts
-
-pub returns-in-Err-clause-fared : goal.returns-in-Err-clause-fared
-returns-in-Err-clause-fared g c =
-    back-counted (signs_of g.K.Keeper.tells g.K.Keeper.faults) _ c.args.client c.args.taken.entry c.new-claim.result c.args.house.now c.make_steps.new.house c.in-Err.ensures.gone c.in-Err.ensures.keeper
-
-pub returns-in-Err-clause-counts : goal.returns-in-Err-clause-counts
-returns-in-Err-clause-counts g c = counts-same (signs_of g.K.Keeper.tells g.K.Keeper.faults) c.args.house.now c.make_steps.new.house c.in-Err.ensures.keeper
-
-pub returns-in-Ok-clause-home : goal.returns-in-Ok-clause-home
-returns-in-Ok-clause-home g c =
-    home-of c.args.taken.entry c.new-claim.result.board c.args.taken.board c.args.house.now c.finish.new.house (ap (λ (p : Parts). p.board) c.new-claim.ensures.parts)
-    (home-behind c.args.taken.entry c.new-claim.result.board c.in-Ok.claim.board c.args.house.now c.make_steps.new.house c.finish.new.house c.in-Ok.ensures.planned c.finish.ensures.home)
-
-pub returns-in-Err-clause-home : goal.returns-in-Err-clause-home
-returns-in-Err-clause-home g c =
-    home-of c.args.taken.entry c.new-claim.result.board c.args.taken.board c.args.house.now c.make_steps.new.house (ap (λ (p : Parts). p.board) c.new-claim.ensures.parts) c.in-Err.ensures.home
+pub returns-in-Err : goal.returns-in-Err
+returns-in-Err g c = record {
+  ran =
+      let b = c.index-plugins-plugin.result in
+      ran-at _ _ c.args.client c.args.taken.entry Outcome.Off c.new-claim.result (parts_taken c.args.taken) c.args.house.now.annals c.make_steps.new.house.annals
+      (steps-at (λ d. (goal.Plugin-dyn g (d.vtable, d.value)).steps d.value) c.args.plugins.now c.args.taken.plugin b c.requires.served c.index-plugins-plugin.is ∙ sym (ap (λ v. (goal.Plugin-dyn g v).steps v.1) c.deref_box-1.ensures.1)) c.new-claim.ensures.parts
+      c.in-Err.ensures.gone;
+  home = home-of c.args.taken.entry c.new-claim.result.board c.args.taken.board c.args.house.now c.make_steps.new.house (ap (λ (p : Parts). p.board) c.new-claim.ensures.parts) c.in-Err.ensures.home;
+  fared = back-counted (signs_of g.K.Keeper.tells g.K.Keeper.faults) _ c.args.client c.args.taken.entry c.new-claim.result c.args.house.now c.make_steps.new.house c.in-Err.ensures.gone c.in-Err.ensures.keeper;
+  counts = counts-same (signs_of g.K.Keeper.tells g.K.Keeper.faults) c.args.house.now c.make_steps.new.house c.in-Err.ensures.keeper;
+}

@@ -12,16 +12,12 @@ pub end-requires-clause-ends : goal.end-requires-clause-ends
 end-requires-clause-ends g c =
     end-number c.args.house.now.annals c.args.client c.args.entry c.args.op c.args.answer c.args.claim c.requires c.board.result.now c.board.ensures
 
-pub give_back-requires-clause-booted : goal.give_back-requires-clause-booted
-give_back-requires-clause-booted g c =
-    booted-off c.args.client c.args.house.now.annals c.end.new.self.annals c.in-Err.ensures.turn c.requires.runs.booted
-
-pub give_back-requires-clause-off : goal.give_back-requires-clause-off
-give_back-requires-clause-off g c = is-off c.args.client c.args.house.now.annals c.end.new.self.annals c.in-Err.ensures.turn
-
-pub give_back-requires-clause-home : goal.give_back-requires-clause-home
-give_back-requires-clause-home g c =
-    end-home c.args.house.now.annals c.args.client c.args.entry c.args.op c.args.answer c.args.claim c.requires c.end.new.self.annals c.in-Err.ensures.turn
+pub give_back-requires : goal.give_back-requires
+give_back-requires g c = record {
+  booted = booted-off c.args.client c.args.house.now.annals c.end.new.self.annals c.in-Err.ensures.turn c.requires.runs.booted;
+  off = is-off c.args.client c.args.house.now.annals c.end.new.self.annals c.in-Err.ensures.turn;
+  home = end-home c.args.house.now.annals c.args.client c.args.entry c.args.op c.args.answer c.args.claim c.requires c.end.new.self.annals c.in-Err.ensures.turn;
+}
 
 pub returns-in-Ok-clause-runs : goal.returns-in-Ok-clause-runs
 returns-in-Ok-clause-runs g c =

@@ -18,40 +18,23 @@ use Rattle.client_plays.specs.Faults.{faults_noted}
 use Rattle.script_runs.proofs.FaultEnds.{claim-none, claim-same, claim-taken, turn-claim, turn-stopped}
 use Rattle.script_runs.proofs.installing.claim_fetched.Goals as goal
 
-pub run_taken-requires-clause-runs : goal.run_taken-requires-clause-runs
-run_taken-requires-clause-runs g c =
+pub run_taken-requires : goal.run_taken-requires
+run_taken-requires g c =
     let n = c.args.pass.now.number in
     let a = c.in-Ok-Taken in
     let t = a.ensures.turn in
     let gave = subst (λ (x : Claimed). Gave g.N.Naming.name n c.args.ticket c.args.fetched (Ok x) c.claim.new.pass.seen) a.field-0-is a.ensures.gave in
-    claim-runs g.N.Naming.name c.args.ticket.request c.args.fetched a.taken c.args.pass.now c.claim.new.pass c.claim.ensures.pass.log c.claim.ensures.same t
-    (subst (λ (x : Claimed). AddsOn n (claim_event n c.args.ticket.request c.args.fetched x) t.met c.claim.new.pass.seen) a.field-0-is t.does)
-    gave.0 gave.1
-
-pub run_taken-requires-clause-no_steps : goal.run_taken-requires-clause-no_steps
-run_taken-requires-clause-no_steps g c =
-    let a = c.in-Ok-Taken in
-    let gave = subst (λ (x : Claimed). Gave g.N.Naming.name c.args.pass.now.number c.args.ticket c.args.fetched (Ok x) c.claim.new.pass.seen) a.field-0-is a.ensures.gave in
-    gave.1.is.no_steps
-
-pub run_taken-requires-clause-marks : goal.run_taken-requires-clause-marks
-run_taken-requires-clause-marks g c =
-    let a = c.in-Ok-Taken in
-    let gave = subst (λ (x : Claimed). Gave g.N.Naming.name c.args.pass.now.number c.args.ticket c.args.fetched (Ok x) c.claim.new.pass.seen) a.field-0-is a.ensures.gave in
-    gave.1.is.marks
-
-pub run_taken-requires-clause-served : goal.run_taken-requires-clause-served
-run_taken-requires-clause-served g c =
-    let a = c.in-Ok-Taken in
-    let gave = subst (λ (x : Claimed). Gave g.N.Naming.name c.args.pass.now.number c.args.ticket c.args.fetched (Ok x) c.claim.new.pass.seen) a.field-0-is a.ensures.gave in
-    served-within g.N.Naming.name.facts gave.1.number a.taken.plugin (length c.args.plugins.now) gave.1.is.served c.requires.served
-
-pub run_taken-requires-clause-own : goal.run_taken-requires-clause-own
-run_taken-requires-clause-own g c =
-    let n = c.args.pass.now.number in
-    let a = c.in-Ok-Taken in
-    let gave = subst (λ (x : Claimed). Gave g.N.Naming.name n c.args.ticket c.args.fetched (Ok x) c.claim.new.pass.seen) a.field-0-is a.ensures.gave in
-    record { number = gave.1.number; board_is = gave.1.is.comes.board; served = gave.1.is.served }
+    record {
+      pass = c.claim.ensures.pass;
+      runs =
+          claim-runs g.N.Naming.name c.args.ticket.request c.args.fetched a.taken c.args.pass.now c.claim.new.pass c.claim.ensures.pass.log c.claim.ensures.same t
+          (subst (λ (x : Claimed). AddsOn n (claim_event n c.args.ticket.request c.args.fetched x) t.met c.claim.new.pass.seen) a.field-0-is t.does)
+          gave.0 gave.1;
+      no_steps = gave.1.is.no_steps;
+      marks = gave.1.is.marks;
+      served = served-within g.N.Naming.name.facts gave.1.number a.taken.plugin (length c.args.plugins.now) gave.1.is.served c.requires.served;
+      own = record { number = gave.1.number; board_is = gave.1.is.comes.board; served = gave.1.is.served };
+    }
 
 pub returns-in-Ok-Taken-clause-ended : goal.returns-in-Ok-Taken-clause-ended
 returns-in-Ok-Taken-clause-ended g c =

@@ -20,26 +20,22 @@ loop-number-preserved c =
           c.items-sheet-items.ensures c.loop-number-test.true c.sheet-item.is c.loop-number.invariant.boards c.in_ok-consider.ensures.boards;
     }
 
-pub returns-clause-devices : goal.returns-clause-devices
-returns-clause-devices c =
-    kept-whole first_view c.args.facts.now c.items-sheet-items.result.now c.loop-number.number c.loop-number.devices
-    c.items-sheet-items.ensures (omega (arith, c.loop-number-test.false)) c.loop-number.invariant.devices
-
-pub returns-clause-boards : goal.returns-clause-boards
-returns-clause-boards c =
-    kept-whole (λ (b : Board). b.number) c.args.facts.now c.items-sheet-items.result.now c.loop-number.number c.loop-number.boards.items
-    c.items-sheet-items.ensures (omega (arith, c.loop-number-test.false)) c.loop-number.invariant.boards
-
-pub returns-clause-few : goal.returns-clause-few
-returns-clause-few c =
-    few-devices first_view c.args.facts.now c.loop-number.devices c.requires
-    (kept-whole first_view c.args.facts.now c.items-sheet-items.result.now c.loop-number.number c.loop-number.devices
-    c.items-sheet-items.ensures (omega (arith, c.loop-number-test.false)) c.loop-number.invariant.devices)
-
-pub returns-clause-matched : goal.returns-clause-matched
-returns-clause-matched c =
-    as-many c.args.facts.now c.loop-number.devices c.loop-number.boards.items
-    (kept-whole first_view c.args.facts.now c.items-sheet-items.result.now c.loop-number.number c.loop-number.devices
-    c.items-sheet-items.ensures (omega (arith, c.loop-number-test.false)) c.loop-number.invariant.devices)
-    (kept-whole (λ (b : Board). b.number) c.args.facts.now c.items-sheet-items.result.now c.loop-number.number c.loop-number.boards.items
-    c.items-sheet-items.ensures (omega (arith, c.loop-number-test.false)) c.loop-number.invariant.boards)
+pub returns : goal.returns
+returns c = record {
+  devices =
+      kept-whole first_view c.args.facts.now c.items-sheet-items.result.now c.loop-number.number c.loop-number.devices
+      c.items-sheet-items.ensures (omega (arith, c.loop-number-test.false)) c.loop-number.invariant.devices;
+  boards =
+      kept-whole (λ (b : Board). b.number) c.args.facts.now c.items-sheet-items.result.now c.loop-number.number c.loop-number.boards.items
+      c.items-sheet-items.ensures (omega (arith, c.loop-number-test.false)) c.loop-number.invariant.boards;
+  few =
+      few-devices first_view c.args.facts.now c.loop-number.devices c.requires
+      (kept-whole first_view c.args.facts.now c.items-sheet-items.result.now c.loop-number.number c.loop-number.devices
+      c.items-sheet-items.ensures (omega (arith, c.loop-number-test.false)) c.loop-number.invariant.devices);
+  matched =
+      as-many c.args.facts.now c.loop-number.devices c.loop-number.boards.items
+      (kept-whole first_view c.args.facts.now c.items-sheet-items.result.now c.loop-number.number c.loop-number.devices
+      c.items-sheet-items.ensures (omega (arith, c.loop-number-test.false)) c.loop-number.invariant.devices)
+      (kept-whole (λ (b : Board). b.number) c.args.facts.now c.items-sheet-items.result.now c.loop-number.number c.loop-number.boards.items
+      c.items-sheet-items.ensures (omega (arith, c.loop-number-test.false)) c.loop-number.invariant.boards);
+}

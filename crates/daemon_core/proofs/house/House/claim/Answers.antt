@@ -20,38 +20,25 @@ pub claim_in-requires-clause-whole : goal.claim_in-requires-clause-whole
 claim_in-requires-clause-whole g c =
     subst (λ (f : Facts). IsFetchOf f c.args.ticket.release c.args.fetched) (sym (ap (λ (a : Annalled). a.facts) c.in-Ok.ensures.entered.same)) c.requires.whole
 
-pub returns-in-Ok-clause-turn : goal.returns-in-Ok-clause-turn
-returns-in-Ok-clause-turn g c =
-    turned-after c.args.client 16 (claim_event c.args.client c.args.ticket.request c.args.fetched) (stopped_by c.claim_in.result) c.args.self.now.annals c.enter.new.self.annals c.claim_in.new.self.annals c.in-Ok.ensures.entered c.claim_in.ensures.turn
+pub returns-in-Ok : goal.returns-in-Ok
+returns-in-Ok g c = record {
+  turn = turned-after c.args.client 16 (claim_event c.args.client c.args.ticket.request c.args.fetched) (stopped_by c.claim_in.result) c.args.self.now.annals c.enter.new.self.annals c.claim_in.new.self.annals c.in-Ok.ensures.entered c.claim_in.ensures.turn;
+  gave =
+      gave-after c.args.client c.args.ticket c.args.fetched c.claim_in.result c.args.self.now c.enter.new.self c.claim_in.new.self
+      (places-same c.args.self.now.places c.enter.new.self.places c.in-Ok.ensures.elsewhere.places) c.in-Ok.ensures.elsewhere.pool c.claim_in.ensures.gave;
+  fared =
+      faults-after (signs_of g.K.Keeper.tells g.K.Keeper.faults) c.args.self.now c.enter.new.self c.claim_in.new.self
+      (ap (λ (a : Annalled). keeper_faults (past_in a)) c.in-Ok.ensures.entered.same) c.in-Ok.ensures.elsewhere.keeper c.claim_in.ensures.counts c.claim_in.ensures.fared;
+  counts = subst (λ (k : g.row.K.Denot). g.K.Keeper.faults k ≤ g.K.Keeper.faults c.claim_in.new.self.keeper) c.in-Ok.ensures.elsewhere.keeper c.claim_in.ensures.counts;
+}
 
-pub returns-in-Ok-clause-gave : goal.returns-in-Ok-clause-gave
-returns-in-Ok-clause-gave g c =
-    gave-after c.args.client c.args.ticket c.args.fetched c.claim_in.result c.args.self.now c.enter.new.self c.claim_in.new.self
-    (places-same c.args.self.now.places c.enter.new.self.places c.in-Ok.ensures.elsewhere.places) c.in-Ok.ensures.elsewhere.pool c.claim_in.ensures.gave
-
-pub returns-in-Ok-clause-fared : goal.returns-in-Ok-clause-fared
-returns-in-Ok-clause-fared g c =
-    faults-after (signs_of g.K.Keeper.tells g.K.Keeper.faults) c.args.self.now c.enter.new.self c.claim_in.new.self
-    (ap (λ (a : Annalled). keeper_faults (past_in a)) c.in-Ok.ensures.entered.same) c.in-Ok.ensures.elsewhere.keeper c.claim_in.ensures.counts c.claim_in.ensures.fared
-
-pub returns-in-Ok-clause-counts : goal.returns-in-Ok-clause-counts
-returns-in-Ok-clause-counts g c =
-    subst (λ (k : g.row.K.Denot). g.K.Keeper.faults k ≤ g.K.Keeper.faults c.claim_in.new.self.keeper) c.in-Ok.ensures.elsewhere.keeper c.claim_in.ensures.counts
-
-pub returns-in-Err-clause-turn : goal.returns-in-Err-clause-turn
-returns-in-Err-clause-turn g c =
-    stopped (Unit {0}) c.args.client 16 (claim_event c.args.client c.args.ticket.request c.args.fetched) c.in-Err.stop c.args.self.now.annals c.enter.new.self.annals c.in-Err.ensures.entered
-
-pub returns-in-Err-clause-gave : goal.returns-in-Err-clause-gave
-returns-in-Err-clause-gave g c =
-    (c.in-Err.ensures.elsewhere.pool, places-same c.args.self.now.places c.enter.new.self.places c.in-Err.ensures.elsewhere.places, refl, refl)
-
-pub returns-in-Err-clause-fared : goal.returns-in-Err-clause-fared
-returns-in-Err-clause-fared g c =
-    fared-same (signs_of g.K.Keeper.tells g.K.Keeper.faults) c.args.self.now c.enter.new.self
-    (stopped-faults (Unit {0}) c.args.client 16 c.in-Err.stop c.args.self.now.annals c.enter.new.self.annals c.in-Err.ensures.entered)
-    c.in-Err.ensures.elsewhere.keeper
-
-pub returns-in-Err-clause-counts : goal.returns-in-Err-clause-counts
-returns-in-Err-clause-counts g c =
-    same-faults g.K.Keeper.faults c.args.self.now c.enter.new.self c.in-Err.ensures.elsewhere.keeper
+pub returns-in-Err : goal.returns-in-Err
+returns-in-Err g c = record {
+  turn = stopped (Unit {0}) c.args.client 16 (claim_event c.args.client c.args.ticket.request c.args.fetched) c.in-Err.stop c.args.self.now.annals c.enter.new.self.annals c.in-Err.ensures.entered;
+  gave = (c.in-Err.ensures.elsewhere.pool, places-same c.args.self.now.places c.enter.new.self.places c.in-Err.ensures.elsewhere.places, refl, refl);
+  fared =
+      fared-same (signs_of g.K.Keeper.tells g.K.Keeper.faults) c.args.self.now c.enter.new.self
+      (stopped-faults (Unit {0}) c.args.client 16 c.in-Err.stop c.args.self.now.annals c.enter.new.self.annals c.in-Err.ensures.entered)
+      c.in-Err.ensures.elsewhere.keeper;
+  counts = same-faults g.K.Keeper.faults c.args.self.now c.enter.new.self c.in-Err.ensures.elsewhere.keeper;
+}

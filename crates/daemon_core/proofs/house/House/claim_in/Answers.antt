@@ -25,34 +25,18 @@ pub end_claim-requires-in-Refused-clause-none : goal.end_claim-requires-in-Refus
 end_claim-requires-in-Refused-clause-none g c =
     (refused-none c.args.self.now.annals c.args.client c.args.ticket c.in-Refused.refusal c.refused.result c.refused.ensures (sym c.in-Refused.ensures))
 
-pub returns-in-Kept-clause-turn : goal.returns-in-Kept-clause-turn
-returns-in-Kept-clause-turn g c =
-    (c.requires.may.runs, c.end_claim.ensures.appended)
+pub returns-in-Kept : goal.returns-in-Kept
+returns-in-Kept g c = record {
+  turn = (c.requires.may.runs, c.end_claim.ensures.appended);
+  gave = (c.end_claim.ensures.pool, places-same c.args.self.now.places c.end_claim.new.self.places c.end_claim.ensures.places);
+  fared = faults-unclaimed (signs_of g.K.Keeper.tells g.K.Keeper.faults) c.args.client c.args.ticket (note_of c.args.fetched) (ClaimAnswer.Kept c.in-Kept.entry c.in-Kept.state) c.args.self.now c.end_claim.new.self c.end_claim.ensures.appended refl c.end_claim.ensures.keeper;
+  counts = same-faults g.K.Keeper.faults c.args.self.now c.end_claim.new.self c.end_claim.ensures.keeper;
+}
 
-pub returns-in-Kept-clause-gave : goal.returns-in-Kept-clause-gave
-returns-in-Kept-clause-gave g c =
-    (c.end_claim.ensures.pool, places-same c.args.self.now.places c.end_claim.new.self.places c.end_claim.ensures.places)
-
-pub returns-in-Kept-clause-fared : goal.returns-in-Kept-clause-fared
-returns-in-Kept-clause-fared g c =
-    faults-unclaimed (signs_of g.K.Keeper.tells g.K.Keeper.faults) c.args.client c.args.ticket (note_of c.args.fetched) (ClaimAnswer.Kept c.in-Kept.entry c.in-Kept.state) c.args.self.now c.end_claim.new.self c.end_claim.ensures.appended refl c.end_claim.ensures.keeper
-
-pub returns-in-Kept-clause-counts : goal.returns-in-Kept-clause-counts
-returns-in-Kept-clause-counts g c =
-    same-faults g.K.Keeper.faults c.args.self.now c.end_claim.new.self c.end_claim.ensures.keeper
-
-pub returns-in-Refused-clause-turn : goal.returns-in-Refused-clause-turn
-returns-in-Refused-clause-turn g c =
-    (c.requires.may.runs, subst (λ (x : ClaimAnswer). Appended c.args.client (Event.Claim c.args.client c.args.ticket.request (note_of c.args.fetched) x) c.args.self.now.annals c.end_claim-in-Refused.new.self.annals) c.refused.ensures c.end_claim-in-Refused.ensures.appended)
-
-pub returns-in-Refused-clause-gave : goal.returns-in-Refused-clause-gave
-returns-in-Refused-clause-gave g c =
-    (c.end_claim-in-Refused.ensures.pool, places-same c.args.self.now.places c.end_claim-in-Refused.new.self.places c.end_claim-in-Refused.ensures.places)
-
-pub returns-in-Refused-clause-fared : goal.returns-in-Refused-clause-fared
-returns-in-Refused-clause-fared g c =
-    faults-unclaimed (signs_of g.K.Keeper.tells g.K.Keeper.faults) c.args.client c.args.ticket (note_of c.args.fetched) c.refused.result c.args.self.now c.end_claim-in-Refused.new.self c.end_claim-in-Refused.ensures.appended (refused-none c.args.self.now.annals c.args.client c.args.ticket c.in-Refused.refusal c.refused.result c.refused.ensures (sym c.in-Refused.ensures)) c.end_claim-in-Refused.ensures.keeper
-
-pub returns-in-Refused-clause-counts : goal.returns-in-Refused-clause-counts
-returns-in-Refused-clause-counts g c =
-    same-faults g.K.Keeper.faults c.args.self.now c.end_claim-in-Refused.new.self c.end_claim-in-Refused.ensures.keeper
+pub returns-in-Refused : goal.returns-in-Refused
+returns-in-Refused g c = record {
+  turn = (c.requires.may.runs, subst (λ (x : ClaimAnswer). Appended c.args.client (Event.Claim c.args.client c.args.ticket.request (note_of c.args.fetched) x) c.args.self.now.annals c.end_claim-in-Refused.new.self.annals) c.refused.ensures c.end_claim-in-Refused.ensures.appended);
+  gave = (c.end_claim-in-Refused.ensures.pool, places-same c.args.self.now.places c.end_claim-in-Refused.new.self.places c.end_claim-in-Refused.ensures.places);
+  fared = faults-unclaimed (signs_of g.K.Keeper.tells g.K.Keeper.faults) c.args.client c.args.ticket (note_of c.args.fetched) c.refused.result c.args.self.now c.end_claim-in-Refused.new.self c.end_claim-in-Refused.ensures.appended (refused-none c.args.self.now.annals c.args.client c.args.ticket c.in-Refused.refusal c.refused.result c.refused.ensures (sym c.in-Refused.ensures)) c.end_claim-in-Refused.ensures.keeper;
+  counts = same-faults g.K.Keeper.faults c.args.self.now c.end_claim-in-Refused.new.self c.end_claim-in-Refused.ensures.keeper;
+}

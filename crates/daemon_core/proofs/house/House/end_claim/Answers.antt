@@ -1,4 +1,7 @@
-use Rattle.std.proofs.Common.{◌∙◌, ◌+◌, ℕ, ap}
+use Rattle.std.proofs.Common.{◌∙◌, ◌+◌, ℕ, ap, sym, subst, refl}
+use Rattle.update_log.specs.Pasts.{is_boot}
+use Rattle.update_log.specs.declared.event.Event.{Event}
+use Rattle.daemon_core.specs.Annals.{IsMadeBy}
 use Rattle.daemon_core.specs.Fetches.{block_count}
 use Rattle.daemon_core.specs.Housed.{Housed}
 use Rattle.daemon_core.proofs.ClaimExits.{end-fits, end-house, end-ready, may-over}
@@ -10,29 +13,20 @@ give-requires g c =
     (record { annals = c.self.inside.annals; places = c.self.inside.places.items; pool = c.self.inside.pool; keeper = c.self.inside.keeper })
     c.args.self.now.annals (ap (λ (h : Housed g.row.K.Denot). h.annals) c.self.view_is) c.self.invariant c.known.ensures c.requires.may c.into_blocks.ensures
 
-pub note-requires-clause-loaded : goal.note-requires-clause-loaded
-note-requires-clause-loaded g c =
-    (may-over c.self.inside.annals c.args.self.now.annals c.args.client (block_count c.args.fetched) c.args.ticket (ap (λ (h : Housed g.row.K.Denot). h.annals) c.self.view_is) c.requires.may).loaded
-
-pub note-requires-clause-takes : goal.note-requires-clause-takes
-note-requires-clause-takes g c =
-    (end-ready c.self.inside.annals c.args.self.now.annals c.args.client (block_count c.args.fetched) c.args.ticket _ c.note-note.result c.args.answer.now c.claimed.result
-    (ap (λ (h : Housed g.row.K.Denot). h.annals) c.self.view_is) c.known.ensures c.requires.may c.requires.answered c.claimed.ensures c.note-note.ensures).takes
-
-pub note-requires-clause-allowed : goal.note-requires-clause-allowed
-note-requires-clause-allowed g c =
-    (end-ready c.self.inside.annals c.args.self.now.annals c.args.client (block_count c.args.fetched) c.args.ticket _ c.note-note.result c.args.answer.now c.claimed.result
-    (ap (λ (h : Housed g.row.K.Denot). h.annals) c.self.view_is) c.known.ensures c.requires.may c.requires.answered c.claimed.ensures c.note-note.ensures).allowed
-
-pub note-requires-clause-room : goal.note-requires-clause-room
-note-requires-clause-room g c =
-    (end-ready c.self.inside.annals c.args.self.now.annals c.args.client (block_count c.args.fetched) c.args.ticket _ c.note-note.result c.args.answer.now c.claimed.result
-    (ap (λ (h : Housed g.row.K.Denot). h.annals) c.self.view_is) c.known.ensures c.requires.may c.requires.answered c.claimed.ensures c.note-note.ensures).room
-
-pub note-requires-clause-row : goal.note-requires-clause-row
-note-requires-clause-row g c =
-    (end-ready c.self.inside.annals c.args.self.now.annals c.args.client (block_count c.args.fetched) c.args.ticket _ c.note-note.result c.args.answer.now c.claimed.result
-    (ap (λ (h : Housed g.row.K.Denot). h.annals) c.self.view_is) c.known.ensures c.requires.may c.requires.answered c.claimed.ensures c.note-note.ensures).row
+pub note-requires : goal.note-requires
+note-requires g c =
+    let may = may-over c.self.inside.annals c.args.self.now.annals c.args.client (block_count c.args.fetched) c.args.ticket (ap (λ (h : Housed g.row.K.Denot). h.annals) c.self.view_is) c.requires.may in
+    let ready = end-ready c.self.inside.annals c.args.self.now.annals c.args.client (block_count c.args.fetched) c.args.ticket _ c.note-note.result c.args.answer.now c.claimed.result
+    (ap (λ (h : Housed g.row.K.Denot). h.annals) c.self.view_is) c.known.ensures c.requires.may c.requires.answered c.claimed.ensures c.note-note.ensures in
+    record {
+      no_boot = ap is_boot c.claimed.ensures;
+      loaded = may.loaded;
+      takes = ready.takes;
+      allowed = ready.allowed;
+      made = subst (λ (x : Event). IsMadeBy x c.args.client) (sym c.claimed.ensures) refl;
+      room = ready.room;
+      row = ready.row;
+    }
 
 pub invariant_of-self : goal.invariant_of-self
 invariant_of-self g c =

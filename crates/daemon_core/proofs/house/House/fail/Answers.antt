@@ -23,33 +23,18 @@ pub commit-stored-requires-clause-suits : goal.commit-stored-requires-clause-sui
 commit-stored-requires-clause-suits g c =
     fail-suits g.K.Keeper.tells g.K.Keeper.doubt c.args.entry (ResumeAnswer.Refused c.args.refusal) c.resumption-change.result (record { annals = c.self.inside.annals; places = c.self.inside.places.items; pool = c.self.inside.pool; keeper = c.self.inside.keeper }) c.self.invariant c.known.ensures (failing c.self.inside.annals c.args.self.now.annals c.args.entry c.args.held c.args.refusal (ap (λ (h : Housed g.row.K.Denot). h.annals) c.self.view_is) c.requires.may c.requires.fails).may c.resumption-change.ensures.is
 
-pub note-requires-clause-takes : goal.note-requires-clause-takes
-note-requires-clause-takes g c =
-    (fail-ready c.self.inside.annals c.args.entry c.args.held c.note_in-note.result c.args.refusal c.commit-stored.result c.failed.result c.known.ensures (failing c.self.inside.annals c.args.self.now.annals c.args.entry c.args.held c.args.refusal (ap (λ (h : Housed g.row.K.Denot). h.annals) c.self.view_is) c.requires.may c.requires.fails) (done-stored c.resumption-change.result c.commit-stored.result _ _ _ c.commit-stored.ensures.stored c.in_default.not-NoMemory) c.note_in-note.ensures c.failed.ensures).takes
-
-pub note-requires-clause-allowed : goal.note-requires-clause-allowed
-note-requires-clause-allowed g c =
-    (fail-ready c.self.inside.annals c.args.entry c.args.held c.note_in-note.result c.args.refusal c.commit-stored.result c.failed.result c.known.ensures (failing c.self.inside.annals c.args.self.now.annals c.args.entry c.args.held c.args.refusal (ap (λ (h : Housed g.row.K.Denot). h.annals) c.self.view_is) c.requires.may c.requires.fails) (done-stored c.resumption-change.result c.commit-stored.result _ _ _ c.commit-stored.ensures.stored c.in_default.not-NoMemory) c.note_in-note.ensures c.failed.ensures).allowed
-
-pub note-requires-clause-room : goal.note-requires-clause-room
-note-requires-clause-room g c =
-    (fail-ready c.self.inside.annals c.args.entry c.args.held c.note_in-note.result c.args.refusal c.commit-stored.result c.failed.result c.known.ensures (failing c.self.inside.annals c.args.self.now.annals c.args.entry c.args.held c.args.refusal (ap (λ (h : Housed g.row.K.Denot). h.annals) c.self.view_is) c.requires.may c.requires.fails) (done-stored c.resumption-change.result c.commit-stored.result _ _ _ c.commit-stored.ensures.stored c.in_default.not-NoMemory) c.note_in-note.ensures c.failed.ensures).room
-
-pub note-requires-clause-row : goal.note-requires-clause-row
-note-requires-clause-row g c =
-    (fail-ready c.self.inside.annals c.args.entry c.args.held c.note_in-note.result c.args.refusal c.commit-stored.result c.failed.result c.known.ensures (failing c.self.inside.annals c.args.self.now.annals c.args.entry c.args.held c.args.refusal (ap (λ (h : Housed g.row.K.Denot). h.annals) c.self.view_is) c.requires.may c.requires.fails) (done-stored c.resumption-change.result c.commit-stored.result _ _ _ c.commit-stored.ensures.stored c.in_default.not-NoMemory) c.note_in-note.ensures c.failed.ensures).row
-
-pub note-requires-clause-loaded : goal.note-requires-clause-loaded
-note-requires-clause-loaded g c =
-    (failing c.self.inside.annals c.args.self.now.annals c.args.entry c.args.held c.args.refusal (ap (λ (h : Housed g.row.K.Denot). h.annals) c.self.view_is) c.requires.may c.requires.fails).may.loaded
-
-pub note-requires-clause-no_boot : goal.note-requires-clause-no_boot
-note-requires-clause-no_boot g c =
-    ap is_boot c.failed.ensures
-
-pub note-requires-clause-made : goal.note-requires-clause-made
-note-requires-clause-made g c =
-    subst (λ (x : Event). IsMadeBy x 0) (sym c.failed.ensures) refl
+pub note-requires : goal.note-requires
+note-requires g c =
+    let ready = fail-ready c.self.inside.annals c.args.entry c.args.held c.note_in-note.result c.args.refusal c.commit-stored.result c.failed.result c.known.ensures (failing c.self.inside.annals c.args.self.now.annals c.args.entry c.args.held c.args.refusal (ap (λ (h : Housed g.row.K.Denot). h.annals) c.self.view_is) c.requires.may c.requires.fails) (done-stored c.resumption-change.result c.commit-stored.result _ _ _ c.commit-stored.ensures.stored c.in_default.not-NoMemory) c.note_in-note.ensures c.failed.ensures in
+    record {
+      no_boot = ap is_boot c.failed.ensures;
+      loaded = (failing c.self.inside.annals c.args.self.now.annals c.args.entry c.args.held c.args.refusal (ap (λ (h : Housed g.row.K.Denot). h.annals) c.self.view_is) c.requires.may c.requires.fails).may.loaded;
+      takes = ready.takes;
+      allowed = ready.allowed;
+      made = subst (λ (x : Event). IsMadeBy x 0) (sym c.failed.ensures) refl;
+      room = ready.room;
+      row = ready.row;
+    }
 
 pub give_in-requires : goal.give_in-requires
 give_in-requires g c =
@@ -64,40 +49,27 @@ invariant_of-self-2 g c =
     house-failed g.K.Keeper.tells g.K.Keeper.doubt c.args.entry c.args.held c.note_in-note.result c.args.refusal c.commit-stored.result c.resumption-change.result c.failed.result (record { annals = c.self.inside.annals; places = c.self.inside.places.items; pool = c.self.inside.pool; keeper = c.self.inside.keeper }) c.note.new.self c.give_in.new.pool c.commit-stored.new.keeper c.self.invariant c.known.ensures c.note.ensures.known (failing c.self.inside.annals c.args.self.now.annals c.args.entry c.args.held c.args.refusal (ap (λ (h : Housed g.row.K.Denot). h.annals) c.self.view_is) c.requires.may c.requires.fails)
     c.note_in-note.ensures c.failed.ensures c.note.ensures.appended c.resumption-change.ensures.is c.commit-stored.ensures.stored c.give_in.ensures.capacity c.give_in.ensures.free
 
-pub returns-clause-turn : goal.returns-clause-turn
-returns-clause-turn g c =
-    turn-failed c.self.inside.annals c.args.self.now.annals c.note.new.self c.args.entry c.args.held c.note_in-note.result c.args.refusal c.commit-stored.result c.failed.result (ap (λ (h : Housed g.row.K.Denot). h.annals) c.self.view_is) (failing c.self.inside.annals c.args.self.now.annals c.args.entry c.args.held c.args.refusal (ap (λ (h : Housed g.row.K.Denot). h.annals) c.self.view_is) c.requires.may c.requires.fails) (done-stored c.resumption-change.result c.commit-stored.result _ _ _ c.commit-stored.ensures.stored c.in_default.not-NoMemory) c.note_in-note.ensures c.failed.ensures c.note.ensures.appended
+pub returns : goal.returns
+returns g c = record {
+  turn = turn-failed c.self.inside.annals c.args.self.now.annals c.note.new.self c.args.entry c.args.held c.note_in-note.result c.args.refusal c.commit-stored.result c.failed.result (ap (λ (h : Housed g.row.K.Denot). h.annals) c.self.view_is) (failing c.self.inside.annals c.args.self.now.annals c.args.entry c.args.held c.args.refusal (ap (λ (h : Housed g.row.K.Denot). h.annals) c.self.view_is) c.requires.may c.requires.fails) (done-stored c.resumption-change.result c.commit-stored.result _ _ _ c.commit-stored.ensures.stored c.in_default.not-NoMemory) c.note_in-note.ensures c.failed.ensures c.note.ensures.appended;
+  gave =
+      subst (λ (h : Housed g.row.K.Denot). ResumeGave c.args.entry c.args.held (Ok (Claimed.Refused c.args.refusal)) h (record { annals = c.note.new.self; places = c.self.inside.places.items; pool = c.give_in.new.pool; keeper = c.commit-stored.new.keeper })) c.self.view_is
+      (c.give_in.ensures.free, places-themselves c.self.inside.places.items);
+  fared =
+      subst (λ (h : Housed g.row.K.Denot). KeeperFared (signs_of g.K.Keeper.tells g.K.Keeper.faults) h (record { annals = c.note.new.self; places = c.self.inside.places.items; pool = c.give_in.new.pool; keeper = c.commit-stored.new.keeper })) c.self.view_is
+      (faults-resumed (signs_of g.K.Keeper.tells g.K.Keeper.faults) c.args.entry c.note_in-note.result (ResumeAnswer.Refused c.args.refusal) c.commit-stored.result c.failed.result (record { annals = c.self.inside.annals; places = c.self.inside.places.items; pool = c.self.inside.pool; keeper = c.self.inside.keeper }) (record { annals = c.note.new.self; places = c.self.inside.places.items; pool = c.give_in.new.pool; keeper = c.commit-stored.new.keeper }) c.failed.ensures (other-met c.args.refusal c.commit-stored.result c.requires.fails.other) c.note.ensures.appended c.commit-stored.ensures.cause c.commit-stored.ensures.quiet
+      (stored-before g.K.Keeper.tells c.self.inside.keeper c.commit-stored.new.keeper c.resumption-change.result c.commit-stored.result _ c.commit-stored.ensures.stored));
+  counts = subst (λ (h : Housed g.row.K.Denot). g.K.Keeper.faults h.keeper ≤ g.K.Keeper.faults c.commit-stored.new.keeper) c.self.view_is c.commit-stored.ensures.counts;
+}
 
-pub returns-clause-gave : goal.returns-clause-gave
-returns-clause-gave g c =
-    subst (λ (h : Housed g.row.K.Denot). ResumeGave c.args.entry c.args.held (Ok (Claimed.Refused c.args.refusal)) h (record { annals = c.note.new.self; places = c.self.inside.places.items; pool = c.give_in.new.pool; keeper = c.commit-stored.new.keeper })) c.self.view_is
-    (c.give_in.ensures.free, places-themselves c.self.inside.places.items)
-
-pub returns-clause-fared : goal.returns-clause-fared
-returns-clause-fared g c =
-    subst (λ (h : Housed g.row.K.Denot). KeeperFared (signs_of g.K.Keeper.tells g.K.Keeper.faults) h (record { annals = c.note.new.self; places = c.self.inside.places.items; pool = c.give_in.new.pool; keeper = c.commit-stored.new.keeper })) c.self.view_is
-    (faults-resumed (signs_of g.K.Keeper.tells g.K.Keeper.faults) c.args.entry c.note_in-note.result (ResumeAnswer.Refused c.args.refusal) c.commit-stored.result c.failed.result (record { annals = c.self.inside.annals; places = c.self.inside.places.items; pool = c.self.inside.pool; keeper = c.self.inside.keeper }) (record { annals = c.note.new.self; places = c.self.inside.places.items; pool = c.give_in.new.pool; keeper = c.commit-stored.new.keeper }) c.failed.ensures (other-met c.args.refusal c.commit-stored.result c.requires.fails.other) c.note.ensures.appended c.commit-stored.ensures.cause c.commit-stored.ensures.quiet
-    (stored-before g.K.Keeper.tells c.self.inside.keeper c.commit-stored.new.keeper c.resumption-change.result c.commit-stored.result _ c.commit-stored.ensures.stored))
-
-pub returns-clause-counts : goal.returns-clause-counts
-returns-clause-counts g c =
-    subst (λ (h : Housed g.row.K.Denot). g.K.Keeper.faults h.keeper ≤ g.K.Keeper.faults c.commit-stored.new.keeper) c.self.view_is c.commit-stored.ensures.counts
-
-pub returns-in-NoMemory-clause-turn : goal.returns-in-NoMemory-clause-turn
-returns-in-NoMemory-clause-turn g c =
-    turn-left c.self.inside.annals c.args.self.now.annals c.args.entry (note_in c.args.held) c.args.held (ap (λ (h : Housed g.row.K.Denot). h.annals) c.self.view_is) c.requires.may
-
-pub returns-in-NoMemory-clause-gave : goal.returns-in-NoMemory-clause-gave
-returns-in-NoMemory-clause-gave g c =
-    (ap (λ (h : Housed g.row.K.Denot). h.pool) c.self.view_is, places-same c.args.self.now.places c.self.inside.places.items (ap (λ (h : Housed g.row.K.Denot). h.places) c.self.view_is), refl)
-
-pub returns-in-NoMemory-clause-fared : goal.returns-in-NoMemory-clause-fared
-returns-in-NoMemory-clause-fared g c =
-    subst (λ (h : Housed g.row.K.Denot). KeeperFared (signs_of g.K.Keeper.tells g.K.Keeper.faults) h (record { annals = c.self.inside.annals; places = c.self.inside.places.items; pool = c.self.inside.pool; keeper = c.commit-stored.new.keeper })) c.self.view_is
-    (fared-quiet (signs_of g.K.Keeper.tells g.K.Keeper.faults) (record { annals = c.self.inside.annals; places = c.self.inside.places.items; pool = c.self.inside.pool; keeper = c.self.inside.keeper }) (record { annals = c.self.inside.annals; places = c.self.inside.places.items; pool = c.self.inside.pool; keeper = c.commit-stored.new.keeper }) refl
-    (calm-stored c.commit-stored.result (ap is_fault c.in-NoMemory.is) c.commit-stored.ensures.quiet)
-    (stored-before g.K.Keeper.tells c.self.inside.keeper c.commit-stored.new.keeper c.resumption-change.result c.commit-stored.result _ c.commit-stored.ensures.stored))
-
-pub returns-in-NoMemory-clause-counts : goal.returns-in-NoMemory-clause-counts
-returns-in-NoMemory-clause-counts g c =
-    subst (λ (h : Housed g.row.K.Denot). g.K.Keeper.faults h.keeper ≤ g.K.Keeper.faults c.commit-stored.new.keeper) c.self.view_is c.commit-stored.ensures.counts
+pub returns-in-NoMemory : goal.returns-in-NoMemory
+returns-in-NoMemory g c = record {
+  turn = turn-left c.self.inside.annals c.args.self.now.annals c.args.entry (note_in c.args.held) c.args.held (ap (λ (h : Housed g.row.K.Denot). h.annals) c.self.view_is) c.requires.may;
+  gave = (ap (λ (h : Housed g.row.K.Denot). h.pool) c.self.view_is, places-same c.args.self.now.places c.self.inside.places.items (ap (λ (h : Housed g.row.K.Denot). h.places) c.self.view_is), refl);
+  fared =
+      subst (λ (h : Housed g.row.K.Denot). KeeperFared (signs_of g.K.Keeper.tells g.K.Keeper.faults) h (record { annals = c.self.inside.annals; places = c.self.inside.places.items; pool = c.self.inside.pool; keeper = c.commit-stored.new.keeper })) c.self.view_is
+      (fared-quiet (signs_of g.K.Keeper.tells g.K.Keeper.faults) (record { annals = c.self.inside.annals; places = c.self.inside.places.items; pool = c.self.inside.pool; keeper = c.self.inside.keeper }) (record { annals = c.self.inside.annals; places = c.self.inside.places.items; pool = c.self.inside.pool; keeper = c.commit-stored.new.keeper }) refl
+      (calm-stored c.commit-stored.result (ap is_fault c.in-NoMemory.is) c.commit-stored.ensures.quiet)
+      (stored-before g.K.Keeper.tells c.self.inside.keeper c.commit-stored.new.keeper c.resumption-change.result c.commit-stored.result _ c.commit-stored.ensures.stored));
+  counts = subst (λ (h : Housed g.row.K.Denot). g.K.Keeper.faults h.keeper ≤ g.K.Keeper.faults c.commit-stored.new.keeper) c.self.view_is c.commit-stored.ensures.counts;
+}

@@ -16,18 +16,10 @@ end_claim-requires-clause-answered g c =
 pub end_claim-requires-clause-none : goal.end_claim-requires-clause-none
 end_claim-requires-clause-none g c = ap is_taken c.refused.ensures
 
-pub returns-clause-appended : goal.returns-clause-appended
-returns-clause-appended g c =
-    subst (λ (x : ClaimAnswer). Appended c.args.client (Event.Claim c.args.client c.args.ticket.request (note_of c.args.fetched) x) c.args.self.now.annals c.end_claim.new.self.annals) c.refused.ensures c.end_claim.ensures.appended
-
-pub returns-clause-gave : goal.returns-clause-gave
-returns-clause-gave g c =
-    (c.end_claim.ensures.pool, places-same c.args.self.now.places c.end_claim.new.self.places c.end_claim.ensures.places)
-
-pub returns-clause-fared : goal.returns-clause-fared
-returns-clause-fared g c =
-    faults-unclaimed (signs_of g.K.Keeper.tells g.K.Keeper.faults) c.args.client c.args.ticket (note_of c.args.fetched) c.refused.result c.args.self.now c.end_claim.new.self c.end_claim.ensures.appended (ap is_taken c.refused.ensures) c.end_claim.ensures.keeper
-
-pub returns-clause-counts : goal.returns-clause-counts
-returns-clause-counts g c =
-    same-faults g.K.Keeper.faults c.args.self.now c.end_claim.new.self c.end_claim.ensures.keeper
+pub returns : goal.returns
+returns g c = record {
+  appended = subst (λ (x : ClaimAnswer). Appended c.args.client (Event.Claim c.args.client c.args.ticket.request (note_of c.args.fetched) x) c.args.self.now.annals c.end_claim.new.self.annals) c.refused.ensures c.end_claim.ensures.appended;
+  gave = (c.end_claim.ensures.pool, places-same c.args.self.now.places c.end_claim.new.self.places c.end_claim.ensures.places);
+  fared = faults-unclaimed (signs_of g.K.Keeper.tells g.K.Keeper.faults) c.args.client c.args.ticket (note_of c.args.fetched) c.refused.result c.args.self.now c.end_claim.new.self c.end_claim.ensures.appended (ap is_taken c.refused.ensures) c.end_claim.ensures.keeper;
+  counts = same-faults g.K.Keeper.faults c.args.self.now c.end_claim.new.self c.end_claim.ensures.keeper;
+}

@@ -18,38 +18,25 @@ pub resume_in-requires-clause-held : goal.resume_in-requires-clause-held
 resume_in-requires-clause-held g c =
     entered-in c.args.self.now.annals c.enter.new.self.annals c.args.entry c.args.held c.in-Ok.ensures.entered c.requires.held
 
-pub returns-in-Ok-clause-turn : goal.returns-in-Ok-clause-turn
-returns-in-Ok-clause-turn g c =
-    resumed-after c.args.entry (note_in c.args.held) c.resume_in.result c.args.self.now.annals c.enter.new.self.annals c.resume_in.new.self.annals c.in-Ok.ensures.entered c.resume_in.ensures.turn
+pub returns-in-Ok : goal.returns-in-Ok
+returns-in-Ok g c = record {
+  turn = resumed-after c.args.entry (note_in c.args.held) c.resume_in.result c.args.self.now.annals c.enter.new.self.annals c.resume_in.new.self.annals c.in-Ok.ensures.entered c.resume_in.ensures.turn;
+  gave =
+      gave-after c.args.entry c.args.held c.resume_in.result c.args.self.now c.enter.new.self c.resume_in.new.self
+      (places-same c.args.self.now.places c.enter.new.self.places c.in-Ok.ensures.elsewhere.places) c.in-Ok.ensures.elsewhere.pool c.resume_in.ensures.gave;
+  fared =
+      faults-after (signs_of g.K.Keeper.tells g.K.Keeper.faults) c.args.self.now c.enter.new.self c.resume_in.new.self
+      (ap (λ (a : Annalled). keeper_faults (past_in a)) c.in-Ok.ensures.entered.same) c.in-Ok.ensures.elsewhere.keeper c.resume_in.ensures.counts c.resume_in.ensures.fared;
+  counts = subst (λ (k : g.row.K.Denot). g.K.Keeper.faults k ≤ g.K.Keeper.faults c.resume_in.new.self.keeper) c.in-Ok.ensures.elsewhere.keeper c.resume_in.ensures.counts;
+}
 
-pub returns-in-Ok-clause-gave : goal.returns-in-Ok-clause-gave
-returns-in-Ok-clause-gave g c =
-    gave-after c.args.entry c.args.held c.resume_in.result c.args.self.now c.enter.new.self c.resume_in.new.self
-    (places-same c.args.self.now.places c.enter.new.self.places c.in-Ok.ensures.elsewhere.places) c.in-Ok.ensures.elsewhere.pool c.resume_in.ensures.gave
-
-pub returns-in-Ok-clause-fared : goal.returns-in-Ok-clause-fared
-returns-in-Ok-clause-fared g c =
-    faults-after (signs_of g.K.Keeper.tells g.K.Keeper.faults) c.args.self.now c.enter.new.self c.resume_in.new.self
-    (ap (λ (a : Annalled). keeper_faults (past_in a)) c.in-Ok.ensures.entered.same) c.in-Ok.ensures.elsewhere.keeper c.resume_in.ensures.counts c.resume_in.ensures.fared
-
-pub returns-in-Ok-clause-counts : goal.returns-in-Ok-clause-counts
-returns-in-Ok-clause-counts g c =
-    subst (λ (k : g.row.K.Denot). g.K.Keeper.faults k ≤ g.K.Keeper.faults c.resume_in.new.self.keeper) c.in-Ok.ensures.elsewhere.keeper c.resume_in.ensures.counts
-
-pub returns-in-Err-clause-turn : goal.returns-in-Err-clause-turn
-returns-in-Err-clause-turn g c =
-    entered-stopped c.in-Err.stop c.args.self.now.annals c.enter.new.self.annals c.in-Err.ensures.entered
-
-pub returns-in-Err-clause-gave : goal.returns-in-Err-clause-gave
-returns-in-Err-clause-gave g c =
-    (c.in-Err.ensures.elsewhere.pool, places-same c.args.self.now.places c.enter.new.self.places c.in-Err.ensures.elsewhere.places, refl)
-
-pub returns-in-Err-clause-fared : goal.returns-in-Err-clause-fared
-returns-in-Err-clause-fared g c =
-    fared-same (signs_of g.K.Keeper.tells g.K.Keeper.faults) c.args.self.now c.enter.new.self
-    (stopped-faults (Unit {0}) 0 16 c.in-Err.stop c.args.self.now.annals c.enter.new.self.annals c.in-Err.ensures.entered)
-    c.in-Err.ensures.elsewhere.keeper
-
-pub returns-in-Err-clause-counts : goal.returns-in-Err-clause-counts
-returns-in-Err-clause-counts g c =
-    same-faults g.K.Keeper.faults c.args.self.now c.enter.new.self c.in-Err.ensures.elsewhere.keeper
+pub returns-in-Err : goal.returns-in-Err
+returns-in-Err g c = record {
+  turn = entered-stopped c.in-Err.stop c.args.self.now.annals c.enter.new.self.annals c.in-Err.ensures.entered;
+  gave = (c.in-Err.ensures.elsewhere.pool, places-same c.args.self.now.places c.enter.new.self.places c.in-Err.ensures.elsewhere.places, refl);
+  fared =
+      fared-same (signs_of g.K.Keeper.tells g.K.Keeper.faults) c.args.self.now c.enter.new.self
+      (stopped-faults (Unit {0}) 0 16 c.in-Err.stop c.args.self.now.annals c.enter.new.self.annals c.in-Err.ensures.entered)
+      c.in-Err.ensures.elsewhere.keeper;
+  counts = same-faults g.K.Keeper.faults c.args.self.now c.enter.new.self c.in-Err.ensures.elsewhere.keeper;
+}

@@ -27,61 +27,33 @@ pub commit-requires-clause-suits : goal.commit-requires-clause-suits
 commit-requires-clause-suits g c =
     fail-suits g.K.Keeper.tells g.K.Keeper.doubt c.args.entry ResumeAnswer.Begun c.resumption-change.result (record { annals = c.self.inside.annals; places = c.self.inside.places.items; pool = c.self.inside.pool; keeper = c.self.inside.keeper }) c.self.invariant c.known.ensures (resuming c.self.inside.annals c.args.self.now.annals c.args.entry c.args.ticket c.args.payload c.args.number (ap (λ (h : Housed g.row.K.Denot). h.annals) c.self.view_is) c.requires.begins).may c.resumption-change.ensures.is
 
-pub note-requires-clause-takes : goal.note-requires-clause-takes
-note-requires-clause-takes g c =
-    (begin-ready c.self.inside.annals c.args.entry c.args.ticket c.args.payload c.args.number c.begun.result c.known.ensures (resuming c.self.inside.annals c.args.self.now.annals c.args.entry c.args.ticket c.args.payload c.args.number (ap (λ (h : Housed g.row.K.Denot). h.annals) c.self.view_is) c.requires.begins) (begin-event c.args.entry c.args.payload c.whole_note-note.result c.begun.result c.begun.ensures c.whole_note-note.ensures)).takes
+pub note-requires : goal.note-requires
+note-requires g c =
+    let resumes = resuming c.self.inside.annals c.args.self.now.annals c.args.entry c.args.ticket c.args.payload c.args.number (ap (λ (h : Housed g.row.K.Denot). h.annals) c.self.view_is) c.requires.begins in
+    let ready = begin-ready c.self.inside.annals c.args.entry c.args.ticket c.args.payload c.args.number c.begun.result c.known.ensures resumes (begin-event c.args.entry c.args.payload c.whole_note-note.result c.begun.result c.begun.ensures c.whole_note-note.ensures) in
+    record {
+      no_boot = ap is_boot c.begun.ensures;
+      loaded = resumes.may.loaded;
+      takes = ready.takes;
+      allowed = ready.allowed;
+      made = subst (λ (x : Event). IsMadeBy x 0) (sym c.begun.ensures) refl;
+      room = ready.room;
+      row = ready.row;
+    }
 
-pub note-requires-in-Err-Fault-clause-takes : goal.note-requires-in-Err-Fault-clause-takes
-note-requires-in-Err-Fault-clause-takes g c =
-    (doubt-ready c.self.inside.annals c.args.entry c.args.ticket c.args.payload c.args.number c.begin_in_doubt.result c.known.ensures (resuming c.self.inside.annals c.args.self.now.annals c.args.entry c.args.ticket c.args.payload c.args.number (ap (λ (h : Housed g.row.K.Denot). h.annals) c.self.view_is) c.requires.begins) (doubtful-event c.args.entry c.args.payload c.whole_note-note.result c.begin_in_doubt.result c.begin_in_doubt.ensures c.whole_note-note.ensures)).takes
-
-pub note-requires-clause-allowed : goal.note-requires-clause-allowed
-note-requires-clause-allowed g c =
-    (begin-ready c.self.inside.annals c.args.entry c.args.ticket c.args.payload c.args.number c.begun.result c.known.ensures (resuming c.self.inside.annals c.args.self.now.annals c.args.entry c.args.ticket c.args.payload c.args.number (ap (λ (h : Housed g.row.K.Denot). h.annals) c.self.view_is) c.requires.begins) (begin-event c.args.entry c.args.payload c.whole_note-note.result c.begun.result c.begun.ensures c.whole_note-note.ensures)).allowed
-
-pub note-requires-in-Err-Fault-clause-allowed : goal.note-requires-in-Err-Fault-clause-allowed
-note-requires-in-Err-Fault-clause-allowed g c =
-    (doubt-ready c.self.inside.annals c.args.entry c.args.ticket c.args.payload c.args.number c.begin_in_doubt.result c.known.ensures (resuming c.self.inside.annals c.args.self.now.annals c.args.entry c.args.ticket c.args.payload c.args.number (ap (λ (h : Housed g.row.K.Denot). h.annals) c.self.view_is) c.requires.begins) (doubtful-event c.args.entry c.args.payload c.whole_note-note.result c.begin_in_doubt.result c.begin_in_doubt.ensures c.whole_note-note.ensures)).allowed
-
-pub note-requires-clause-room : goal.note-requires-clause-room
-note-requires-clause-room g c =
-    (begin-ready c.self.inside.annals c.args.entry c.args.ticket c.args.payload c.args.number c.begun.result c.known.ensures (resuming c.self.inside.annals c.args.self.now.annals c.args.entry c.args.ticket c.args.payload c.args.number (ap (λ (h : Housed g.row.K.Denot). h.annals) c.self.view_is) c.requires.begins) (begin-event c.args.entry c.args.payload c.whole_note-note.result c.begun.result c.begun.ensures c.whole_note-note.ensures)).room
-
-pub note-requires-in-Err-Fault-clause-room : goal.note-requires-in-Err-Fault-clause-room
-note-requires-in-Err-Fault-clause-room g c =
-    (doubt-ready c.self.inside.annals c.args.entry c.args.ticket c.args.payload c.args.number c.begin_in_doubt.result c.known.ensures (resuming c.self.inside.annals c.args.self.now.annals c.args.entry c.args.ticket c.args.payload c.args.number (ap (λ (h : Housed g.row.K.Denot). h.annals) c.self.view_is) c.requires.begins) (doubtful-event c.args.entry c.args.payload c.whole_note-note.result c.begin_in_doubt.result c.begin_in_doubt.ensures c.whole_note-note.ensures)).room
-
-pub note-requires-clause-row : goal.note-requires-clause-row
-note-requires-clause-row g c =
-    (begin-ready c.self.inside.annals c.args.entry c.args.ticket c.args.payload c.args.number c.begun.result c.known.ensures (resuming c.self.inside.annals c.args.self.now.annals c.args.entry c.args.ticket c.args.payload c.args.number (ap (λ (h : Housed g.row.K.Denot). h.annals) c.self.view_is) c.requires.begins) (begin-event c.args.entry c.args.payload c.whole_note-note.result c.begun.result c.begun.ensures c.whole_note-note.ensures)).row
-
-pub note-requires-in-Err-Fault-clause-row : goal.note-requires-in-Err-Fault-clause-row
-note-requires-in-Err-Fault-clause-row g c =
-    (doubt-ready c.self.inside.annals c.args.entry c.args.ticket c.args.payload c.args.number c.begin_in_doubt.result c.known.ensures (resuming c.self.inside.annals c.args.self.now.annals c.args.entry c.args.ticket c.args.payload c.args.number (ap (λ (h : Housed g.row.K.Denot). h.annals) c.self.view_is) c.requires.begins) (doubtful-event c.args.entry c.args.payload c.whole_note-note.result c.begin_in_doubt.result c.begin_in_doubt.ensures c.whole_note-note.ensures)).row
-
-pub note-requires-clause-loaded : goal.note-requires-clause-loaded
-note-requires-clause-loaded g c =
-    (resuming c.self.inside.annals c.args.self.now.annals c.args.entry c.args.ticket c.args.payload c.args.number (ap (λ (h : Housed g.row.K.Denot). h.annals) c.self.view_is) c.requires.begins).may.loaded
-
-pub note-requires-in-Err-Fault-clause-loaded : goal.note-requires-in-Err-Fault-clause-loaded
-note-requires-in-Err-Fault-clause-loaded g c =
-    (resuming c.self.inside.annals c.args.self.now.annals c.args.entry c.args.ticket c.args.payload c.args.number (ap (λ (h : Housed g.row.K.Denot). h.annals) c.self.view_is) c.requires.begins).may.loaded
-
-pub note-requires-clause-no_boot : goal.note-requires-clause-no_boot
-note-requires-clause-no_boot g c =
-    ap is_boot c.begun.ensures
-
-pub note-requires-in-Err-Fault-clause-no_boot : goal.note-requires-in-Err-Fault-clause-no_boot
-note-requires-in-Err-Fault-clause-no_boot g c =
-    ap is_boot c.begin_in_doubt.ensures
-
-pub note-requires-clause-made : goal.note-requires-clause-made
-note-requires-clause-made g c =
-    subst (λ (x : Event). IsMadeBy x 0) (sym c.begun.ensures) refl
-
-pub note-requires-in-Err-Fault-clause-made : goal.note-requires-in-Err-Fault-clause-made
-note-requires-in-Err-Fault-clause-made g c =
-    subst (λ (x : Event). IsMadeBy x 0) (sym c.begin_in_doubt.ensures) refl
+pub note-requires-in-Err-Fault : goal.note-requires-in-Err-Fault
+note-requires-in-Err-Fault g c =
+    let resumes = resuming c.self.inside.annals c.args.self.now.annals c.args.entry c.args.ticket c.args.payload c.args.number (ap (λ (h : Housed g.row.K.Denot). h.annals) c.self.view_is) c.requires.begins in
+    let ready = doubt-ready c.self.inside.annals c.args.entry c.args.ticket c.args.payload c.args.number c.begin_in_doubt.result c.known.ensures resumes (doubtful-event c.args.entry c.args.payload c.whole_note-note.result c.begin_in_doubt.result c.begin_in_doubt.ensures c.whole_note-note.ensures) in
+    record {
+      no_boot = ap is_boot c.begin_in_doubt.ensures;
+      loaded = resumes.may.loaded;
+      takes = ready.takes;
+      allowed = ready.allowed;
+      made = subst (λ (x : Event). IsMadeBy x 0) (sym c.begin_in_doubt.ensures) refl;
+      room = ready.room;
+      row = ready.row;
+    }
 
 pub take_out-board-requires-clause-within : goal.take_out-board-requires-clause-within
 take_out-board-requires-clause-within g c =
@@ -118,61 +90,42 @@ pub invariant_of-self-in-Err-NoMemory : goal.invariant_of-self-in-Err-NoMemory
 invariant_of-self-in-Err-NoMemory g c =
     house-left g.K.Keeper.tells g.K.Keeper.doubt c.args.entry (record { annals = c.self.inside.annals; places = c.self.inside.places.items; pool = c.self.inside.pool; keeper = c.self.inside.keeper }) c.commit.new.self c.self.invariant c.known.ensures (resuming c.self.inside.annals c.args.self.now.annals c.args.entry c.args.ticket c.args.payload c.args.number (ap (λ (h : Housed g.row.K.Denot). h.annals) c.self.view_is) c.requires.begins).may (rw c.in-Err-NoMemory.field-0-is at c.in-Err-NoMemory.ensures.committed)
 
-pub returns-in-Ok-clause-turn : goal.returns-in-Ok-clause-turn
-returns-in-Ok-clause-turn g c =
-    turn-took c.self.inside.annals c.args.self.now.annals c.note.new.self c.args.entry c.args.payload c.taken.result c.begun.result (ap (λ (h : Housed g.row.K.Denot). h.annals) c.self.view_is) (resuming c.self.inside.annals c.args.self.now.annals c.args.entry c.args.ticket c.args.payload c.args.number (ap (λ (h : Housed g.row.K.Denot). h.annals) c.self.view_is) c.requires.begins).may (begin-event c.args.entry c.args.payload c.whole_note-note.result c.begun.result c.begun.ensures c.whole_note-note.ensures) c.note.ensures.appended
+pub returns-in-Ok : goal.returns-in-Ok
+returns-in-Ok g c = record {
+  turn = turn-took c.self.inside.annals c.args.self.now.annals c.note.new.self c.args.entry c.args.payload c.taken.result c.begun.result (ap (λ (h : Housed g.row.K.Denot). h.annals) c.self.view_is) (resuming c.self.inside.annals c.args.self.now.annals c.args.entry c.args.ticket c.args.payload c.args.number (ap (λ (h : Housed g.row.K.Denot). h.annals) c.self.view_is) c.requires.begins).may (begin-event c.args.entry c.args.payload c.whole_note-note.result c.begun.result c.begun.ensures c.whole_note-note.ensures) c.note.ensures.appended;
+  gave =
+      subst (λ (h : Housed g.row.K.Denot). ResumeGave c.args.entry (Some (c.args.ticket, (Fetched.Whole c.args.payload))) (Ok (Claimed.Taken c.taken.result)) h (record { annals = c.note.new.self; places = c.take_out-board.new.places.items; pool = c.self.inside.pool; keeper = c.commit.new.self })) c.self.view_is
+      (gave-taken g.K.Keeper.tells g.K.Keeper.doubt c.args.entry c.args.ticket c.args.payload c.args.number c.taken.result c.begun.result (record { annals = c.self.inside.annals; places = c.self.inside.places.items; pool = c.self.inside.pool; keeper = c.self.inside.keeper }) (record { annals = c.note.new.self; places = c.take_out-board.new.places.items; pool = c.self.inside.pool; keeper = c.commit.new.self }) c.self.invariant c.known.ensures (resuming c.self.inside.annals c.args.self.now.annals c.args.entry c.args.ticket c.args.payload c.args.number (ap (λ (h : Housed g.row.K.Denot). h.annals) c.self.view_is) c.requires.begins)
+      (subst (λ (h : Housed g.row.K.Denot). IfSome (place_at h.places c.args.number).board (λ b. 8 ≤ b.room)) (sym c.self.view_is) c.requires.marks) (begin-event c.args.entry c.args.payload c.whole_note-note.result c.begun.result c.begun.ensures c.whole_note-note.ensures) c.note.ensures.appended refl
+      c.take_out-board.ensures.places (c.take_out-board.ensures.board ∙ ap Some (sym c.taken.ensures.board)) c.taken.ensures.entry c.taken.ensures.payload c.taken.ensures.plugin c.taken.ensures.traced);
+  fared =
+      subst (λ (h : Housed g.row.K.Denot). KeeperFared (signs_of g.K.Keeper.tells g.K.Keeper.faults) h (record { annals = c.note.new.self; places = c.take_out-board.new.places.items; pool = c.self.inside.pool; keeper = c.commit.new.self })) c.self.view_is
+      (faults-resumed (signs_of g.K.Keeper.tells g.K.Keeper.faults) c.args.entry (Some (whole_note c.args.payload)) ResumeAnswer.Begun Stored.Yes c.begun.result (record { annals = c.self.inside.annals; places = c.self.inside.places.items; pool = c.self.inside.pool; keeper = c.self.inside.keeper }) (record { annals = c.note.new.self; places = c.take_out-board.new.places.items; pool = c.self.inside.pool; keeper = c.commit.new.self }) (begin-event c.args.entry c.args.payload c.whole_note-note.result c.begun.result c.begun.ensures c.whole_note-note.ensures) refl c.note.ensures.appended (λ e. cc)
+      (inr (calm-ok _ _ refl c.in-Ok.ensures.quiet)) (told-with g.K.Keeper.tells c.self.inside.keeper c.commit.new.self _ c.in-Ok.ensures.committed.0));
+  counts = subst (λ (h : Housed g.row.K.Denot). g.K.Keeper.faults h.keeper ≤ g.K.Keeper.faults c.commit.new.self) c.self.view_is c.in-Ok.ensures.counts;
+}
 
-pub returns-in-Ok-clause-gave : goal.returns-in-Ok-clause-gave
-returns-in-Ok-clause-gave g c =
-    subst (λ (h : Housed g.row.K.Denot). ResumeGave c.args.entry (Some (c.args.ticket, (Fetched.Whole c.args.payload))) (Ok (Claimed.Taken c.taken.result)) h (record { annals = c.note.new.self; places = c.take_out-board.new.places.items; pool = c.self.inside.pool; keeper = c.commit.new.self })) c.self.view_is
-    (gave-taken g.K.Keeper.tells g.K.Keeper.doubt c.args.entry c.args.ticket c.args.payload c.args.number c.taken.result c.begun.result (record { annals = c.self.inside.annals; places = c.self.inside.places.items; pool = c.self.inside.pool; keeper = c.self.inside.keeper }) (record { annals = c.note.new.self; places = c.take_out-board.new.places.items; pool = c.self.inside.pool; keeper = c.commit.new.self }) c.self.invariant c.known.ensures (resuming c.self.inside.annals c.args.self.now.annals c.args.entry c.args.ticket c.args.payload c.args.number (ap (λ (h : Housed g.row.K.Denot). h.annals) c.self.view_is) c.requires.begins)
-    (subst (λ (h : Housed g.row.K.Denot). IfSome (place_at h.places c.args.number).board (λ b. 8 ≤ b.room)) (sym c.self.view_is) c.requires.marks) (begin-event c.args.entry c.args.payload c.whole_note-note.result c.begun.result c.begun.ensures c.whole_note-note.ensures) c.note.ensures.appended refl
-    c.take_out-board.ensures.places (c.take_out-board.ensures.board ∙ ap Some (sym c.taken.ensures.board)) c.taken.ensures.entry c.taken.ensures.payload c.taken.ensures.plugin c.taken.ensures.traced)
+pub returns-in-Err-Fault : goal.returns-in-Err-Fault
+returns-in-Err-Fault g c = record {
+  turn = turn-doubts c.self.inside.annals c.args.self.now.annals c.note-in-Err-Fault.new.self c.args.entry c.args.payload c.begin_in_doubt.result (ap (λ (h : Housed g.row.K.Denot). h.annals) c.self.view_is) (resuming c.self.inside.annals c.args.self.now.annals c.args.entry c.args.ticket c.args.payload c.args.number (ap (λ (h : Housed g.row.K.Denot). h.annals) c.self.view_is) c.requires.begins).may (doubtful-event c.args.entry c.args.payload c.whole_note-note.result c.begin_in_doubt.result c.begin_in_doubt.ensures c.whole_note-note.ensures) c.note-in-Err-Fault.ensures.appended;
+  gave =
+      subst (λ (h : Housed g.row.K.Denot). ResumeGave c.args.entry (Some (c.args.ticket, (Fetched.Whole c.args.payload))) (Ok (Claimed.Refused Refusal.KeeperFault)) h (record { annals = c.note-in-Err-Fault.new.self; places = c.self.inside.places.items; pool = c.give.new.self; keeper = c.commit.new.self })) c.self.view_is
+      (c.give.ensures.conserved ∙ ap (λ (n : ℕ). c.self.inside.pool.free + n) c.into_blocks.ensures.count, places-themselves c.self.inside.places.items);
+  fared =
+      subst (λ (h : Housed g.row.K.Denot). KeeperFared (signs_of g.K.Keeper.tells g.K.Keeper.faults) h (record { annals = c.note-in-Err-Fault.new.self; places = c.self.inside.places.items; pool = c.give.new.self; keeper = c.commit.new.self })) c.self.view_is
+      (faults-resumed (signs_of g.K.Keeper.tells g.K.Keeper.faults) c.args.entry (Some (whole_note c.args.payload)) (ResumeAnswer.Refused Refusal.KeeperFault) Stored.Fault c.begin_in_doubt.result (record { annals = c.self.inside.annals; places = c.self.inside.places.items; pool = c.self.inside.pool; keeper = c.self.inside.keeper }) (record { annals = c.note-in-Err-Fault.new.self; places = c.self.inside.places.items; pool = c.give.new.self; keeper = c.commit.new.self }) (doubtful-event c.args.entry c.args.payload c.whole_note-note.result c.begin_in_doubt.result c.begin_in_doubt.ensures c.whole_note-note.ensures) refl c.note-in-Err-Fault.ensures.appended (λ e. c.in-Err-Fault.ensures.cause (ap Err c.in-Err-Fault.field-0-is)) (inl refl)
+      (told-left g.K.Keeper.tells g.K.Keeper.doubt c.self.inside.keeper c.commit.new.self _ (rw c.in-Err-Fault.field-0-is at c.in-Err-Fault.ensures.committed)));
+  counts = subst (λ (h : Housed g.row.K.Denot). g.K.Keeper.faults h.keeper ≤ g.K.Keeper.faults c.commit.new.self) c.self.view_is c.in-Err-Fault.ensures.counts;
+}
 
-pub returns-in-Ok-clause-fared : goal.returns-in-Ok-clause-fared
-returns-in-Ok-clause-fared g c =
-    subst (λ (h : Housed g.row.K.Denot). KeeperFared (signs_of g.K.Keeper.tells g.K.Keeper.faults) h (record { annals = c.note.new.self; places = c.take_out-board.new.places.items; pool = c.self.inside.pool; keeper = c.commit.new.self })) c.self.view_is
-    (faults-resumed (signs_of g.K.Keeper.tells g.K.Keeper.faults) c.args.entry (Some (whole_note c.args.payload)) ResumeAnswer.Begun Stored.Yes c.begun.result (record { annals = c.self.inside.annals; places = c.self.inside.places.items; pool = c.self.inside.pool; keeper = c.self.inside.keeper }) (record { annals = c.note.new.self; places = c.take_out-board.new.places.items; pool = c.self.inside.pool; keeper = c.commit.new.self }) (begin-event c.args.entry c.args.payload c.whole_note-note.result c.begun.result c.begun.ensures c.whole_note-note.ensures) refl c.note.ensures.appended (λ e. cc)
-    (inr (calm-ok _ _ refl c.in-Ok.ensures.quiet)) (told-with g.K.Keeper.tells c.self.inside.keeper c.commit.new.self _ c.in-Ok.ensures.committed.0))
-
-pub returns-in-Ok-clause-counts : goal.returns-in-Ok-clause-counts
-returns-in-Ok-clause-counts g c =
-    subst (λ (h : Housed g.row.K.Denot). g.K.Keeper.faults h.keeper ≤ g.K.Keeper.faults c.commit.new.self) c.self.view_is c.in-Ok.ensures.counts
-
-pub returns-in-Err-Fault-clause-counts : goal.returns-in-Err-Fault-clause-counts
-returns-in-Err-Fault-clause-counts g c =
-    subst (λ (h : Housed g.row.K.Denot). g.K.Keeper.faults h.keeper ≤ g.K.Keeper.faults c.commit.new.self) c.self.view_is c.in-Err-Fault.ensures.counts
-
-pub returns-in-Err-NoMemory-clause-counts : goal.returns-in-Err-NoMemory-clause-counts
-returns-in-Err-NoMemory-clause-counts g c =
-    subst (λ (h : Housed g.row.K.Denot). g.K.Keeper.faults h.keeper ≤ g.K.Keeper.faults c.commit.new.self) c.self.view_is c.in-Err-NoMemory.ensures.counts
-
-pub returns-in-Err-Fault-clause-turn : goal.returns-in-Err-Fault-clause-turn
-returns-in-Err-Fault-clause-turn g c =
-    turn-doubts c.self.inside.annals c.args.self.now.annals c.note-in-Err-Fault.new.self c.args.entry c.args.payload c.begin_in_doubt.result (ap (λ (h : Housed g.row.K.Denot). h.annals) c.self.view_is) (resuming c.self.inside.annals c.args.self.now.annals c.args.entry c.args.ticket c.args.payload c.args.number (ap (λ (h : Housed g.row.K.Denot). h.annals) c.self.view_is) c.requires.begins).may (doubtful-event c.args.entry c.args.payload c.whole_note-note.result c.begin_in_doubt.result c.begin_in_doubt.ensures c.whole_note-note.ensures) c.note-in-Err-Fault.ensures.appended
-
-pub returns-in-Err-Fault-clause-gave : goal.returns-in-Err-Fault-clause-gave
-returns-in-Err-Fault-clause-gave g c =
-    subst (λ (h : Housed g.row.K.Denot). ResumeGave c.args.entry (Some (c.args.ticket, (Fetched.Whole c.args.payload))) (Ok (Claimed.Refused Refusal.KeeperFault)) h (record { annals = c.note-in-Err-Fault.new.self; places = c.self.inside.places.items; pool = c.give.new.self; keeper = c.commit.new.self })) c.self.view_is
-    (c.give.ensures.conserved ∙ ap (λ (n : ℕ). c.self.inside.pool.free + n) c.into_blocks.ensures.count, places-themselves c.self.inside.places.items)
-
-pub returns-in-Err-Fault-clause-fared : goal.returns-in-Err-Fault-clause-fared
-returns-in-Err-Fault-clause-fared g c =
-    subst (λ (h : Housed g.row.K.Denot). KeeperFared (signs_of g.K.Keeper.tells g.K.Keeper.faults) h (record { annals = c.note-in-Err-Fault.new.self; places = c.self.inside.places.items; pool = c.give.new.self; keeper = c.commit.new.self })) c.self.view_is
-    (faults-resumed (signs_of g.K.Keeper.tells g.K.Keeper.faults) c.args.entry (Some (whole_note c.args.payload)) (ResumeAnswer.Refused Refusal.KeeperFault) Stored.Fault c.begin_in_doubt.result (record { annals = c.self.inside.annals; places = c.self.inside.places.items; pool = c.self.inside.pool; keeper = c.self.inside.keeper }) (record { annals = c.note-in-Err-Fault.new.self; places = c.self.inside.places.items; pool = c.give.new.self; keeper = c.commit.new.self }) (doubtful-event c.args.entry c.args.payload c.whole_note-note.result c.begin_in_doubt.result c.begin_in_doubt.ensures c.whole_note-note.ensures) refl c.note-in-Err-Fault.ensures.appended (λ e. c.in-Err-Fault.ensures.cause (ap Err c.in-Err-Fault.field-0-is)) (inl refl)
-    (told-left g.K.Keeper.tells g.K.Keeper.doubt c.self.inside.keeper c.commit.new.self _ (rw c.in-Err-Fault.field-0-is at c.in-Err-Fault.ensures.committed)))
-
-pub returns-in-Err-NoMemory-clause-turn : goal.returns-in-Err-NoMemory-clause-turn
-returns-in-Err-NoMemory-clause-turn g c =
-    turn-left c.self.inside.annals c.args.self.now.annals c.args.entry (Some (whole_note c.args.payload)) (Some (c.args.ticket, (Fetched.Whole c.args.payload))) (ap (λ (h : Housed g.row.K.Denot). h.annals) c.self.view_is) c.requires.begins.may
-
-pub returns-in-Err-NoMemory-clause-gave : goal.returns-in-Err-NoMemory-clause-gave
-returns-in-Err-NoMemory-clause-gave g c =
-    (ap (λ (h : Housed g.row.K.Denot). h.pool) c.self.view_is, places-same c.args.self.now.places c.self.inside.places.items (ap (λ (h : Housed g.row.K.Denot). h.places) c.self.view_is), refl)
-
-pub returns-in-Err-NoMemory-clause-fared : goal.returns-in-Err-NoMemory-clause-fared
-returns-in-Err-NoMemory-clause-fared g c =
-    subst (λ (h : Housed g.row.K.Denot). KeeperFared (signs_of g.K.Keeper.tells g.K.Keeper.faults) h (record { annals = c.self.inside.annals; places = c.self.inside.places.items; pool = c.self.inside.pool; keeper = c.commit.new.self })) c.self.view_is
-    (fared-quiet (signs_of g.K.Keeper.tells g.K.Keeper.faults) (record { annals = c.self.inside.annals; places = c.self.inside.places.items; pool = c.self.inside.pool; keeper = c.self.inside.keeper }) (record { annals = c.self.inside.annals; places = c.self.inside.places.items; pool = c.self.inside.pool; keeper = c.commit.new.self }) refl
-    (calm-memory _ (ap Err c.in-Err-NoMemory.field-0-is) c.in-Err-NoMemory.ensures.quiet)
-    (told-left g.K.Keeper.tells g.K.Keeper.doubt c.self.inside.keeper c.commit.new.self None (rw c.in-Err-NoMemory.field-0-is at c.in-Err-NoMemory.ensures.committed)))
+pub returns-in-Err-NoMemory : goal.returns-in-Err-NoMemory
+returns-in-Err-NoMemory g c = record {
+  turn = turn-left c.self.inside.annals c.args.self.now.annals c.args.entry (Some (whole_note c.args.payload)) (Some (c.args.ticket, (Fetched.Whole c.args.payload))) (ap (λ (h : Housed g.row.K.Denot). h.annals) c.self.view_is) c.requires.begins.may;
+  gave = (ap (λ (h : Housed g.row.K.Denot). h.pool) c.self.view_is, places-same c.args.self.now.places c.self.inside.places.items (ap (λ (h : Housed g.row.K.Denot). h.places) c.self.view_is), refl);
+  fared =
+      subst (λ (h : Housed g.row.K.Denot). KeeperFared (signs_of g.K.Keeper.tells g.K.Keeper.faults) h (record { annals = c.self.inside.annals; places = c.self.inside.places.items; pool = c.self.inside.pool; keeper = c.commit.new.self })) c.self.view_is
+      (fared-quiet (signs_of g.K.Keeper.tells g.K.Keeper.faults) (record { annals = c.self.inside.annals; places = c.self.inside.places.items; pool = c.self.inside.pool; keeper = c.self.inside.keeper }) (record { annals = c.self.inside.annals; places = c.self.inside.places.items; pool = c.self.inside.pool; keeper = c.commit.new.self }) refl
+      (calm-memory _ (ap Err c.in-Err-NoMemory.field-0-is) c.in-Err-NoMemory.ensures.quiet)
+      (told-left g.K.Keeper.tells g.K.Keeper.doubt c.self.inside.keeper c.commit.new.self None (rw c.in-Err-NoMemory.field-0-is at c.in-Err-NoMemory.ensures.committed)));
+  counts = subst (λ (h : Housed g.row.K.Denot). g.K.Keeper.faults h.keeper ≤ g.K.Keeper.faults c.commit.new.self) c.self.view_is c.in-Err-NoMemory.ensures.counts;
+}

@@ -19,53 +19,38 @@ use Rattle.daemon_core.proofs.PuttingOff.{keeps-left, keeps-made}
 use Rattle.daemon_core.proofs.house.House.store_claim.Goals as goal
 use Rattle.daemon_core.proofs.Fared.{calm-memory, calm-ok, fared-quiet, told-left, told-with}
 
-pub commit-requires-clause-no_doubt : goal.commit-requires-clause-no_doubt
-commit-requires-clause-no_doubt g c =
-    (store-plain g.K.Keeper.tells g.K.Keeper.doubt c.args.client c.args.ticket c.args.payload c.args.row c.args.number (record { annals = c.self.inside.annals; places = c.self.inside.places.items; pool = c.self.inside.pool; keeper = c.self.inside.keeper }) c.self.invariant c.known.ensures (storing c.self.inside.annals c.args.self.now.annals c.args.client c.args.ticket c.args.payload c.args.row c.args.number (ap (λ (h : Housed g.row.K.Denot). h.annals) c.self.view_is) c.requires.may c.requires.whole c.requires.store)).doubt_is
+pub commit-requires : goal.commit-requires
+commit-requires g c = record {
+  no_doubt = (store-plain g.K.Keeper.tells g.K.Keeper.doubt c.args.client c.args.ticket c.args.payload c.args.row c.args.number (record { annals = c.self.inside.annals; places = c.self.inside.places.items; pool = c.self.inside.pool; keeper = c.self.inside.keeper }) c.self.invariant c.known.ensures (storing c.self.inside.annals c.args.self.now.annals c.args.client c.args.ticket c.args.payload c.args.row c.args.number (ap (λ (h : Housed g.row.K.Denot). h.annals) c.self.view_is) c.requires.may c.requires.whole c.requires.store)).doubt_is;
+  suits = store-suits g.K.Keeper.tells g.K.Keeper.doubt c.args.client c.args.ticket c.args.payload c.args.row c.args.number (record { annals = c.self.inside.annals; places = c.self.inside.places.items; pool = c.self.inside.pool; keeper = c.self.inside.keeper }) c.self.invariant c.known.ensures (storing c.self.inside.annals c.args.self.now.annals c.args.client c.args.ticket c.args.payload c.args.row c.args.number (ap (λ (h : Housed g.row.K.Denot). h.annals) c.self.view_is) c.requires.may c.requires.whole c.requires.store);
+  timely = c.requires.store.timely;
+}
 
-pub commit-requires-clause-suits : goal.commit-requires-clause-suits
-commit-requires-clause-suits g c =
-    store-suits g.K.Keeper.tells g.K.Keeper.doubt c.args.client c.args.ticket c.args.payload c.args.row c.args.number (record { annals = c.self.inside.annals; places = c.self.inside.places.items; pool = c.self.inside.pool; keeper = c.self.inside.keeper }) c.self.invariant c.known.ensures (storing c.self.inside.annals c.args.self.now.annals c.args.client c.args.ticket c.args.payload c.args.row c.args.number (ap (λ (h : Housed g.row.K.Denot). h.annals) c.self.view_is) c.requires.may c.requires.whole c.requires.store)
+pub note-requires : goal.note-requires
+note-requires g c =
+    let ready = take-ready c.self.inside.annals c.args.client c.args.ticket c.args.payload c.args.row c.args.number c.claimed.result c.known.ensures (storing c.self.inside.annals c.args.self.now.annals c.args.client c.args.ticket c.args.payload c.args.row c.args.number (ap (λ (h : Housed g.row.K.Denot). h.annals) c.self.view_is) c.requires.may c.requires.whole c.requires.store) (made-event c.args.client c.args.row.entry c.args.ticket c.args.payload c.args.row c.whole_note-note.result c.claimed.result c.claimed.ensures c.whole_note-note.ensures refl) in
+    record {
+      no_boot = ap is_boot c.claimed.ensures;
+      loaded = (storing c.self.inside.annals c.args.self.now.annals c.args.client c.args.ticket c.args.payload c.args.row c.args.number (ap (λ (h : Housed g.row.K.Denot). h.annals) c.self.view_is) c.requires.may c.requires.whole c.requires.store).may.loaded;
+      takes = ready.takes;
+      allowed = ready.allowed;
+      made = subst (λ (x : Event). IsMadeBy x c.args.client) (sym c.claimed.ensures) refl;
+      room = ready.room;
+      row = ready.row;
+    }
 
-pub note-requires-clause-takes : goal.note-requires-clause-takes
-note-requires-clause-takes g c =
-    (take-ready c.self.inside.annals c.args.client c.args.ticket c.args.payload c.args.row c.args.number c.claimed.result c.known.ensures (storing c.self.inside.annals c.args.self.now.annals c.args.client c.args.ticket c.args.payload c.args.row c.args.number (ap (λ (h : Housed g.row.K.Denot). h.annals) c.self.view_is) c.requires.may c.requires.whole c.requires.store) (made-event c.args.client c.args.row.entry c.args.ticket c.args.payload c.args.row c.whole_note-note.result c.claimed.result c.claimed.ensures c.whole_note-note.ensures refl)).takes
-
-pub note-requires-clause-allowed : goal.note-requires-clause-allowed
-note-requires-clause-allowed g c =
-    (take-ready c.self.inside.annals c.args.client c.args.ticket c.args.payload c.args.row c.args.number c.claimed.result c.known.ensures (storing c.self.inside.annals c.args.self.now.annals c.args.client c.args.ticket c.args.payload c.args.row c.args.number (ap (λ (h : Housed g.row.K.Denot). h.annals) c.self.view_is) c.requires.may c.requires.whole c.requires.store) (made-event c.args.client c.args.row.entry c.args.ticket c.args.payload c.args.row c.whole_note-note.result c.claimed.result c.claimed.ensures c.whole_note-note.ensures refl)).allowed
-
-pub note-requires-clause-room : goal.note-requires-clause-room
-note-requires-clause-room g c =
-    (take-ready c.self.inside.annals c.args.client c.args.ticket c.args.payload c.args.row c.args.number c.claimed.result c.known.ensures (storing c.self.inside.annals c.args.self.now.annals c.args.client c.args.ticket c.args.payload c.args.row c.args.number (ap (λ (h : Housed g.row.K.Denot). h.annals) c.self.view_is) c.requires.may c.requires.whole c.requires.store) (made-event c.args.client c.args.row.entry c.args.ticket c.args.payload c.args.row c.whole_note-note.result c.claimed.result c.claimed.ensures c.whole_note-note.ensures refl)).room
-
-pub note-requires-clause-row : goal.note-requires-clause-row
-note-requires-clause-row g c =
-    (take-ready c.self.inside.annals c.args.client c.args.ticket c.args.payload c.args.row c.args.number c.claimed.result c.known.ensures (storing c.self.inside.annals c.args.self.now.annals c.args.client c.args.ticket c.args.payload c.args.row c.args.number (ap (λ (h : Housed g.row.K.Denot). h.annals) c.self.view_is) c.requires.may c.requires.whole c.requires.store) (made-event c.args.client c.args.row.entry c.args.ticket c.args.payload c.args.row c.whole_note-note.result c.claimed.result c.claimed.ensures c.whole_note-note.ensures refl)).row
-
-pub note-requires-clause-loaded : goal.note-requires-clause-loaded
-note-requires-clause-loaded g c =
-    (storing c.self.inside.annals c.args.self.now.annals c.args.client c.args.ticket c.args.payload c.args.row c.args.number (ap (λ (h : Housed g.row.K.Denot). h.annals) c.self.view_is) c.requires.may c.requires.whole c.requires.store).may.loaded
-
-pub note-requires-in-Err-Fault-clause-takes : goal.note-requires-in-Err-Fault-clause-takes
-note-requires-in-Err-Fault-clause-takes g c =
-    (fault-ready c.self.inside.annals c.args.client c.args.ticket c.args.payload c.args.row c.args.number c.claimed-in-Err-Fault.result c.known.ensures (storing c.self.inside.annals c.args.self.now.annals c.args.client c.args.ticket c.args.payload c.args.row c.args.number (ap (λ (h : Housed g.row.K.Denot). h.annals) c.self.view_is) c.requires.may c.requires.whole c.requires.store) (fault-event c.args.client c.args.ticket c.args.payload c.whole_note-note.result c.claimed-in-Err-Fault.result c.claimed-in-Err-Fault.ensures c.whole_note-note.ensures)).takes
-
-pub note-requires-in-Err-Fault-clause-allowed : goal.note-requires-in-Err-Fault-clause-allowed
-note-requires-in-Err-Fault-clause-allowed g c =
-    (fault-ready c.self.inside.annals c.args.client c.args.ticket c.args.payload c.args.row c.args.number c.claimed-in-Err-Fault.result c.known.ensures (storing c.self.inside.annals c.args.self.now.annals c.args.client c.args.ticket c.args.payload c.args.row c.args.number (ap (λ (h : Housed g.row.K.Denot). h.annals) c.self.view_is) c.requires.may c.requires.whole c.requires.store) (fault-event c.args.client c.args.ticket c.args.payload c.whole_note-note.result c.claimed-in-Err-Fault.result c.claimed-in-Err-Fault.ensures c.whole_note-note.ensures)).allowed
-
-pub note-requires-in-Err-Fault-clause-room : goal.note-requires-in-Err-Fault-clause-room
-note-requires-in-Err-Fault-clause-room g c =
-    (fault-ready c.self.inside.annals c.args.client c.args.ticket c.args.payload c.args.row c.args.number c.claimed-in-Err-Fault.result c.known.ensures (storing c.self.inside.annals c.args.self.now.annals c.args.client c.args.ticket c.args.payload c.args.row c.args.number (ap (λ (h : Housed g.row.K.Denot). h.annals) c.self.view_is) c.requires.may c.requires.whole c.requires.store) (fault-event c.args.client c.args.ticket c.args.payload c.whole_note-note.result c.claimed-in-Err-Fault.result c.claimed-in-Err-Fault.ensures c.whole_note-note.ensures)).room
-
-pub note-requires-in-Err-Fault-clause-row : goal.note-requires-in-Err-Fault-clause-row
-note-requires-in-Err-Fault-clause-row g c =
-    (fault-ready c.self.inside.annals c.args.client c.args.ticket c.args.payload c.args.row c.args.number c.claimed-in-Err-Fault.result c.known.ensures (storing c.self.inside.annals c.args.self.now.annals c.args.client c.args.ticket c.args.payload c.args.row c.args.number (ap (λ (h : Housed g.row.K.Denot). h.annals) c.self.view_is) c.requires.may c.requires.whole c.requires.store) (fault-event c.args.client c.args.ticket c.args.payload c.whole_note-note.result c.claimed-in-Err-Fault.result c.claimed-in-Err-Fault.ensures c.whole_note-note.ensures)).row
-
-pub note-requires-in-Err-Fault-clause-loaded : goal.note-requires-in-Err-Fault-clause-loaded
-note-requires-in-Err-Fault-clause-loaded g c =
-    (storing c.self.inside.annals c.args.self.now.annals c.args.client c.args.ticket c.args.payload c.args.row c.args.number (ap (λ (h : Housed g.row.K.Denot). h.annals) c.self.view_is) c.requires.may c.requires.whole c.requires.store).may.loaded
+pub note-requires-in-Err-Fault : goal.note-requires-in-Err-Fault
+note-requires-in-Err-Fault g c =
+    let ready = fault-ready c.self.inside.annals c.args.client c.args.ticket c.args.payload c.args.row c.args.number c.claimed-in-Err-Fault.result c.known.ensures (storing c.self.inside.annals c.args.self.now.annals c.args.client c.args.ticket c.args.payload c.args.row c.args.number (ap (λ (h : Housed g.row.K.Denot). h.annals) c.self.view_is) c.requires.may c.requires.whole c.requires.store) (fault-event c.args.client c.args.ticket c.args.payload c.whole_note-note.result c.claimed-in-Err-Fault.result c.claimed-in-Err-Fault.ensures c.whole_note-note.ensures) in
+    record {
+      no_boot = ap is_boot c.claimed-in-Err-Fault.ensures;
+      loaded = (storing c.self.inside.annals c.args.self.now.annals c.args.client c.args.ticket c.args.payload c.args.row c.args.number (ap (λ (h : Housed g.row.K.Denot). h.annals) c.self.view_is) c.requires.may c.requires.whole c.requires.store).may.loaded;
+      takes = ready.takes;
+      allowed = ready.allowed;
+      made = subst (λ (x : Event). IsMadeBy x c.args.client) (sym c.claimed-in-Err-Fault.ensures) refl;
+      room = ready.room;
+      row = ready.row;
+    }
 
 pub take_out-board-requires-clause-within : goal.take_out-board-requires-clause-within
 take_out-board-requires-clause-within g c =
@@ -101,84 +86,45 @@ invariant_of-self-in-Err-Fault g c =
     (keeps-left g.K.Keeper.tells g.K.Keeper.doubt c.self.inside.keeper c.commit.new.self c.self.inside.annals.core.rows (Some (Change.Add c.args.row)) (store-plain g.K.Keeper.tells g.K.Keeper.doubt c.args.client c.args.ticket c.args.payload c.args.row c.args.number (record { annals = c.self.inside.annals; places = c.self.inside.places.items; pool = c.self.inside.pool; keeper = c.self.inside.keeper }) c.self.invariant c.known.ensures (storing c.self.inside.annals c.args.self.now.annals c.args.client c.args.ticket c.args.payload c.args.row c.args.number (ap (λ (h : Housed g.row.K.Denot). h.annals) c.self.view_is) c.requires.may c.requires.whole c.requires.store)) (rw c.in-Err-Fault.field-0-is at c.in-Err-Fault.ensures.committed))
     c.give.ensures.capacity (c.give.ensures.conserved ∙ ap (λ (n : ℕ). c.self.inside.pool.free + n) c.into_blocks.ensures.count)
 
-pub returns-in-Ok-clause-turn : goal.returns-in-Ok-clause-turn
-returns-in-Ok-clause-turn g c =
-    turn-took c.self.inside.annals c.args.self.now.annals c.note.new.self c.args.client c.args.ticket c.args.payload c.args.row c.args.number c.taken.result c.claimed.result (ap (λ (h : Housed g.row.K.Denot). h.annals) c.self.view_is) (storing c.self.inside.annals c.args.self.now.annals c.args.client c.args.ticket c.args.payload c.args.row c.args.number (ap (λ (h : Housed g.row.K.Denot). h.annals) c.self.view_is) c.requires.may c.requires.whole c.requires.store) (made-event c.args.client c.args.row.entry c.args.ticket c.args.payload c.args.row c.whole_note-note.result c.claimed.result c.claimed.ensures c.whole_note-note.ensures refl) c.note.ensures.appended c.taken.ensures.entry
+pub returns-in-Ok : goal.returns-in-Ok
+returns-in-Ok g c = record {
+  turn = turn-took c.self.inside.annals c.args.self.now.annals c.note.new.self c.args.client c.args.ticket c.args.payload c.args.row c.args.number c.taken.result c.claimed.result (ap (λ (h : Housed g.row.K.Denot). h.annals) c.self.view_is) (storing c.self.inside.annals c.args.self.now.annals c.args.client c.args.ticket c.args.payload c.args.row c.args.number (ap (λ (h : Housed g.row.K.Denot). h.annals) c.self.view_is) c.requires.may c.requires.whole c.requires.store) (made-event c.args.client c.args.row.entry c.args.ticket c.args.payload c.args.row c.whole_note-note.result c.claimed.result c.claimed.ensures c.whole_note-note.ensures refl) c.note.ensures.appended c.taken.ensures.entry;
+  gave =
+      subst (λ (h : Housed g.row.K.Denot). ClaimGave c.args.client c.args.ticket (Fetched.Whole c.args.payload) (Ok (Claimed.Taken c.taken.result)) h (record { annals = c.note.new.self; places = c.take_out-board.new.places.items; pool = c.self.inside.pool; keeper = c.commit.new.self })) c.self.view_is
+      (gave-taken g.K.Keeper.tells g.K.Keeper.doubt c.args.client c.args.ticket c.args.payload c.args.row c.args.number c.taken.result (record { annals = c.self.inside.annals; places = c.self.inside.places.items; pool = c.self.inside.pool; keeper = c.self.inside.keeper }) (record { annals = c.note.new.self; places = c.take_out-board.new.places.items; pool = c.self.inside.pool; keeper = c.commit.new.self }) c.self.invariant c.known.ensures (storing c.self.inside.annals c.args.self.now.annals c.args.client c.args.ticket c.args.payload c.args.row c.args.number (ap (λ (h : Housed g.row.K.Denot). h.annals) c.self.view_is) c.requires.may c.requires.whole c.requires.store).may (storing c.self.inside.annals c.args.self.now.annals c.args.client c.args.ticket c.args.payload c.args.row c.args.number (ap (λ (h : Housed g.row.K.Denot). h.annals) c.self.view_is) c.requires.may c.requires.whole c.requires.store).whole (storing c.self.inside.annals c.args.self.now.annals c.args.client c.args.ticket c.args.payload c.args.row c.args.number (ap (λ (h : Housed g.row.K.Denot). h.annals) c.self.view_is) c.requires.may c.requires.whole c.requires.store).store (store-within g.K.Keeper.tells g.K.Keeper.doubt c.args.client c.args.ticket c.args.row c.args.number (record { annals = c.self.inside.annals; places = c.self.inside.places.items; pool = c.self.inside.pool; keeper = c.self.inside.keeper }) c.self.invariant (storing c.self.inside.annals c.args.self.now.annals c.args.client c.args.ticket c.args.payload c.args.row c.args.number (ap (λ (h : Housed g.row.K.Denot). h.annals) c.self.view_is) c.requires.may c.requires.whole c.requires.store).store) (subst (λ (h : Housed g.row.K.Denot). IfSome (place_at h.places c.args.number).board (λ b. 8 ≤ b.room)) (sym c.self.view_is) c.requires.marks) (subst (λ (x : Event). Appended c.args.client x c.self.inside.annals c.note.new.self) (sym (made-event c.args.client c.args.row.entry c.args.ticket c.args.payload c.args.row c.whole_note-note.result c.claimed.result c.claimed.ensures c.whole_note-note.ensures refl)) c.note.ensures.appended) refl
+      c.take_out-board.ensures.places (c.take_out-board.ensures.board ∙ ap Some (sym c.taken.ensures.board)) c.taken.ensures.entry c.taken.ensures.payload c.taken.ensures.plugin c.taken.ensures.traced);
+  fared =
+      subst (λ (h : Housed g.row.K.Denot). KeeperFared (signs_of g.K.Keeper.tells g.K.Keeper.faults) h (record { annals = c.note.new.self; places = c.take_out-board.new.places.items; pool = c.self.inside.pool; keeper = c.commit.new.self })) c.self.view_is
+      (faults-took (signs_of g.K.Keeper.tells g.K.Keeper.faults) c.args.client c.args.ticket c.args.payload c.args.row c.claimed.result (record { annals = c.self.inside.annals; places = c.self.inside.places.items; pool = c.self.inside.pool; keeper = c.self.inside.keeper }) (record { annals = c.note.new.self; places = c.take_out-board.new.places.items; pool = c.self.inside.pool; keeper = c.commit.new.self }) (made-event c.args.client c.args.row.entry c.args.ticket c.args.payload c.args.row c.whole_note-note.result c.claimed.result c.claimed.ensures c.whole_note-note.ensures refl) c.note.ensures.appended
+      (calm-ok _ _ refl c.in-Ok.ensures.quiet) (told-with g.K.Keeper.tells c.self.inside.keeper c.commit.new.self (Change.Add c.args.row) c.in-Ok.ensures.committed.0));
+  counts = subst (λ (h : Housed g.row.K.Denot). g.K.Keeper.faults h.keeper ≤ g.K.Keeper.faults c.commit.new.self) c.self.view_is c.in-Ok.ensures.counts;
+}
 
-pub returns-in-Ok-clause-gave : goal.returns-in-Ok-clause-gave
-returns-in-Ok-clause-gave g c =
-    subst (λ (h : Housed g.row.K.Denot). ClaimGave c.args.client c.args.ticket (Fetched.Whole c.args.payload) (Ok (Claimed.Taken c.taken.result)) h (record { annals = c.note.new.self; places = c.take_out-board.new.places.items; pool = c.self.inside.pool; keeper = c.commit.new.self })) c.self.view_is
-    (gave-taken g.K.Keeper.tells g.K.Keeper.doubt c.args.client c.args.ticket c.args.payload c.args.row c.args.number c.taken.result (record { annals = c.self.inside.annals; places = c.self.inside.places.items; pool = c.self.inside.pool; keeper = c.self.inside.keeper }) (record { annals = c.note.new.self; places = c.take_out-board.new.places.items; pool = c.self.inside.pool; keeper = c.commit.new.self }) c.self.invariant c.known.ensures (storing c.self.inside.annals c.args.self.now.annals c.args.client c.args.ticket c.args.payload c.args.row c.args.number (ap (λ (h : Housed g.row.K.Denot). h.annals) c.self.view_is) c.requires.may c.requires.whole c.requires.store).may (storing c.self.inside.annals c.args.self.now.annals c.args.client c.args.ticket c.args.payload c.args.row c.args.number (ap (λ (h : Housed g.row.K.Denot). h.annals) c.self.view_is) c.requires.may c.requires.whole c.requires.store).whole (storing c.self.inside.annals c.args.self.now.annals c.args.client c.args.ticket c.args.payload c.args.row c.args.number (ap (λ (h : Housed g.row.K.Denot). h.annals) c.self.view_is) c.requires.may c.requires.whole c.requires.store).store (store-within g.K.Keeper.tells g.K.Keeper.doubt c.args.client c.args.ticket c.args.row c.args.number (record { annals = c.self.inside.annals; places = c.self.inside.places.items; pool = c.self.inside.pool; keeper = c.self.inside.keeper }) c.self.invariant (storing c.self.inside.annals c.args.self.now.annals c.args.client c.args.ticket c.args.payload c.args.row c.args.number (ap (λ (h : Housed g.row.K.Denot). h.annals) c.self.view_is) c.requires.may c.requires.whole c.requires.store).store) (subst (λ (h : Housed g.row.K.Denot). IfSome (place_at h.places c.args.number).board (λ b. 8 ≤ b.room)) (sym c.self.view_is) c.requires.marks) (subst (λ (x : Event). Appended c.args.client x c.self.inside.annals c.note.new.self) (sym (made-event c.args.client c.args.row.entry c.args.ticket c.args.payload c.args.row c.whole_note-note.result c.claimed.result c.claimed.ensures c.whole_note-note.ensures refl)) c.note.ensures.appended) refl
-    c.take_out-board.ensures.places (c.take_out-board.ensures.board ∙ ap Some (sym c.taken.ensures.board)) c.taken.ensures.entry c.taken.ensures.payload c.taken.ensures.plugin c.taken.ensures.traced)
+pub returns-in-Err-Fault : goal.returns-in-Err-Fault
+returns-in-Err-Fault g c = record {
+  turn = turn-failed c.self.inside.annals c.args.self.now.annals c.note-in-Err-Fault.new.self c.args.client c.args.ticket c.args.payload c.args.row c.args.number c.claimed-in-Err-Fault.result (ap (λ (h : Housed g.row.K.Denot). h.annals) c.self.view_is) (storing c.self.inside.annals c.args.self.now.annals c.args.client c.args.ticket c.args.payload c.args.row c.args.number (ap (λ (h : Housed g.row.K.Denot). h.annals) c.self.view_is) c.requires.may c.requires.whole c.requires.store) (fault-event c.args.client c.args.ticket c.args.payload c.whole_note-note.result c.claimed-in-Err-Fault.result c.claimed-in-Err-Fault.ensures c.whole_note-note.ensures) c.note-in-Err-Fault.ensures.appended;
+  gave =
+      subst (λ (h : Housed g.row.K.Denot). ClaimGave c.args.client c.args.ticket (Fetched.Whole c.args.payload) (Ok (Claimed.Refused Refusal.KeeperFault)) h (record { annals = c.note-in-Err-Fault.new.self; places = c.self.inside.places.items; pool = c.give.new.self; keeper = c.commit.new.self })) c.self.view_is
+      (c.give.ensures.conserved ∙ ap (λ (n : ℕ). c.self.inside.pool.free + n) c.into_blocks.ensures.count, places-themselves c.self.inside.places.items);
+  fared =
+      subst (λ (h : Housed g.row.K.Denot). KeeperFared (signs_of g.K.Keeper.tells g.K.Keeper.faults) h (record { annals = c.note-in-Err-Fault.new.self; places = c.self.inside.places.items; pool = c.give.new.self; keeper = c.commit.new.self })) c.self.view_is
+      (faults-failed (signs_of g.K.Keeper.tells g.K.Keeper.faults) c.args.client c.args.ticket c.args.payload c.claimed-in-Err-Fault.result (record { annals = c.self.inside.annals; places = c.self.inside.places.items; pool = c.self.inside.pool; keeper = c.self.inside.keeper }) (record { annals = c.note-in-Err-Fault.new.self; places = c.self.inside.places.items; pool = c.give.new.self; keeper = c.commit.new.self }) (fault-event c.args.client c.args.ticket c.args.payload c.whole_note-note.result c.claimed-in-Err-Fault.result c.claimed-in-Err-Fault.ensures c.whole_note-note.ensures) c.note-in-Err-Fault.ensures.appended (c.in-Err-Fault.ensures.cause (ap Err c.in-Err-Fault.field-0-is))
+      (told-left g.K.Keeper.tells g.K.Keeper.doubt c.self.inside.keeper c.commit.new.self (Some (Change.Add c.args.row)) (rw c.in-Err-Fault.field-0-is at c.in-Err-Fault.ensures.committed)));
+  counts = subst (λ (h : Housed g.row.K.Denot). g.K.Keeper.faults h.keeper ≤ g.K.Keeper.faults c.commit.new.self) c.self.view_is c.in-Err-Fault.ensures.counts;
+}
 
-pub returns-in-Ok-clause-fared : goal.returns-in-Ok-clause-fared
-returns-in-Ok-clause-fared g c =
-    subst (λ (h : Housed g.row.K.Denot). KeeperFared (signs_of g.K.Keeper.tells g.K.Keeper.faults) h (record { annals = c.note.new.self; places = c.take_out-board.new.places.items; pool = c.self.inside.pool; keeper = c.commit.new.self })) c.self.view_is
-    (faults-took (signs_of g.K.Keeper.tells g.K.Keeper.faults) c.args.client c.args.ticket c.args.payload c.args.row c.claimed.result (record { annals = c.self.inside.annals; places = c.self.inside.places.items; pool = c.self.inside.pool; keeper = c.self.inside.keeper }) (record { annals = c.note.new.self; places = c.take_out-board.new.places.items; pool = c.self.inside.pool; keeper = c.commit.new.self }) (made-event c.args.client c.args.row.entry c.args.ticket c.args.payload c.args.row c.whole_note-note.result c.claimed.result c.claimed.ensures c.whole_note-note.ensures refl) c.note.ensures.appended
-    (calm-ok _ _ refl c.in-Ok.ensures.quiet) (told-with g.K.Keeper.tells c.self.inside.keeper c.commit.new.self (Change.Add c.args.row) c.in-Ok.ensures.committed.0))
-
-pub returns-in-Ok-clause-counts : goal.returns-in-Ok-clause-counts
-returns-in-Ok-clause-counts g c =
-    subst (λ (h : Housed g.row.K.Denot). g.K.Keeper.faults h.keeper ≤ g.K.Keeper.faults c.commit.new.self) c.self.view_is c.in-Ok.ensures.counts
-
-pub returns-in-Err-Fault-clause-counts : goal.returns-in-Err-Fault-clause-counts
-returns-in-Err-Fault-clause-counts g c =
-    subst (λ (h : Housed g.row.K.Denot). g.K.Keeper.faults h.keeper ≤ g.K.Keeper.faults c.commit.new.self) c.self.view_is c.in-Err-Fault.ensures.counts
-
-pub returns-in-Err-NoMemory-clause-counts : goal.returns-in-Err-NoMemory-clause-counts
-returns-in-Err-NoMemory-clause-counts g c =
-    subst (λ (h : Housed g.row.K.Denot). g.K.Keeper.faults h.keeper ≤ g.K.Keeper.faults c.commit.new.self) c.self.view_is c.in-Err-NoMemory.ensures.counts
-
-pub commit-requires-clause-timely : goal.commit-requires-clause-timely
-commit-requires-clause-timely g c =
-    c.requires.store.timely
-
-pub note-requires-clause-no_boot : goal.note-requires-clause-no_boot
-note-requires-clause-no_boot g c =
-    ap is_boot c.claimed.ensures
-
-pub note-requires-in-Err-Fault-clause-no_boot : goal.note-requires-in-Err-Fault-clause-no_boot
-note-requires-in-Err-Fault-clause-no_boot g c =
-    ap is_boot c.claimed-in-Err-Fault.ensures
-
-pub note-requires-clause-made : goal.note-requires-clause-made
-note-requires-clause-made g c =
-    subst (λ (x : Event). IsMadeBy x c.args.client) (sym c.claimed.ensures) refl
-
-pub note-requires-in-Err-Fault-clause-made : goal.note-requires-in-Err-Fault-clause-made
-note-requires-in-Err-Fault-clause-made g c =
-    subst (λ (x : Event). IsMadeBy x c.args.client) (sym c.claimed-in-Err-Fault.ensures) refl
-
-pub returns-in-Err-Fault-clause-turn : goal.returns-in-Err-Fault-clause-turn
-returns-in-Err-Fault-clause-turn g c =
-    turn-failed c.self.inside.annals c.args.self.now.annals c.note-in-Err-Fault.new.self c.args.client c.args.ticket c.args.payload c.args.row c.args.number c.claimed-in-Err-Fault.result (ap (λ (h : Housed g.row.K.Denot). h.annals) c.self.view_is) (storing c.self.inside.annals c.args.self.now.annals c.args.client c.args.ticket c.args.payload c.args.row c.args.number (ap (λ (h : Housed g.row.K.Denot). h.annals) c.self.view_is) c.requires.may c.requires.whole c.requires.store) (fault-event c.args.client c.args.ticket c.args.payload c.whole_note-note.result c.claimed-in-Err-Fault.result c.claimed-in-Err-Fault.ensures c.whole_note-note.ensures) c.note-in-Err-Fault.ensures.appended
-
-pub returns-in-Err-Fault-clause-gave : goal.returns-in-Err-Fault-clause-gave
-returns-in-Err-Fault-clause-gave g c =
-    subst (λ (h : Housed g.row.K.Denot). ClaimGave c.args.client c.args.ticket (Fetched.Whole c.args.payload) (Ok (Claimed.Refused Refusal.KeeperFault)) h (record { annals = c.note-in-Err-Fault.new.self; places = c.self.inside.places.items; pool = c.give.new.self; keeper = c.commit.new.self })) c.self.view_is
-    (c.give.ensures.conserved ∙ ap (λ (n : ℕ). c.self.inside.pool.free + n) c.into_blocks.ensures.count, places-themselves c.self.inside.places.items)
-
-pub returns-in-Err-Fault-clause-fared : goal.returns-in-Err-Fault-clause-fared
-returns-in-Err-Fault-clause-fared g c =
-    subst (λ (h : Housed g.row.K.Denot). KeeperFared (signs_of g.K.Keeper.tells g.K.Keeper.faults) h (record { annals = c.note-in-Err-Fault.new.self; places = c.self.inside.places.items; pool = c.give.new.self; keeper = c.commit.new.self })) c.self.view_is
-    (faults-failed (signs_of g.K.Keeper.tells g.K.Keeper.faults) c.args.client c.args.ticket c.args.payload c.claimed-in-Err-Fault.result (record { annals = c.self.inside.annals; places = c.self.inside.places.items; pool = c.self.inside.pool; keeper = c.self.inside.keeper }) (record { annals = c.note-in-Err-Fault.new.self; places = c.self.inside.places.items; pool = c.give.new.self; keeper = c.commit.new.self }) (fault-event c.args.client c.args.ticket c.args.payload c.whole_note-note.result c.claimed-in-Err-Fault.result c.claimed-in-Err-Fault.ensures c.whole_note-note.ensures) c.note-in-Err-Fault.ensures.appended (c.in-Err-Fault.ensures.cause (ap Err c.in-Err-Fault.field-0-is))
-    (told-left g.K.Keeper.tells g.K.Keeper.doubt c.self.inside.keeper c.commit.new.self (Some (Change.Add c.args.row)) (rw c.in-Err-Fault.field-0-is at c.in-Err-Fault.ensures.committed)))
+pub returns-in-Err-NoMemory : goal.returns-in-Err-NoMemory
+returns-in-Err-NoMemory g c = record {
+  turn = turn-left c.self.inside.annals c.args.self.now.annals c.args.client c.args.payload.count c.args.ticket (claim_event c.args.client c.args.ticket.request (Fetched.Whole c.args.payload)) (ap (λ (h : Housed g.row.K.Denot). h.annals) c.self.view_is) c.requires.may;
+  gave = (ap (λ (h : Housed g.row.K.Denot). h.pool) c.self.view_is, places-same c.args.self.now.places c.self.inside.places.items (ap (λ (h : Housed g.row.K.Denot). h.places) c.self.view_is), refl, refl);
+  fared =
+      subst (λ (h : Housed g.row.K.Denot). KeeperFared (signs_of g.K.Keeper.tells g.K.Keeper.faults) h (record { annals = c.self.inside.annals; places = c.self.inside.places.items; pool = c.self.inside.pool; keeper = c.commit.new.self })) c.self.view_is
+      (fared-quiet (signs_of g.K.Keeper.tells g.K.Keeper.faults) (record { annals = c.self.inside.annals; places = c.self.inside.places.items; pool = c.self.inside.pool; keeper = c.self.inside.keeper }) (record { annals = c.self.inside.annals; places = c.self.inside.places.items; pool = c.self.inside.pool; keeper = c.commit.new.self }) refl
+      (calm-memory _ (ap Err c.in-Err-NoMemory.field-0-is) c.in-Err-NoMemory.ensures.quiet)
+      (told-left g.K.Keeper.tells g.K.Keeper.doubt c.self.inside.keeper c.commit.new.self None (rw c.in-Err-NoMemory.field-0-is at c.in-Err-NoMemory.ensures.committed)));
+  counts = subst (λ (h : Housed g.row.K.Denot). g.K.Keeper.faults h.keeper ≤ g.K.Keeper.faults c.commit.new.self) c.self.view_is c.in-Err-NoMemory.ensures.counts;
+}
 
 pub invariant_of-self-in-Err-NoMemory : goal.invariant_of-self-in-Err-NoMemory
 invariant_of-self-in-Err-NoMemory g c =
     house-left g.K.Keeper.tells g.K.Keeper.doubt c.args.client c.args.ticket c.args.payload c.args.row c.args.number (record { annals = c.self.inside.annals; places = c.self.inside.places.items; pool = c.self.inside.pool; keeper = c.self.inside.keeper }) c.commit.new.self c.self.invariant c.known.ensures (storing c.self.inside.annals c.args.self.now.annals c.args.client c.args.ticket c.args.payload c.args.row c.args.number (ap (λ (h : Housed g.row.K.Denot). h.annals) c.self.view_is) c.requires.may c.requires.whole c.requires.store) (rw c.in-Err-NoMemory.field-0-is at c.in-Err-NoMemory.ensures.committed)
-
-pub returns-in-Err-NoMemory-clause-turn : goal.returns-in-Err-NoMemory-clause-turn
-returns-in-Err-NoMemory-clause-turn g c =
-    turn-left c.self.inside.annals c.args.self.now.annals c.args.client c.args.payload.count c.args.ticket (claim_event c.args.client c.args.ticket.request (Fetched.Whole c.args.payload)) (ap (λ (h : Housed g.row.K.Denot). h.annals) c.self.view_is) c.requires.may
-
-pub returns-in-Err-NoMemory-clause-gave : goal.returns-in-Err-NoMemory-clause-gave
-returns-in-Err-NoMemory-clause-gave g c =
-    (ap (λ (h : Housed g.row.K.Denot). h.pool) c.self.view_is, places-same c.args.self.now.places c.self.inside.places.items (ap (λ (h : Housed g.row.K.Denot). h.places) c.self.view_is), refl, refl)
-
-pub returns-in-Err-NoMemory-clause-fared : goal.returns-in-Err-NoMemory-clause-fared
-returns-in-Err-NoMemory-clause-fared g c =
-    subst (λ (h : Housed g.row.K.Denot). KeeperFared (signs_of g.K.Keeper.tells g.K.Keeper.faults) h (record { annals = c.self.inside.annals; places = c.self.inside.places.items; pool = c.self.inside.pool; keeper = c.commit.new.self })) c.self.view_is
-    (fared-quiet (signs_of g.K.Keeper.tells g.K.Keeper.faults) (record { annals = c.self.inside.annals; places = c.self.inside.places.items; pool = c.self.inside.pool; keeper = c.self.inside.keeper }) (record { annals = c.self.inside.annals; places = c.self.inside.places.items; pool = c.self.inside.pool; keeper = c.commit.new.self }) refl
-    (calm-memory _ (ap Err c.in-Err-NoMemory.field-0-is) c.in-Err-NoMemory.ensures.quiet)
-    (told-left g.K.Keeper.tells g.K.Keeper.doubt c.self.inside.keeper c.commit.new.self None (rw c.in-Err-NoMemory.field-0-is at c.in-Err-NoMemory.ensures.committed)))

@@ -35,34 +35,18 @@ pub store_claim-requires-clause-store : goal.store_claim-requires-clause-store
 store_claim-requires-clause-store g c =
     store-over c.reserve_marks.new.self.annals c.args.self.now.annals c.args.client c.args.ticket c.row_begun-row.result c.unwrap_or-number.result c.in-Ok.ensures.annals (take-plan g.K.Keeper.tells g.K.Keeper.doubt c.args.client c.args.payload.count c.args.ticket c.row_begun-row.result c.unwrap_or-number.result (record { annals = c.self.inside.annals; places = c.self.inside.places.items; pool = c.self.inside.pool; keeper = c.self.inside.keeper }) c.args.self.now c.self.view_is c.self.invariant c.known.ensures c.requires.may c.requires.accepted c.row_begun-row.ensures.added c.row_begun-row.ensures.entry c.row_begun-row.ensures.suits c.row_begun-row.ensures.timely (c.unwrap_or-number.ensures ∙ ap (λ (o : Option ℕ). unwrap_or o 0) c.board_with.ensures)).store
 
-pub returns-in-Err-clause-turn : goal.returns-in-Err-clause-turn
-returns-in-Err-clause-turn g c =
-    turn-left c.reserve_marks.new.self.annals c.args.self.now.annals c.args.client c.args.payload.count c.args.ticket (claim_event c.args.client c.args.ticket.request (Fetched.Whole c.args.payload)) c.in-Err.ensures.annals c.requires.may
+pub returns-in-Err : goal.returns-in-Err
+returns-in-Err g c = record {
+  turn = turn-left c.reserve_marks.new.self.annals c.args.self.now.annals c.args.client c.args.payload.count c.args.ticket (claim_event c.args.client c.args.ticket.request (Fetched.Whole c.args.payload)) c.in-Err.ensures.annals c.requires.may;
+  gave = (c.in-Err.ensures.pool, c.in-Err.ensures.roomier, refl, refl);
+  fared = fared-same (signs_of g.K.Keeper.tells g.K.Keeper.faults) c.args.self.now c.reserve_marks.new.self (ap (λ (a : Annalled). keeper_faults (past_in a)) c.in-Err.ensures.annals) c.in-Err.ensures.keeper;
+  counts = same-faults g.K.Keeper.faults c.args.self.now c.reserve_marks.new.self c.in-Err.ensures.keeper;
+}
 
-pub returns-in-Err-clause-gave : goal.returns-in-Err-clause-gave
-returns-in-Err-clause-gave g c =
-    (c.in-Err.ensures.pool, c.in-Err.ensures.roomier, refl, refl)
-
-pub returns-in-Err-clause-fared : goal.returns-in-Err-clause-fared
-returns-in-Err-clause-fared g c =
-    fared-same (signs_of g.K.Keeper.tells g.K.Keeper.faults) c.args.self.now c.reserve_marks.new.self (ap (λ (a : Annalled). keeper_faults (past_in a)) c.in-Err.ensures.annals) c.in-Err.ensures.keeper
-
-pub returns-in-Err-clause-counts : goal.returns-in-Err-clause-counts
-returns-in-Err-clause-counts g c =
-    same-faults g.K.Keeper.faults c.args.self.now c.reserve_marks.new.self c.in-Err.ensures.keeper
-
-pub returns-in-Ok-clause-turn : goal.returns-in-Ok-clause-turn
-returns-in-Ok-clause-turn g c =
-    turn-over c.reserve_marks.new.self.annals c.args.self.now.annals c.store_claim.new.self.annals c.args.client (claim_event c.args.client c.args.ticket.request (Fetched.Whole c.args.payload)) (stopped_by c.store_claim.result) c.in-Ok.ensures.annals c.store_claim.ensures.turn
-
-pub returns-in-Ok-clause-gave : goal.returns-in-Ok-clause-gave
-returns-in-Ok-clause-gave g c =
-    gave-after c.args.client c.args.ticket (Fetched.Whole c.args.payload) c.store_claim.result c.args.self.now c.reserve_marks.new.self c.store_claim.new.self c.in-Ok.ensures.roomier c.in-Ok.ensures.pool c.store_claim.ensures.gave
-
-pub returns-in-Ok-clause-fared : goal.returns-in-Ok-clause-fared
-returns-in-Ok-clause-fared g c =
-    faults-after (signs_of g.K.Keeper.tells g.K.Keeper.faults) c.args.self.now c.reserve_marks.new.self c.store_claim.new.self (ap (λ (a : Annalled). keeper_faults (past_in a)) c.in-Ok.ensures.annals) c.in-Ok.ensures.keeper c.store_claim.ensures.counts c.store_claim.ensures.fared
-
-pub returns-in-Ok-clause-counts : goal.returns-in-Ok-clause-counts
-returns-in-Ok-clause-counts g c =
-    subst (λ (k : g.row.K.Denot). g.K.Keeper.faults k ≤ g.K.Keeper.faults c.store_claim.new.self.keeper) c.in-Ok.ensures.keeper c.store_claim.ensures.counts
+pub returns-in-Ok : goal.returns-in-Ok
+returns-in-Ok g c = record {
+  turn = turn-over c.reserve_marks.new.self.annals c.args.self.now.annals c.store_claim.new.self.annals c.args.client (claim_event c.args.client c.args.ticket.request (Fetched.Whole c.args.payload)) (stopped_by c.store_claim.result) c.in-Ok.ensures.annals c.store_claim.ensures.turn;
+  gave = gave-after c.args.client c.args.ticket (Fetched.Whole c.args.payload) c.store_claim.result c.args.self.now c.reserve_marks.new.self c.store_claim.new.self c.in-Ok.ensures.roomier c.in-Ok.ensures.pool c.store_claim.ensures.gave;
+  fared = faults-after (signs_of g.K.Keeper.tells g.K.Keeper.faults) c.args.self.now c.reserve_marks.new.self c.store_claim.new.self (ap (λ (a : Annalled). keeper_faults (past_in a)) c.in-Ok.ensures.annals) c.in-Ok.ensures.keeper c.store_claim.ensures.counts c.store_claim.ensures.fared;
+  counts = subst (λ (k : g.row.K.Denot). g.K.Keeper.faults k ≤ g.K.Keeper.faults c.store_claim.new.self.keeper) c.in-Ok.ensures.keeper c.store_claim.ensures.counts;
+}

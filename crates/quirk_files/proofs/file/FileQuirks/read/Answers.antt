@@ -12,20 +12,12 @@ returns-in_err-lines-clause-refused c =
 pub read_lines-requires : goal.read_lines-requires
 read_lines-requires c = rw c.deref.ensures.value (few_lines c.in_ok-lines.lines.items _ c.args.bytes.now c.in_ok-lines.ensures c.if-bytes-gt-FILE_MAX.false)
 
-pub returns-clause-read : goal.returns-clause-read
-returns-clause-read c =
+pub returns : goal.returns
+returns c =
     let same : map (λ (line : Bor (List ℕ)). line.now) c.deref.result.now ≡ slice_split (λ (b : ℕ). b == 10) c.args.bytes.now =
     ap (map (λ (line : Bor (List ℕ)). line.now)) c.deref.ensures.value ∙ c.in_ok-lines.ensures in
-    rw same at c.read_lines.ensures.read
-
-pub returns-clause-sound : goal.returns-clause-sound
-returns-clause-sound c =
-    let same : map (λ (line : Bor (List ℕ)). line.now) c.deref.result.now ≡ slice_split (λ (b : ℕ). b == 10) c.args.bytes.now =
-    ap (map (λ (line : Bor (List ℕ)). line.now)) c.deref.ensures.value ∙ c.in_ok-lines.ensures in
-    rw (small_file c.args.bytes.now c.if-bytes-gt-FILE_MAX.false) (rw same at c.read_lines.ensures.sound)
-
-pub returns-clause-refused : goal.returns-clause-refused
-returns-clause-refused c =
-    let same : map (λ (line : Bor (List ℕ)). line.now) c.deref.result.now ≡ slice_split (λ (b : ℕ). b == 10) c.args.bytes.now =
-    ap (map (λ (line : Bor (List ℕ)). line.now)) c.deref.ensures.value ∙ c.in_ok-lines.ensures in
-    rw (small_file c.args.bytes.now c.if-bytes-gt-FILE_MAX.false) (rw same at c.read_lines.ensures.refused)
+    record {
+      read = rw same at c.read_lines.ensures.read;
+      sound = rw (small_file c.args.bytes.now c.if-bytes-gt-FILE_MAX.false) (rw same at c.read_lines.ensures.sound);
+      refused = rw (small_file c.args.bytes.now c.if-bytes-gt-FILE_MAX.false) (rw same at c.read_lines.ensures.refused);
+    }
