@@ -138,11 +138,6 @@ none-found entry (s ∷ steps) e =
 
 steps-after : (c : Campaign) (opening : List Row) (past : List Event) (event : Event) → Allowed c opening past event → AllByRecursion (IsHeldStep past) (open_steps past) → AllByRecursion (IsHeldStep (event ∷ past)) (open_steps (event ∷ past))
 steps-after c opening past (Event.Boot number time limit found boards) a k = tt
-steps-after c opening past (Event.Query client query) a k = all-stay c opening past (Event.Query client query) a refl (λ entry. refl) k
-steps-after c opening past (Event.Ask client request pending answer) a k = all-stay c opening past (Event.Ask client request pending answer) a refl (λ entry. refl) k
-steps-after c opening past (Event.Claim client request fetched answer) a k = all-stay c opening past (Event.Claim client request fetched answer) a refl (λ entry. refl) k
-steps-after c opening past (Event.Schedule client request answer) a k = all-stay c opening past (Event.Schedule client request answer) a refl (λ entry. refl) k
-steps-after c opening past (Event.Resume client taken fetched answer stored) a k = all-stay c opening past (Event.Resume client taken fetched answer stored) a refl (λ entry. refl) k
 steps-after c opening past (Event.Start client started op) a k =
     let event = Event.Start client started op in
     All-push (IsHeldStep (event ∷ past)) (open_steps past) (record { client = client; entry = started; op = op }) (all-stay c opening past event a refl (λ entry. refl) k)
@@ -154,11 +149,7 @@ steps-after c opening past (Event.Finish client done state stored) a k =
     let event = Event.Finish client done state stored in
     All-both (IsHeldStep past) (λ (s : OpenStep). (s.entry == done) ≡ false) (IsHeldStep (event ∷ past)) (open_steps past) k (none-found done (open_steps past) a.2.open_none)
     (λ s h n. step-stays c opening past event s a refl (turned s.entry done n) h)
-steps-after c opening past (Event.Judge client judged version state stored) a k = all-stay c opening past (Event.Judge client judged version state stored) a refl (λ entry. refl) k
-steps-after c opening past (Event.Unplug client device answer) a k = all-stay c opening past (Event.Unplug client device answer) a refl (λ entry. refl) k
-steps-after c opening past (Event.Plug client device answer) a k = all-stay c opening past (Event.Plug client device answer) a refl (λ entry. refl) k
-steps-after c opening past (Event.GiveBack client what) a k = all-stay c opening past (Event.GiveBack client what) a refl (λ entry. refl) k
-steps-after c opening past Event.Cut a k = all-stay c opening past Event.Cut a refl (λ entry. refl) k
+steps-after c opening past event a k = all-stay c opening past event a refl (λ entry. refl) k
 
 steps-held : (c : Campaign) (opening : List Row) (past : List Event) → IsLegal c opening past → AllByRecursion (IsHeldStep past) (open_steps past)
 steps-held c opening [] l = tt

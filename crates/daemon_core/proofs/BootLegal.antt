@@ -54,19 +54,7 @@ trimmed c opening (Event.Boot number time limit found boards ∷ past) legal =
         ),
       );
     }
-trimmed c opening (Event.Query a b ∷ past) legal = let t = trimmed c opening past legal.0 in record { plans = t.plans; count = t.count; legal = (t.legal, legal.1, legal.2) }
-trimmed c opening (Event.Ask a b d e ∷ past) legal = let t = trimmed c opening past legal.0 in record { plans = t.plans; count = t.count; legal = (t.legal, legal.1, legal.2) }
-trimmed c opening (Event.Claim a b d e ∷ past) legal = let t = trimmed c opening past legal.0 in record { plans = t.plans; count = t.count; legal = (t.legal, legal.1, legal.2) }
-trimmed c opening (Event.Schedule a b d ∷ past) legal = let t = trimmed c opening past legal.0 in record { plans = t.plans; count = t.count; legal = (t.legal, legal.1, legal.2) }
-trimmed c opening (Event.Resume a b d e f ∷ past) legal = let t = trimmed c opening past legal.0 in record { plans = t.plans; count = t.count; legal = (t.legal, legal.1, legal.2) }
-trimmed c opening (Event.Start a b d ∷ past) legal = let t = trimmed c opening past legal.0 in record { plans = t.plans; count = t.count; legal = (t.legal, legal.1, legal.2) }
-trimmed c opening (Event.End a b d e f g ∷ past) legal = let t = trimmed c opening past legal.0 in record { plans = t.plans; count = t.count; legal = (t.legal, legal.1, legal.2) }
-trimmed c opening (Event.Finish a b d e ∷ past) legal = let t = trimmed c opening past legal.0 in record { plans = t.plans; count = t.count; legal = (t.legal, legal.1, legal.2) }
-trimmed c opening (Event.Judge a b d e f ∷ past) legal = let t = trimmed c opening past legal.0 in record { plans = t.plans; count = t.count; legal = (t.legal, legal.1, legal.2) }
-trimmed c opening (Event.Unplug a b d ∷ past) legal = let t = trimmed c opening past legal.0 in record { plans = t.plans; count = t.count; legal = (t.legal, legal.1, legal.2) }
-trimmed c opening (Event.Plug a b d ∷ past) legal = let t = trimmed c opening past legal.0 in record { plans = t.plans; count = t.count; legal = (t.legal, legal.1, legal.2) }
-trimmed c opening (Event.GiveBack a b ∷ past) legal = let t = trimmed c opening past legal.0 in record { plans = t.plans; count = t.count; legal = (t.legal, legal.1, legal.2) }
-trimmed c opening (Event.Cut ∷ past) legal = let t = trimmed c opening past legal.0 in record { plans = t.plans; count = t.count; legal = (t.legal, legal.1, legal.2) }
+trimmed c opening (_ ∷ past) legal = let t = trimmed c opening past legal.0 in record { plans = t.plans; count = t.count; legal = (t.legal, legal.1, legal.2) }
 
 boot-next : (c : Campaign) (opening : List Row) (past : List Event) (plan : BootPlan) (found : Found) (boards : List BoardSeen) → IsLegal c opening past
     → AllListed c.facts c.first opening past plan boards → FoundAllowed found (doubt c.facts opening past) → IsLegalSo c.facts c.first opening (next_boot past plan found boards ∷ past)

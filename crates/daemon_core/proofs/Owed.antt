@@ -130,39 +130,29 @@ pub owed-adds : (c : Campaign) (opening : List Row) (past : List Event) (event :
 owed-adds c opening past (Event.Boot number time limit found boards) b a s =
     let w = owed-within (Event.Boot number time limit found boards ∷ past) in
     let none : owed_by false (Event.Boot number time limit found boards ∷ past) ≡ 0 = refl in omega (arith, w, none)
-owed-adds c opening past (Event.Query client query) b a s =
-    owed-quiet past (Event.Query client query) (b.on refl) (le_refl (length (holds past))) refl (λ e. refl)
 owed-adds c opening past (Event.Ask client request pending (AskAnswer.Hold blocks release)) b a s =
     let event : Event = Event.Ask client request pending (AskAnswer.Hold blocks release) in
     let few = fewer client (holds past) in
     let pushed = length_push (filter (λ (h : Held). not (h.client == client)) (holds past)) (record { client = client; request = request; pending = pending; blocks = blocks; release = release }) in
     on-adds past (Event.Ask client request pending (AskAnswer.Hold blocks release)) 2 (b.on refl)
     (owed-more past event 1 0 (omega (arith, few, pushed)) (no-more (sum_by (entry_on past) (live past))))
-owed-adds c opening past (Event.Ask client request pending (AskAnswer.Kept entry state)) b a s =
-    owed-quiet past (Event.Ask client request pending (AskAnswer.Kept entry state)) (b.on refl) (le_refl (length (holds past))) refl (λ e. refl)
-owed-adds c opening past (Event.Ask client request pending (AskAnswer.Refused refusal)) b a s =
-    owed-quiet past (Event.Ask client request pending (AskAnswer.Refused refusal)) (b.on refl) (le_refl (length (holds past))) refl (λ e. refl)
 owed-adds c opening past (Event.Claim client request fetched (ClaimAnswer.Entry entry)) b a s =
     owed-taken past (Event.Claim client request fetched (ClaimAnswer.Entry entry)) (record { client = client; entry = entry; blocks = blocks_fetched fetched }) (b.on refl) (fewer client (holds past)) refl (λ e. refl)
 owed-adds c opening past (Event.Claim client request fetched (ClaimAnswer.Kept entry state)) b a s =
     owed-quiet past (Event.Claim client request fetched (ClaimAnswer.Kept entry state)) (b.on refl) (fewer client (holds past)) refl (λ e. refl)
 owed-adds c opening past (Event.Claim client request fetched (ClaimAnswer.Refused refusal)) b a s =
     owed-quiet past (Event.Claim client request fetched (ClaimAnswer.Refused refusal)) (b.on refl) (fewer client (holds past)) refl (λ e. refl)
-owed-adds c opening past (Event.Schedule client request answer) b a s =
-    owed-quiet past (Event.Schedule client request answer) (b.on refl) (le_refl (length (holds past))) refl (λ e. refl)
 owed-adds c opening past (Event.Resume client entry fetched ResumeAnswer.Begun stored) b a s =
     owed-taken past (Event.Resume client entry fetched ResumeAnswer.Begun stored) (record { client = client; entry = entry; blocks = blocks_fetched_if fetched }) (b.on refl) (fewer client (holds past)) refl (λ e. refl)
 owed-adds c opening past (Event.Resume client entry fetched (ResumeAnswer.Refused refusal) stored) b a s =
     owed-quiet past (Event.Resume client entry fetched (ResumeAnswer.Refused refusal) stored) (b.on refl) (fewer client (holds past)) refl (λ e. refl)
-owed-adds c opening past (Event.Judge client entry version state stored) b a s =
-    owed-quiet past (Event.Judge client entry version state stored) (b.on refl) (le_refl (length (holds past))) refl (λ e. refl)
-owed-adds c opening past (Event.Unplug client device answer) b a s =
-    owed-quiet past (Event.Unplug client device answer) (b.on refl) (le_refl (length (holds past))) refl (λ e. refl)
-owed-adds c opening past (Event.Plug client device answer) b a s =
-    owed-quiet past (Event.Plug client device answer) (b.on refl) (le_refl (length (holds past))) refl (λ e. refl)
 owed-adds c opening past Event.Cut b a s =
     owed-quiet past Event.Cut a.on (le_refl (length (holds past))) refl (λ e. refl)
-owed-adds c opening past _ b a s = cc
+owed-adds c opening past (Event.Start client entry op) b a s = cc
+owed-adds c opening past (Event.End client entry op outcome told seen) b a s = cc
+owed-adds c opening past (Event.Finish client entry state stored) b a s = cc
+owed-adds c opening past (Event.GiveBack client what) b a s = cc
+owed-adds c opening past event b a s = owed-quiet past event (b.on refl) (le_refl (length (holds past))) refl (λ e. refl)
 
 strokes-more : (past : List Event) (client entry : ℕ) (op : Op) (e : ℕ) → length (strokes e past) ≤ length (strokes e (Event.Start client entry op ∷ past))
 strokes-more past client entry op e = by_test (entry == e) _ (λ t. rw t (omega arith)) (λ t. rw t (omega arith))

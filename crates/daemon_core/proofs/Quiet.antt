@@ -2,9 +2,7 @@
 use Rattle.std.proofs.Common.{◌≡◌, ℕ, ◌≤◌, true, false, List, [], ◌∷◌, refl, ap, ◌∙◌, le_refl}
 use Rattle.std.proofs.lemmas.List.{append-nil}
 use Rattle.std.proofs.lemmas.Bool.{not-true}
-use Rattle.std.specs.Prelude.{Option, None}
-use Rattle.device_list.specs.declared.selector.Selector.{Selector}
-use Rattle.update_log.specs.declared.request.Request.{Request}
+use Rattle.std.specs.Prelude.{None}
 use Rattle.fw_facts.specs.declared.seen.Seen.{Seen}
 use Rattle.history_keeper.specs.declared.row.Row.{Row}
 use Rattle.update_log.specs.declared.answer.AskAnswer.{AskAnswer}
@@ -53,50 +51,23 @@ still-board facts first opening past event number s =
       faults = rw (s.faulty number) refl;
     }
 
-still-ask : (facts : Facts) (first : List Seen) (opening : List Row) (past : List Event) (client : ℕ) (request : Request) (pending : Option ℕ) (answer : AskAnswer) → is_quiet (Event.Ask client request pending answer) ≡ true → Still facts first opening past (Event.Ask client request pending answer)
-still-ask facts first opening past client request pending (AskAnswer.Hold blocks release) q = cc
-still-ask facts first opening past client request pending (AskAnswer.Kept entry state) q =
-    record { same_known = refl; same_live = refl; same_holds = refl; same_steps = refl; same_boots = refl; told = λ n. refl; same_tells = λ n. refl; same_raws = λ e. refl; faulty = λ n. refl; met = refl; owes = le_refl _ }
-still-ask facts first opening past client request pending (AskAnswer.Refused refusal) q =
-    record { same_known = refl; same_live = refl; same_holds = refl; same_steps = refl; same_boots = refl; told = λ n. refl; same_tells = λ n. refl; same_raws = λ e. refl; faulty = λ n. refl; met = refl; owes = le_refl _ }
-
-still-schedule : (facts : Facts) (first : List Seen) (opening : List Row) (past : List Event) (client : ℕ) (request : Request) (answer : ClaimAnswer) → is_quiet (Event.Schedule client request answer) ≡ true → Still facts first opening past (Event.Schedule client request answer)
-still-schedule facts first opening past client request (ClaimAnswer.Entry entry) q = cc
-still-schedule facts first opening past client request (ClaimAnswer.Kept entry state) q =
-    record { same_known = refl; same_live = refl; same_holds = refl; same_steps = refl; same_boots = refl; told = λ n. refl; same_tells = λ n. refl; same_raws = λ e. refl; faulty = λ n. refl; met = refl; owes = le_refl _ }
-still-schedule facts first opening past client request (ClaimAnswer.Refused refusal) q =
+pub quiet-still : (facts : Facts) (first : List Seen) (opening : List Row) (past : List Event) (event : Event) → is_quiet event ≡ true → Still facts first opening past event
+quiet-still facts first opening past (Event.Boot number time limit found boards) q = cc
+quiet-still facts first opening past (Event.Ask client request pending (AskAnswer.Hold blocks release)) q = cc
+quiet-still facts first opening past (Event.Claim client request fetched answer) q = cc
+quiet-still facts first opening past (Event.Schedule client request (ClaimAnswer.Entry entry)) q = cc
+quiet-still facts first opening past (Event.Schedule client request (ClaimAnswer.Refused refusal)) q =
     let f : is_keeper_fault refusal ≡ false = not-true (is_keeper_fault refusal) q in
     record { same_known = rw f refl; same_live = refl; same_holds = refl; same_steps = refl; same_boots = refl; told = λ n. refl; same_tells = λ n. refl; same_raws = λ e. refl; faulty = λ n. refl; met = f; owes = rw f (le_refl _) }
-
-still-unplug : (facts : Facts) (first : List Seen) (opening : List Row) (past : List Event) (client : ℕ) (device : Selector) (answer : PlugAnswer) → is_quiet (Event.Unplug client device answer) ≡ true → Still facts first opening past (Event.Unplug client device answer)
-still-unplug facts first opening past client device (PlugAnswer.Done seen) q = cc
-still-unplug facts first opening past client device PlugAnswer.NoDevice q =
-    record { same_known = refl; same_live = refl; same_holds = refl; same_steps = refl; same_boots = refl; told = λ n. refl; same_tells = λ n. refl; same_raws = λ e. refl; faulty = λ n. refl; met = refl; owes = le_refl _ }
-still-unplug facts first opening past client device (PlugAnswer.Busy entry) q =
-    record { same_known = refl; same_live = refl; same_holds = refl; same_steps = refl; same_boots = refl; told = λ n. refl; same_tells = λ n. refl; same_raws = λ e. refl; faulty = λ n. refl; met = refl; owes = le_refl _ }
-still-unplug facts first opening past client device PlugAnswer.NotThere q =
-    record { same_known = refl; same_live = refl; same_holds = refl; same_steps = refl; same_boots = refl; told = λ n. refl; same_tells = λ n. refl; same_raws = λ e. refl; faulty = λ n. refl; met = refl; owes = le_refl _ }
-still-unplug facts first opening past client device PlugAnswer.AlreadyThere q =
-    record { same_known = refl; same_live = refl; same_holds = refl; same_steps = refl; same_boots = refl; told = λ n. refl; same_tells = λ n. refl; same_raws = λ e. refl; faulty = λ n. refl; met = refl; owes = le_refl _ }
-
-still-plug : (facts : Facts) (first : List Seen) (opening : List Row) (past : List Event) (client : ℕ) (device : Selector) (answer : PlugAnswer) → is_quiet (Event.Plug client device answer) ≡ true → Still facts first opening past (Event.Plug client device answer)
-still-plug facts first opening past client device (PlugAnswer.Done seen) q = cc
-still-plug facts first opening past client device PlugAnswer.NoDevice q =
-    record { same_known = refl; same_live = refl; same_holds = refl; same_steps = refl; same_boots = refl; told = λ n. refl; same_tells = λ n. refl; same_raws = λ e. refl; faulty = λ n. refl; met = refl; owes = le_refl _ }
-still-plug facts first opening past client device (PlugAnswer.Busy entry) q =
-    record { same_known = refl; same_live = refl; same_holds = refl; same_steps = refl; same_boots = refl; told = λ n. refl; same_tells = λ n. refl; same_raws = λ e. refl; faulty = λ n. refl; met = refl; owes = le_refl _ }
-still-plug facts first opening past client device PlugAnswer.NotThere q =
-    record { same_known = refl; same_live = refl; same_holds = refl; same_steps = refl; same_boots = refl; told = λ n. refl; same_tells = λ n. refl; same_raws = λ e. refl; faulty = λ n. refl; met = refl; owes = le_refl _ }
-still-plug facts first opening past client device PlugAnswer.AlreadyThere q =
-    record { same_known = refl; same_live = refl; same_holds = refl; same_steps = refl; same_boots = refl; told = λ n. refl; same_tells = λ n. refl; same_raws = λ e. refl; faulty = λ n. refl; met = refl; owes = le_refl _ }
-
-pub quiet-still : (facts : Facts) (first : List Seen) (opening : List Row) (past : List Event) (event : Event) → is_quiet event ≡ true → Still facts first opening past event
-quiet-still facts first opening past (Event.Query client query) q =
-    record { same_known = refl; same_live = refl; same_holds = refl; same_steps = refl; same_boots = refl; told = λ n. refl; same_tells = λ n. refl; same_raws = λ e. refl; faulty = λ n. refl; met = refl; owes = le_refl _ }
-quiet-still facts first opening past (Event.Ask client request pending answer) q = still-ask facts first opening past client request pending answer q
-quiet-still facts first opening past (Event.Schedule client request answer) q = still-schedule facts first opening past client request answer q
-quiet-still facts first opening past (Event.Unplug client device answer) q = still-unplug facts first opening past client device answer q
-quiet-still facts first opening past (Event.Plug client device answer) q = still-plug facts first opening past client device answer q
+quiet-still facts first opening past (Event.Resume client entry fetched answer stored) q = cc
+quiet-still facts first opening past (Event.Start client entry op) q = cc
+quiet-still facts first opening past (Event.End client entry op outcome told seen) q = cc
+quiet-still facts first opening past (Event.Finish client entry state stored) q = cc
+quiet-still facts first opening past (Event.Judge client entry version state stored) q = cc
+quiet-still facts first opening past (Event.Unplug client device (PlugAnswer.Done seen)) q = cc
+quiet-still facts first opening past (Event.Plug client device (PlugAnswer.Done seen)) q = cc
+quiet-still facts first opening past (Event.GiveBack client what) q = cc
 quiet-still facts first opening past Event.Cut q =
     record { same_known = refl; same_live = refl; same_holds = refl; same_steps = refl; same_boots = refl; told = λ n. refl; same_tells = λ n. refl; same_raws = λ e. refl; faulty = λ n. refl; met = refl; owes = owed-cut past }
-quiet-still facts first opening past _ q = cc
+quiet-still facts first opening past _ q =
+    record { same_known = refl; same_live = refl; same_holds = refl; same_steps = refl; same_boots = refl; told = λ n. refl; same_tells = λ n. refl; same_raws = λ e. refl; faulty = λ n. refl; met = refl; owes = le_refl _ }

@@ -14,12 +14,9 @@ pub settled-rests : (client : ℕ) (device : Selector) (settling : Settling) (ol
 settled-rests client device (Settling.Judged entry state stored) old new t i =
     let event = Event.Judge client entry t.2.0 state stored in
     record { idle = idle-after client event old new (λ b. refl) (λ b. refl) t.2.2 i; boots_are = boots-after client event old new refl t.2.2 }
-settled-rests client device Settling.NoDevice old new t i =
-    let event = Event.Query client (Query.Settle device) in
-    record { idle = idle-after client event old new (λ b. refl) (λ b. refl) t.2 i; boots_are = boots-after client event old new refl t.2 }
 settled-rests client device (Settling.Waits entry) old new t i =
     let event = Event.Query client (Query.Settle device) in
     record { idle = idle-after client event old new (λ b. refl) (λ b. refl) t.3 i; boots_are = boots-after client event old new refl t.3 }
-settled-rests client device Settling.Nothing old new t i =
+settled-rests client device _ old new t i =
     let event = Event.Query client (Query.Settle device) in
     record { idle = idle-after client event old new (λ b. refl) (λ b. refl) t.2 i; boots_are = boots-after client event old new refl t.2 }

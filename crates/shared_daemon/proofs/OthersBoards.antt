@@ -90,16 +90,6 @@ tells-none : (c : Campaign) (opening : List Row) (past : List Event) (event : Ev
     → IsHistory opening → IsLegal c opening (event ∷ past) → is_boot event ≡ false → concerns entry event ≡ false
     → live_entry past entry ≡ Some l → l.entry ≡ entry → board_of c.facts (rows c.facts opening past) entry ≡ Some number → TellsNone c.facts opening past event number
 tells-none c opening past (Event.Boot round time limit found boards) entry number l v legal b n f s bd = cc
-tells-none c opening past (Event.Query client query) entry number l v legal b n f s bd =
-    record { told = refl; same_tells = refl; faulty = refl; opened = same-steps c opening past (Event.Query client query) entry number l v legal b n f s bd refl }
-tells-none c opening past (Event.Ask client request pending answer) entry number l v legal b n f s bd =
-    record { told = refl; same_tells = refl; faulty = refl; opened = same-steps c opening past (Event.Ask client request pending answer) entry number l v legal b n f s bd refl }
-tells-none c opening past (Event.Claim client request fetched answer) entry number l v legal b n f s bd =
-    record { told = refl; same_tells = refl; faulty = refl; opened = same-steps c opening past (Event.Claim client request fetched answer) entry number l v legal b n f s bd refl }
-tells-none c opening past (Event.Schedule client request answer) entry number l v legal b n f s bd =
-    record { told = refl; same_tells = refl; faulty = refl; opened = same-steps c opening past (Event.Schedule client request answer) entry number l v legal b n f s bd refl }
-tells-none c opening past (Event.Resume client e fetched answer stored) entry number l v legal b n f s bd =
-    record { told = refl; same_tells = refl; faulty = refl; opened = same-steps c opening past (Event.Resume client e fetched answer stored) entry number l v legal b n f s bd refl }
 tells-none c opening past (Event.Start client e op) entry number l v legal b n f s bd =
     let a = legal.2.1 in
     record {
@@ -115,10 +105,6 @@ tells-none c opening past (Event.End client e op outcome told seen) entry number
     let m = open-entry_live c opening past e (record { client = client; entry = e; op = op }) legal.0 on a.open_is in
     let k = end-passes c.facts opening past client e op outcome told seen number (off-board c opening past (Event.End client e op outcome told seen) entry number l v legal b n f s bd e m.0 m.1 n) in
     record { told = k.told; same_tells = k.same_tells; faulty = k.faulty; opened = k.opened }
-tells-none c opening past (Event.Finish client e state stored) entry number l v legal b n f s bd =
-    record { told = refl; same_tells = refl; faulty = refl; opened = same-steps c opening past (Event.Finish client e state stored) entry number l v legal b n f s bd refl }
-tells-none c opening past (Event.Judge client e version state stored) entry number l v legal b n f s bd =
-    record { told = refl; same_tells = refl; faulty = refl; opened = same-steps c opening past (Event.Judge client e version state stored) entry number l v legal b n f s bd refl }
 tells-none c opening past (Event.Unplug client device (PlugAnswer.Done shown)) entry number l v legal b n f s bd =
     let w = unplugged-free (found_view (views c.facts opening past) device) shown (λ x. x ≡ Seen.Gone) legal.2 in
     record {
@@ -135,11 +121,8 @@ tells-none c opening past (Event.Plug client device (PlugAnswer.Done shown)) ent
       faulty = refl;
       opened = refl;
     }
-tells-none c opening past (Event.GiveBack client what) entry number l v legal b n f s bd =
-    record { told = refl; same_tells = refl; faulty = refl; opened = same-steps c opening past (Event.GiveBack client what) entry number l v legal b n f s bd refl }
-tells-none c opening past Event.Cut entry number l v legal b n f s bd =
-    record { told = refl; same_tells = refl; faulty = refl; opened = same-steps c opening past Event.Cut entry number l v legal b n f s bd refl }
-tells-none c opening past _ entry number l v legal b n f s bd = record { told = refl; same_tells = refl; faulty = refl; opened = refl }
+tells-none c opening past event entry number l v legal b n f s bd =
+    record { told = refl; same_tells = refl; faulty = refl; opened = same-steps c opening past event entry number l v legal b n f s bd refl }
 
 -- So the log says the same of its board.
 pub own-board_same : (c : Campaign) (opening : List Row) (past : List Event) (event : Event) (entry number : ℕ) (l : LiveEntry)

@@ -123,10 +123,6 @@ past-step-on c opening past (Event.Boot number time limit found boards) k made b
       waiting = waiting-boot c.facts opening past number time limit found boards k.rows_kept k.taken k.waiting;
       marks = marks-boot c opening past number time limit found boards a.0 k.steps k.taken k.marks r.goes_on a.1;
     }
-past-step-on c opening past (Event.Query client query) k made b a =
-    past-quiet c.facts opening past (Event.Query client query) k (rows-step-on c opening past (Event.Query client query) k.rows_kept b a) refl (λ e. refl) refl (λ e. refl) (λ P h. h) (λ e. refl) (λ e. refl) (λ board. refl)
-past-step-on c opening past (Event.Ask client request pending answer) k made b a =
-    past-quiet c.facts opening past (Event.Ask client request pending answer) k (rows-step-on c opening past (Event.Ask client request pending answer) k.rows_kept b a) refl (λ e. refl) refl (λ e. refl) (λ P h. h) (λ e. refl) (λ e. refl) (λ board. refl)
 past-step-on c opening past (Event.Claim client request fetched answer) k made b a =
     let r = rows-step-on c opening past (Event.Claim client request fetched answer) k.rows_kept b a in
     record {
@@ -174,14 +170,10 @@ past-step-on c opening past (Event.Judge client entry version state stored) k ma
     past-advanced c.facts opening past (Event.Judge client entry version state stored) (fate_stored stored) entry state (reason_of (rows c.facts opening past) entry) (time_of past) k (rows-step-on c opening past (Event.Judge client entry version state stored) k.rows_kept b a) refl
     (let f = a.2 in let e : state ≡ judge version a.0 = f.state_is in rw e (judged-settled version a.0))
     (λ e. refl) refl (λ e. refl) (λ P h. h) (λ e. refl) (λ e. refl) (λ board. refl)
-past-step-on c opening past (Event.Unplug client device answer) k made b a =
-    past-quiet c.facts opening past (Event.Unplug client device answer) k (rows-step-on c opening past (Event.Unplug client device answer) k.rows_kept b a) refl (λ e. refl) refl (λ e. refl) (λ P h. h) (λ e. refl) (λ e. refl) (λ board. refl)
-past-step-on c opening past (Event.Plug client device answer) k made b a =
-    past-quiet c.facts opening past (Event.Plug client device answer) k (rows-step-on c opening past (Event.Plug client device answer) k.rows_kept b a) refl (λ e. refl) refl (λ e. refl) (λ P h. h) (λ e. refl) (λ e. refl) (λ board. refl)
 past-step-on c opening past (Event.GiveBack client what) k made b a =
     past-give_back c opening past client what k (rows-step-on c opening past (Event.GiveBack client what) k.rows_kept b a)
-past-step-on c opening past Event.Cut k made b a =
-    past-quiet c.facts opening past Event.Cut k (rows-step-on c opening past Event.Cut k.rows_kept b a) refl (λ e. refl) refl (λ e. refl) (λ P h. h) (λ e. refl) (λ e. refl) (λ board. refl)
+past-step-on c opening past event k made b a =
+    past-quiet c.facts opening past event k (rows-step-on c opening past event k.rows_kept b a) refl (λ e. refl) refl (λ e. refl) (λ P h. h) (λ e. refl) (λ e. refl) (λ board. refl)
 
 -- what each legal past keeps, its holds with it
 pub record PastHeld (facts : Facts) (opening : List Row) (past : List Event) : Type 0 where

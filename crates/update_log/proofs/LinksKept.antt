@@ -244,20 +244,13 @@ link-judge facts opening past client entry version state stored row k r o is wai
 
 link-step : (c : Campaign) (opening : List Row) (past : List Event) (event : Event) → LinkKept c.facts opening past → WaitKept c.facts opening past → RowsKept c.facts opening past → BootRuns past event → Allowed c opening past event → LinkStep c.facts opening past event
 link-step c opening past (Event.Boot number time limit found boards) k w r b a = link-boot c.facts opening past number time limit found boards k
-link-step c opening past (Event.Query client query) k w r b a = link-same c.facts opening past (Event.Query client query) k refl refl
-link-step c opening past (Event.Ask client request pending answer) k w r b a = link-same c.facts opening past (Event.Ask client request pending answer) k refl refl
 link-step c opening past (Event.Claim client request fetched answer) k w r b a = link-claim c.facts opening past client request fetched answer a.0 k r (b.on refl) a.1
 link-step c opening past (Event.Schedule client request answer) k w r b a = link-schedule c.facts opening past client request answer k r (b.on refl) a
 link-step c opening past (Event.Resume client entry fetched answer stored) k w r b a = link-resume c.facts opening past client entry fetched answer stored a.0 k r (b.on refl) a.1
-link-step c opening past (Event.Start client entry op) k w r b a = link-same c.facts opening past (Event.Start client entry op) k refl refl
-link-step c opening past (Event.End client entry op outcome told seen) k w r b a = link-same c.facts opening past (Event.End client entry op outcome told seen) k refl refl
 link-step c opening past (Event.Finish client entry state stored) k w r b a = link-finish c.facts opening past client entry state stored a.0 a.1 k w r (b.on refl) a.2
 link-step c opening past (Event.Judge client entry version state stored) k w r b a =
     let j = a.2 in link-judge c.facts opening past client entry version state stored a.0 k r (b.on refl) j.row_is j.waits
-link-step c opening past (Event.Unplug client device answer) k w r b a = link-same c.facts opening past (Event.Unplug client device answer) k refl refl
-link-step c opening past (Event.Plug client device answer) k w r b a = link-same c.facts opening past (Event.Plug client device answer) k refl refl
-link-step c opening past (Event.GiveBack client what) k w r b a = link-same c.facts opening past (Event.GiveBack client what) k refl refl
-link-step c opening past Event.Cut k w r b a = link-same c.facts opening past Event.Cut k refl refl
+link-step c opening past event k w r b a = link-same c.facts opening past event k refl refl
 
 -- ---- all events
 

@@ -22,7 +22,7 @@ use Rattle.update_log.specs.Known.{Fate, Known, Target, addition, advance, board
 use Rattle.update_log.specs.Legal.{Allowed, BootRuns, BootTakes, ClaimAllowed, ClaimAnswered, FoundAllowed, ScheduleAllowed, ScheduleAnswered, closing_stored, next_entry}
 use Rattle.update_log.specs.Once.{is_pending, takes}
 use Rattle.update_log.specs.Pasts.{is_fault, is_found_fault, is_keeper_fault, off, time_of}
-use Rattle.update_log.specs.Shows.{Campaign, told}
+use Rattle.update_log.specs.Shows.{Campaign}
 use Rattle.update_log.specs.Steps.{closing, closing_at, closing_of, ended_well, judge, judge_shown, trace, view_of_row, waits_for_boot}
 use Rattle.update_log.specs.Verdicts.{Case, case_of, decided, kept, on_kept, verdict}
 use Rattle.update_log.specs.declared.answer.ClaimAnswer.{ClaimAnswer}
@@ -347,34 +347,22 @@ rows-judge facts opening past client entry version state stored k o p =
 pub rows-step-on : (c : Campaign) (opening : List Row) (past : List Event) (event : Event) → RowsKept c.facts opening past → BootRuns past event → Allowed c opening past event → RowsStep c.facts opening past event
 rows-step-on c opening past (Event.Boot number time limit found boards) k takes a =
     rows-boot c opening past number time limit found boards k a.1.found_is
-rows-step-on c opening past (Event.Query client query) k takes a =
-    rows-same c.facts opening past (Event.Query client query) k refl refl (λ h. h)
-rows-step-on c opening past (Event.Ask client request pending answer) k takes a =
-    rows-same c.facts opening past (Event.Ask client request pending answer) k refl refl (λ h. h)
 rows-step-on c opening past (Event.Claim client request fetched answer) k takes a =
     rows-claim c.facts opening past client request fetched answer a.0 k (takes.on refl) a.1
 rows-step-on c opening past (Event.Schedule client request answer) k takes a =
     rows-schedule c.facts opening past client request answer k (takes.on refl) a
 rows-step-on c opening past (Event.Resume client entry fetched answer stored) k takes a =
     rows-resume c.facts opening past client entry fetched answer stored k (takes.on refl)
-rows-step-on c opening past (Event.Start client entry op) k takes a =
-    rows-same c.facts opening past (Event.Start client entry op) k refl refl (λ h. h)
-rows-step-on c opening past (Event.End client entry op outcome told seen) k takes a =
-    rows-same c.facts opening past (Event.End client entry op outcome told seen) k refl refl (λ h. h)
 rows-step-on c opening past (Event.Finish client entry state stored) k takes a =
     rows-finish c.facts opening past client entry state stored k (takes.on refl)
     (let f = a.2 in let s = closed-settled c.facts opening past entry a.1 stored f.closing in let e : state ≡ closing_stored a.1 stored = f.state_is in rw e s)
 rows-step-on c opening past (Event.Judge client entry version state stored) k takes a =
     rows-judge c.facts opening past client entry version state stored k (takes.on refl)
     (let f = a.2 in let e : state ≡ judge version a.0 = f.state_is in rw e (judged-settled version a.0))
-rows-step-on c opening past (Event.Unplug client device answer) k takes a =
-    rows-same c.facts opening past (Event.Unplug client device answer) k refl refl (λ h. h)
-rows-step-on c opening past (Event.Plug client device answer) k takes a =
-    rows-same c.facts opening past (Event.Plug client device answer) k refl refl (λ h. h)
-rows-step-on c opening past (Event.GiveBack client what) k takes a =
-    rows-same c.facts opening past (Event.GiveBack client what) k refl refl (λ h. h)
 rows-step-on c opening past Event.Cut k takes a =
     rows-same c.facts opening past Event.Cut k refl refl (λ h. cc)
+rows-step-on c opening past event k takes a =
+    rows-same c.facts opening past event k refl refl (λ h. h)
 
 -- The same in a boot that is below its limit.
 pub rows-step : (c : Campaign) (opening : List Row) (past : List Event) (event : Event) → RowsKept c.facts opening past → BootTakes past event → Allowed c opening past event → RowsStep c.facts opening past event

@@ -429,19 +429,13 @@ wait-back facts opening past client (Back.Entry entry) k =
 
 wait-step : (c : Campaign) (opening : List Row) (past : List Event) (event : Event) → WaitKept c.facts opening past → RowsKept c.facts opening past → BootRuns past event → Allowed c opening past event → WaitKept c.facts opening (event ∷ past)
 wait-step c opening past (Event.Boot number time limit found boards) k r b a = wait-boot c.facts opening past number time limit found boards k
-wait-step c opening past (Event.Query client query) k r b a = wait-same c.facts opening past (Event.Query client query) k refl refl (λ P h. h)
-wait-step c opening past (Event.Ask client request pending answer) k r b a = wait-same c.facts opening past (Event.Ask client request pending answer) k refl refl (λ P h. h)
 wait-step c opening past (Event.Claim client request fetched answer) k r b a = wait-claim c.facts opening past client request fetched answer a.0 k r (b.on refl) a.1
 wait-step c opening past (Event.Schedule client request answer) k r b a = wait-schedule c.facts opening past client request answer k r (b.on refl) a
 wait-step c opening past (Event.Resume client entry fetched answer stored) k r b a = wait-resume c.facts opening past client entry fetched answer stored a.0 k r (b.on refl) a.1
-wait-step c opening past (Event.Start client entry op) k r b a = wait-same c.facts opening past (Event.Start client entry op) k refl refl (λ P h. h)
-wait-step c opening past (Event.End client entry op outcome told seen) k r b a = wait-same c.facts opening past (Event.End client entry op outcome told seen) k refl refl (λ P h. h)
 wait-step c opening past (Event.Finish client entry state stored) k r b a = wait-finish c.facts opening past client entry state stored a.0 a.1 k r (b.on refl) a.2
 wait-step c opening past (Event.Judge client entry version state stored) k r b a = wait-judge c.facts opening past client entry version state stored a.0 a.1 k r (b.on refl) a.2
-wait-step c opening past (Event.Unplug client device answer) k r b a = wait-same c.facts opening past (Event.Unplug client device answer) k refl refl (λ P h. h)
-wait-step c opening past (Event.Plug client device answer) k r b a = wait-same c.facts opening past (Event.Plug client device answer) k refl refl (λ P h. h)
 wait-step c opening past (Event.GiveBack client what) k r b a = wait-back c.facts opening past client what k
-wait-step c opening past Event.Cut k r b a = wait-same c.facts opening past Event.Cut k refl refl (λ P h. h)
+wait-step c opening past event k r b a = wait-same c.facts opening past event k refl refl (λ P h. h)
 
 pub wait-kept-on : (c : Campaign) (opening : List Row) (past : List Event) → IsHistory opening → IsLegalUnlimited c opening past → WaitKept c.facts opening past
 wait-kept-on c opening [] valid legal = record { once = waits-once opening valid.unsettled; doubt_once = tt; begun = tt }
