@@ -12,10 +12,10 @@ use Rattle.update_log.specs.declared.event.Event.{Event}
 use Rattle.update_log.specs.declared.event.Op.{Op}
 use Rattle.daemon_core.specs.declared.finished.Finished.{Finished}
 use Rattle.plain_runs.specs.declared.outcome.Outcome.{Outcome}
-use Rattle.device_claims.specs.Claims.{StepGives}
+use Rattle.device_claims.specs.Claims.{Noted, StepGives}
 use Rattle.device_claims.specs.declared.claim.Parts.{Parts}
 use Rattle.plain_runs.specs.Ran.{AreMade, IsBegun, cut_events, start_events, step_events}
-use Rattle.plain_runs.proofs.Logs.{are-made_on, steps-append}
+use Rattle.plain_runs.proofs.Logs.{are-made_on, given-of, payload-of, steps-append}
 use Rattle.turn_lock.specs.Shown.{PassView}
 use Rattle.shared_daemon.specs.declared.entry.Entry.{Entry}
 use Rattle.shared_daemon.specs.Calls.{Adds, FoundOff, Took}
@@ -181,15 +181,18 @@ on-err (Ok x) P p = tt
 on-err (Err e) P p = p
 
 module _ {E : Type 0} (by : PluginSteps) (entry : ℕ) where
-  pub made-end : (r : Result Parts E) (op : Op) (outcome : Result ⊤ BoardFault) (was is : Parts) (a b c : PassView Entry) → StepGives by op entry was.payload was.board outcome is.board → is.payload ≡ was.payload → Gained (Event.Start a.number entry op ∷ []) a b
+  pub made-end : (r : Result Parts E) (op : Op) (outcome : Result ⊤ BoardFault) (was before is : Parts) (a b c : PassView Entry)
+      → was.entry ≡ entry → before ≡ was → StepGives by op before.entry before.payload before.board outcome is.board → Noted op before outcome is → Gained (Event.Start a.number entry op ∷ []) a b
       → IfOk r (λ next. next ≡ is) → OnOk r ((told : List Mark) × Gained (Event.End b.number entry op outcome told (view_of is.board.condition) ∷ []) b c) → IfOk r (λ next. MadeSteps by entry was next a c)
-  made-end (Ok next) op outcome was is a b c m p g e h =
-      subst (λ (n : Parts). MadeSteps by entry was n a c) (sym e) (made-one by entry op outcome h.0 was is a b c m p g h.1)
-  made-end (Err x) op outcome was is a b c m p g e h = tt
+  made-end (Ok next) op outcome was before is a b c q s m n g e h =
+      subst (λ (p : Parts). MadeSteps by entry was p a c) (sym e)
+      (made-one by entry op outcome h.0 was is a b c (given-of by op entry was before outcome is.board q s m) (payload-of op was before is outcome s n) g h.1)
+  made-end (Err x) op outcome was before is a b c q s m n g e h = tt
 
-  pub gone-end : (r : Result Parts E) (op : Op) (was : Parts) (answer : Result ⊤ BoardFault) (is : BoardState) (a b c : PassView Entry) → StepGives by op entry was.payload was.board answer is → Gained (Event.Start a.number entry op ∷ []) a b → OnErr r (CameBack entry b c) → OnErr r (GaveBack by entry was a c)
-  gone-end (Ok next) op was answer is a b c m g h = tt
-  gone-end (Err x) op was answer is a b c m g h = back-started by entry op was answer is a b c m g h
+  pub gone-end : (r : Result Parts E) (op : Op) (was before : Parts) (answer : Result ⊤ BoardFault) (is : BoardState) (a b c : PassView Entry)
+      → was.entry ≡ entry → before ≡ was → StepGives by op before.entry before.payload before.board answer is → Gained (Event.Start a.number entry op ∷ []) a b → OnErr r (CameBack entry b c) → OnErr r (GaveBack by entry was a c)
+  gone-end (Ok next) op was before answer is a b c q s m g h = tt
+  gone-end (Err x) op was before answer is a b c q s m g h = back-started by entry op was answer is a b c (given-of by op entry was before answer is q s m) g h
 
   -- ---- steps behind steps
 

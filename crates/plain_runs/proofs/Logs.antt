@@ -187,15 +187,18 @@ on-err (Ok x) P p = tt
 on-err (Err e) P p = p
 
 module _ {E : Type 0} (by : PluginSteps) (client entry : ℕ) where
-  pub made-end : (r : Result Parts E) (op : Op) (outcome : Result ⊤ BoardFault) (was is : Parts) (a b c : Annalled) → StepGives by op entry was.payload was.board outcome is.board → is.payload ≡ was.payload → Gained (Event.Start client entry op ∷ []) a b
+  pub made-end : (r : Result Parts E) (op : Op) (outcome : Result ⊤ BoardFault) (was before is : Parts) (a b c : Annalled)
+      → was.entry ≡ entry → before ≡ was → StepGives by op before.entry before.payload before.board outcome is.board → Noted op before outcome is → Gained (Event.Start client entry op ∷ []) a b
       → IfOk r (λ next. next ≡ is) → OnOk r ((told : List Mark) × Gained (Event.End client entry op outcome told (view_of is.board.condition) ∷ []) b c) → IfOk r (λ next. MadeSteps by client entry was next a c)
-  made-end (Ok next) op outcome was is a b c m p g e h =
-      subst (λ (n : Parts). MadeSteps by client entry was n a c) (sym e) (made-one by client entry op outcome h.0 was is a b c m p g h.1)
-  made-end (Err x) op outcome was is a b c m p g e h = tt
+  made-end (Ok next) op outcome was before is a b c q s m n g e h =
+      subst (λ (p : Parts). MadeSteps by client entry was p a c) (sym e)
+      (made-one by client entry op outcome h.0 was is a b c (given-of by op entry was before outcome is.board q s m) (payload-of op was before is outcome s n) g h.1)
+  made-end (Err x) op outcome was before is a b c q s m n g e h = tt
 
-  pub gone-end : (r : Result Parts E) (op : Op) (was : Parts) (answer : Result ⊤ BoardFault) (is : BoardState) (a b c : Annalled) → StepGives by op entry was.payload was.board answer is → Gained (Event.Start client entry op ∷ []) a b → OnErr r (CameBack client entry b c) → OnErr r (GaveBack by client entry was a c)
-  gone-end (Ok next) op was answer is a b c m g h = tt
-  gone-end (Err x) op was answer is a b c m g h = back-started by client entry op was answer is a b c m g h
+  pub gone-end : (r : Result Parts E) (op : Op) (was before : Parts) (answer : Result ⊤ BoardFault) (is : BoardState) (a b c : Annalled)
+      → was.entry ≡ entry → before ≡ was → StepGives by op before.entry before.payload before.board answer is → Gained (Event.Start client entry op ∷ []) a b → OnErr r (CameBack client entry b c) → OnErr r (GaveBack by client entry was a c)
+  gone-end (Ok next) op was before answer is a b c q s m g h = tt
+  gone-end (Err x) op was before answer is a b c q s m g h = back-started by client entry op was answer is a b c (given-of by op entry was before answer is q s m) g h
 
   -- ---- steps behind steps
 

@@ -1,13 +1,10 @@
 use Rattle.update_log.specs.declared.event.Op.{Op}
-use Rattle.claim_runs.specs.Ran.{GaveBack}
-use Rattle.plain_runs.proofs.Logs.{given-of, payload-of}
 use Rattle.claim_runs.proofs.Logs.{back-none, gone-end, made-end, on-err}
 use Rattle.claim_runs.proofs.steps.detach.Goals as goal
 
 pub returns-in_err-claim-clause-gone : goal.returns-in_err-claim-clause-gone
 returns-in_err-claim-clause-gone g c =
-    let by = (goal.Plugin-dyn g c.args.plugin.now).steps c.args.plugin.now.1 in
-    on-err c.from_residual.result (GaveBack by c.args.entry c.args.claim c.args.pass.now c.begin.new.pass) (back-none by c.args.entry c.args.claim c.args.pass.now c.begin.new.pass c.in_err-claim.ensures.gone)
+    on-err c.from_residual.result _ (back-none ((goal.Plugin-dyn g c.args.plugin.now).steps c.args.plugin.now.1) c.args.entry c.args.claim c.args.pass.now c.begin.new.pass c.in_err-claim.ensures.gone)
 
 pub end-requires-clause-made : goal.end-requires-clause-made
 end-requires-clause-made g c =
@@ -20,15 +17,10 @@ end-requires-clause-made g c =
 
 pub returns-clause-made : goal.returns-clause-made
 returns-clause-made g c =
-    let by = (goal.Plugin-dyn g c.args.plugin.now).steps c.args.plugin.now.1 in
-    made-end by c.args.entry c.end.result Op.Detach c.detach-claim.result.1 c.args.claim c.detach-claim.result.0 c.args.pass.now c.begin.new.pass c.end.new.pass
-    (given-of by Op.Detach c.args.entry c.args.claim c.in_ok-claim.claim c.detach-claim.result.1 c.detach-claim.result.0.board c.requires.runs.entry_is c.in_ok-claim.ensures.same c.detach-claim.ensures.call)
-    (payload-of Op.Detach c.args.claim c.in_ok-claim.claim c.detach-claim.result.0 c.detach-claim.result.1 c.in_ok-claim.ensures.same c.detach-claim.ensures.noted)
-    c.in_ok-claim.ensures.gained c.end.ensures.same c.end.ensures.gained
+    made-end ((goal.Plugin-dyn g c.args.plugin.now).steps c.args.plugin.now.1) c.args.entry c.end.result Op.Detach c.detach-claim.result.1 c.args.claim c.in_ok-claim.claim c.detach-claim.result.0 c.args.pass.now c.begin.new.pass c.end.new.pass
+    c.requires.runs.entry_is c.in_ok-claim.ensures.same c.detach-claim.ensures.call c.detach-claim.ensures.noted c.in_ok-claim.ensures.gained c.end.ensures.same c.end.ensures.gained
 
 pub returns-clause-gone : goal.returns-clause-gone
 returns-clause-gone g c =
-    let by = (goal.Plugin-dyn g c.args.plugin.now).steps c.args.plugin.now.1 in
-    gone-end by c.args.entry c.end.result Op.Detach c.args.claim c.detach-claim.result.1 c.detach-claim.result.0.board c.args.pass.now c.begin.new.pass c.end.new.pass
-    (given-of by Op.Detach c.args.entry c.args.claim c.in_ok-claim.claim c.detach-claim.result.1 c.detach-claim.result.0.board c.requires.runs.entry_is c.in_ok-claim.ensures.same c.detach-claim.ensures.call)
-    c.in_ok-claim.ensures.gained c.end.ensures.gone
+    gone-end ((goal.Plugin-dyn g c.args.plugin.now).steps c.args.plugin.now.1) c.args.entry c.end.result Op.Detach c.args.claim c.in_ok-claim.claim c.detach-claim.result.1 c.detach-claim.result.0.board c.args.pass.now c.begin.new.pass c.end.new.pass
+    c.requires.runs.entry_is c.in_ok-claim.ensures.same c.detach-claim.ensures.call c.in_ok-claim.ensures.gained c.end.ensures.gone

@@ -3,8 +3,7 @@ use Rattle.update_log.specs.declared.event.Op.{Op}
 use Rattle.device_claims.specs.declared.claim.Parts.{Parts}
 use Rattle.device_claims.specs.States.{IsNext}
 use Rattle.plain_runs.proofs.Same.{on-same}
-use Rattle.plain_runs.proofs.Logs.{back-none, given-of, gone-end, made-end, on-err, payload-of}
-use Rattle.plain_runs.specs.Ran.{BroughtHome, GaveBack}
+use Rattle.plain_runs.proofs.Logs.{back-none, gone-end, made-end, on-err}
 use Rattle.emulated_boards.specs.Images.{payload_image}
 use Rattle.plain_runs.proofs.Planned.{home-after, out-stepped, planned-after}
 use Rattle.plain_runs.proofs.steps.attach.Goals as goal
@@ -12,9 +11,7 @@ use Rattle.plain_runs.proofs.steps.attach.Goals as goal
 -- src/steps.rt
 pub returns-in_err-claim-clause-gone : goal.returns-in_err-claim-clause-gone
 returns-in_err-claim-clause-gone g c =
-    let by = (goal.Plugin-dyn g c.args.plugin.now).steps c.args.plugin.now.1 in
-    on-err c.from_residual.result (GaveBack by c.args.client c.args.entry c.args.claim c.args.house.now.annals c.begin.new.house.annals)
-    (back-none by c.args.client c.args.entry c.args.claim c.args.house.now.annals c.begin.new.house.annals c.in_err-claim.ensures.gone)
+    on-err c.from_residual.result _ (back-none ((goal.Plugin-dyn g c.args.plugin.now).steps c.args.plugin.now.1) c.args.client c.args.entry c.args.claim c.args.house.now.annals c.begin.new.house.annals c.in_err-claim.ensures.gone)
 
 pub end-requires : goal.end-requires
 end-requires g c =
@@ -28,26 +25,20 @@ end-requires g c =
 
 pub returns-clause-made : goal.returns-clause-made
 returns-clause-made g c =
-    let by = (goal.Plugin-dyn g c.args.plugin.now).steps c.args.plugin.now.1 in
-    made-end by c.args.client c.args.entry c.end.result Op.Attach c.attach-claim.result.1 c.args.claim c.attach-claim.result.0 c.args.house.now.annals c.begin.new.house.annals c.end.new.house.annals
-    (given-of by Op.Attach c.args.entry c.args.claim c.in_ok-claim.claim c.attach-claim.result.1 c.attach-claim.result.0.board c.requires.entry c.in_ok-claim.ensures.same c.attach-claim.ensures.call)
-    (payload-of Op.Attach c.args.claim c.in_ok-claim.claim c.attach-claim.result.0 c.attach-claim.result.1 c.in_ok-claim.ensures.same c.attach-claim.ensures.noted)
-    c.in_ok-claim.ensures.gained c.end.ensures.same c.end.ensures.gained
+    made-end ((goal.Plugin-dyn g c.args.plugin.now).steps c.args.plugin.now.1) c.args.client c.args.entry c.end.result Op.Attach c.attach-claim.result.1 c.args.claim c.in_ok-claim.claim c.attach-claim.result.0 c.args.house.now.annals c.begin.new.house.annals c.end.new.house.annals
+    c.requires.entry c.in_ok-claim.ensures.same c.attach-claim.ensures.call c.attach-claim.ensures.noted c.in_ok-claim.ensures.gained c.end.ensures.same c.end.ensures.gained
 
 pub returns-clause-gone : goal.returns-clause-gone
 returns-clause-gone g c =
-    let by = (goal.Plugin-dyn g c.args.plugin.now).steps c.args.plugin.now.1 in
-    gone-end by c.args.client c.args.entry c.end.result Op.Attach c.args.claim c.attach-claim.result.1 c.attach-claim.result.0.board c.args.house.now.annals c.begin.new.house.annals c.end.new.house.annals
-    (given-of by Op.Attach c.args.entry c.args.claim c.in_ok-claim.claim c.attach-claim.result.1 c.attach-claim.result.0.board c.requires.entry c.in_ok-claim.ensures.same c.attach-claim.ensures.call)
-    c.in_ok-claim.ensures.gained c.end.ensures.gone
+    gone-end ((goal.Plugin-dyn g c.args.plugin.now).steps c.args.plugin.now.1) c.args.client c.args.entry c.end.result Op.Attach c.args.claim c.in_ok-claim.claim c.attach-claim.result.1 c.attach-claim.result.0.board c.args.house.now.annals c.begin.new.house.annals c.end.new.house.annals
+    c.requires.entry c.in_ok-claim.ensures.same c.attach-claim.ensures.call c.in_ok-claim.ensures.gained c.end.ensures.gone
 
 pub returns-clause-next : goal.returns-clause-next
 returns-clause-next g c =
     on-same c.end.result c.attach-claim.result.0 (λ (n : Parts). IsNext Op.Reload n.trace) c.end.ensures.same c.attach-claim.ensures.next
 
 pub returns-in_err-claim-clause-home : goal.returns-in_err-claim-clause-home
-returns-in_err-claim-clause-home g c =
-    on-err c.from_residual.result (BroughtHome c.args.entry c.args.claim.board c.args.house.now c.begin.new.house) c.in_err-claim.ensures.home
+returns-in_err-claim-clause-home g c = on-err c.from_residual.result _ c.in_err-claim.ensures.home
 
 pub returns-clause-planned : goal.returns-clause-planned
 returns-clause-planned g c =
