@@ -1,4 +1,4 @@
-//! Tests of the words by their public calls: names, numbers, identifiers, versions, patterns.
+//! Tests of the words by their public calls: names, numbers, identifiers, versions, patterns, JSON.
 //!
 //! They stand in a crate of their own, since a crate that has tests is proved a second time with them.
 #![tactic(auto)]
@@ -7,6 +7,8 @@
 mod basics;
 #[cfg(test)]
 mod identifiers;
+#[cfg(test)]
+mod json_texts;
 #[cfg(test)]
 mod patterns;
 #[cfg(test)]
