@@ -1,6 +1,6 @@
 //! What no clause says: that calls succeed.
+use json_values::Scratch;
 use release_catalogue::Word;
-use serde_json::Value;
 use site_parts::{Ports, needed_here, whole_spot};
 use std::test::Fail;
 
@@ -17,7 +17,8 @@ fn a_port_is_found_by_its_place(rt: HostRuntime) -> Result<(), Fail> {
 
 #[test]
 fn a_member_is_told_at_its_object(rt: HostRuntime) -> Result<(), Fail> {
-    let value = Value::from_str(rt.alloc(), r#"{"call":1}"#)?;
+    let mut scratch = Scratch::new(rt.alloc());
+    let value = json_values::read(rt.alloc(), r#"{"call":1}"#.as_bytes(), &mut scratch)?;
     let spot = whole_spot();
     assert!(rt; needed_here(&value, spot, Word::Call).is_ok());
     assert!(rt; needed_here(&value, spot, Word::Fault).is_err());

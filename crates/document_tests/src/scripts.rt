@@ -5,8 +5,8 @@
 use client_scripts::Item;
 use device_list::Selector;
 use fw_base::Listed;
+use json_values::Scratch;
 use release_catalogue::{ReadStop, Word};
-use serde_json::Value;
 use site_parts::{Ports, whole_spot};
 use site_scripts::{Boot, part, read_boots, read_clients};
 use std::alloc::Global;
@@ -37,7 +37,8 @@ fn told_stop(alloc: Global, stop: ReadStop) -> Result<String, Fail> {
 
 /// What is told of a section `clients`.
 fn told_of_clients(alloc: Global, text: &str) -> Result<String, Fail> {
-    let value = Value::from_str(alloc, text)?;
+    let mut scratch = Scratch::new(alloc);
+    let value = json_values::read(alloc, text.as_bytes(), &mut scratch)?;
     match read_clients(alloc, &value, whole_spot().field(Word::Clients)) {
         Ok(_) => Ok(String::from_str(alloc, "read")?),
         Err(stop) => told_stop(alloc, stop),
@@ -46,7 +47,8 @@ fn told_of_clients(alloc: Global, text: &str) -> Result<String, Fail> {
 
 /// The boots of a section `boots`.
 fn boots_of(alloc: Global, text: &str) -> Result<Result<Vec<Boot>, ReadStop>, Fail> {
-    let value = Value::from_str(alloc, text)?;
+    let mut scratch = Scratch::new(alloc);
+    let value = json_values::read(alloc, text.as_bytes(), &mut scratch)?;
     let mut ports = Ports::new(alloc);
     ports.add(b"usb1")?;
     ports.add(b"usb2")?;

@@ -1,6 +1,7 @@
 //! What no clause says: that calls succeed, and that the faults are the ones that were meant.
 use fw_base::{Line, Name};
 use guid_ids::Guid;
+use json_values::{Scratch, Value};
 use release_catalogue::defaults::{
     boolean_or, line_or_empty, line_or_none, name_or_none, number_or, version_or_none,
 };
@@ -9,7 +10,6 @@ use release_catalogue::kinds::{
     boolean, digest, guid, line, name, name_among, number, object, text, version,
 };
 use release_catalogue::{Catalogue, CatalogueFault, ReadStop, Reason, Spot, Word};
-use serde_json::Value;
 use std::alloc::Global;
 use std::test::Fail;
 use version_formats::Version;
@@ -29,13 +29,15 @@ const HUB: &[u8] = b"2082b5e0-7a64-478a-b1b2-e3404fab6dad";
 const OTHER: &[u8] = b"2082B5E0-7A64-478A-B1B2-E3404FAB6DAE";
 
 fn catalogue(alloc: Global, json: &str) -> Result<Catalogue, Fail> {
-    let value = Value::from_str(alloc, json)?;
+    let mut scratch = Scratch::new(alloc);
+    let value = json_values::read(alloc, json.as_bytes(), &mut scratch)?;
     Ok(Catalogue::from_value(alloc, &value)?)
 }
 
 /// The first fault of a list of components, or `read`.
 fn told(alloc: Global, json: &str) -> Result<String, Fail> {
-    let value = Value::from_str(alloc, json)?;
+    let mut scratch = Scratch::new(alloc);
+    let value = json_values::read(alloc, json.as_bytes(), &mut scratch)?;
     match Catalogue::from_value(alloc, &value) {
         Ok(_) => Ok(String::from_str(alloc, "read")?),
         Err(fault) => Ok(format!(in alloc; "{fault}")?),
@@ -570,7 +572,8 @@ const FIELDS: &str = r#"{"pool":7,"on-ac":true,"name":"a b","ids":["a","b"]}"#;
 
 #[test]
 fn single_fields(rt: HostRuntime) -> Result<(), Fail> {
-    let value = Value::from_str(rt.alloc(), FIELDS)?;
+    let mut scratch = Scratch::new(rt.alloc());
+    let value = json_values::read(rt.alloc(), FIELDS.as_bytes(), &mut scratch)?;
     let found = [
         reason(object(&value, here())),
         reason(text(&value, here())),
@@ -611,7 +614,8 @@ fn reason_of_names(alloc: Global, value: &Value, most: usize) -> Option<Reason> 
 
 #[test]
 fn single_lists(rt: HostRuntime) -> Result<(), Fail> {
-    let value = Value::from_str(rt.alloc(), FIELDS)?;
+    let mut scratch = Scratch::new(rt.alloc());
+    let value = json_values::read(rt.alloc(), FIELDS.as_bytes(), &mut scratch)?;
     assert_eq!(rt; reason_of_names(rt.alloc(), &value, 2), None);
     assert_eq!(rt;
         reason_of_names(rt.alloc(), &value, 1),
@@ -623,7 +627,8 @@ fn single_lists(rt: HostRuntime) -> Result<(), Fail> {
 /// Which kinds a value is of: number 7, truth, name, line, one of two names, version, digest, GUID.
 fn kinds(alloc: Global, json: &str) -> Result<[bool; 8], Fail> {
     let json = filled(alloc, json)?;
-    let value = Value::from_str(alloc, json.as_str())?;
+    let mut scratch = Scratch::new(alloc);
+    let value = json_values::read(alloc, json.as_bytes(), &mut scratch)?;
     Ok([
         number(&value, here(), 7, 7).is_ok(),
         boolean(&value, here()).is_ok(),

@@ -7,9 +7,9 @@ use fw_base::{Line, Listed, Name};
 use fw_facts::{DeviceFlag, DeviceFlags, MachineFacts, MachineTest, Sheet, VetoRule};
 use guid_ids::{Guid, device_id, guid_of};
 use history_keeper::{Row, RowState, first_faulty};
+use json_values::Scratch;
 use log_stories::Story;
 use release_catalogue::{Catalogue, ReleaseRef};
-use serde_json::Value;
 use std::alloc::Global;
 use std::slice;
 use std::test::Fail;
@@ -94,7 +94,8 @@ fn sheets(alloc: Global, level: Level) -> Result<Vec<Sheet>, Fail>
 }
 
 fn catalogue(alloc: Global) -> Result<Catalogue, Fail> {
-    let value = Value::from_str(alloc, COMPONENTS)?;
+    let mut scratch = Scratch::new(alloc);
+    let value = json_values::read(alloc, COMPONENTS.as_bytes(), &mut scratch)?;
     Ok(Catalogue::from_value(alloc, &value)?)
 }
 

@@ -6,6 +6,7 @@ pub mod Places
 pub mod Reading
 pub mod Requirements
 pub mod Words
+pub use Rattle.json_values.specs.Trees
 pub use Rattle.fw_base.specs.Digests
 pub use Rattle.fw_base.specs.Lines
 pub use Rattle.fw_base.specs.Names

@@ -1,6 +1,6 @@
 //! The catalogue.
 ghost use Rattle.std.specs.Prelude.{◌≡◌, ◌+◌, ◌≤◌, ◌<◌, All, IfOk, Some, length, slice_get};
-ghost use Rattle.serde_json.specs.View.{view};
+ghost use Rattle.json_values.specs.Trees.{view};
 ghost use Rattle.release_catalogue.specs.Reading.{Gives};
 ghost use Rattle.release_catalogue.specs.Faults.{Tells};
 ghost use Rattle.release_catalogue.specs.Components.{components_at, components_behind, releases_in, within_limits};
@@ -18,7 +18,7 @@ use crate::spot::{Level, ReadStop, Spot, fault_at};
 use fw_base::{Listed, NoMemory};
 use fw_facts::Component;
 use guid_ids::Guid;
-use serde_json::Value;
+use json_values::Value;
 use std::alloc::Global;
 use std::marker::Model;
 use version_formats::Version;

@@ -1,7 +1,7 @@
 //! Comparisons, and the tests that they make.
 ghost use Rattle.std.specs.Prelude.{◌≡◌, find};
 ghost use Rattle.std.specs.Str.{bytes_eq};
-ghost use Rattle.serde_json.specs.View.{view};
+ghost use Rattle.json_values.specs.Trees.{view};
 ghost use Rattle.release_catalogue.specs.Reading.{Gives};
 ghost use Rattle.release_catalogue.specs.Requirements.{comparison_word, comparison_at, vendor_word, vendor_comparison_at, compared_at, vendor_compared_at, test_at, vendor_test_at, maybe_test_at};
 
@@ -12,7 +12,7 @@ use crate::reason::Reason;
 use crate::spot::{ReadStop, Spot, fault_at};
 use crate::word::Word;
 use fw_facts::{Test, VendorTest};
-use serde_json::Value;
+use json_values::Value;
 use std::alloc::Global;
 
 /// How a version is compared.

@@ -1,6 +1,6 @@
 //! Components in the document.
 ghost use Rattle.std.specs.Prelude.{◌≡◌, ◌+◌, ◌<◌, ◌≤◌, ◌^◌, [], All, IfOk, length, map, nat_lt};
-ghost use Rattle.serde_json.specs.View.{view, items_view};
+ghost use Rattle.json_values.specs.Trees.{view, items_view};
 ghost use Rattle.release_catalogue.specs.Reading.{Gives, each, entry_spot, optional, the};
 ghost use Rattle.release_catalogue.specs.Kinds.{guid_at, list_at, plain_list_at};
 ghost use Rattle.release_catalogue.specs.Requirements.{requirement_at};
@@ -18,7 +18,7 @@ use crate::word::Word;
 use fw_base::{Listed, Name};
 use fw_facts::{Component, Release, Requirement};
 use guid_ids::Guid;
-use serde_json::Value;
+use json_values::Value;
 use std::alloc::Global;
 
 /// The most components of a catalogue.

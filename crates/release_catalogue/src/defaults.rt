@@ -1,6 +1,6 @@
 //! Fields that may be missing.
 ghost use Rattle.std.specs.Prelude.{◌≡◌, []};
-ghost use Rattle.serde_json.specs.View.{view};
+ghost use Rattle.json_values.specs.Trees.{view};
 ghost use Rattle.release_catalogue.specs.Reading.{Gives, optional, maybe, maybe_here};
 ghost use Rattle.release_catalogue.specs.Kinds.{number_at, bool_at, name_at, line_at, version_at};
 
@@ -9,7 +9,7 @@ use crate::members::member;
 use crate::spot::{ReadStop, Spot};
 use crate::word::Word;
 use fw_base::{Line, Name};
-use serde_json::Value;
+use json_values::Value;
 use version_formats::Version;
 
 /// A line, or the empty one where it is missing.

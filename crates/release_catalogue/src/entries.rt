@@ -1,7 +1,7 @@
 //! Lists.
 ghost use Rattle.std.specs.Prelude.{◌≡◌, ◌≤◌, ◌<◌, ◌^◌, ℕ, [], IfOk, List, Result, length, map};
 ghost use Rattle.serde_json.specs.Data.{Data};
-ghost use Rattle.serde_json.specs.View.{view, items_view};
+ghost use Rattle.json_values.specs.Trees.{view, items_view};
 ghost use Rattle.release_catalogue.specs.declared.spot.Spot.{Spot};
 ghost use Rattle.release_catalogue.specs.declared.spot.Fault.{Fault};
 ghost use Rattle.release_catalogue.specs.declared.spot.Level.TheVariants.{Whole};
@@ -15,7 +15,7 @@ use crate::spot::{Level, ReadStop, Spot, fault_at};
 use crate::word::Word;
 use fw_base::{Line, Name};
 use guid_ids::Guid;
-use serde_json::Value;
+use json_values::Value;
 use std::alloc::Global;
 
 /// What the entries of a list are read as. The entries before it in its list are at hand.

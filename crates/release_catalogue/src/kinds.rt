@@ -3,7 +3,7 @@
 ghost use Rattle.std.specs.Prelude.{◌≡◌, ◌≤◌, IfOk, map};
 ghost use Rattle.std.specs.List.{list_any};
 ghost use Rattle.std.specs.Str.{bytes_eq};
-ghost use Rattle.serde_json.specs.View.{view, items_view};
+ghost use Rattle.json_values.specs.Trees.{view, items_view};
 ghost use Rattle.release_catalogue.specs.Reading.{Gives};
 ghost use Rattle.release_catalogue.specs.Kinds.{number_at, bool_at, text_at, name_at, name_among_at, line_at, version_at, digest_at, guid_at, items_at, object_at};
 
@@ -11,7 +11,7 @@ use crate::reason::Reason;
 use crate::spot::{ReadStop, Spot, fault_at};
 use fw_base::{Digest, Line, Name, read_digest};
 use guid_ids::Guid;
-use serde_json::Value;
+use json_values::Value;
 use version_formats::Version;
 
 /// A number from `least` to `most`, with no point and no exponent, else `WrongKind`.
@@ -19,7 +19,7 @@ pub fn number(value: &Value, spot: Spot, least: u64, most: u64) -> Result<u64, R
     ensures read { Gives (λ n. n) result (number_at least most spot (view value.now)) }
     ensures within { IfOk result (λ n. n ≤ most) }
 {
-    match value.as_u64() {
+    match json_values::number(value) {
         None => Err(fault_at(spot, Reason::WrongKind)),
         Some(n) => {
             if least <= n && n <= most {
@@ -35,17 +35,17 @@ pub fn number(value: &Value, spot: Spot, least: u64, most: u64) -> Result<u64, R
 pub fn boolean(value: &Value, spot: Spot) -> Result<bool, ReadStop>
     ensures { Gives (λ b. b) result (bool_at spot (view value.now)) }
 {
-    match value.as_bool() {
+    match json_values::boolean(value) {
         None => Err(fault_at(spot, Reason::WrongKind)),
         Some(b) => Ok(b),
     }
 }
 
 /// A text, else `WrongKind`.
-pub fn text<'v>(value: &'v Value, spot: Spot) -> Result<&'v str, ReadStop>
+pub fn text<'t>(value: &Value<'t>, spot: Spot) -> Result<&'t str, ReadStop>
     ensures { Gives (λ s. s.now) result (text_at spot (view value.now)) }
 {
-    match value.as_str() {
+    match json_values::text(value) {
         None => Err(fault_at(spot, Reason::WrongKind)),
         Some(s) => Ok(s),
     }
@@ -131,12 +131,12 @@ pub fn guid(value: &Value, spot: Spot) -> Result<Guid, ReadStop>
 }
 
 /// The entries of a list, else `WrongKind`.
-pub fn items<'v>(value: &'v Value, spot: Spot) -> Result<&'v [Value], ReadStop>
+pub fn items<'v, 't>(value: &'v Value<'t>, spot: Spot) -> Result<&'v [Value<'t>], ReadStop>
     ensures { Gives (λ s. items_view s.now) result (items_at spot (view value.now)) }
 {
-    match value.as_array() {
+    match json_values::items(value) {
         None => Err(fault_at(spot, Reason::WrongKind)),
-        Some(v) => Ok(v.as_slice()),
+        Some(items) => Ok(items),
     }
 }
 
@@ -144,7 +144,7 @@ pub fn items<'v>(value: &'v Value, spot: Spot) -> Result<&'v [Value], ReadStop>
 pub fn object(value: &Value, spot: Spot) -> Result<(), ReadStop>
     ensures { Gives (λ u. u) result (object_at spot (view value.now)) }
 {
-    if value.is_object() {
+    if json_values::is_object(value) {
         Ok(())
     } else {
         Err(fault_at(spot, Reason::WrongKind))

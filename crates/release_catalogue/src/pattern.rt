@@ -1,6 +1,6 @@
 //! Patterns in the document.
 ghost use Rattle.std.specs.Prelude.{◌≡◌};
-ghost use Rattle.serde_json.specs.View.{view};
+ghost use Rattle.json_values.specs.Trees.{view};
 ghost use Rattle.release_catalogue.specs.Reading.{Gives};
 ghost use Rattle.release_catalogue.specs.Requirements.{pattern_stop, glob_at, regex_at};
 
@@ -8,7 +8,7 @@ use crate::kinds::text;
 use crate::reason::Reason;
 use crate::spot::{ReadStop, Spot, fault_at};
 use fw_patterns::{Pattern, PatternFault};
-use serde_json::Value;
+use json_values::Value;
 use std::alloc::Global;
 
 /// A glob. What isn't a text of up to 255 bytes is `WrongKind`, another text `BadPattern` with the

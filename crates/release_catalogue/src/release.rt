@@ -1,6 +1,6 @@
 //! Releases in the document.
 ghost use Rattle.std.specs.Prelude.{◌≡◌, ◌+◌, ◌<◌, ◌≤◌, ◌^◌, IfOk, codes, length};
-ghost use Rattle.serde_json.specs.View.{view};
+ghost use Rattle.json_values.specs.Trees.{view};
 ghost use Rattle.release_catalogue.specs.Reading.{Gives, optional};
 ghost use Rattle.release_catalogue.specs.Kinds.{name_among_at};
 ghost use Rattle.release_catalogue.specs.Components.{release_at, releases_at, urgency_words};
@@ -13,7 +13,7 @@ use crate::spot::{Level, ReadStop, Spot, fault_at};
 use crate::word::Word;
 use fw_base::Name;
 use fw_facts::Release;
-use serde_json::Value;
+use json_values::Value;
 use std::alloc::Global;
 
 /// The most releases of a catalogue.

@@ -1,6 +1,6 @@
 //! Requirements in the document.
 ghost use Rattle.std.specs.Prelude.{◌≡◌, []};
-ghost use Rattle.serde_json.specs.View.{view};
+ghost use Rattle.json_values.specs.Trees.{view};
 ghost use Rattle.release_catalogue.specs.Reading.{Gives, maybe, optional};
 ghost use Rattle.release_catalogue.specs.Kinds.{text_at};
 ghost use Rattle.release_catalogue.specs.Requirements.{depth_at, required_of, requirement_at};
@@ -15,7 +15,7 @@ use crate::subject::{Subject, read_subject, read_tag};
 use crate::word::Word;
 use fw_facts::Requirement;
 use guid_ids::Guid;
-use serde_json::Value;
+use json_values::Value;
 use std::alloc::Global;
 
 impl Entry for Requirement {
@@ -51,7 +51,7 @@ pub fn requirement(alloc: Global, value: &Value, spot: Spot) -> Result<Requireme
     required(alloc, subject, depth, value, spot)
 }
 
-fn text_or_empty<'v>(value: &'v Value, spot: Spot) -> Result<&'v str, ReadStop>
+fn text_or_empty<'t>(value: &Value<'t>, spot: Spot) -> Result<&'t str, ReadStop>
     ensures { Gives (λ s. s.now) result (optional spot Word.Text text_at [] (view value.now)) }
 {
     match member(value, Word::Text) {

@@ -1,7 +1,7 @@
 //! Whom a requirement speaks of.
 ghost use Rattle.std.specs.Prelude.{◌≡◌, ◌==◌, List, ℕ, IfOk, count_by, find, length, map, nat_lt};
 ghost use Rattle.std.specs.Str.{bytes_eq};
-ghost use Rattle.serde_json.specs.View.{view};
+ghost use Rattle.json_values.specs.Trees.{view};
 ghost use Rattle.std.specs.Result.{result_ok};
 ghost use Rattle.fw_base.specs.Names.{name_read};
 ghost use Rattle.release_catalogue.specs.Reading.{Gives, or_fault};
@@ -13,7 +13,7 @@ use crate::reason::Reason;
 use crate::spot::{ReadStop, Spot, fault_at};
 use fw_base::{Listed, Name, NoMemory};
 use guid_ids::Guid;
-use serde_json::Value;
+use json_values::Value;
 use std::alloc::{AllocError, Global};
 
 /// The most GUIDs of a list.

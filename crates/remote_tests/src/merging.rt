@@ -1,9 +1,9 @@
 //! What no clause says: that calls succeed, and that the merged catalogue is the one that was meant.
 use fw_base::Name;
 use fw_facts::Component;
+use json_values::Scratch;
 use release_catalogue::Catalogue;
 use remote_set::{MergeFault, Merged, Remote, merge};
-use serde_json::Value;
 use std::alloc::Global;
 use std::test::Fail;
 
@@ -43,7 +43,8 @@ fn catalogue(alloc: Global, components: &[Stated]) -> Result<Catalogue, Fail> {
         text.push_str(&one)?;
     }
     text.push_str("]")?;
-    let value = Value::from_str(alloc, text.as_str())?;
+    let mut scratch = Scratch::new(alloc);
+    let value = json_values::read(alloc, text.as_bytes(), &mut scratch)?;
     Ok(Catalogue::from_value(alloc, &value)?)
 }
 

@@ -7,9 +7,9 @@ use fw_base::{Line, Listed, Name};
 use fw_facts::{DeviceFlag, DeviceFlags, MachineFacts, Sheet};
 use guid_ids::{Guid, device_id, guid_of};
 use history_keeper::{Row, RowState, first_faulty};
+use json_values::Scratch;
 use log_stories::Story;
 use release_catalogue::Catalogue;
-use serde_json::Value;
 use std::alloc::Global;
 use std::slice;
 use std::test::Fail;
@@ -173,7 +173,8 @@ fn catalogue_text(alloc: Global, beside: &str, newer: u32) -> Result<String, Fai
 /// and an older one.
 fn catalogue(alloc: Global, beside: &str, newer: u32) -> Result<Catalogue, Fail> {
     let text = catalogue_text(alloc, beside, newer)?;
-    let value = Value::from_str(alloc, text.as_str())?;
+    let mut scratch = Scratch::new(alloc);
+    let value = json_values::read(alloc, text.as_bytes(), &mut scratch)?;
     Ok(Catalogue::from_value(alloc, &value)?)
 }
 

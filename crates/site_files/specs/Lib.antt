@@ -7,6 +7,7 @@ pub mod Quirks
 pub mod Sites
 pub mod Texts
 pub mod Told
+pub use Rattle.json_values.specs.Trees
 pub use Rattle.fw_base.specs.Names
 pub use Rattle.guid_ids.specs.Identifiers
 pub use Rattle.fw_facts.specs.Flags as FwFactsFlags

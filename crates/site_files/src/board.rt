@@ -1,7 +1,7 @@
 //! A board of the document, among those before it.
 ghost use Rattle.std.specs.Prelude.{◌≡◌, ◌∷◌, ◌++◌, ◌||◌, [], IfOk, false, is_some};
 ghost use Rattle.std.specs.Option.{option_copied};
-ghost use Rattle.serde_json.specs.View.{view};
+ghost use Rattle.json_values.specs.Trees.{view};
 ghost use Rattle.std.specs.Result.{result_ok};
 ghost use Rattle.fw_base.specs.Names.{name_read};
 ghost use Rattle.guid_ids.specs.Identifiers.{device_id, named_device, named_guid};
@@ -16,6 +16,7 @@ use emulated_boards::PlannedFault;
 use fw_base::{Line, Listed, Name};
 use fw_facts::{DeviceFlags, Sheet};
 use guid_ids::{DeviceId, Guid, device_id};
+use json_values::Value;
 use quirk_files::values::{Formats, Reader};
 use release_catalogue::defaults::{
     boolean_or, line_or_empty, line_or_none, name_or_none, number_or, version_or_none,
@@ -25,7 +26,6 @@ use release_catalogue::kinds::{name, object, text};
 use release_catalogue::members::{member, needed};
 use release_catalogue::spot::fault_at;
 use release_catalogue::{ReadStop, Reason, Spot, Word};
-use serde_json::Value;
 use site_parts::Ports;
 use site_types::SiteBoard;
 use std::alloc::Global;
@@ -106,11 +106,11 @@ pub struct Rest {
 
 /// A board, among those before it, whose ports these are. Its own port comes to them.
 #[tactic(auto, unfolding(crate::specs::Boards::board_at))]
-pub fn read_board<'v>(
+pub fn read_board<'t>(
     alloc: Global,
     earlier: &[Placed],
-    ports: &mut Ports<'v>,
-    value: &'v Value,
+    ports: &mut Ports<'t>,
+    value: &Value<'t>,
     spot: Spot,
 ) -> Result<Placed, ReadStop>
     requires { ports.old ≡ ports_of earlier.now }

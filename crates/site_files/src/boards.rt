@@ -1,6 +1,6 @@
 //! The boards of the document.
 ghost use Rattle.std.specs.Prelude.{◌≡◌, ◌≤◌, [], IfOk, length, map};
-ghost use Rattle.serde_json.specs.View.{view, items_view};
+ghost use Rattle.json_values.specs.Trees.{view, items_view};
 ghost use Rattle.release_catalogue.specs.declared.spot.Level.TheVariants.{First};
 ghost use Rattle.release_catalogue.specs.Reading.{Gives, each, entry_spot};
 ghost use Rattle.site_files.specs.Boards.{board_at, boards_at, ports_of};
@@ -9,11 +9,11 @@ ghost use Rattle.release_catalogue.specs.declared.word.Word.TheVariants as words
 
 use crate::board::{Placed, read_board};
 use fw_base::{Listed, NoMemory};
+use json_values::Value;
 use release_catalogue::entries::count;
 use release_catalogue::kinds::items;
 use release_catalogue::spot::fault_at;
 use release_catalogue::{Level, ReadStop, Reason, Spot, Word};
-use serde_json::Value;
 use site_parts::{Ports, spot_in};
 use site_types::SiteBoard;
 use std::alloc::Global;
@@ -23,13 +23,13 @@ pub const BOARDS_MAX: usize = 256;
 
 /// The boards that were read, and their ports.
 #[derive(Drop)]
-pub struct Boards<'v> {
+pub struct Boards<'t> {
     pub placed: Vec<Placed>,
-    pub ports: Ports<'v>,
+    pub ports: Ports<'t>,
 }
 
 /// Up to 256 boards.
-pub fn read_boards<'v>(alloc: Global, value: &'v Value, spot: Spot) -> Result<Boards<'v>, ReadStop>
+pub fn read_boards<'t>(alloc: Global, value: &Value<'t>, spot: Spot) -> Result<Boards<'t>, ReadStop>
     ensures read { Gives (λ b. b.placed.items) result (boards_at spot (view value.now)) }
     ensures ports { IfOk result (λ b. b.ports ≡ ports_of b.placed.items) }
     ensures few { IfOk result (λ b. length b.placed.items ≤ 256) }
@@ -41,7 +41,7 @@ pub fn read_boards<'v>(alloc: Global, value: &'v Value, spot: Spot) -> Result<Bo
     each_board(alloc, values)
 }
 
-fn each_board<'v>(alloc: Global, values: &'v [Value]) -> Result<Boards<'v>, ReadStop>
+fn each_board<'t>(alloc: Global, values: &[Value<'t>]) -> Result<Boards<'t>, ReadStop>
     requires { length values.now ≤ 256 }
     ensures read { Gives (λ b. b.placed.items) result (each board_at (entry_spot (spot_in words.Boards words.Entry) First) [] (items_view values.now)) }
     ensures ports { IfOk result (λ b. b.ports ≡ ports_of b.placed.items) }

@@ -1,6 +1,6 @@
 //! The sections of the document.
 ghost use Rattle.std.specs.Prelude.{◌≡◌, ◌≤◌, ◌∷◌, [], IfOk, None, length};
-ghost use Rattle.serde_json.specs.View.{view};
+ghost use Rattle.json_values.specs.Trees.{view};
 ghost use Rattle.release_catalogue.specs.declared.word.Word.TheVariants as words;
 ghost use Rattle.release_catalogue.specs.Reading.{Gives, the};
 ghost use Rattle.release_catalogue.specs.Kinds.{number_at};
@@ -18,12 +18,12 @@ use crate::quirks::quirks_or_none;
 use crate::text::json;
 use client_scripts::Item;
 use fw_base::{Listed, Name, NoMemory};
+use json_values::{Scratch, Value};
 use quirk_files::QuirkBook;
 use release_catalogue::kinds::{number, object};
 use release_catalogue::members::needed;
 use release_catalogue::{Catalogue, ReadStop, Word};
 use remote_set::Remote;
-use serde_json::Value;
 use site_parts::{spot_in, whole_spot};
 use site_remotes::{gather, local, remotes_or_local};
 use site_scripts::{part, read_boots, read_clients};
@@ -68,7 +68,8 @@ pub fn read_site(alloc: Global, bytes: &[u8]) -> Result<Site, SiteFault>
 fn read(alloc: Global, bytes: &[u8]) -> Result<Site, ReadStop>
     ensures { Gives (λ s. s) result (site_of bytes.now) }
 {
-    let value = json(alloc, bytes)?;
+    let mut scratch = Scratch::new(alloc);
+    let value = json(alloc, bytes, &mut scratch)?;
     site(alloc, &value)
 }
 

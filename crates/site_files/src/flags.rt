@@ -1,17 +1,17 @@
 //! The flags of a board.
 ghost use Rattle.std.specs.Prelude.{◌≡◌, find};
 ghost use Rattle.std.specs.Str.{bytes_eq};
-ghost use Rattle.serde_json.specs.View.{view, items_view};
+ghost use Rattle.json_values.specs.Trees.{view, items_view};
 ghost use Rattle.fw_facts.specs.Flags.{flag_word, no_flags};
 ghost use Rattle.release_catalogue.specs.Reading.{Gives, optional};
 ghost use Rattle.site_files.specs.Flags.{each_flag, flag_at, flags_at};
 
 use fw_facts::{DeviceFlag, DeviceFlags};
+use json_values::Value;
 use release_catalogue::kinds::{items, text};
 use release_catalogue::members::member;
 use release_catalogue::spot::fault_at;
 use release_catalogue::{ReadStop, Reason, Spot, Word};
-use serde_json::Value;
 
 /// The flags of the board, or none where the field is missing.
 pub fn flags_or_none(value: &Value, spot: Spot) -> Result<DeviceFlags, ReadStop>

@@ -1,6 +1,6 @@
 //! Instance IDs, and the lines that they are.
 ghost use Rattle.std.specs.Prelude.{◌≡◌, ◌≤◌, ◌<◌, ◌^◌, [], length};
-ghost use Rattle.serde_json.specs.View.{view, items_view};
+ghost use Rattle.json_values.specs.Trees.{view, items_view};
 ghost use Rattle.release_catalogue.specs.declared.spot.Level.TheVariants.{Whole};
 ghost use Rattle.release_catalogue.specs.Reading.{Gives, each, entry_spot, optional, the};
 ghost use Rattle.release_catalogue.specs.Kinds.{plain_list_at};
@@ -8,12 +8,12 @@ ghost use Rattle.site_files.specs.Instances.{full_line_at, instance_at, instance
 
 use fw_base::{Line, Listed};
 use guid_ids::{Guid, guid_of};
+use json_values::Value;
 use release_catalogue::entries::count;
 use release_catalogue::kinds::{items, line};
 use release_catalogue::members::{member, needed};
 use release_catalogue::spot::fault_at;
 use release_catalogue::{ReadStop, Reason, Spot, Word};
-use serde_json::Value;
 use std::alloc::Global;
 
 /// The most entries of a list of instance IDs.

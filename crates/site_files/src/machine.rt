@@ -1,7 +1,7 @@
 //! The machine.
 ghost use Rattle.std.specs.Prelude.{◌≡◌, ◌∷◌, ◌++◌, [], IfOk};
 ghost use Rattle.serde_json.specs.Find.{as_object};
-ghost use Rattle.serde_json.specs.View.{view, members_view};
+ghost use Rattle.json_values.specs.Trees.{view, members_view};
 ghost use Rattle.release_catalogue.specs.Reading.{Gives, optional, or_fault};
 ghost use Rattle.release_catalogue.specs.Kinds.{guid_at, plain_list_at};
 ghost use Rattle.site_parts.specs.Places.{optional_here};
@@ -10,15 +10,16 @@ ghost use Rattle.site_files.specs.Machines.{daemon_id, each_id, hardware_of, id_
 use fw_base::{Listed, Name, NoMemory};
 use fw_facts::MachineFacts;
 use guid_ids::{Guid, SmbiosFields, SmbiosText, hardware_ids};
+use json_values::{Value, members};
 use release_catalogue::defaults::boolean_or;
 use release_catalogue::entries::list_or_empty;
 use release_catalogue::kinds::{number, object, text, version};
 use release_catalogue::members::{member, needed};
 use release_catalogue::spot::fault_at;
 use release_catalogue::{ReadStop, Reason, Spot, Word};
-use serde_json::{Map, Value};
 use site_parts::spot_in;
 use std::alloc::Global;
+use std::collections::BTreeMap;
 use version_formats::Version;
 
 /// The most names of the machine's software beside the daemon.
@@ -163,39 +164,43 @@ fn ids_or_empty(alloc: Global, value: &Value, spot: Spot) -> Result<Vec<(Name, V
 fn ids(alloc: Global, value: &Value, spot: Spot) -> Result<Vec<(Name, Version)>, ReadStop>
     ensures { Gives (λ v. v.items) result (ids_at spot (view value.now)) }
 {
-    let members = members_of(value, spot)?;
-    if IDS_MAX < count(members) {
+    let members = members_of(alloc, value, spot)?;
+    if IDS_MAX < count(&members) {
         return Err(fault_at(spot, Reason::TooMany));
     }
-    ids_in(alloc, members, spot)
+    ids_in(alloc, &members, spot)
 }
 
-fn members_of<'v>(value: &'v Value, spot: Spot) -> Result<&'v Map<String, Value>, ReadStop>
-    ensures { Gives (λ m. members_view m.now.entries) result (or_fault spot Reason.WrongKind (as_object (view value.now))) }
+fn members_of<'v, 't>(
+    alloc: Global,
+    value: &'v Value<'t>,
+    spot: Spot,
+) -> Result<BTreeMap<&'t str, &'v Value<'t>>, ReadStop>
+    ensures { Gives (λ m. members_view m.entries) result (or_fault spot Reason.WrongKind (as_object (view value.now))) }
 {
-    match value.as_object() {
+    match members(alloc, value)? {
         None => Err(fault_at(spot, Reason::WrongKind)),
         Some(members) => Ok(members),
     }
 }
 
 #[tactic(auto, using(crate::proofs::Loop::members_len_of))]
-fn count(members: &Map<String, Value>) -> usize
+fn count<'v, 't>(members: &BTreeMap<&'t str, &'v Value<'t>>) -> usize
     ensures { result ≡ members_len (members_view members.now.entries) }
 {
     members.len()
 }
 
-fn ids_in(
+fn ids_in<'v, 't>(
     alloc: Global,
-    members: &Map<String, Value>,
+    members: &BTreeMap<&'t str, &'v Value<'t>>,
     spot: Spot,
 ) -> Result<Vec<(Name, Version)>, ReadStop>
     ensures { Gives (λ v. v.items) result (each_id spot [] (members_view members.now.entries)) }
 {
     let mut ids = Vec::new(alloc);
     for (key, value) in members.iter() {
-        let id = id_of(key.as_str(), value, spot)?;
+        let id = id_of(*key, *value, spot)?;
         ids.push(id)?;
     }
     Ok(ids)

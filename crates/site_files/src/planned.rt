@@ -1,7 +1,7 @@
 //! The planned faults of a board. All that is wrong with them is told of their list.
 ghost use Rattle.std.specs.Prelude.{◌≡◌, [], find};
 ghost use Rattle.std.specs.Str.{bytes_eq};
-ghost use Rattle.serde_json.specs.View.{view, items_view};
+ghost use Rattle.json_values.specs.Trees.{view, items_view};
 ghost use Rattle.release_catalogue.specs.declared.spot.Level.TheVariants.{Whole};
 ghost use Rattle.release_catalogue.specs.Reading.{Gives, each, entry_spot, optional};
 ghost use Rattle.release_catalogue.specs.Kinds.{number_at};
@@ -10,12 +10,12 @@ ghost use Rattle.site_files.specs.Plans.{board_fault_at, fault_word, last_call, 
 
 use emulated_boards::{BoardFault, PlannedFault};
 use fw_base::Listed;
+use json_values::Value;
 use release_catalogue::entries::count;
 use release_catalogue::kinds::{items, number, object, text};
 use release_catalogue::members::member;
 use release_catalogue::spot::fault_at;
 use release_catalogue::{ReadStop, Reason, Spot, Word};
-use serde_json::Value;
 use site_parts::needed_here;
 use std::alloc::Global;
 

@@ -1,17 +1,17 @@
 //! The quirk files in the document.
 ghost use Rattle.std.specs.Prelude.{◌≡◌, ◌++◌, ◌≤◌, [], OnOk, length};
 ghost use Rattle.quirk_files.specs.Files.{file_fault, file_quirks};
-ghost use Rattle.serde_json.specs.View.{view, items_view};
+ghost use Rattle.json_values.specs.Trees.{view, items_view};
 ghost use Rattle.release_catalogue.specs.Reading.{Gives, optional};
 ghost use Rattle.site_files.specs.Quirks.{each_file, no_fault, quirk_stop, quirks_at};
 
+use json_values::Value;
 use quirk_files::{QuirkBook, QuirkFault};
 use release_catalogue::entries::count;
 use release_catalogue::kinds::{items, text};
 use release_catalogue::members::member;
 use release_catalogue::spot::fault_at;
 use release_catalogue::{Level, ReadStop, Reason, Spot, Word};
-use serde_json::Value;
 use site_parts::spot_in;
 use std::alloc::Global;
 

@@ -1,27 +1,26 @@
 //! The text of the document.
-ghost use Rattle.serde_json.specs.View.{view};
+ghost use Rattle.json_values.specs.Trees.{view};
 ghost use Rattle.release_catalogue.specs.Reading.{Gives};
 ghost use Rattle.site_files.specs.Texts.{json_at};
 
+use json_values::{JsonFault, Scratch, Value};
 use release_catalogue::spot::fault_at;
 use release_catalogue::{ReadStop, Reason};
-use serde_json::Value;
 use site_parts::whole_spot;
 use std::alloc::Global;
 
-/// The value of the text. Bytes that aren't UTF-8 or that JSON's grammar has no place for are
-/// `NotJson`.
-pub fn json(alloc: Global, bytes: &[u8]) -> Result<Value, ReadStop>
+/// The value of the text, which borrows the bytes and the scratch. Bytes that aren't UTF-8, that JSON's grammar has no
+/// place for, that nest more than 127 deep or that have a number too large for a float are `NotJson`.
+pub fn json<'t>(
+    alloc: Global,
+    bytes: &'t [u8],
+    scratch: &'t mut Scratch,
+) -> Result<Value<'t>, ReadStop>
     ensures { Gives view result (json_at bytes.now) }
 {
-    match Value::from_slice(alloc, bytes) {
+    match json_values::read(alloc, bytes, scratch) {
         Ok(value) => Ok(value),
-        Err(error) => {
-            if error.is_memory() {
-                Err(ReadStop::NoMemory)
-            } else {
-                Err(fault_at(whole_spot(), Reason::NotJson))
-            }
-        }
+        Err(JsonFault::NotJson) => Err(fault_at(whole_spot(), Reason::NotJson)),
+        Err(JsonFault::NoMemory) => Err(ReadStop::NoMemory),
     }
 }

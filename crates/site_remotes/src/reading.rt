@@ -2,13 +2,14 @@
 ghost use Rattle.std.specs.Prelude.{◌≡◌, ◌+◌, ◌∷◌, ◌≤◌, [], IfOk, None, false, length};
 ghost use Rattle.std.specs.List.{list_any};
 ghost use Rattle.std.specs.Str.{bytes_eq};
-ghost use Rattle.serde_json.specs.View.{view, items_view};
+ghost use Rattle.json_values.specs.Trees.{view, items_view};
 ghost use Rattle.release_catalogue.specs.Components.{releases_in};
 ghost use Rattle.release_catalogue.specs.Reading.{Gives, optional, the};
 ghost use Rattle.remote_set.specs.Merged.{first_repeated};
 ghost use Rattle.site_remotes.specs.Remotes.{IsWithin, components_in, components_of, each_remote, local, new_name_at, releases_of, remote_at, remotes_at, taken_by};
 
 use fw_base::{Name, NoMemory};
+use json_values::Value;
 use release_catalogue::component::Taken;
 use release_catalogue::defaults::{boolean_or, number_or};
 use release_catalogue::entries::count;
@@ -17,7 +18,6 @@ use release_catalogue::members::{member, needed};
 use release_catalogue::spot::fault_at;
 use release_catalogue::{Catalogue, Level, ReadStop, Reason, Spot, Word};
 use remote_set::{Remote, count_releases};
-use serde_json::Value;
 use site_parts::spot_in;
 use std::alloc::Global;
 

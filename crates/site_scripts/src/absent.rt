@@ -1,16 +1,16 @@
 //! The boards that are absent in a boot.
 ghost use Rattle.std.specs.Prelude.{◌≡◌, ◌≤◌, [], length};
-ghost use Rattle.serde_json.specs.View.{view, items_view};
+ghost use Rattle.json_values.specs.Trees.{view, items_view};
 ghost use Rattle.release_catalogue.specs.declared.spot.Level.TheVariants.{Whole};
 ghost use Rattle.release_catalogue.specs.Reading.{Gives, each, entry_spot, optional};
 ghost use Rattle.site_scripts.specs.Boots.{absent_at, absents_at};
 
 use fw_base::Listed;
+use json_values::Value;
 use release_catalogue::kinds::{items, text};
 use release_catalogue::members::member;
 use release_catalogue::spot::fault_at;
 use release_catalogue::{ReadStop, Reason, Spot, Word};
-use serde_json::Value;
 use site_parts::Ports;
 use std::alloc::Global;
 

@@ -1,6 +1,6 @@
 //! The boots of the document.
 ghost use Rattle.std.specs.Prelude.{◌≡◌, ◌+◌, ◌≤◌, [], IfOk, length, map};
-ghost use Rattle.serde_json.specs.View.{view, items_view};
+ghost use Rattle.json_values.specs.Trees.{view, items_view};
 ghost use Rattle.release_catalogue.specs.declared.spot.Level.TheVariants.{First};
 ghost use Rattle.release_catalogue.specs.declared.word.Word.TheVariants as words;
 ghost use Rattle.release_catalogue.specs.Reading.{Gives, each, entry_spot, maybe};
@@ -12,12 +12,12 @@ use crate::absent::absents_or_none;
 use crate::scripts::scripts_or_none;
 use client_scripts::Item;
 use fw_base::{Listed, NoMemory};
+use json_values::Value;
 use release_catalogue::entries::count;
 use release_catalogue::kinds::{items, number, object};
 use release_catalogue::members::{member, needed};
 use release_catalogue::spot::fault_at;
 use release_catalogue::{Level, ReadStop, Reason, Spot, Word};
-use serde_json::Value;
 use site_parts::{Ports, spot_in};
 use std::alloc::Global;
 use update_log::BootPlan;

@@ -1,15 +1,15 @@
 //! The flags of an install.
 ghost use Rattle.std.specs.Prelude.{◌≡◌, find};
 ghost use Rattle.std.specs.Str.{bytes_eq};
-ghost use Rattle.serde_json.specs.View.{view, items_view};
+ghost use Rattle.json_values.specs.Trees.{view, items_view};
 ghost use Rattle.release_catalogue.specs.Reading.{Gives, optional};
 ghost use Rattle.site_scripts.specs.Items.{each_install_flag, flag_word, flag_word_at, install_flags_at, no_install_flags, with_flag};
 
+use json_values::Value;
 use release_catalogue::kinds::{items, text};
 use release_catalogue::members::member;
 use release_catalogue::spot::fault_at;
 use release_catalogue::{ReadStop, Reason, Spot, Word};
-use serde_json::Value;
 use update_log::InstallFlags;
 
 /// A flag of an install.

@@ -1,7 +1,7 @@
 //! The items of scripts.
 ghost use Rattle.std.specs.Prelude.{◌≡◌, ◌+◌, ◌≤◌, ◌<◌, [], IfErr, IfOk, OnOk, length};
 ghost use Rattle.serde_json.specs.Data as json;
-ghost use Rattle.serde_json.specs.View.{view, items_view};
+ghost use Rattle.json_values.specs.Trees.{view, items_view};
 ghost use Rattle.release_catalogue.specs.declared.spot.Level.TheVariants.{Third};
 ghost use Rattle.release_catalogue.specs.Reading.{Fails, Gives, each, entry_spot, maybe, the};
 ghost use Rattle.release_catalogue.specs.Kinds.{number_at};
@@ -12,11 +12,11 @@ use crate::verb::{Verb, read_verb};
 use client_scripts::Item;
 use device_list::Selector;
 use guid_ids::{DeviceId, Guid};
+use json_values::Value;
 use release_catalogue::kinds::{name, number, object, version};
 use release_catalogue::members::{member, needed};
 use release_catalogue::spot::fault_at;
 use release_catalogue::{Level, ReadStop, Reason, Spot, Word};
-use serde_json::Value;
 use std::alloc::Global;
 use update_log::{Query, Request};
 

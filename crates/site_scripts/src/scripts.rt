@@ -1,6 +1,6 @@
 //! The scripts of a boot.
 ghost use Rattle.std.specs.Prelude.{◌≡◌, ◌+◌, ◌≤◌, [], IfOk, length};
-ghost use Rattle.serde_json.specs.View.{view, items_view};
+ghost use Rattle.json_values.specs.Trees.{view, items_view};
 ghost use Rattle.release_catalogue.specs.declared.spot.Level.TheVariants.{Second};
 ghost use Rattle.release_catalogue.specs.Reading.{Gives, each, entry_spot, optional};
 ghost use Rattle.site_scripts.specs.Boots.{items_in, script_at, scripts_at};
@@ -8,12 +8,12 @@ ghost use Rattle.site_scripts.specs.Boots.{items_in, script_at, scripts_at};
 use crate::item::each_item;
 use client_scripts::Item;
 use fw_base::Listed;
+use json_values::Value;
 use release_catalogue::entries::count;
 use release_catalogue::kinds::items;
 use release_catalogue::members::member;
 use release_catalogue::spot::fault_at;
 use release_catalogue::{Level, ReadStop, Reason, Spot, Word};
-use serde_json::Value;
 use std::alloc::Global;
 
 /// The scripts of the boot, or none where the field is missing. `taken` items were taken before.

@@ -1,14 +1,14 @@
 //! What an item does, by its word.
 ghost use Rattle.std.specs.Prelude.{◌≡◌, find};
 ghost use Rattle.std.specs.Str.{bytes_eq};
-ghost use Rattle.serde_json.specs.View.{view};
+ghost use Rattle.json_values.specs.Trees.{view};
 ghost use Rattle.release_catalogue.specs.Reading.{Gives};
 ghost use Rattle.site_scripts.specs.Items.{verb_at, verb_word};
 
+use json_values::Value;
 use release_catalogue::kinds::text;
 use release_catalogue::spot::fault_at;
 use release_catalogue::{ReadStop, Reason, Spot};
-use serde_json::Value;
 
 /// What an item does.
 #[derive(Clone, Copy, Debug, PartialEq, Eq)]

@@ -1,5 +1,5 @@
 use Rattle.std.proofs.Common.{◌≡◌, ◌+◌, ◌≤◌, All, drop, length, []}
-use Rattle.serde_json.specs.View.{items_view}
+use Rattle.json_values.specs.Trees.{items_view}
 use Rattle.release_catalogue.specs.Reading.{each, entry_spot}
 use Rattle.release_catalogue.specs.Components.{below, component_at, releases_in}
 use Rattle.release_catalogue.proofs.component.each_component.Given as goal

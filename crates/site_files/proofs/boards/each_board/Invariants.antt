@@ -1,5 +1,5 @@
 use Rattle.std.proofs.Common.{◌≡◌, drop, length, []}
-use Rattle.serde_json.specs.View.{items_view}
+use Rattle.json_values.specs.Trees.{items_view}
 use Rattle.release_catalogue.specs.declared.spot.Level.TheVariants.{First}
 use Rattle.release_catalogue.specs.declared.word.Word.TheVariants as words
 use Rattle.release_catalogue.specs.Reading.{each, entry_spot}

@@ -1,5 +1,5 @@
 use Rattle.std.proofs.Common.{◌≡◌, drop}
-use Rattle.serde_json.specs.View.{items_view}
+use Rattle.json_values.specs.Trees.{items_view}
 use Rattle.fw_facts.specs.Flags.{no_flags}
 use Rattle.site_files.specs.Flags.{each_flag}
 use Rattle.site_files.proofs.flags.each_flag.Given as goal

@@ -1,5 +1,5 @@
 use Rattle.std.proofs.Common.{◌≡◌, drop, []}
-use Rattle.serde_json.specs.View.{items_view}
+use Rattle.json_values.specs.Trees.{items_view}
 use Rattle.release_catalogue.specs.declared.spot.Level.TheVariants.{Whole}
 use Rattle.release_catalogue.specs.Reading.{each, entry_spot}
 use Rattle.site_files.specs.Instances.{instance_at}

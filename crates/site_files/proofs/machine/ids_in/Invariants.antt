@@ -1,5 +1,5 @@
 use Rattle.std.proofs.Common.{◌≡◌, []}
-use Rattle.serde_json.specs.View.{members_view}
+use Rattle.json_values.specs.Trees.{members_view}
 use Rattle.site_files.specs.Machines.{each_id}
 use Rattle.site_files.proofs.machine.ids_in.Given as goal
 

@@ -1,5 +1,5 @@
 use Rattle.std.proofs.Common.{◌≡◌, drop, []}
-use Rattle.serde_json.specs.View.{items_view}
+use Rattle.json_values.specs.Trees.{items_view}
 use Rattle.site_files.specs.Quirks.{each_file}
 use Rattle.site_files.proofs.quirks.each_file.Given as goal
 

@@ -1,5 +1,5 @@
 use Rattle.std.proofs.Common.{◌≡◌, ◌+◌, drop, length, [], ◌∷◌, None}
-use Rattle.serde_json.specs.View.{items_view}
+use Rattle.json_values.specs.Trees.{items_view}
 use Rattle.remote_set.specs.Merged.{first_repeated}
 use Rattle.site_remotes.specs.Remotes.{IsWithin, each_remote}
 use Rattle.site_remotes.proofs.reading.each_remote.Given as goal

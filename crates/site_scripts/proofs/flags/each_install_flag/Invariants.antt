@@ -1,5 +1,5 @@
 use Rattle.std.proofs.Common.{◌≡◌, drop}
-use Rattle.serde_json.specs.View.{items_view}
+use Rattle.json_values.specs.Trees.{items_view}
 use Rattle.site_scripts.specs.Items.{each_install_flag, no_install_flags}
 use Rattle.site_scripts.proofs.flags.each_install_flag.Given as goal
 

@@ -2,7 +2,7 @@ use Rattle.std.proofs.Common.{◌+◌, List, Result, drop, subst, sym, ◌∙◌
 use Rattle.client_scripts.specs.declared.item.Item.{Item}
 use Rattle.release_catalogue.specs.declared.spot.Fault.{Fault}
 use Rattle.release_catalogue.specs.Reading.{Fails}
-use Rattle.serde_json.specs.View.{items_view}
+use Rattle.json_values.specs.Trees.{items_view}
 use Rattle.site_scripts.proofs.Loop.{drop_at}
 use Rattle.site_scripts.proofs.item.each_item.Goals as goal
 
