@@ -1,5 +1,5 @@
 -- A list of devices: which is the first of a name, and what may be added.
-use Rattle.std.specs.Prelude.{ℕ, ◌==◌, Bool, List, length, position, Option, Some, None, is_some, if◌then◌else◌}
+use Rattle.std.specs.Prelude.{ℕ, ◌==◌, Bool, List, length, map, position, Option, Some, None, is_some, if◌then◌else◌}
 use Rattle.std.specs.List.{list_any}
 use Rattle.std.specs.Str.{bytes_eq}
 use Rattle.fw_facts.specs.declared.view.DeviceView.{DeviceView}
@@ -28,3 +28,11 @@ abbrev pub refused : List DeviceView → List ℕ → Option ListFault
 refused views device =
     if is_some (place (Id device) views) then Some (Duplicate device)
     else (if length views == 256 then Some Full else None)
+
+-- The IDs of the devices, in order.
+abbrev pub ids_in : List DeviceView → List (List ℕ)
+ids_in views = map (λ view. view.sheet.device) views
+
+-- The view with this claim, where it is of that device.
+abbrev pub claimed_on : List ℕ → Option ℕ → DeviceView → DeviceView
+claimed_on device claim view = record view { claim = if bytes_eq device view.sheet.device then claim else view.claim }

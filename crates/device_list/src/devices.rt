@@ -1,9 +1,9 @@
 //! The list of devices.
 ghost use Rattle.std.specs.Prelude.{◌≡◌, ℕ, List, All, ◌<◌, ◌⊎◌, false, [], ◌∷◌, ◌++◌, length, map, slice_get, slice_set, position, MatchResult, IfSome, IfErr, IfOk, OnOk, OnErr, Some, None, is_some, take, vec_len, vec_capacity};
-ghost use Rattle.std.specs.List.{list_any};
+ghost use Rattle.std.specs.List.{IsDistinct, list_any};
 ghost use Rattle.std.specs.Option.{ForSome};
 ghost use Rattle.std.specs.Str.{bytes_eq};
-ghost use Rattle.device_list.specs.Lists.{place, refused, names};
+ghost use Rattle.device_list.specs.Lists.{claimed_on, ids_in, place, refused, names};
 ghost use Rattle.device_list.specs.Guids.{has, listed, sheets, with_last, HasRoom};
 ghost use Rattle.fw_facts.specs.declared.view.DeviceView.{DeviceView};
 
@@ -86,6 +86,13 @@ impl Devices {
         let _count = self.ids.len();
     }
 
+    // No two devices have one ID. Does nothing.
+    fn distinct(&self)
+        ensures { IsDistinct bytes_eq (ids_in self.now) }
+    {
+        let _count = self.ids.len();
+    }
+
     // Adds a device of a new ID to a list that isn't full.
     fn add_new(&mut self, view: DeviceView) -> Result<(), NoMemory>
         requires { refused self.old view.sheet.device ≡ None }
@@ -134,6 +141,18 @@ impl Devices {
         ensures { IfSome (slice_get self.old at) (λ view. self.new ≡ slice_set self.old at (record view { claim = claim })) }
     {
         put_claim(&mut self.views, at, claim);
+    }
+
+    /// The entry that has a claim on the device of that ID from now on, if one has. Where no device has
+    /// the ID, nothing changes.
+    pub fn set_claim_of(&mut self, device: &DeviceId, claim: Option<u32>)
+        ensures { self.new ≡ map (claimed_on device.now claim) self.old }
+    {
+        self.distinct();
+        match self.by_id(device) {
+            Some(at) => self.set_claim(at, claim),
+            None => {}
+        }
     }
 
     /// The views, in the order of adding.

@@ -1,5 +1,5 @@
 -- A state that takes a legal event stands again.
-use Rattle.std.proofs.Common.{◌≡◌, false, List, ◌∷◌, map, refl, ap, sym, ◌∙◌, subst, ◌<◌, ◌≤◌, ◌+◌, arith, length}
+use Rattle.std.proofs.Common.{◌≡◌, List, ◌∷◌, map, refl, ap, sym, ◌∙◌, subst, ◌<◌, ◌≤◌, ◌+◌, arith, length}
 use Rattle.std.specs.Prelude.{unwrap_or}
 use Rattle.history_keeper.specs.Histories.{IsHistory}
 use Rattle.history_keeper.specs.declared.row.Row.{Row}
@@ -14,7 +14,7 @@ use Rattle.update_log.proofs.Pasts.{past-push}
 use Rattle.update_log.specs.Boards.{devices}
 use Rattle.update_log.specs.Core.{Core, Stands}
 use Rattle.update_log.specs.CoreAfter.{IsAfter, IsNext, Takes, change_of, rows_on, views_told}
-use Rattle.update_log.specs.CoreSteps.{changed_if, changes_live, doubt_at, made_at, tells_on, traces_on}
+use Rattle.update_log.specs.CoreSteps.{changed_if, doubt_at, made_at, tells_on, traces_on}
 use Rattle.update_log.specs.CoreViews.{claimed, told_on}
 use Rattle.update_log.specs.Holding.{holds, live, live_after}
 use Rattle.update_log.specs.Known.{doubt, known, rows, views}
@@ -50,14 +50,14 @@ traced-after : (c : Campaign) (opening : List Row) (core : Core) (event : Event)
 traced-after c opening core event s l =
     rw s.views (tied-after c opening (past_of core.log) event core.traces s.history l s.traces)
 
--- Where the event changes no live entry, the claims stay.
+-- The claims of before are those over the rows after the event, too.
 claims-after : (c : Campaign) (opening : List Row) (core : Core) (event : Event) → Stands c.facts opening core → IsLegalUnlimited c opening (event ∷ past_of core.log)
-    → changes_live event ≡ false → map (claimed (rows_on c.facts core event) (live_after event (live (past_of core.log)))) (views_told core event) ≡ views_told core event
-claims-after c opening core event s l h =
+    → map (claimed (rows_on c.facts core event) (live (past_of core.log))) (views_told core event) ≡ views_told core event
+claims-after c opening core event s l =
     rw (rows-after c.facts opening core event s)
     (rw (s.boards, s.views)
     (claims-stay c opening (past_of core.log) event (tells_on (map (λ b. b.number) (devices c.facts)) (views c.facts opening (past_of core.log)) core.rows event)
-    (known c.facts opening (past_of core.log)) (devices c.facts) s.history l refl h))
+    (known c.facts opening (past_of core.log)) (devices c.facts) s.history l refl))
 
 -- A legal event can be taken.
 pub takes-legal : (c : Campaign) (opening : List Row) (core : Core) (event : Event) → Stands c.facts opening core → IsLegalUnlimited c opening (event ∷ past_of core.log)

@@ -1,4 +1,4 @@
--- The claims of the devices stay where an event changes no live entry.
+-- The claims of the devices are the same over the rows after an event.
 use Rattle.std.proofs.Common.{◌≡◌, ℕ, Bool, false, cond, List, [], ◌∷◌, map, refl, ap, sym, ◌∙◌}
 use Rattle.std.specs.Prelude.{Option, Some, None, find, option_map, unwrap_or}
 use Rattle.std.specs.List.{AllByRecursion}
@@ -11,26 +11,13 @@ use Rattle.update_log.proofs.LegalOnce.{past-kept-on}
 use Rattle.update_log.proofs.Lists.{All-map}
 use Rattle.update_log.proofs.RowsKept.{fixed, goes_on-fixed, rows-step-on}
 use Rattle.update_log.specs.Boards.{Board}
-use Rattle.update_log.specs.CoreSteps.{changes_live}
 use Rattle.update_log.specs.CoreViews.{claimed, told_on}
-use Rattle.update_log.specs.Holding.{live, live_after}
+use Rattle.update_log.specs.Holding.{live}
 use Rattle.update_log.specs.Known.{Known, is_on, row_of, rows, view_of}
 use Rattle.update_log.specs.Legal.{IsLegalUnlimited}
 use Rattle.update_log.specs.Shows.{Campaign}
-use Rattle.update_log.specs.declared.answer.ClaimAnswer.{ClaimAnswer}
-use Rattle.update_log.specs.declared.answer.ResumeAnswer.{ResumeAnswer}
-use Rattle.update_log.specs.declared.event.Back.{Back}
 use Rattle.update_log.specs.declared.event.Event.{Event}
 use Rattle.update_log.specs.declared.live.LiveEntry.{LiveEntry}
-
--- Such an event leaves the live entries.
-pub live-stays : (event : Event) (entries : List LiveEntry) → changes_live event ≡ false → live_after event entries ≡ entries
-live-stays (Event.Boot number time limit found boards) entries h = cc
-live-stays (Event.Claim client request fetched (ClaimAnswer.Entry entry)) entries h = cc
-live-stays (Event.Resume client entry fetched ResumeAnswer.Begun stored) entries h = cc
-live-stays (Event.Finish client entry state stored) entries h = cc
-live-stays (Event.GiveBack client (Back.Entry entry)) entries h = cc
-live-stays _ entries h = refl
 
 -- The row is of that device, which what of a row never changes says.
 abbrev of-device : List ℕ → Option Row → Bool
@@ -77,11 +64,10 @@ live-on c opening past event v l =
     (goes_on-fixed (rows c.facts opening past) (rows c.facts opening (event ∷ past)) m.entry r.goes_on w.known))
 
 pub claims-stay : (c : Campaign) (opening : List Row) (past : List Event) (event : Event) (told : ℕ → Option Seen) (known : Known) (boards : List Board)
-    → IsHistory opening → IsLegalUnlimited c opening (event ∷ past) → known.rows ≡ rows c.facts opening past → changes_live event ≡ false
-    → map (claimed (rows c.facts opening (event ∷ past)) (live_after event (live past))) (told_on told (map (λ b. b.number) boards) (map (view_of (live past) known) boards))
+    → IsHistory opening → IsLegalUnlimited c opening (event ∷ past) → known.rows ≡ rows c.facts opening past
+    → map (claimed (rows c.facts opening (event ∷ past)) (live past)) (told_on told (map (λ b. b.number) boards) (map (view_of (live past) known) boards))
     ≡ told_on told (map (λ b. b.number) boards) (map (view_of (live past) known) boards)
-claims-stay c opening past event told known boards v l e h =
-    ap (λ (ls : List LiveEntry). map (claimed (rows c.facts opening (event ∷ past)) ls) (told_on told (map (λ b. b.number) boards) (map (view_of (live past) known) boards))) (live-stays event (live past) h)
-    ∙ claims-alike (rows c.facts opening past) (rows c.facts opening (event ∷ past)) (live past) _ (live-on c opening past event v l)
+claims-stay c opening past event told known boards v l e =
+    claims-alike (rows c.facts opening past) (rows c.facts opening (event ∷ past)) (live past) _ (live-on c opening past event v l)
     ∙ ap (λ (rs : List Row). map (claimed rs (live past)) (told_on told (map (λ b. b.number) boards) (map (view_of (live past) known) boards))) (sym e)
     ∙ claims-told told (live past) known boards

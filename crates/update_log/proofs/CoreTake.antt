@@ -1,7 +1,7 @@
 -- What is kept, after each part of it took an event.
 use Rattle.std.proofs.Common.{◌≡◌, ℕ, List, [], ◌∷◌, ◌++◌, map, ap, sym, ◌∙◌, subst, ◌<◌, ◌≤◌, ◌+◌, ◌-◌, ◌^◌, arith, length, min}
 use Rattle.std.proofs.lemmas.List.{length-map}
-use Rattle.std.specs.Prelude.{Option, true, false, ◌==◌, All, vec_len, vec_capacity}
+use Rattle.std.specs.Prelude.{Option, true, ◌==◌, All, vec_len, vec_capacity}
 use Rattle.std.specs.List.{list_any}
 use Rattle.fw_facts.specs.declared.view.DeviceView.{DeviceView}
 use Rattle.history_keeper.specs.declared.change.Change.{Change}
@@ -10,7 +10,7 @@ use Rattle.update_log.proofs.CoreKept.{NextParts}
 use Rattle.update_log.proofs.CoreViews.{length-told}
 use Rattle.update_log.specs.Core.{Core, IsCore, core_of, spare}
 use Rattle.update_log.specs.CoreAfter.{IsAfter, Takes}
-use Rattle.update_log.specs.CoreSteps.{HasPlace, asks_row, change_on, changed_if, changes_live, doubt_at, made_at, tells_on, traces_on}
+use Rattle.update_log.specs.CoreSteps.{HasPlace, asks_row, change_on, changed_if, doubt_at, made_at, tells_on, traces_on}
 use Rattle.update_log.specs.CoreViews.{claimed, told_on}
 use Rattle.update_log.specs.Holding.{holds, holds_after, live, live_after, open_after}
 use Rattle.update_log.specs.Pasts.{boots_after, counted_after, finished_after, limit_after, off_after, time_after}
@@ -75,7 +75,7 @@ pub record TakesInside (facts : Facts) (s : Inside) (event : Event) : Type 0 whe
   pub few : asks_row event ≡ true → length s.rows.rows + 1 < 2 ^ 32
   pub places : All (HasPlace event) s.traces.items
   pub entries : map (λ t. t.entry) (traces_on facts s.devices s.holds.items event s.traces.items) ≡ map (λ l. l.entry) (live_after event s.live.items)
-  pub claims : changes_live event ≡ false → map (claimed (rows_of facts s event) (live_after event s.live.items)) (told_of s event) ≡ told_of s event
+  pub claims : map (claimed (rows_of facts s event) s.live.items) (told_of s event) ≡ told_of s event
   pub boards : length s.boards.items ≤ length s.devices
   pub boots : s.clock.boots + 1 < 2 ^ 64
   pub counted : s.clock.counted + 1 < 2 ^ 64
@@ -90,7 +90,7 @@ takes-inside facts s core event k is takes =
       few = t.few;
       places = t.places;
       entries = rw (k.holds, k.live) t.entries;
-      claims = λ h. rw (k.time, k.live) (t.claims h);
+      claims = rw (k.time, k.live) t.claims;
       boards = (let e = k.boards in omega (arith, e));
       boots = (let e = k.few_boots in let room = r.log in let ok = s.log.ok in let small = s.log.small in omega (arith, e, room, ok, small));
       counted = (let e = k.few_counted in let room = r.log in let ok = s.log.ok in let small = s.log.small in omega (arith, e, room, ok, small));
@@ -174,6 +174,6 @@ after-inside facts event s n core k is a =
     })
 
 -- What is claimed, over what is equal.
-pub claims-as : (rows rows' : List Row) (entries entries' : List LiveEntry) (views views' : List DeviceView)
-    → rows ≡ rows' → entries ≡ entries' → views ≡ views' → map (claimed rows' entries') views' ≡ views' → map (claimed rows entries) views ≡ views
-claims-as rows rows' entries entries' views views' e f g h = rw (e, f, g) h
+pub claims-as : (rows rows' : List Row) (entries : List LiveEntry) (views views' : List DeviceView)
+    → rows ≡ rows' → views ≡ views' → map (claimed rows' entries) views' ≡ views' → map (claimed rows entries) views ≡ views
+claims-as rows rows' entries views views' e g h = rw (e, g) h

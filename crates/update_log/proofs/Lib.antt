@@ -37,6 +37,7 @@ pub mod CoreTraces
 pub mod CoreLegal
 pub mod CoreTaken
 pub mod ClaimLoops
+pub mod ClaimChanges
 pub mod CoreClaims
 pub mod CoreAfter
 pub mod CoreKept

@@ -1,12 +1,12 @@
 -- A state that takes an event.
-use Rattle.std.specs.Prelude.{◌≡◌, true, false, ◌<◌, ◌≤◌, ◌+◌, ◌^◌, List, [], ◌∷◌, ◌++◌, All, length, map}
+use Rattle.std.specs.Prelude.{◌≡◌, true, ◌<◌, ◌≤◌, ◌+◌, ◌^◌, List, [], ◌∷◌, ◌++◌, All, length, map}
 use Rattle.update_log.specs.declared.event.Event.{Event}
 use Rattle.update_log.specs.declared.facts.Facts.{Facts}
 use Rattle.fw_facts.specs.declared.view.DeviceView.{DeviceView}
 use Rattle.history_keeper.specs.declared.change.Change.{Change}
 use Rattle.std.specs.Prelude.{Option}
 use Rattle.update_log.specs.Core.{Core}
-use Rattle.update_log.specs.CoreSteps.{HasPlace, asks_row, change_on, changed_if, changes_live, doubt_at, made_at, tells_on, traces_on}
+use Rattle.update_log.specs.CoreSteps.{HasPlace, asks_row, change_on, changed_if, doubt_at, made_at, tells_on, traces_on}
 use Rattle.update_log.specs.CoreViews.{claimed, told_on}
 use Rattle.update_log.specs.Holding.{holds, live, live_after}
 use Rattle.update_log.specs.Legal.{IsLegalUnlimited}
@@ -26,14 +26,14 @@ abbrev pub views_told : Core → Event → List DeviceView
 views_told core event = told_on (tells_on core.boards core.views core.rows event) core.boards core.views
 
 -- There is room for the event and for a row that it adds, whose number fits; an entry that ends a step
--- has place for it; the traces are those of the live entries then, too; and each device's live entry
--- stays where the event changes no live entry.
+-- has place for it; the traces are those of the live entries then, too; and each device has its live
+-- entry of before over the rows then, too.
 pub record Takes (facts : Facts) (core : Core) (event : Event) : Type 0 where
   pub room : 0 < core.room
   pub row_room : length (changed_if (made_at event (change_of facts core event) core.doubt) core.rows) ≤ length core.rows + core.row_room
   pub few : asks_row event ≡ true → length core.rows + 1 < 2 ^ 32
   pub places : All (HasPlace event) core.traces
-  pub claims : changes_live event ≡ false → map (claimed (rows_on facts core event) (live_after event (live (past_of core.log)))) (views_told core event) ≡ views_told core event
+  pub claims : map (claimed (rows_on facts core event) (live (past_of core.log))) (views_told core event) ≡ views_told core event
   pub entries : map (λ t. t.entry) (traces_on facts core.views (holds (past_of core.log)) event core.traces) ≡ map (λ l. l.entry) (live_after event (live (past_of core.log)))
 
 -- The state after the event.

@@ -39,14 +39,13 @@ asks_row (Event.Claim client request fetched answer) = is_taken answer
 asks_row (Event.Schedule client request answer) = is_taken answer
 asks_row _ = false
 
--- The event takes an entry, or ends one or all.
-abbrev pub changes_live : Event → Bool
-changes_live (Event.Boot number time limit found boards) = true
-changes_live (Event.Claim client request fetched (ClaimAnswer.Entry entry)) = true
-changes_live (Event.Resume client entry fetched ResumeAnswer.Begun stored) = true
-changes_live (Event.Finish client entry state stored) = true
-changes_live (Event.GiveBack client (Back.Entry entry)) = true
-changes_live _ = false
+-- The live entry that an event takes or ends. (A boot ends all of them.)
+abbrev pub entry_changed : Event → Option ℕ
+entry_changed (Event.Claim client request fetched (ClaimAnswer.Entry entry)) = Some entry
+entry_changed (Event.Resume client entry fetched ResumeAnswer.Begun stored) = Some entry
+entry_changed (Event.Finish client entry state stored) = Some entry
+entry_changed (Event.GiveBack client (Back.Entry entry)) = Some entry
+entry_changed _ = None
 
 -- The change that adds the row of a request, with the next entry.
 abbrev pub addition_on : Facts → ℕ → List DeviceView → List Row → ℕ → Request → RowState → Option Change

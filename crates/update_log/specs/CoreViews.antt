@@ -1,6 +1,5 @@
 -- What one event makes of the views.
-use Rattle.std.specs.Prelude.{ℕ, List, [], ◌∷◌, Option, Some, None, find, map, option_map, unwrap_or, if◌then◌else◌}
-use Rattle.std.specs.Str.{bytes_eq}
+use Rattle.std.specs.Prelude.{ℕ, List, [], ◌∷◌, Option, None, find, option_map, unwrap_or}
 use Rattle.fw_facts.specs.declared.seen.Seen.{Seen}
 use Rattle.fw_facts.specs.declared.view.DeviceView.{DeviceView}
 use Rattle.history_keeper.specs.declared.row.Row.{Row}
@@ -22,11 +21,3 @@ claimed rows entries view =
 -- The view without a live entry.
 abbrev pub unclaimed : DeviceView → DeviceView
 unclaimed view = record view { claim = None }
-
--- The view with this entry, where it is of that device.
-abbrev pub claimed_by : List ℕ → ℕ → DeviceView → DeviceView
-claimed_by device entry view = record view { claim = if bytes_eq device view.sheet.device then Some entry else view.claim }
-
--- The view with this live entry, where its row is of the view's device.
-abbrev pub given : List Row → LiveEntry → DeviceView → DeviceView
-given rows l view = record view { claim = if is_on rows view.sheet.device l then Some l.entry else view.claim }

@@ -1,15 +1,18 @@
 //! What one event makes of the views.
-ghost use Rattle.std.specs.Prelude.{◌≡◌, ◌≤◌, Some, false, length, map, option_map, slice_get, if◌then◌else◌};
-ghost use Rattle.std.specs.Str.{bytes_eq};
-ghost use Rattle.update_log.specs.CoreSteps.{changes_live};
-ghost use Rattle.update_log.specs.CoreViews.{claimed, claimed_by, given, told_on, unclaimed};
-ghost use Rattle.update_log.specs.Known.{for_board};
+ghost use Rattle.std.specs.Prelude.{◌≡◌, ◌≤◌, List, find, length, map, option_copied, option_map, slice_get, if◌then◌else◌};
+ghost use Rattle.update_log.specs.declared.live.LiveEntry.{LiveEntry};
+ghost use Rattle.update_log.specs.CoreSteps.{entry_changed};
+ghost use Rattle.update_log.specs.CoreViews.{claimed, told_on, unclaimed};
+ghost use Rattle.update_log.specs.Holding.{live_after, without_entry};
+ghost use Rattle.update_log.specs.Known.{for_board, is_on};
+ghost use Rattle.update_log.specs.Pasts.{is_boot};
 
 use crate::answer::{ClaimAnswer, ResumeAnswer};
+use crate::clock::is_boot;
 use crate::event::{Back, BoardSeen, Event};
 use crate::live::LiveEntry;
 use device_list::Devices;
-use fw_facts::{DeviceView, Seen};
+use fw_facts::Seen;
 use guid_ids::DeviceId;
 use row_index::IndexedRows;
 
@@ -55,37 +58,39 @@ fn seen_of(seen: &[BoardSeen], number: u32) -> Option<Seen>
     }
 }
 
-/// Each device has its live entry after an event, over the rows after it. Where the event changes no live
-/// entry, each has it already.
+/// Each device has its live entry after an event, over the rows after it, where each had its own over
+/// the live entries before.
 pub fn claims_after(devices: &mut Devices, rows: &IndexedRows, live: &[LiveEntry], event: &Event)
-    requires { changes_live event.now ≡ false → map (claimed rows.now.rows live.now) devices.old ≡ devices.old }
-    ensures { devices.new ≡ map (claimed rows.now.rows live.now) devices.old }
+    ensures { (before : List LiveEntry) → live.now ≡ live_after event.now before → map (claimed rows.now.rows before) devices.old ≡ devices.old → devices.new ≡ map (claimed rows.now.rows live.now) devices.old }
 {
-    if changes_live(event) {
-        claim_devices(devices, rows, live);
+    match entry_changed(event) {
+        Some(entry) => claim_of_entry(devices, rows, live, entry),
+        None => unclaim_at_boot(devices, event),
     }
 }
 
-fn changes_live(event: &Event) -> bool
-    ensures { result ≡ changes_live event.now }
+fn entry_changed(event: &Event) -> Option<u32>
+    ensures { result ≡ entry_changed event.now }
 {
     match event {
-        Event::Boot { .. } | Event::Finish { .. } => true,
         Event::Claim {
-            answer: ClaimAnswer::Entry(_),
+            answer: ClaimAnswer::Entry(entry),
             ..
-        } => true,
+        } => Some(*entry),
         Event::Resume {
+            entry,
             answer: ResumeAnswer::Begun,
             ..
-        } => true,
+        } => Some(*entry),
+        Event::Finish { entry, .. } => Some(*entry),
         Event::GiveBack {
-            what: Back::Entry(_),
+            what: Back::Entry(entry),
             ..
-        } => true,
+        } => Some(*entry),
         Event::Claim { .. }
         | Event::Resume { .. }
         | Event::GiveBack { .. }
+        | Event::Boot { .. }
         | Event::Query { .. }
         | Event::Ask { .. }
         | Event::Schedule { .. }
@@ -94,19 +99,55 @@ fn changes_live(event: &Event) -> bool
         | Event::Judge { .. }
         | Event::Unplug { .. }
         | Event::Plug { .. }
-        | Event::Cut => false,
+        | Event::Cut => None,
     }
 }
 
-// Each device has its live entry, over these rows: the first one whose row is of that device.
-fn claim_devices(devices: &mut Devices, rows: &IndexedRows, live: &[LiveEntry])
-    ensures { devices.new ≡ map (claimed rows.now.rows live.now) devices.old }
+// One live entry came or went: the device of its row has the first live entry that is of it now, and
+// every other device has the one that it had.
+fn claim_of_entry(devices: &mut Devices, rows: &IndexedRows, live: &[LiveEntry], entry: u32)
+    ensures { (before : List LiveEntry) → without_entry entry before ≡ without_entry entry live.now → map (claimed rows.now.rows before) devices.old ≡ devices.old → devices.new ≡ map (claimed rows.now.rows live.now) devices.old }
 {
-    unclaim(devices);
-    let mut left = live.len();
-    while left > 0 {
-        left -= 1;
-        give(devices, rows, live[left]);
+    match rows.row_of(entry) {
+        Some(row) => devices.set_claim_of(&row.device, claim_on(rows, live, &row.device)),
+        None => {}
+    }
+}
+
+// The first live entry whose row is of that device.
+fn claim_on(rows: &IndexedRows, live: &[LiveEntry], device: &DeviceId) -> Option<u32>
+    ensures { result ≡ option_map (λ l. l.entry) (find (is_on rows.now.rows device.now) live.now) }
+{
+    match first_on(rows, live, device) {
+        Some(first) => Some(first.entry),
+        None => None,
+    }
+}
+
+fn first_on<'a>(
+    rows: &IndexedRows,
+    live: &'a [LiveEntry],
+    device: &DeviceId,
+) -> Option<&'a LiveEntry>
+    ensures { option_copied result ≡ find (is_on rows.now.rows device.now) live.now }
+{
+    live.iter().find(|l| is_on(rows, device, l))
+}
+
+fn is_on(rows: &IndexedRows, device: &DeviceId, l: &LiveEntry) -> bool
+    ensures { result ≡ is_on rows.now.rows device.now l.now }
+{
+    match rows.row_of(l.entry) {
+        Some(row) => row.device == *device,
+        None => false,
+    }
+}
+
+fn unclaim_at_boot(devices: &mut Devices, event: &Event)
+    ensures { devices.new ≡ (if is_boot event.now then map unclaimed devices.old else devices.old) }
+{
+    if is_boot(event) {
+        unclaim(devices);
     }
 }
 
@@ -115,34 +156,5 @@ fn unclaim(devices: &mut Devices)
 {
     for at in 0..devices.views().len() {
         devices.set_claim(at, None);
-    }
-}
-
-// The device of the live entry's row has that entry.
-fn give(devices: &mut Devices, rows: &IndexedRows, entry: LiveEntry)
-    ensures { devices.new ≡ map (given rows.now.rows entry) devices.old }
-{
-    match rows.row_of(entry.entry) {
-        Some(row) => claim(devices, &row.device, entry.entry),
-        None => {}
-    }
-}
-
-fn claim(devices: &mut Devices, device: &DeviceId, entry: u32)
-    ensures { devices.new ≡ map (claimed_by device.now entry) devices.old }
-{
-    for at in 0..devices.views().len() {
-        let claim = claim_of(&devices.views()[at], device, entry);
-        devices.set_claim(at, claim);
-    }
-}
-
-fn claim_of(view: &DeviceView, device: &DeviceId, entry: u32) -> Option<u32>
-    ensures { result ≡ (if bytes_eq device.now view.now.sheet.device then Some entry else view.now.claim) }
-{
-    if *device == view.sheet.device {
-        Some(entry)
-    } else {
-        view.claim
     }
 }

@@ -58,19 +58,6 @@ after-self-inside-requires c =
     let t = takes-inside c.args.facts.now c.self.inside c.args.self.now c.args.event c.self.invariant c.self.view_is c.requires in
     record { boots = t.boots; counted = t.counted }
 
-pub claims_after-requires : goal.claims_after-requires
-claims_after-requires c =
-    let t = takes-inside c.args.facts.now c.self.inside c.args.self.now c.args.event c.self.invariant c.self.view_is c.requires in
-    λ h.
-    claims-as _ _ _ _ _ _
-    (c.change_if.ensures.rows
-    ∙ ap (λ (o : Option Change). changed_if o c.self.inside.rows.rows)
-    (c.made_at.ensures ∙ ap (λ (o : Option Change). made_at c.args.event o c.self.inside.doubt) c.change_on-change.ensures))
-    (c.deref-3.ensures.value ∙ c.live_after.ensures.items)
-    (c.tell.ensures
-    ∙ ap (λ (bs : List ℕ). told_on (tells_on bs c.self.inside.devices c.self.inside.rows.rows c.args.event) bs c.self.inside.devices) c.deref-2.ensures.value)
-    (t.claims h)
-
 pub push_reserved-requires : goal.push_reserved-requires
 push_reserved-requires c =
     let t = takes-inside c.args.facts.now c.self.inside c.args.self.now c.args.event c.self.invariant c.self.view_is c.requires in
@@ -93,6 +80,18 @@ now_of c =
       doubt = c.doubt_at-self-inside.result;
     }
 
+-- Over the rows and the views after the event each device has its live entry of before.
+claims-before : (c : goal.After-push_reserved) → map (claimed c.change_if.new.rows.rows c.self.inside.live.items) c.tell.new.devices ≡ c.tell.new.devices
+claims-before c =
+    let t = takes-inside c.args.facts.now c.self.inside c.args.self.now c.args.event c.self.invariant c.self.view_is c.requires in
+    claims-as _ _ _ _ _
+    (c.change_if.ensures.rows
+    ∙ ap (λ (o : Option Change). changed_if o c.self.inside.rows.rows)
+    (c.made_at.ensures ∙ ap (λ (o : Option Change). made_at c.args.event o c.self.inside.doubt) c.change_on-change.ensures))
+    (c.tell.ensures
+    ∙ ap (λ (bs : List ℕ). told_on (tells_on bs c.self.inside.devices c.self.inside.rows.rows c.args.event) bs c.self.inside.devices) c.deref-2.ensures.value)
+    t.claims
+
 next : (c : goal.After-push_reserved) → NextInside c.args.facts.now c.args.event c.self.inside (now_of c)
 next c =
     let asked : c.change_on-change.result ≡ asked_of c.args.facts.now c.self.inside c.args.event = c.change_on-change.ensures in
@@ -112,7 +111,7 @@ next c =
           ∙ ap (λ (o : Option Change). changed_if o c.self.inside.rows.rows)
           (c.made_at.ensures ∙ ap (λ (o : Option Change). made_at c.args.event o c.self.inside.doubt) asked);
       doubt = c.doubt_at-self-inside.ensures ∙ ap (λ (o : Option Change). doubt_at c.args.event o c.self.inside.doubt) asked;
-      devices = c.claims_after.ensures
+      devices = c.claims_after.ensures c.self.inside.live.items (c.deref-3.ensures.value ∙ c.live_after.ensures.items) (claims-before c)
           ∙ ap (λ (ls : List LiveEntry). map (claimed c.change_if.new.rows.rows ls) c.tell.new.devices) c.deref-3.ensures.value
           ∙ ap (λ (vs : List DeviceView). map (claimed c.change_if.new.rows.rows c.live_after.new.live.items) vs)
           (c.tell.ensures
