@@ -1,4 +1,4 @@
-use Rattle.std.proofs.Common.{subst, sym}
+use Rattle.std.proofs.Common.{subst}
 use Rattle.std.specs.Prelude.{Result, Ok, Err, OnErr, OnOk}
 use Rattle.history_keeper.specs.Keepers.{Reopened, StillSettled}
 use Rattle.history_file.proofs.on_heap.OnHeapKeeper.reopen.Goals as goal
