@@ -4,7 +4,7 @@ use Rattle.std.specs.Prelude.{Option, Some, None, option_map, slice_get}
 use Rattle.std.proofs.lemmas.Option.{slice_get-map}
 use Rattle.plugin_order.specs.declared.sheet.PluginSheet.{PluginSheet}
 use Rattle.plugin_order.specs.declared.arrangement.Arrangement.{Arrangement}
-use Rattle.plugin_starts.specs.Chosen.{AreAt}
+use Rattle.campaign_inputs.specs.Chosen.{AreAt}
 use Rattle.plugin_trait.proofs.InTurn.{heads, tails}
 use Rattle.update_log.specs.declared.facts.PluginVetoes.{PluginVetoes}
 use Rattle.site_types.specs.declared.campaign.Campaign.{Campaign}

@@ -1,3 +1,5 @@
+pub mod Places
+pub mod Taking
 pub mod HeardSo
 pub mod ReadSites
 pub mod Beginnings

@@ -1,3 +1,4 @@
+pub mod Chosen
 pub mod Inputs
 pub mod Limits
 pub mod Settled
@@ -15,4 +16,3 @@ pub use Rattle.site_files.specs.Told
 pub use Rattle.site_making.specs.Made
 pub use Rattle.site_making.specs.Priorities
 pub use Rattle.site_making.specs.Settled as SiteMakingSettled
-pub use Rattle.plugin_starts.specs.Chosen

@@ -6,7 +6,7 @@ use Rattle.plugin_order.specs.declared.arrangement.OrderFault.{OrderFault}
 use Rattle.plugin_order.specs.declared.arrangement.OrderFault.TheVariants as faults
 use Rattle.plugin_order.specs.Arranged.{CanBeArranged, HasCause, IsArrangement}
 use Rattle.plugin_order.specs.Sheets.{name_at}
-use Rattle.plugin_starts.specs.Chosen.{AreAt}
+use Rattle.campaign_inputs.specs.Chosen.{AreAt}
 use Rattle.site_making.specs.Priorities.{Adds, priorities_of, priority_of, running}
 use Rattle.site_making.specs.Settled.{IsOfSite, new_board, settled_sheets, start_of}
 use Rattle.site_types.specs.declared.site.Site.{Site}

@@ -6,8 +6,8 @@ ghost use Rattle.site_making.specs.Settled.{vetoes_of};
 ghost use Rattle.campaign_inputs.specs.Begin.{CanBegin};
 ghost use Rattle.campaign_inputs.specs.Settled.{AreRunning, IsCampaignOf};
 
+use crate::starting::{Started, start_plugins};
 use plugin_order::OrderFault;
-use plugin_starts::{Started, start_plugins};
 use plugin_trait::Plugin;
 use site_making::settle_site;
 use site_types::{Campaign, Site};

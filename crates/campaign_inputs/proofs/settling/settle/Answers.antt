@@ -1,5 +1,5 @@
 use Rattle.std.proofs.Common.{ℕ, List, map, sym, ap, ◌∙◌, subst}
-use Rattle.plugin_starts.specs.Chosen.{AreAt}
+use Rattle.campaign_inputs.specs.Chosen.{AreAt}
 use Rattle.update_log.specs.declared.facts.PluginVetoes.{PluginVetoes}
 use Rattle.site_making.specs.Priorities.{priorities_of, priority_of, running}
 use Rattle.site_making.specs.Settled.{settled_sheets, vetoes_of}

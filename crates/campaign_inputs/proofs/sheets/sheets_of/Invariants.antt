@@ -1,5 +1,5 @@
 use Rattle.std.proofs.Common.{◌≡◌, map, take}
-use Rattle.plugin_starts.proofs.sheets.sheets_of.Given as goal
+use Rattle.campaign_inputs.proofs.sheets.sheets_of.Given as goal
 
 abbrev pub invariant-loop-plugin : goal.invariant-loop-plugin
 invariant-loop-plugin g l =

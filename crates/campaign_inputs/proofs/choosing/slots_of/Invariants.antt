@@ -1,5 +1,5 @@
 use Rattle.std.proofs.Common.{◌≡◌, Some, map}
-use Rattle.plugin_starts.proofs.choosing.slots_of.Given as goal
+use Rattle.campaign_inputs.proofs.choosing.slots_of.Given as goal
 
 abbrev pub invariant-loop-plugin : goal.invariant-loop-plugin
 invariant-loop-plugin g l = l.slots.items ≡ map Some l.yielded

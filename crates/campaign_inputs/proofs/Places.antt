@@ -14,7 +14,7 @@ use Rattle.plugin_order.specs.Sheets.{name_at, name_of}
 use Rattle.plugin_order.specs.Arranged.{CanBeArranged, IsArrangement}
 use Rattle.plugin_order.proofs.SeatLaws.{order_within}
 use Rattle.site_making.specs.Priorities.{AreEnabledOf, running}
-use Rattle.plugin_starts.specs.Chosen.{AreAt}
+use Rattle.campaign_inputs.specs.Chosen.{AreAt}
 
 -- ---- one more turn of a loop
 

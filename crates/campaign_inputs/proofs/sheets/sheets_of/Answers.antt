@@ -1,6 +1,6 @@
 use Rattle.std.proofs.Common.{◌<◌, length, arith}
 use Rattle.site_making.proofs.Turns.{map_turn}
-use Rattle.plugin_starts.proofs.sheets.sheets_of.Goals as goal
+use Rattle.campaign_inputs.proofs.sheets.sheets_of.Goals as goal
 
 pub loop-plugin-preserved : goal.loop-plugin-preserved
 loop-plugin-preserved g c =

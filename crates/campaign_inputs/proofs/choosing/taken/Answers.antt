@@ -1,6 +1,6 @@
 use Rattle.std.proofs.Common.{◌<◌, length, refl, arith}
-use Rattle.plugin_starts.proofs.Taking.{full_here, left_turn, taken_turn}
-use Rattle.plugin_starts.proofs.choosing.taken.Goals as goal
+use Rattle.campaign_inputs.proofs.Taking.{full_here, left_turn, taken_turn}
+use Rattle.campaign_inputs.proofs.choosing.taken.Goals as goal
 
 pub take_at-requires : goal.take_at-requires
 take_at-requires g c =

@@ -1,7 +1,7 @@
 //! All at once: sheets, arrangement, the plugins that run, and their start.
 ghost use Rattle.std.specs.Prelude.{◌≤◌, length, map, IfOk, IfErr};
 ghost use Rattle.plugin_order.specs.Arranged.{HasCause};
-ghost use Rattle.plugin_starts.specs.Chosen.{AreAt};
+ghost use Rattle.campaign_inputs.specs.Chosen.{AreAt};
 ghost use Rattle.site_making.specs.Priorities.{AreEnabledOf, running};
 
 use crate::choosing::{chosen, running};

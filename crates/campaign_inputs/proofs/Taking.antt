@@ -7,7 +7,7 @@ use Rattle.std.proofs.lemmas.Bool.Decides.{eqb_tells}
 use Rattle.std.proofs.lemmas.List.{map_push}
 use Rattle.std.proofs.lemmas.List.Elements.{All-weaker}
 use Rattle.std.proofs.lemmas.Map.Keys.{apart_from_distinct}
-use Rattle.plugin_starts.specs.Chosen.{AreAt, IsFull}
+use Rattle.campaign_inputs.specs.Chosen.{AreAt, IsFull}
 
 -- ---- a slot is emptied
 

@@ -1,6 +1,6 @@
 use Rattle.std.proofs.lemmas.Result.{IfOk-weaker}
-use Rattle.plugin_starts.proofs.Taking.{full_places, out_of}
-use Rattle.plugin_starts.proofs.choosing.chosen.Goals as goal
+use Rattle.campaign_inputs.proofs.Taking.{full_places, out_of}
+use Rattle.campaign_inputs.proofs.choosing.chosen.Goals as goal
 
 pub taken-requires-clause-full : goal.taken-requires-clause-full
 taken-requires-clause-full g c =

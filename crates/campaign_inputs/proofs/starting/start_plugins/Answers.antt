@@ -2,8 +2,8 @@ use Rattle.std.proofs.Common.{ℕ, List, All, length, map, sym, ap, subst, ◌�
 use Rattle.std.specs.Prelude.{nat_eq}
 use Rattle.std.specs.List.{IsDistinct}
 use Rattle.std.proofs.lemmas.List.{length-map}
-use Rattle.plugin_starts.proofs.Places.{enabled_of, made_at, running_differ, running_within}
-use Rattle.plugin_starts.proofs.starting.start_plugins.Goals as goal
+use Rattle.campaign_inputs.proofs.Places.{enabled_of, made_at, running_differ, running_within}
+use Rattle.campaign_inputs.proofs.starting.start_plugins.Goals as goal
 
 pub chosen-requires-clause-apart : goal.chosen-requires-clause-apart
 chosen-requires-clause-apart g c =

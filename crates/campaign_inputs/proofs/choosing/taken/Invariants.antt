@@ -1,6 +1,6 @@
 use Rattle.std.proofs.Common.{◌≡◌, Some, map, take, slice_get}
-use Rattle.plugin_starts.proofs.Taking.{AreLeft}
-use Rattle.plugin_starts.proofs.choosing.taken.Given as goal
+use Rattle.campaign_inputs.proofs.Taking.{AreLeft}
+use Rattle.campaign_inputs.proofs.choosing.taken.Given as goal
 
 abbrev pub invariant-loop-at : goal.invariant-loop-at
 invariant-loop-at g l = record {

@@ -1,7 +1,7 @@
 //! Plugins are taken out of the others, by their places.
 ghost use Rattle.std.specs.Prelude.{◌≡◌, ◌<◌, nat_eq, map, length, slice_get, slice_index_or, slice_set, false, All, IfOk};
 ghost use Rattle.std.specs.List.{IsDistinct};
-ghost use Rattle.plugin_starts.specs.Chosen.{AreAt, IsFull};
+ghost use Rattle.campaign_inputs.specs.Chosen.{AreAt, IsFull};
 ghost use Rattle.site_making.specs.Priorities.{running};
 
 use fw_base::NoMemory;
