@@ -21,7 +21,7 @@ use Rattle.release_catalogue.specs.Reading.{at_spot, each, entry_spot, field_of,
 use Rattle.release_catalogue.specs.Kinds.{items_at, items_len, list_at, name_at, number_at, object_at, version_at}
 use Rattle.release_catalogue.specs.Components.{components_at}
 use Rattle.site_types.specs.declared.site.Site.{Site}
-use Rattle.site_parts.specs.Places.{spot_in, whole_spot}
+use Rattle.site_scripts.specs.Places.{spot_in, whole_spot}
 use Rattle.site_remotes.specs.Remotes.{local, remotes_at}
 use Rattle.site_scripts.specs.declared.boots.Boot.{Boot}
 use Rattle.site_scripts.specs.declared.verb.Verb.{Verb}

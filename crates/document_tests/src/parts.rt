@@ -1,7 +1,7 @@
 //! What no clause says: that calls succeed.
 use json_values::Scratch;
 use release_catalogue::Word;
-use site_parts::{Ports, needed_here, whole_spot};
+use site_scripts::{Ports, needed_here, whole_spot};
 use std::test::Fail;
 
 #[test]

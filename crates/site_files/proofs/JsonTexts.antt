@@ -6,7 +6,7 @@ use Rattle.serde_json.specs.Data.{Data}
 use Rattle.serde_json.specs.Read.{read}
 use Rattle.release_catalogue.specs.declared.reason.Reason.TheVariants.{NotJson}
 use Rattle.release_catalogue.specs.Reading.{at_spot, or_fault}
-use Rattle.site_parts.specs.Places.{whole_spot}
+use Rattle.site_scripts.specs.Places.{whole_spot}
 use Rattle.site_files.specs.Texts.{json_at}
 
 pub json_found : (bytes : List ℕ) (d : Data) → IsUtf8 bytes → read bytes ≡ Some d → json_at bytes ≡ Ok d

@@ -16,7 +16,7 @@ use Rattle.release_catalogue.specs.Words.{word_text}
 use Rattle.release_catalogue.specs.Reading.{◌>>=◌, at_spot, field_of, maybe, optional, or_fault, the}
 use Rattle.release_catalogue.specs.Kinds.{bool_at, line_at, name_at, number_at, object_at}
 use Rattle.site_types.specs.declared.site.SiteBoard.{SiteBoard}
-use Rattle.site_parts.specs.Places.{spot_in, the_here}
+use Rattle.site_scripts.specs.Places.{spot_in, the_here}
 use Rattle.site_files.specs.declared.board.Head.{Head}
 use Rattle.site_files.specs.declared.board.Rest.{Rest}
 use Rattle.site_files.specs.declared.board.Placed.{Placed}

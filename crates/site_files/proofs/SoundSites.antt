@@ -12,7 +12,7 @@ use Rattle.site_types.specs.declared.site.SiteBoard.{SiteBoard}
 use Rattle.site_types.specs.Limits.{CanBeSettled}
 use Rattle.site_scripts.specs.Boots.{boots_at}
 use Rattle.site_scripts.specs.Clients.{clients_at}
-use Rattle.site_parts.specs.Places.{whole_spot}
+use Rattle.site_scripts.specs.Places.{whole_spot}
 use Rattle.site_files.specs.declared.board.Placed.{Placed}
 use Rattle.site_files.specs.declared.document.Course.{Course}
 use Rattle.site_files.specs.Boards.{boards_at, ports_of}

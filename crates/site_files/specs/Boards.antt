@@ -16,7 +16,7 @@ use Rattle.release_catalogue.specs.declared.spot.Spot.{Spot}
 use Rattle.release_catalogue.specs.declared.spot.Fault.{Fault}
 use Rattle.release_catalogue.specs.Reading.{◌>>=◌, at_spot, maybe, optional, or_fault, refuse_if, the}
 use Rattle.release_catalogue.specs.Kinds.{bool_at, line_at, list_at, name_at, number_at, object_at, plain_list_at, text_at, version_at}
-use Rattle.site_parts.specs.Places.{spot_in}
+use Rattle.site_scripts.specs.Places.{spot_in}
 use Rattle.site_files.specs.declared.board.Head.{Head}
 use Rattle.site_files.specs.declared.board.Lists.{Lists}
 use Rattle.site_files.specs.declared.board.Numbers.{Numbers}

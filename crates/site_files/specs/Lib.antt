@@ -18,7 +18,7 @@ pub use Rattle.release_catalogue.specs.Faults
 pub use Rattle.release_catalogue.specs.Kinds
 pub use Rattle.release_catalogue.specs.Reading
 pub use Rattle.site_types.specs.Limits
-pub use Rattle.site_parts.specs.Places
+pub use Rattle.site_scripts.specs.Places
 pub use Rattle.site_scripts.specs.Boots
 pub use Rattle.site_scripts.specs.Clients
 pub use Rattle.remote_set.specs.Merged

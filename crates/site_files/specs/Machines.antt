@@ -15,7 +15,7 @@ use Rattle.release_catalogue.specs.Kinds.{bool_at, guid_at, number_at, object_at
 use Rattle.site_files.specs.declared.machine.Known.{Known}
 use Rattle.site_files.specs.declared.machine.Power.{Power}
 use Rattle.site_files.specs.declared.machine.Machine.{Machine}
-use Rattle.site_parts.specs.Places.{optional_here, spot_in}
+use Rattle.site_scripts.specs.Places.{optional_here, spot_in}
 
 -- What runs on the machine: a name, and its version.
 unfoldable pub id_at : Spot → List ℕ → Data → Result (List ℕ × List ℕ) Fault

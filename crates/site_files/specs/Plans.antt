@@ -12,7 +12,7 @@ use Rattle.release_catalogue.specs.declared.spot.Spot.{Spot}
 use Rattle.release_catalogue.specs.declared.spot.Fault.{Fault}
 use Rattle.release_catalogue.specs.Reading.{◌>>=◌, or_fault, refuse_if}
 use Rattle.release_catalogue.specs.Kinds.{list_at, number_at, object_at, text_at}
-use Rattle.site_parts.specs.Places.{the_here}
+use Rattle.site_scripts.specs.Places.{the_here}
 
 -- The words of the faults.
 abbrev pub fault_word : BoardFault → List ℕ

@@ -15,7 +15,7 @@ use Rattle.release_catalogue.specs.declared.spot.ReadStop.{ReadStop}
 use Rattle.release_catalogue.specs.declared.spot.ReadStop.TheVariants as stops
 use Rattle.release_catalogue.specs.Reading.{◌>>=◌, at_spot, entry_spot, refuse_if}
 use Rattle.release_catalogue.specs.Kinds.{items_at, items_len, text_at}
-use Rattle.site_parts.specs.Places.{spot_in}
+use Rattle.site_scripts.specs.Places.{spot_in}
 
 -- The number of a quirk file's fault, and its line. (The reading of a file never wants memory.)
 abbrev pub quirk_reason : QuirkFault → Reason

@@ -10,7 +10,7 @@ use Rattle.release_catalogue.specs.Components.{components_at}
 use Rattle.site_types.specs.declared.site.Site.{Site}
 use Rattle.site_scripts.specs.Boots.{boots_at}
 use Rattle.site_scripts.specs.Clients.{clients_at}
-use Rattle.site_parts.specs.Places.{spot_in, whole_spot}
+use Rattle.site_scripts.specs.Places.{spot_in, whole_spot}
 use Rattle.remote_set.specs.Merged.{merged}
 use Rattle.site_remotes.specs.Remotes.{local, remotes_at}
 use Rattle.site_remotes.specs.Told.{site_remotes}

@@ -6,7 +6,7 @@ use Rattle.serde_json.specs.Read.{read}
 use Rattle.release_catalogue.specs.declared.reason.Reason.TheVariants.{NotJson}
 use Rattle.release_catalogue.specs.declared.spot.Fault.{Fault}
 use Rattle.release_catalogue.specs.Reading.{or_fault}
-use Rattle.site_parts.specs.Places.{whole_spot}
+use Rattle.site_scripts.specs.Places.{whole_spot}
 
 -- The value of a text. What isn't UTF-8 has none.
 abbrev pub json_at : List ℕ → Result Data Fault

@@ -26,7 +26,7 @@ use release_catalogue::kinds::{name, object, text};
 use release_catalogue::members::{member, needed};
 use release_catalogue::spot::fault_at;
 use release_catalogue::{ReadStop, Reason, Spot, Word};
-use site_parts::Ports;
+use site_scripts::Ports;
 use site_types::SiteBoard;
 use std::alloc::Global;
 use version_formats::{Format, Version};

@@ -4,7 +4,7 @@ ghost use Rattle.json_values.specs.Trees.{view, items_view};
 ghost use Rattle.release_catalogue.specs.declared.spot.Level.TheVariants.{First};
 ghost use Rattle.release_catalogue.specs.Reading.{Gives, each, entry_spot};
 ghost use Rattle.site_files.specs.Boards.{board_at, boards_at, ports_of};
-ghost use Rattle.site_parts.specs.Places.{spot_in};
+ghost use Rattle.site_scripts.specs.Places.{spot_in};
 ghost use Rattle.release_catalogue.specs.declared.word.Word.TheVariants as words;
 
 use crate::board::{Placed, read_board};
@@ -14,7 +14,7 @@ use release_catalogue::entries::count;
 use release_catalogue::kinds::items;
 use release_catalogue::spot::fault_at;
 use release_catalogue::{Level, ReadStop, Reason, Spot, Word};
-use site_parts::{Ports, spot_in};
+use site_scripts::{Ports, spot_in};
 use site_types::SiteBoard;
 use std::alloc::Global;
 

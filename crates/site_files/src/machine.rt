@@ -4,7 +4,7 @@ ghost use Rattle.serde_json.specs.Find.{as_object};
 ghost use Rattle.json_values.specs.Trees.{view, members_view};
 ghost use Rattle.release_catalogue.specs.Reading.{Gives, optional, or_fault};
 ghost use Rattle.release_catalogue.specs.Kinds.{guid_at, plain_list_at};
-ghost use Rattle.site_parts.specs.Places.{optional_here};
+ghost use Rattle.site_scripts.specs.Places.{optional_here};
 ghost use Rattle.site_files.specs.Machines.{daemon_id, each_id, hardware_of, id_at, ids_at, known_at, machine_at, machine_spot, members_len, no_smbios, power_at, smbios_at, smbios_text_at};
 
 use fw_base::{Listed, Name, NoMemory};
@@ -17,7 +17,7 @@ use release_catalogue::kinds::{number, object, text, version};
 use release_catalogue::members::{member, needed};
 use release_catalogue::spot::fault_at;
 use release_catalogue::{ReadStop, Reason, Spot, Word};
-use site_parts::spot_in;
+use site_scripts::spot_in;
 use std::alloc::Global;
 use std::collections::BTreeMap;
 use version_formats::Version;

@@ -5,7 +5,7 @@ ghost use Rattle.json_values.specs.Trees.{view, items_view};
 ghost use Rattle.release_catalogue.specs.declared.spot.Level.TheVariants.{Whole};
 ghost use Rattle.release_catalogue.specs.Reading.{Gives, each, entry_spot, optional};
 ghost use Rattle.release_catalogue.specs.Kinds.{number_at};
-ghost use Rattle.site_parts.specs.Places.{the_here};
+ghost use Rattle.site_scripts.specs.Places.{the_here};
 ghost use Rattle.site_files.specs.Plans.{board_fault_at, fault_word, last_call, plan_at, planned_at};
 
 use emulated_boards::{BoardFault, PlannedFault};
@@ -16,7 +16,7 @@ use release_catalogue::kinds::{items, number, object, text};
 use release_catalogue::members::member;
 use release_catalogue::spot::fault_at;
 use release_catalogue::{ReadStop, Reason, Spot, Word};
-use site_parts::needed_here;
+use site_scripts::needed_here;
 use std::alloc::Global;
 
 /// The most planned faults of a board.

@@ -12,7 +12,7 @@ use release_catalogue::kinds::{items, text};
 use release_catalogue::members::member;
 use release_catalogue::spot::fault_at;
 use release_catalogue::{Level, ReadStop, Reason, Spot, Word};
-use site_parts::spot_in;
+use site_scripts::spot_in;
 use std::alloc::Global;
 
 /// The most quirk files.

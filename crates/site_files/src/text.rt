@@ -6,7 +6,7 @@ ghost use Rattle.site_files.specs.Texts.{json_at};
 use json_values::{JsonFault, Scratch, Value};
 use release_catalogue::spot::fault_at;
 use release_catalogue::{ReadStop, Reason};
-use site_parts::whole_spot;
+use site_scripts::whole_spot;
 use std::alloc::Global;
 
 /// The value of the text, which borrows the bytes and the scratch. Bytes that aren't UTF-8, that JSON's grammar has no

@@ -14,7 +14,6 @@ use Rattle.release_catalogue.specs.Components.{components_behind, releases_in}
 use Rattle.release_catalogue.specs.Kinds.{bool_at, items_at, items_len, name_at, number_at, object_at}
 use Rattle.release_catalogue.specs.Reading.{◌>>=◌, entry_spot, field_of, optional, refuse_if, the}
 use Rattle.remote_set.specs.declared.remote.Remote.{Remote}
-use Rattle.site_parts.specs.Places.{spot_in}
 
 -- The section `components` as a remote.
 abbrev pub local : List Component → Remote
@@ -56,11 +55,15 @@ remote_at earlier spot d = do
   catalogue ← the spot words.Components (components_in earlier spot) d
   Ok (record { name = name; order = order; enabled = enabled; catalogue = catalogue })
 
+-- The place of the section's entries, without an index.
+abbrev pub remote_spot : Spot
+remote_spot = record { section = words.Remotes; index = 0 ∷ 0 ∷ 0 ∷ []; field = words.Entry }
+
 -- Remotes of the section, of which the first has this place, behind those of the document before them.
 abbrev pub each_remote : ℕ → List Remote → Items → Result (List Remote) Fault
 each_remote i earlier no_items = Ok earlier
 each_remote i earlier (item d ds) = do
-  remote ← remote_at earlier (entry_spot (spot_in words.Remotes words.Entry) First i) d
+  remote ← remote_at earlier (entry_spot remote_spot First i) d
   each_remote (i + 1) (earlier ++ remote ∷ []) ds
 
 -- The section: up to 16 remotes, behind the one that the document has of its own.

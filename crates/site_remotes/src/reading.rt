@@ -6,7 +6,7 @@ ghost use Rattle.json_values.specs.Trees.{view, items_view};
 ghost use Rattle.release_catalogue.specs.Components.{releases_in};
 ghost use Rattle.release_catalogue.specs.Reading.{Gives, optional, the};
 ghost use Rattle.remote_set.specs.Merged.{first_repeated};
-ghost use Rattle.site_remotes.specs.Remotes.{IsWithin, components_in, components_of, each_remote, local, new_name_at, releases_of, remote_at, remotes_at, taken_by};
+ghost use Rattle.site_remotes.specs.Remotes.{IsWithin, components_in, components_of, each_remote, local, new_name_at, releases_of, remote_at, remote_spot, remotes_at, taken_by};
 
 use fw_base::{Name, NoMemory};
 use json_values::Value;
@@ -18,7 +18,6 @@ use release_catalogue::members::{member, needed};
 use release_catalogue::spot::fault_at;
 use release_catalogue::{Catalogue, Level, ReadStop, Reason, Spot, Word};
 use remote_set::{Remote, count_releases};
-use site_parts::spot_in;
 use std::alloc::Global;
 
 /// The most remotes of the section.
@@ -96,7 +95,7 @@ fn each_remote(alloc: Global, values: &[Value], own: Remote) -> Result<Vec<Remot
     ensures within { IfOk result (λ v. IsWithin v.items) }
     ensures named { IfOk result (λ v. first_repeated v.items ≡ None) }
 {
-    let base = spot_in(Word::Remotes, Word::Entry);
+    let base = remote_spot();
     let mut read = lone(alloc, own)?;
     for (i, value) in values.iter().enumerate() {
         let spot = base.entry(Level::First, i as u32);
@@ -104,6 +103,18 @@ fn each_remote(alloc: Global, values: &[Value], own: Remote) -> Result<Vec<Remot
         read.push(remote)?;
     }
     Ok(read)
+}
+
+/// The place of the section's entries, without an index.
+fn remote_spot() -> Spot
+    ensures { result ≡ remote_spot }
+{
+    let index = [0, 0, 0];
+    Spot {
+        section: Word::Remotes,
+        index,
+        field: Word::Entry,
+    }
 }
 
 /// A remote behind others of the document.

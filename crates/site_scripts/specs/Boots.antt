@@ -13,7 +13,7 @@ use Rattle.release_catalogue.specs.Reading.{◌>>=◌, each, entry_spot, maybe, 
 use Rattle.release_catalogue.specs.Kinds.{items_at, items_len, list_at, number_at, object_at, text_at}
 use Rattle.site_scripts.specs.declared.boots.Boot.{Boot}
 use Rattle.site_scripts.specs.Items.{item_at}
-use Rattle.site_parts.specs.Places.{spot_in}
+use Rattle.site_scripts.specs.Places.{spot_in}
 
 -- ---- scripts, one of each client
 

@@ -7,7 +7,7 @@ use Rattle.release_catalogue.specs.declared.spot.Spot.{Spot}
 use Rattle.release_catalogue.specs.declared.spot.Fault.{Fault}
 use Rattle.release_catalogue.specs.Reading.{◌>>=◌, optional}
 use Rattle.release_catalogue.specs.Kinds.{list_at, name_at, object_at, plain_list_at}
-use Rattle.site_parts.specs.Places.{spot_in}
+use Rattle.site_scripts.specs.Places.{spot_in}
 
 -- The features of a client.
 unfoldable pub client_at : Spot → Data → Result (List (List ℕ)) Fault

@@ -5,13 +5,13 @@ ghost use Rattle.release_catalogue.specs.declared.spot.Level.TheVariants.{Whole}
 ghost use Rattle.release_catalogue.specs.Reading.{Gives, each, entry_spot, optional};
 ghost use Rattle.site_scripts.specs.Boots.{absent_at, absents_at};
 
+use crate::ports::Ports;
 use fw_base::Listed;
 use json_values::Value;
 use release_catalogue::kinds::{items, text};
 use release_catalogue::members::member;
 use release_catalogue::spot::fault_at;
 use release_catalogue::{ReadStop, Reason, Spot, Word};
-use site_parts::Ports;
 use std::alloc::Global;
 
 /// The absent boards, by their places in the document, or none where the field is missing.

@@ -6,10 +6,12 @@ ghost use Rattle.release_catalogue.specs.declared.word.Word.TheVariants as words
 ghost use Rattle.release_catalogue.specs.Reading.{Gives, each, entry_spot, maybe};
 ghost use Rattle.release_catalogue.specs.Kinds.{number_at};
 ghost use Rattle.site_scripts.specs.Boots.{boot_at, boots_at, items_in, items_of_boots};
-ghost use Rattle.site_parts.specs.Places.{spot_in};
+ghost use Rattle.site_scripts.specs.Places.{spot_in};
 
 use crate::absent::absents_or_none;
+use crate::ports::Ports;
 use crate::scripts::scripts_or_none;
+use crate::spots::spot_in;
 use client_scripts::Item;
 use fw_base::{Listed, NoMemory};
 use json_values::Value;
@@ -18,7 +20,6 @@ use release_catalogue::kinds::{items, number, object};
 use release_catalogue::members::{member, needed};
 use release_catalogue::spot::fault_at;
 use release_catalogue::{Level, ReadStop, Reason, Spot, Word};
-use site_parts::{Ports, spot_in};
 use std::alloc::Global;
 use update_log::BootPlan;
 

@@ -5,15 +5,15 @@ ghost use Rattle.release_catalogue.specs.declared.spot.Level.TheVariants.{First}
 ghost use Rattle.release_catalogue.specs.declared.word.Word.TheVariants as words;
 ghost use Rattle.release_catalogue.specs.Reading.{Gives, each, entry_spot};
 ghost use Rattle.site_scripts.specs.Clients.{client_at, clients_at};
-ghost use Rattle.site_parts.specs.Places.{spot_in};
+ghost use Rattle.site_scripts.specs.Places.{spot_in};
 
+use crate::spots::spot_in;
 use fw_base::{Listed, Name};
 use json_values::Value;
 use release_catalogue::entries::{count, list_or_empty};
 use release_catalogue::kinds::{items, object};
 use release_catalogue::spot::fault_at;
 use release_catalogue::{Level, ReadStop, Reason, Spot, Word};
-use site_parts::spot_in;
 use std::alloc::Global;
 
 /// The most clients of a document.

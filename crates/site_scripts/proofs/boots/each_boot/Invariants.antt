@@ -4,7 +4,7 @@ use Rattle.release_catalogue.specs.declared.spot.Level.TheVariants.{First}
 use Rattle.release_catalogue.specs.declared.word.Word.TheVariants as words
 use Rattle.release_catalogue.specs.Reading.{each, entry_spot}
 use Rattle.site_scripts.specs.Boots.{boot_at, items_of_boots}
-use Rattle.site_parts.specs.Places.{spot_in}
+use Rattle.site_scripts.specs.Places.{spot_in}
 use Rattle.site_scripts.proofs.boots.each_boot.Given as goal
 
 abbrev pub invariant-loop-i : goal.invariant-loop-i

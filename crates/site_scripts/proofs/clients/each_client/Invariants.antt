@@ -4,7 +4,7 @@ use Rattle.release_catalogue.specs.declared.spot.Level.TheVariants.{First}
 use Rattle.release_catalogue.specs.declared.word.Word.TheVariants as words
 use Rattle.release_catalogue.specs.Reading.{each, entry_spot}
 use Rattle.site_scripts.specs.Clients.{client_at}
-use Rattle.site_parts.specs.Places.{spot_in}
+use Rattle.site_scripts.specs.Places.{spot_in}
 use Rattle.site_scripts.proofs.clients.each_client.Given as goal
 
 abbrev pub invariant-loop-i : goal.invariant-loop-i

@@ -1,5 +1,5 @@
-use Rattle.site_parts.proofs.References.{any_text}
-use Rattle.site_parts.proofs.ports.Ports.has.Goals as goal
+use Rattle.site_scripts.proofs.References.{any_text}
+use Rattle.site_scripts.proofs.ports.Ports.has.Goals as goal
 
 pub returns : goal.returns
 returns c =

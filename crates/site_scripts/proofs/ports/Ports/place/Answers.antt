@@ -1,5 +1,5 @@
-use Rattle.site_parts.proofs.References.{place_of_text}
-use Rattle.site_parts.proofs.ports.Ports.place.Goals as goal
+use Rattle.site_scripts.proofs.References.{place_of_text}
+use Rattle.site_scripts.proofs.ports.Ports.place.Goals as goal
 
 pub returns-clause-found : goal.returns-clause-found
 returns-clause-found c =

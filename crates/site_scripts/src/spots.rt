@@ -4,7 +4,7 @@ ghost use Rattle.json_values.specs.Trees.{view};
 ghost use Rattle.release_catalogue.specs.Reading.{Gives, or_fault};
 ghost use Rattle.release_catalogue.specs.Words.{word_text};
 ghost use Rattle.serde_json.specs.Find.{get};
-ghost use Rattle.site_parts.specs.Places.{spot_in, whole_spot};
+ghost use Rattle.site_scripts.specs.Places.{spot_in, whole_spot};
 
 use json_values::Value;
 use release_catalogue::members::member;
