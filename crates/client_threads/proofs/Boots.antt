@@ -24,8 +24,8 @@ use Rattle.client_plays.proofs.OrderLaws.{daemon-first, first-nothing, first-sta
 use Rattle.client_plays.proofs.PlayLaws.{task-unplayed}
 use Rattle.client_plays.proofs.RestLaws.{before-same, rest-both, rest-here, so-left}
 use Rattle.client_plays.proofs.ScriptLaws.{until-nothing}
-use Rattle.campaign_runs.specs.Runs.{ReadLast}
-use Rattle.campaign_runs.proofs.RunLaws.{grew-faulted}
+use Rattle.client_threads.specs.Runs.{ReadLast}
+use Rattle.client_threads.proofs.RunLaws.{grew-faulted}
 use Rattle.client_threads.specs.Clients.{ClientsPlayed}
 use Rattle.client_threads.proofs.Plays.{left-off, still-played}
 

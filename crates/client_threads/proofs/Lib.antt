@@ -1,3 +1,10 @@
+pub mod Present
+pub mod OpeningLaws
+pub mod PlannedLaws
+pub mod FaultBoots
+pub mod RunLaws
+pub mod StartLaws
+pub mod LegalLaws
 pub mod Dealt
 pub mod Shelves
 pub mod ShelfFaults

@@ -27,7 +27,7 @@ use Rattle.shared_daemon.specs.Entries.{chronicle, past_seen}
 use Rattle.shared_daemon.specs.Names.{HasNothing, IsLogOf, KeepsName, Name}
 use Rattle.shared_daemon.proofs.Logs.{past-entries}
 use Rattle.shared_daemon.proofs.Seeing.{before-named}
-use Rattle.campaign_runs.specs.Runs.{ReadLast}
+use Rattle.client_threads.specs.Runs.{ReadLast}
 use Rattle.client_threads.specs.Begins.{CanBegin, IsNameOf, name_of}
 use Rattle.client_threads.specs.Clients.{ClientsPlayed, PlayedBehind}
 use Rattle.client_threads.proofs.Pasts.{log-grew, on-read}

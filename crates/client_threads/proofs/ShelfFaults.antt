@@ -11,7 +11,7 @@ use Rattle.client_plays.specs.Moments.{Did, Moment, mine}
 use Rattle.client_plays.specs.Tools.{Files, ShelfTold, ShelvesStay}
 use Rattle.client_plays.proofs.ShelfCounts.{count-first, count-other, shelves-count_both, shelves-count_same, some-same}
 use Rattle.client_plays.proofs.ToolLaws.{shelves-here}
-use Rattle.campaign_runs.specs.Runs.{HasBegun, NoneBegan}
+use Rattle.client_threads.specs.Runs.{HasBegun, NoneBegan}
 
 le-same : (x y : ℕ) → x ≡ y → x ≤ y
 le-same x y e = omega arith

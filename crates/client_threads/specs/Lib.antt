@@ -1,3 +1,6 @@
+pub mod Planned
+pub mod Runs
+pub mod Promises
 pub mod Begins
 pub mod Clients
 pub use Rattle.turn_lock.specs.Shown
@@ -18,6 +21,12 @@ pub use Rattle.client_plays.specs.Plays
 pub use Rattle.client_plays.specs.Scripts
 pub use Rattle.client_plays.specs.Shelves
 pub use Rattle.client_plays.specs.Tools
-pub use Rattle.campaign_runs.specs.Planned as CampaignRunsPlanned
-pub use Rattle.campaign_runs.specs.Runs
 pub use Rattle.script_runs.specs.Passes
+pub use Rattle.fw_facts.specs.Views
+pub use Rattle.update_log.specs.CoreFolds
+pub use Rattle.update_log.specs.Crashes
+pub use Rattle.update_log.specs.Once
+pub use Rattle.update_log.specs.Shows
+pub use Rattle.daemon_core.specs.Boots
+pub use Rattle.daemon_core.specs.Reading
+pub use Rattle.daemon_core.specs.Turns

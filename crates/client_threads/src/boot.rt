@@ -15,7 +15,7 @@ ghost use Rattle.client_plays.specs.Has.{shelves_told, tools_of};
 ghost use Rattle.client_plays.specs.Moments.{NoClients};
 ghost use Rattle.client_plays.specs.Shelves.{means_for};
 ghost use Rattle.client_plays.specs.Tools.{Serves, ShelvesStay};
-ghost use Rattle.campaign_runs.specs.Runs.{ReadLast};
+ghost use Rattle.client_threads.specs.Runs.{ReadLast};
 ghost use Rattle.client_threads.specs.Begins.{CanBegin, IsNameOf};
 ghost use Rattle.client_threads.specs.Clients.{ClientsPlayed, PlayedBehind};
 

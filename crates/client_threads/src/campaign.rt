@@ -8,12 +8,12 @@ ghost use Rattle.client_plays.specs.Endings.{IsScriptItem};
 ghost use Rattle.client_plays.specs.Faults.{ShelvesCount};
 ghost use Rattle.client_plays.specs.Shelves.{means_for};
 ghost use Rattle.client_plays.specs.Tools.{Serves, ShelvesStay};
-ghost use Rattle.campaign_runs.specs.Planned.{with_plans};
-ghost use Rattle.campaign_runs.specs.Runs.{CampaignRan};
+ghost use Rattle.client_threads.specs.Planned.{with_plans};
+ghost use Rattle.client_threads.specs.Runs.{CampaignRan};
 ghost use Rattle.client_plays.specs.Has.{shelves_told, tools_of};
 
+use crate::ending::Ran;
 use crate::running::run_boots;
-use campaign_runs::Ran;
 use client_scripts::Item;
 use daemon_core::House;
 use fw_base::Listed;

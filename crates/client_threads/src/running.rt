@@ -10,12 +10,12 @@ ghost use Rattle.client_plays.specs.Has.{shelves_told, tools_of};
 ghost use Rattle.client_plays.specs.Scripts.{scripts_in};
 ghost use Rattle.client_plays.specs.Shelves.{means_for};
 ghost use Rattle.client_plays.specs.Tools.{Serves, ShelvesStay};
-ghost use Rattle.campaign_runs.specs.Runs.{BootMore, CampaignRan, ReadLast};
+ghost use Rattle.client_threads.specs.Runs.{BootMore, CampaignRan, ReadLast};
 
 use crate::boot::play_boot;
 use crate::dealing::either;
-use campaign_runs::starting::start_boot;
-use campaign_runs::{Ending, Ran};
+use crate::ending::{Ending, Ran};
+use crate::starting::start_boot;
 use client_scripts::Item;
 use daemon_core::House;
 use fw_base::Listed;

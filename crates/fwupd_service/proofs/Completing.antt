@@ -20,7 +20,7 @@ use Rattle.daemon_core.specs.House.{shown_by}
 use Rattle.daemon_core.specs.Keeping.{keeper_faults}
 use Rattle.client_plays.specs.Shelves.{means_for}
 use Rattle.client_plays.specs.Tools.{ShelfTold}
-use Rattle.campaign_runs.specs.Planned.{with_plans}
+use Rattle.client_threads.specs.Planned.{with_plans}
 use Rattle.site_types.specs.declared.campaign.Campaign.{Campaign}
 use Rattle.site_types.specs.declared.site.Site.{Site}
 use Rattle.site_making.specs.Made.{made_site}

@@ -11,9 +11,9 @@ use Rattle.update_log.specs.declared.event.Event.{Event}
 use Rattle.update_log.specs.Shows.{Campaign}
 use Rattle.client_scripts.specs.declared.item.Item.{Item}
 use Rattle.client_plays.specs.Tools.{Means}
-use Rattle.campaign_runs.specs.declared.ending.Ending.{Ending}
-use Rattle.campaign_runs.specs.declared.ending.Ran.{Ran}
-use Rattle.campaign_runs.specs.Promises.{PlayedBoots}
+use Rattle.client_threads.specs.declared.ending.Ending.{Ending}
+use Rattle.client_threads.specs.declared.ending.Ran.{Ran}
+use Rattle.client_threads.specs.Promises.{PlayedBoots}
 use Rattle.run_status.specs.declared.status.Status.{Status}
 use Rattle.fwupd_service.specs.declared.reporting.Written.{Written}
 use Rattle.fwupd_service.specs.declared.reporting.Written.TheVariants as writes

@@ -33,13 +33,13 @@ use Rattle.daemon_core.proofs.BootOpenings.{legal-over, place-over, said-over}
 use Rattle.client_scripts.specs.declared.item.Item.{Item}
 use Rattle.client_plays.specs.Scripts.{BootPlayed, EarlierPlayed, scripts_in}
 use Rattle.client_plays.specs.Tools.{Means}
-use Rattle.campaign_runs.specs.declared.ending.Ending.{Ending}
-use Rattle.campaign_runs.specs.declared.ending.Ran.{Ran}
-use Rattle.campaign_runs.specs.Planned.{with_plans}
-use Rattle.campaign_runs.specs.Promises.{PlayedBoots}
-use Rattle.campaign_runs.specs.Runs.{CampaignRan, EndedSo, OpeningTold}
-use Rattle.campaign_runs.proofs.FaultBoots.{faults-earlier, faults-played}
-use Rattle.campaign_runs.proofs.LegalLaws.{legal-in}
+use Rattle.client_threads.specs.declared.ending.Ending.{Ending}
+use Rattle.client_threads.specs.declared.ending.Ran.{Ran}
+use Rattle.client_threads.specs.Planned.{with_plans}
+use Rattle.client_threads.specs.Promises.{PlayedBoots}
+use Rattle.client_threads.specs.Runs.{CampaignRan, EndedSo, OpeningTold}
+use Rattle.client_threads.proofs.FaultBoots.{faults-earlier, faults-played}
+use Rattle.client_threads.proofs.LegalLaws.{legal-in}
 use Rattle.fwupd_service.specs.Campaigns.{EndsAt, IsBadHistory, IsOpening, IsTrueLog, IsUnread, IsUntouched, KeeperStands, WasPlayed}
 
 -- The rows that a boot took are the opening.

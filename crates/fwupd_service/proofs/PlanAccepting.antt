@@ -22,7 +22,7 @@ use Rattle.update_plans.specs.Following.{IsAcceptedNext, IsFollowed, IsQuiet}
 use Rattle.update_plans.specs.Plans.{Scene, accepts, first_bad, installed, plan, release_at, request_of, scene}
 use Rattle.update_plans.proofs.Planned.{plan-good}
 use Rattle.daemon_core.specs.House.{shown_by}
-use Rattle.campaign_runs.specs.Planned.{with_plans}
+use Rattle.client_threads.specs.Planned.{with_plans}
 use Rattle.campaign_plans.specs.FirstPlans.{first_log, first_steps}
 use Rattle.fwupd_service.specs.Complete.{IsHeld, UpdateAccepts}
 

@@ -12,8 +12,8 @@ use Rattle.plugin_order.specs.declared.sheet.PluginSheet.{PluginSheet}
 use Rattle.plugin_trait.specs.Steps.{PluginSteps}
 use Rattle.update_log.specs.declared.facts.PluginVetoes.{PluginVetoes}
 use Rattle.client_plays.specs.Tools.{ShelfTold, ShelvesStay}
-use Rattle.campaign_runs.specs.declared.ending.Ran.{Ran}
-use Rattle.campaign_runs.specs.Planned.{with_plans}
+use Rattle.client_threads.specs.declared.ending.Ran.{Ran}
+use Rattle.client_threads.specs.Planned.{with_plans}
 use Rattle.site_types.specs.declared.campaign.Campaign.{Campaign}
 use Rattle.command_words.specs.declared.command.Command.{Command}
 use Rattle.command_words.specs.declared.command.Command.TheVariants as commands

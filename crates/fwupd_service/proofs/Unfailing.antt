@@ -12,7 +12,7 @@ use Rattle.client_scripts.specs.declared.item.Item.{Item}
 use Rattle.client_plays.specs.Shelves.{means_for}
 use Rattle.plugin_trait.specs.Steps.{PluginSteps}
 use Rattle.client_plays.specs.Tools.{Means, ShelfTold}
-use Rattle.campaign_runs.specs.Planned.{with_plans}
+use Rattle.client_threads.specs.Planned.{with_plans}
 use Rattle.site_types.specs.declared.campaign.Campaign as sites
 use Rattle.made_outputs.specs.Summed.{summary}
 use Rattle.run_status.specs.declared.status.Status.{Status}

@@ -21,9 +21,9 @@ use Rattle.daemon_core.specs.Reading.{AreOthers, AreTold}
 use Rattle.client_scripts.specs.declared.item.Item.{Item}
 use Rattle.client_plays.specs.Faults.{shelf_faults}
 use Rattle.client_plays.specs.Tools.{Means, ShelfTold, ShelvesStay}
-use Rattle.campaign_runs.specs.declared.ending.Ending.{Ending}
-use Rattle.campaign_runs.specs.declared.ending.Ran.{Ran}
-use Rattle.campaign_runs.specs.Promises.{PlayedBoots}
+use Rattle.client_threads.specs.declared.ending.Ending.{Ending}
+use Rattle.client_threads.specs.declared.ending.Ran.{Ran}
+use Rattle.client_threads.specs.Promises.{PlayedBoots}
 
 -- The log is legal over the rows before it, so each answer is the one that the log before it calls for: a
 -- refusal names the first condition that isn't met, and an entry is judged by the version that its device

@@ -55,5 +55,5 @@ pub use Rattle.client_plays.specs.Faults as ClientPlaysFaults
 pub use Rattle.client_plays.specs.Has
 pub use Rattle.client_plays.specs.Shelves
 pub use Rattle.client_plays.specs.Tools
-pub use Rattle.campaign_runs.specs.Planned as CampaignRunsPlanned
-pub use Rattle.campaign_runs.specs.Promises
+pub use Rattle.client_threads.specs.Planned as ClientThreadsPlanned
+pub use Rattle.client_threads.specs.Promises

@@ -11,7 +11,7 @@ use Rattle.update_log.specs.declared.facts.PluginVetoes.{PluginVetoes}
 use Rattle.daemon_core.specs.House.{shown_by}
 use Rattle.client_plays.specs.Shelves.{means_for}
 use Rattle.client_plays.specs.Tools.{ShelfTold}
-use Rattle.campaign_runs.specs.Planned.{with_plans}
+use Rattle.client_threads.specs.Planned.{with_plans}
 use Rattle.site_types.specs.declared.campaign.Campaign.{Campaign}
 use Rattle.campaign_inputs.specs.declared.opening.ClientLimit.TheVariants as limits
 use Rattle.campaign_inputs.specs.declared.opening.OpenStop.{OpenStop}

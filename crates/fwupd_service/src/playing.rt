@@ -8,14 +8,13 @@ ghost use Rattle.client_plays.specs.Shelves.{means_for};
 ghost use Rattle.plugin_trait.specs.Steps.{steps_at};
 ghost use Rattle.client_plays.specs.Tools.{Serves};
 ghost use Rattle.client_plays.specs.Has.{shelves_told, tools_of};
-ghost use Rattle.campaign_runs.specs.Planned.{with_plans};
+ghost use Rattle.client_threads.specs.Planned.{with_plans};
 ghost use Rattle.fwupd_service.specs.Begins.{CanBePlayed, IsBegun, IsReadyFor};
 ghost use Rattle.fwupd_service.specs.Campaigns.{ShelvesStand, WasPlayed};
 
 use block_pool::Pool;
-use campaign_runs::Ran;
 use client_scripts::Item;
-use client_threads::run_on_threads;
+use client_threads::{Ran, run_on_threads};
 use daemon_core::{HomeBoards, House, HouseParts, RefusedHouse};
 use emulated_boards::Board;
 use fw_base::Listed;

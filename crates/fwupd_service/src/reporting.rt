@@ -10,12 +10,12 @@ ghost use Rattle.report_text.specs.Report.{report};
 ghost use Rattle.made_outputs.specs.Summed.{summary};
 ghost use Rattle.fwupd_service.specs.Ends.{IsLeft, IsReported, WasWritten, ending_status, played_status, written_status};
 ghost use Rattle.fwupd_service.specs.Telling.{any_fault, any_want};
-ghost use Rattle.campaign_runs.specs.declared.ending.Ending.TheVariants as endings;
+ghost use Rattle.client_threads.specs.declared.ending.Ending.TheVariants as endings;
 
 use crate::playing::Played;
 use crate::ran::RunLeft;
 use crate::telling::{any_fault, any_want};
-use campaign_runs::{Ending, Ran as CampaignRan};
+use client_threads::{Ending, Ran as CampaignRan};
 use history_keeper::Row;
 use made_outputs::{OutputStop, write_summary};
 use outer_traits::Sink;

@@ -16,7 +16,7 @@ use Rattle.command_words.specs.declared.command.Command.{Command}
 use Rattle.command_words.specs.declared.command.Command.TheVariants as commands
 use Rattle.daemon_core.specs.House.{shown_by}
 use Rattle.daemon_core.specs.Keeping.{HasRows, WasReopened}
-use Rattle.campaign_runs.specs.Planned.{with_plans}
+use Rattle.client_threads.specs.Planned.{with_plans}
 use Rattle.run_status.specs.declared.status.Status.{Status}
 use Rattle.site_types.specs.declared.campaign.Campaign.{Campaign}
 use Rattle.fwupd_service.specs.declared.loading.LoadStop.{LoadStop}

@@ -4,8 +4,8 @@ use Rattle.daemon_core.specs.Turns.{signs_of}
 use Rattle.client_plays.specs.Has.{shelves_told}
 use Rattle.client_plays.specs.Shelves.{means_for}
 use Rattle.plugin_trait.specs.Steps.{steps_at}
-use Rattle.campaign_runs.specs.Runs.{CampaignRan}
-use Rattle.campaign_runs.proofs.LegalLaws.{legal-in}
+use Rattle.client_threads.specs.Runs.{CampaignRan}
+use Rattle.client_threads.proofs.LegalLaws.{legal-in}
 use Rattle.client_threads.proofs.campaign.run_on_threads.Goals as goal
 
 pub returns-clause-legal : goal.returns-clause-legal

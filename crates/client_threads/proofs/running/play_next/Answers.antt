@@ -1,7 +1,7 @@
 use Rattle.client_plays.specs.Has.{shelves_told}
 use Rattle.client_plays.specs.Shelves.{means_for}
 use Rattle.plugin_trait.specs.Steps.{steps_at}
-use Rattle.campaign_runs.proofs.RunLaws.{boot-either}
+use Rattle.client_threads.proofs.RunLaws.{boot-either}
 use Rattle.client_threads.proofs.running.play_next.Goals as goal
 use Rattle.daemon_core.specs.Turns.{signs_of}
 

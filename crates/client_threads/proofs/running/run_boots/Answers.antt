@@ -9,8 +9,8 @@ use Rattle.client_plays.specs.Tools.{Files, means_of}
 use Rattle.plugin_trait.specs.Steps.{steps_at}
 use Rattle.client_plays.proofs.ShelfLaws.{files-stay}
 use Rattle.client_plays.proofs.ToolLaws.{serves-all, serves-later, shelves-both, shelves-here}
-use Rattle.campaign_runs.specs.Runs.{BootMore}
-use Rattle.campaign_runs.proofs.RunLaws.{begun-counted, plan-at, ran-stopped, run-more, run-none, run-read, same-means, scripts-all}
+use Rattle.client_threads.specs.Runs.{BootMore}
+use Rattle.client_threads.proofs.RunLaws.{begun-counted, plan-at, ran-stopped, run-more, run-none, run-read, same-means, scripts-all}
 use Rattle.daemon_core.specs.Housed.{past}
 use Rattle.daemon_core.specs.Turns.{signs_of}
 use Rattle.client_plays.proofs.ShelfCounts.{shelves-count_here}

@@ -1,5 +1,5 @@
 use Rattle.std.proofs.Common.{◌≡◌, inl, sym}
-use Rattle.campaign_runs.specs.Planned.{with_plans}
+use Rattle.client_threads.specs.Planned.{with_plans}
 use Rattle.fwupd_service.proofs.TopLaws.{campaign-told, if-err, if-ok, stay-same}
 use Rattle.fwupd_service.proofs.run.run_ready.Goals as goal
 

@@ -20,8 +20,8 @@ use Rattle.client_scripts.specs.declared.item.Item.{Item}
 use Rattle.client_plays.specs.Endings.{HouseBootPlayed, IsIdle}
 use Rattle.client_plays.specs.Scripts.{BootPlayed, EarlierPlayed, scripts_in}
 use Rattle.client_plays.specs.Tools.{Means}
-use Rattle.campaign_runs.specs.declared.ending.Ending.{Ending}
-use Rattle.campaign_runs.specs.Planned.{BootsPlanned, IsPlanned}
+use Rattle.client_threads.specs.declared.ending.Ending.{Ending}
+use Rattle.client_threads.specs.Planned.{BootsPlanned, IsPlanned}
 
 -- The rows before the log, once a boot took them, are those that the keeper told as it came, if it tells any
 -- still. Until then what it tells it told as it came; and what a boot refused, if one did, were those.

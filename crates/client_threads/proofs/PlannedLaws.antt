@@ -11,7 +11,7 @@ use Rattle.client_scripts.specs.declared.item.Item.{Item}
 use Rattle.client_plays.specs.Moments.{Grew}
 use Rattle.client_plays.specs.Scripts.{EarlierPlayed}
 use Rattle.client_plays.specs.Tools.{Means}
-use Rattle.campaign_runs.specs.Planned.{BootsPlanned}
+use Rattle.client_threads.specs.Planned.{BootsPlanned}
 
 planned-one : (plans : List BootPlan) (event : Event) (past : List Event) → is_boot event ≡ false → BootsPlanned plans past → BootsPlanned plans (event ∷ past)
 planned-one plans (Event.Boot number time limit found boards) past b p = cc

@@ -4,7 +4,7 @@ ghost use Rattle.update_log.specs.Pasts.{boots};
 ghost use Rattle.daemon_core.specs.Housed.{past};
 ghost use Rattle.daemon_core.specs.Turns.{signs_of};
 ghost use Rattle.client_plays.specs.Endings.{IsIdle};
-ghost use Rattle.campaign_runs.specs.Runs.{StartedSo, ended_by};
+ghost use Rattle.client_threads.specs.Runs.{StartedSo, ended_by};
 
 use crate::ending::Ending;
 use daemon_core::{BootStop, House};

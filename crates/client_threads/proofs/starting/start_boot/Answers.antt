@@ -1,5 +1,5 @@
-use Rattle.campaign_runs.proofs.StartLaws.{started-so}
-use Rattle.campaign_runs.proofs.starting.start_boot.Goals as goal
+use Rattle.client_threads.proofs.StartLaws.{started-so}
+use Rattle.client_threads.proofs.starting.start_boot.Goals as goal
 use Rattle.daemon_core.specs.Turns.{signs_of}
 
 pub returns : goal.returns

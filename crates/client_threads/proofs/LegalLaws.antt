@@ -8,7 +8,7 @@ use Rattle.update_log.specs.declared.facts.Facts.{Facts}
 use Rattle.update_log.specs.Legal.{Allowed, IsLegal}
 use Rattle.update_log.specs.Shows.{Campaign}
 use Rattle.daemon_core.specs.Annals.{IsLegalSo}
-use Rattle.campaign_runs.specs.Planned.{BootsPlanned, with_plans}
+use Rattle.client_threads.specs.Planned.{BootsPlanned, with_plans}
 
 -- What a past says of its newest event.
 planned-rest : (plans : List BootPlan) (event : Event) (past : List Event) → BootsPlanned plans (event ∷ past) → BootsPlanned plans past

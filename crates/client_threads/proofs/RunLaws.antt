@@ -25,12 +25,12 @@ use Rattle.client_plays.specs.Tools.{Means}
 use Rattle.client_plays.proofs.BootLaws.{so-told}
 use Rattle.client_plays.proofs.MomentLaws.{grew-boots}
 use Rattle.client_plays.proofs.RestLaws.{before-same}
-use Rattle.campaign_runs.specs.declared.ending.Ending.{Ending}
-use Rattle.campaign_runs.specs.Planned.{BootsPlanned}
-use Rattle.campaign_runs.specs.Runs.{BootMore, CampaignRan, EndedSo, HasBegun, NoneBegan, RanSoFar, ReadLast, StoppedBy}
-use Rattle.campaign_runs.proofs.OpeningLaws.{stays-same, told-new, told-stays}
-use Rattle.campaign_runs.proofs.FaultBoots.{faults-earlier, faults-played}
-use Rattle.campaign_runs.proofs.PlannedLaws.{earlier-grown, planned-grown}
+use Rattle.client_threads.specs.declared.ending.Ending.{Ending}
+use Rattle.client_threads.specs.Planned.{BootsPlanned}
+use Rattle.client_threads.specs.Runs.{BootMore, CampaignRan, EndedSo, HasBegun, NoneBegan, RanSoFar, ReadLast, StoppedBy}
+use Rattle.client_threads.proofs.OpeningLaws.{stays-same, told-new, told-stays}
+use Rattle.client_threads.proofs.FaultBoots.{faults-earlier, faults-played}
+use Rattle.client_threads.proofs.PlannedLaws.{earlier-grown, planned-grown}
 
 -- What was played stays played where memory is told to be wanting.
 played-told : (before now : Bool) (facts : Facts) (opening : List Row) (means : ℕ → Means) (of_boot : List (List Item)) (past : List Event) → (before ≡ true → now ≡ true) → BootPlayed before facts opening means of_boot past → BootPlayed now facts opening means of_boot past

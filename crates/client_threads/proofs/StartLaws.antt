@@ -20,11 +20,11 @@ use Rattle.daemon_core.specs.Keeping.{last_faulted}
 use Rattle.daemon_core.specs.Reading.{AreTold}
 use Rattle.daemon_core.specs.Turns.{KeeperFared, Signs}
 use Rattle.daemon_core.proofs.Planned.{keeps-same, keeps-started, get-other}
-use Rattle.campaign_runs.specs.declared.ending.Ending.{Ending}
-use Rattle.campaign_runs.specs.Planned.{IsPlanned}
-use Rattle.campaign_runs.specs.Runs.{HasBegun, NoneBegan, OpeningStays, StartedSo, ended_by}
-use Rattle.campaign_runs.proofs.OpeningLaws.{stays-refused, stays-same, stays-well}
-use Rattle.campaign_runs.proofs.Present.{started-present}
+use Rattle.client_threads.specs.declared.ending.Ending.{Ending}
+use Rattle.client_threads.specs.Planned.{IsPlanned}
+use Rattle.client_threads.specs.Runs.{HasBegun, NoneBegan, OpeningStays, StartedSo, ended_by}
+use Rattle.client_threads.proofs.OpeningLaws.{stays-refused, stays-same, stays-well}
+use Rattle.client_threads.proofs.Present.{started-present}
 
 -- The boot that was noted lists each board as planned.
 planned-so : (plan : BootPlan) (old new : List Place) (listed : List BoardSeen) → AllStarted plan old new listed → IsPlanned plan plan.time plan.limit listed
