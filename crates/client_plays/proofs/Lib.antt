@@ -13,3 +13,13 @@ pub mod IdleLaws
 pub mod OrderLaws
 pub mod WiderLaws
 pub mod UpdateLaws
+pub mod Takings
+pub mod Asked
+pub mod FirstNamed
+pub mod Ways
+pub mod Begun
+pub mod Told
+pub mod Standing
+pub mod Completing
+pub mod Boots
+pub mod Finished

@@ -8,6 +8,10 @@ pub mod Plays
 pub mod Left
 pub mod Scripts
 pub mod Endings
+pub mod Complete
+pub mod FirstRefusal
+pub mod Installs
+pub mod Finished
 pub use Rattle.outer_traits.specs.Shelves as OuterTraitsShelves
 pub use Rattle.fw_facts.specs.Views
 pub use Rattle.emulated_boards.specs.Images
@@ -25,3 +29,7 @@ pub use Rattle.daemon_core.specs.Keeping
 pub use Rattle.daemon_core.specs.Planned
 pub use Rattle.daemon_core.specs.Turns
 pub use Rattle.install_engine.specs.Findings
+pub use Rattle.plugin_trait.specs.Steps as PluginTraitSteps
+pub use Rattle.update_log.specs.Shows
+pub use Rattle.update_log.specs.Verdicts
+pub use Rattle.daemon_core.specs.PutOff

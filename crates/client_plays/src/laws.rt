@@ -1,8 +1,8 @@
 //! Laws of the definitions alone.
-ghost use Rattle.claim_laws.specs.Complete.{ClaimsComplete, InstallsComplete, ResumptionsComplete};
-ghost use Rattle.claim_laws.specs.FirstRefusal.{FirstIsNamed};
-ghost use Rattle.claim_laws.specs.Finished.{InstallsFinish};
-ghost use Rattle.claim_laws.specs.Installs.{BootsComplete, CampaignsComplete};
+ghost use Rattle.client_plays.specs.Complete.{ClaimsComplete, InstallsComplete, ResumptionsComplete};
+ghost use Rattle.client_plays.specs.FirstRefusal.{FirstIsNamed};
+ghost use Rattle.client_plays.specs.Finished.{InstallsFinish};
+ghost use Rattle.client_plays.specs.Installs.{BootsComplete, CampaignsComplete};
 
 use plugin_trait::Plugin;
 

@@ -20,8 +20,8 @@ use Rattle.update_log.specs.Verdicts.{verdict}
 use Rattle.daemon_core.specs.PutOff.{IsAccept}
 use Rattle.client_plays.specs.Shelves.{IsFetched}
 use Rattle.client_plays.specs.Tools.{Files}
-use Rattle.claim_laws.specs.Complete.{CanInstall, Takes}
-use Rattle.claim_laws.proofs.Takings.{CameWhole, came-whole, claim-came}
+use Rattle.client_plays.specs.Complete.{CanInstall, Takes}
+use Rattle.client_plays.proofs.Takings.{CameWhole, came-whole, claim-came}
 
 -- The hold that an ask gave.
 abbrev pub asked_hold : ℕ → Request → Option ℕ → ℕ → ReleaseRef → Held

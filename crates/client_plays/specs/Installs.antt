@@ -32,7 +32,7 @@ use Rattle.client_plays.specs.Moments.{Moment, began, mine}
 use Rattle.client_plays.specs.Scripts.{BootPlayed, Script, items_of, scripts_in}
 use Rattle.client_plays.specs.Shelves.{IsFetched}
 use Rattle.client_plays.specs.Tools.{Files, Means, means_of}
-use Rattle.claim_laws.specs.Complete.{HasPayload}
+use Rattle.client_plays.specs.Complete.{HasPayload}
 
 -- Which installs were begun.
 

@@ -11,11 +11,11 @@ use Rattle.client_scripts.specs.declared.item.Item.{Item}
 use Rattle.client_plays.specs.Moments.{began, mine}
 use Rattle.client_plays.specs.Scripts.{BootPlayed, EarlierPlayed, Script, items_of, scripts_in, tasks}
 use Rattle.client_plays.specs.Tools.{Means}
-use Rattle.claim_laws.specs.Installs.{BootCompletes, EndsBoot}
-use Rattle.claim_laws.proofs.Begun.{items-begun, tasks-begun}
-use Rattle.claim_laws.proofs.Completing.{install-comes, put-off, resumption-comes}
-use Rattle.claim_laws.proofs.Standing.{legal-front}
-use Rattle.claim_laws.proofs.Told.{items-told, tasks-told}
+use Rattle.client_plays.specs.Installs.{BootCompletes, EndsBoot}
+use Rattle.client_plays.proofs.Begun.{items-begun, tasks-begun}
+use Rattle.client_plays.proofs.Completing.{install-comes, put-off, resumption-comes}
+use Rattle.client_plays.proofs.Standing.{legal-front}
+use Rattle.client_plays.proofs.Told.{items-told, tasks-told}
 
 pub boot-completes : (wanting : Bool) (c : Campaign) (opening : List Row) (means : ℕ → Means) (of_boot : List (List Item)) (past : List Event)
     → IsLegal c opening past → BootPlayed wanting c.facts opening means of_boot past → BootCompletes wanting c.facts opening (λ client. (means client).files) of_boot past

@@ -19,9 +19,9 @@ use Rattle.client_plays.specs.Moments.{Moment, at, mine}
 use Rattle.client_plays.specs.Scripts.{BootPlayed, items_of}
 use Rattle.client_plays.specs.Tools.{Files, Means}
 use Rattle.client_plays.proofs.MomentLaws.{mine-boot, mine-other, mine-own}
-use Rattle.claim_laws.specs.Finished.{InstallFinishes, IsFinished}
-use Rattle.claim_laws.specs.Installs.{AreBegun, AtBoot, BootCompletes, InBoot, InstallComes, Installs, Now, Wish, begun_by, installs_begun, installs_wanted, wanted_by}
-use Rattle.claim_laws.proofs.Boots.{boot-completes}
+use Rattle.client_plays.specs.Finished.{InstallFinishes, IsFinished}
+use Rattle.client_plays.specs.Installs.{AreBegun, AtBoot, BootCompletes, InBoot, InstallComes, Installs, Now, Wish, begun_by, installs_begun, installs_wanted, wanted_by}
+use Rattle.client_plays.proofs.Boots.{boot-completes}
 
 -- ---- what is among others
 

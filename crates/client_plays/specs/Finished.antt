@@ -19,7 +19,7 @@ use Rattle.daemon_core.specs.PutOff.{IsAccept}
 use Rattle.client_scripts.specs.declared.item.Item.{Item}
 use Rattle.client_plays.specs.Scripts.{BootPlayed, items_of}
 use Rattle.client_plays.specs.Tools.{Files}
-use Rattle.claim_laws.specs.Installs.{InBoot, IsThere, NextOf, means_with}
+use Rattle.client_plays.specs.Installs.{InBoot, IsThere, NextOf, means_with}
 
 -- What was asked for is claimed next. Where the verdict on the request accepts then too, and the payload of the
 -- release is there, the claim takes the next entry, and that is finished behind it; or the shelf failed.

@@ -22,8 +22,8 @@ use Rattle.client_plays.specs.Moments.{Moment, behind}
 use Rattle.client_plays.specs.Plays.{AfterAsk, AfterClaim, AfterResume, Alone, ClaimPlays, GivesBack, InstallPlays, Leaves, PendingPlays, Plays, ResumePlays, SchedulePlays, Task, StepsPlay, TaskPlays, ToJudge, ToResume}
 use Rattle.client_plays.specs.Scripts.{PlayedSo, PlaysAll, PlaysOne, PlaysUntil, is_judgeable, tasks}
 use Rattle.client_plays.specs.Tools.{Means}
-use Rattle.claim_laws.proofs.Ways.{one-way}
-use Rattle.claim_laws.specs.Installs.{AreBegun, AreSomeOf, AtBoot, Now, begun_by, row_begun_by, rows_waiting, wanted_by}
+use Rattle.client_plays.proofs.Ways.{one-way}
+use Rattle.client_plays.specs.Installs.{AreBegun, AreSomeOf, AtBoot, Now, begun_by, row_begun_by, rows_waiting, wanted_by}
 
 -- ---- lists of at most one, and what is behind them
 

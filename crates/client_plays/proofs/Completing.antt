@@ -35,12 +35,12 @@ use Rattle.client_plays.specs.Idle.{EndsIdle, IsEndedBy}
 use Rattle.client_plays.specs.Moments.{mine}
 use Rattle.client_plays.specs.Shelves.{IsFetched}
 use Rattle.client_plays.specs.Tools.{Files}
-use Rattle.claim_laws.specs.Complete.{Resumes, Takes}
-use Rattle.claim_laws.specs.Installs.{Begins, InBoot, InstallComes, Installs, IsClaimed, IsGivenUp, IsPutOff, IsResumed, IsThere, PutsOff, ResumptionComes}
-use Rattle.claim_laws.proofs.Asked.{asked-hold, asked_hold, install-came}
-use Rattle.claim_laws.proofs.Standing.{Released, asks_for, last-asked, legal-at, lets_go, off-behind, released, told-at}
-use Rattle.claim_laws.proofs.Takings.{CameWhole, came-noted, came-whole, resumption-came}
-use Rattle.claim_laws.proofs.Told.{AllTold, AskedFor, FetchedFor, Told, WasStopped}
+use Rattle.client_plays.specs.Complete.{Resumes, Takes}
+use Rattle.client_plays.specs.Installs.{Begins, InBoot, InstallComes, Installs, IsClaimed, IsGivenUp, IsPutOff, IsResumed, IsThere, PutsOff, ResumptionComes}
+use Rattle.client_plays.proofs.Asked.{asked-hold, asked_hold, install-came}
+use Rattle.client_plays.proofs.Standing.{Released, asks_for, last-asked, legal-at, lets_go, off-behind, released, told-at}
+use Rattle.client_plays.proofs.Takings.{CameWhole, came-noted, came-whole, resumption-came}
+use Rattle.client_plays.proofs.Told.{AllTold, AskedFor, FetchedFor, Told, WasStopped}
 
 -- A payload that is there came whole, or the shelf failed.
 came-there : (facts : Facts) (files : Files) (release : ReleaseRef) (note : FetchNote) → IsFetched facts files release note → IsThere facts files release note → CameWhole facts release note ⊎ (note ≡ FetchNote.ShelfFault)

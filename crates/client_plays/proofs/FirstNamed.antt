@@ -7,7 +7,7 @@ use Rattle.update_log.specs.declared.decision.Decision.{Decision}
 use Rattle.update_log.specs.declared.refusal.Refusal.{Refusal}
 use Rattle.update_log.specs.Known.{Target}
 use Rattle.update_log.specs.Verdicts.{Case, busy, decided, first_refusal, hindered, installed, is_that_release, kept, locked, need, no_room, not_updatable, older, on_found, on_kept, on_present, on_target, out_of_size, present, refused_or, retry, rows_full, unmet, unsettled, vetoed, where_so}
-use Rattle.claim_laws.specs.FirstRefusal.{IsFirst, found_by, has_release, target_in, test_place}
+use Rattle.client_plays.specs.FirstRefusal.{IsFirst, found_by, has_release, target_in, test_place}
 use Rattle.update_log.proofs.Lists.{eqb-other, eqb-self}
 
 -- A table of tests, each under the place of the refusals that it finds.

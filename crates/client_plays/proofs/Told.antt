@@ -20,7 +20,7 @@ use Rattle.client_plays.specs.Plays.{AfterAsk, AfterClaim, AfterResume, Alone, C
 use Rattle.client_plays.specs.Scripts.{PlayedSo, PlaysAll, PlaysOne, PlaysUntil}
 use Rattle.client_plays.specs.Shelves.{IsFetched}
 use Rattle.client_plays.specs.Tools.{Files, Means}
-use Rattle.claim_laws.proofs.Ways.{one-way}
+use Rattle.client_plays.proofs.Ways.{one-way}
 
 -- ---- what is told of one event
 

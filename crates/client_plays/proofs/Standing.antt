@@ -16,8 +16,8 @@ use Rattle.update_log.specs.Shows.{Campaign}
 use Rattle.client_plays.specs.Moments.{Moment, at, mine}
 use Rattle.client_plays.specs.Tools.{Files}
 use Rattle.client_plays.proofs.MomentLaws.{grew-off, mine-boot, mine-other, mine-own}
-use Rattle.claim_laws.proofs.Asked.{hold-kept}
-use Rattle.claim_laws.proofs.Told.{AllTold, Told}
+use Rattle.client_plays.proofs.Asked.{hold-kept}
+use Rattle.client_plays.proofs.Told.{AllTold, Told}
 
 -- ---- a legal log, in front
 

@@ -35,7 +35,7 @@ use Rattle.block_pool.specs.Views.{SealedBytes}
 use Rattle.install_engine.specs.Findings.{found_of, whole}
 use Rattle.client_plays.specs.Shelves.{IsFetched, IsTrueNote, IsWholePayload, note_found}
 use Rattle.client_plays.specs.Tools.{Files}
-use Rattle.claim_laws.specs.Complete.{CanResume, CanTake, HasPayload, Resumes, Takes}
+use Rattle.client_plays.specs.Complete.{CanResume, CanTake, HasPayload, Resumes, Takes}
 
 -- What lies on the shelf is found whole.
 found-whole : (o : Option (List ℕ)) (bytes digest : List ℕ) (size : ℕ) → o ≡ Some bytes → length bytes ≡ size → sha256 bytes ≡ digest → found_of o digest size ≡ whole bytes

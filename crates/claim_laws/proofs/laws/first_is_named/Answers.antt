@@ -1,5 +1,0 @@
-use Rattle.claim_laws.proofs.FirstNamed.{first-named}
-use Rattle.claim_laws.proofs.laws.first_is_named.Goals as goal
-
-pub returns : goal.returns
-returns c = λ case refusal. first-named case refusal
