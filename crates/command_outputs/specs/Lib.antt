@@ -1,3 +1,4 @@
+pub mod Summed
 pub mod Printed
 pub use Rattle.guid_ids.specs.Identifiers
 pub use Rattle.outer_traits.specs.Faults

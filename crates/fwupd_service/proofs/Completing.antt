@@ -30,7 +30,7 @@ use Rattle.campaign_inputs.specs.declared.opening.ClientLimit.{ClientLimit}
 use Rattle.campaign_inputs.specs.declared.opening.ClientLimit.TheVariants as limits
 use Rattle.campaign_inputs.specs.declared.opening.OpenStop.{OpenStop}
 use Rattle.campaign_inputs.specs.declared.opening.OpenStop.TheVariants as stops
-use Rattle.made_outputs.specs.Summed.{summary}
+use Rattle.command_outputs.specs.Summed.{summary}
 use Rattle.report_text.specs.Report.{report}
 use Rattle.run_status.specs.declared.status.Status.{Status}
 use Rattle.run_status.specs.declared.status.Status.TheVariants as statuses

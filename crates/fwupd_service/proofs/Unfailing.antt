@@ -14,7 +14,7 @@ use Rattle.plugin_trait.specs.Steps.{PluginSteps}
 use Rattle.client_plays.specs.Tools.{Means, ShelfTold}
 use Rattle.client_threads.specs.Planned.{with_plans}
 use Rattle.site_types.specs.declared.campaign.Campaign as sites
-use Rattle.made_outputs.specs.Summed.{summary}
+use Rattle.command_outputs.specs.Summed.{summary}
 use Rattle.run_status.specs.declared.status.Status.{Status}
 use Rattle.run_status.specs.declared.status.Status.TheVariants as statuses
 use Rattle.fwupd_service.specs.Campaigns.{IsBadHistory, IsOpening}

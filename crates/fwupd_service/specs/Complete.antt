@@ -35,7 +35,7 @@ use Rattle.document_commands.specs.Ends.{checked, remotes_told}
 use Rattle.document_commands.specs.Explains.{first_of, printed_of}
 use Rattle.campaign_plans.specs.FirstPlans.{first_log, first_steps}
 use Rattle.campaign_plans.specs.Updating.{Plays}
-use Rattle.made_outputs.specs.Summed.{summary}
+use Rattle.command_outputs.specs.Summed.{summary}
 use Rattle.report_text.specs.Report.{report}
 use Rattle.run_status.specs.declared.status.Status.{Status}
 use Rattle.run_status.specs.declared.status.Status.TheVariants as statuses

@@ -32,7 +32,7 @@ pub use Rattle.site_making.specs.Made
 pub use Rattle.site_making.specs.Settled as SiteMakingSettled
 pub use Rattle.command_words.specs.Commands as CommandWordsCommands
 pub use Rattle.command_outputs.specs.Printed
-pub use Rattle.made_outputs.specs.Summed
+pub use Rattle.command_outputs.specs.Summed
 pub use Rattle.campaign_inputs.specs.Inputs
 pub use Rattle.campaign_inputs.specs.Opened
 pub use Rattle.campaign_inputs.specs.Settled as CampaignInputsSettled

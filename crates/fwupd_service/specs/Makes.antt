@@ -14,7 +14,7 @@ use Rattle.client_plays.specs.Tools.{ShelfTold}
 use Rattle.site_types.specs.declared.campaign.Campaign.{Campaign}
 use Rattle.site_making.specs.Made.{made_site, new_payload}
 use Rattle.campaign_inputs.specs.Settled.{IsCampaignOf}
-use Rattle.made_outputs.specs.Summed.{summary}
+use Rattle.command_outputs.specs.Summed.{summary}
 use Rattle.run_status.specs.declared.status.Status.{Status}
 use Rattle.run_status.specs.declared.status.Status.TheVariants as statuses
 use Rattle.fwupd_service.specs.Plugged.{AreStarted, PluginWords, work_of}

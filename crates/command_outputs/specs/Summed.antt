@@ -7,8 +7,8 @@ use Rattle.history_keeper.specs.declared.row.RowState.{RowState}
 use Rattle.update_log.specs.declared.answer.AskAnswer.{AskAnswer}
 use Rattle.update_log.specs.declared.answer.ClaimAnswer.{ClaimAnswer}
 use Rattle.update_log.specs.declared.event.Event.{Event}
-use Rattle.made_outputs.specs.declared.counting.Counted.{Counted}
-use Rattle.made_outputs.specs.declared.counting.Kind.{Kind}
+use Rattle.command_outputs.specs.declared.counting.Counted.{Counted}
+use Rattle.command_outputs.specs.declared.counting.Kind.{Kind}
 
 -- a claim took an entry
 abbrev pub is_claimed : Event → Bool

@@ -2,8 +2,8 @@ use Rattle.std.proofs.Common.{◌≡◌, ℕ, ◌+◌, ◌<◌, ◌≤◌, Bool,
 use Rattle.std.specs.Prelude.{filter}
 use Rattle.std.proofs.lemmas.List.Filters.{length-filter_more}
 use Rattle.update_log.specs.declared.event.Event.{Event}
-use Rattle.made_outputs.specs.Summed.{is_of}
-use Rattle.made_outputs.proofs.counting.count_of.Goals as goal
+use Rattle.command_outputs.specs.Summed.{is_of}
+use Rattle.command_outputs.proofs.counting.count_of.Goals as goal
 
 low : (b : Bool) → (if b then 1 else 0) ≤ 1
 low true = omega arith

@@ -1,7 +1,7 @@
 use Rattle.std.proofs.Common.{◌≡◌, ◌≤◌, length, take}
 use Rattle.std.specs.Prelude.{filter}
-use Rattle.made_outputs.specs.Summed.{is_of}
-use Rattle.made_outputs.proofs.counting.count_of.Given as goal
+use Rattle.command_outputs.specs.Summed.{is_of}
+use Rattle.command_outputs.proofs.counting.count_of.Given as goal
 
 abbrev pub invariant-loop-event : goal.invariant-loop-event
 invariant-loop-event l = record {

@@ -1,24 +1,15 @@
 //! The line of a generated campaign.
 ghost use Rattle.std.specs.Prelude.{◌≡◌, ◌≤◌, ◌++◌, OnOk, OnErr, IsErrOf};
-ghost use Rattle.std.specs.Fmt.{decimal};
 ghost use Rattle.outer_traits.specs.Faults.{Rose};
 ghost use Rattle.outer_traits.specs.Sinks.{Took, TookFront};
-ghost use Rattle.made_outputs.specs.Summed.{before_counts, counts_text, summary};
+ghost use Rattle.command_outputs.specs.Summed.{before_counts, counts_text, summary};
 
 use crate::counting::{Counted, count};
+use crate::line::put_count;
 use crate::stop::OutputStop;
 use outer_traits::{Sink, write_whole};
 use std::alloc::{AllocError, Global};
 use update_log::Event;
-
-/// Puts a word and a number behind the text.
-fn put_count(out: &mut Vec<u8>, word: &[u8], count: usize) -> Result<(), AllocError>
-    ensures { OnOk result (out.new.items ≡ out.old.items ++ word.now ++ decimal count) }
-{
-    out.extend_from_slice(word)?;
-    let text = count.to_string(*out.allocator())?;
-    out.extend_from_slice(text.as_bytes())
-}
 
 /// Puts the numbers of boards and clients behind the text.
 #[tactic(auto, unfolding(crate::specs::Summed::before_counts))]

@@ -1,7 +1,7 @@
 //! What a log counts.
 ghost use Rattle.std.specs.Prelude.{◌≡◌, filter, length, option_map, unwrap_or, if◌then◌else◌, false};
 ghost use Rattle.std.specs.List.{list_any};
-ghost use Rattle.made_outputs.specs.Summed.{begins_write, counts_of, fails, is_began, is_claimed, is_kept, is_of, succeeds};
+ghost use Rattle.command_outputs.specs.Summed.{begins_write, counts_of, fails, is_began, is_claimed, is_kept, is_of, succeeds};
 
 use emulated_boards::Mark;
 use history_keeper::RowState;

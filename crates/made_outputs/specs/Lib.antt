@@ -1,3 +1,0 @@
-pub mod Summed
-pub use Rattle.outer_traits.specs.Faults
-pub use Rattle.outer_traits.specs.Sinks
