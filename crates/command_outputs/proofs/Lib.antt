@@ -1,1 +1,4 @@
+pub mod Components
+pub mod RequirementLines
+pub mod Wholes
 pub mod Joined

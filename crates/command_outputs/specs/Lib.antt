@@ -1,5 +1,16 @@
+pub mod Explained
 pub mod Summed
 pub mod Printed
 pub use Rattle.guid_ids.specs.Identifiers
 pub use Rattle.outer_traits.specs.Faults
 pub use Rattle.outer_traits.specs.Sinks
+pub use Rattle.fw_facts.specs.Views
+pub use Rattle.requirements.specs.Requirements
+pub use Rattle.release_catalogue.specs.Lookup
+pub use Rattle.device_list.specs.Lists
+pub use Rattle.update_log.specs.Core
+pub use Rattle.update_log.specs.Known
+pub use Rattle.update_log.specs.Pasts
+pub use Rattle.update_log.specs.Verdicts
+pub use Rattle.report_text.specs.Lines
+pub use Rattle.report_text.specs.Refusals

@@ -7,7 +7,7 @@ use Rattle.update_log.specs.declared.facts.BootPlan.{BootPlan}
 use Rattle.update_log.specs.declared.facts.Facts.{Facts}
 use Rattle.update_log.specs.Pasts.{past_of}
 use Rattle.campaign_inputs.specs.Begin.{IsAsMade}
-use Rattle.explaining.specs.Explained.{explained}
+use Rattle.command_outputs.specs.Explained.{explained}
 use Rattle.fw_facts.specs.declared.machine.MachineFacts.{MachineFacts}
 use Rattle.fw_facts.specs.declared.seen.Seen.{Seen}
 use Rattle.plugin_order.specs.declared.sheet.PluginSheet.{PluginSheet}

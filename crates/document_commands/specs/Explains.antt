@@ -17,7 +17,7 @@ use Rattle.campaign_inputs.specs.declared.opening.ClientLimit.TheVariants as lim
 use Rattle.campaign_inputs.specs.Inputs.{document_max}
 use Rattle.campaign_inputs.specs.Opened.{CantArrange, IsNoDocument, States}
 use Rattle.campaign_inputs.specs.Settled.{IsCampaignOf}
-use Rattle.explaining.specs.Explained.{explained}
+use Rattle.command_outputs.specs.Explained.{explained}
 use Rattle.first_boots.specs.FirstBoot.{first_boot}
 use Rattle.document_commands.specs.declared.ended.Ended.{Ended}
 use Rattle.document_commands.specs.declared.ended.Ended.TheVariants as ends

@@ -12,5 +12,5 @@ pub use Rattle.campaign_inputs.specs.Begin
 pub use Rattle.campaign_inputs.specs.Inputs
 pub use Rattle.campaign_inputs.specs.Opened
 pub use Rattle.campaign_inputs.specs.Settled as CampaignInputsSettled
-pub use Rattle.explaining.specs.Explained
+pub use Rattle.command_outputs.specs.Explained
 pub use Rattle.first_boots.specs.FirstBoot

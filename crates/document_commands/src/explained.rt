@@ -9,8 +9,7 @@ ghost use Rattle.document_commands.specs.Stops.{IsOfAny, told_stop};
 
 use crate::ended::Ended;
 use campaign_inputs::{ClientLimit, OpenStop, open_campaign};
-use command_outputs::OutputStop;
-use explaining::write_explain;
+use command_outputs::{OutputStop, write_explain};
 use first_boots::state_at_first_boot;
 use fw_base::{Listed, Name, NoMemory};
 use outer_traits::{Sink, Source};

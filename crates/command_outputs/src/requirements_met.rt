@@ -6,9 +6,9 @@ ghost use Rattle.fw_facts.specs.declared.requirement.Requirement.{Requirement as
 ghost use Rattle.release_catalogue.specs.Lookup.{chosen};
 ghost use Rattle.requirements.specs.Requirements.{cause};
 ghost use Rattle.update_log.specs.Verdicts.{features_for};
-ghost use Rattle.explaining.specs.Explained.{lines_at, lines_for, requirement_lines};
+ghost use Rattle.command_outputs.specs.Explained.{lines_at, lines_for, requirement_lines};
 
-use crate::lines::put_requirement;
+use crate::explained_lines::put_requirement;
 use fw_base::Name;
 use fw_facts::{Component, DeviceView, Requirement, Seen};
 use guid_ids::Guid;

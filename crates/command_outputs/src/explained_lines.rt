@@ -1,6 +1,6 @@
 //! Lines of `explain`, each put behind the text.
 ghost use Rattle.std.specs.Prelude.{◌≡◌, ◌++◌, OnOk};
-ghost use Rattle.explaining.specs.Explained.{heading, met_text, requirement_line, verdict_line, verdict_text};
+ghost use Rattle.command_outputs.specs.Explained.{heading, met_text, requirement_line, verdict_line, verdict_text};
 
 use client_scripts::parts::put_number;
 use fw_base::Name;

@@ -1,6 +1,6 @@
 use Rattle.update_log.proofs.Placed.{component-within}
-use Rattle.explaining.proofs.Components.{component_chosen}
-use Rattle.explaining.proofs.requirements_met.component_of.Goals as goal
+use Rattle.command_outputs.proofs.Components.{component_chosen}
+use Rattle.command_outputs.proofs.requirements_met.component_of.Goals as goal
 
 pub component-requires : goal.component-requires
 component-requires c = component-within c.args.catalogue.now c.args.guids.now c.args.version.now c.in-Some.at c.in-Some.ensures

@@ -1,8 +1,8 @@
 use Rattle.std.proofs.Common.{◌≡◌, ◌++◌, drop}
 use Rattle.requirements.specs.Requirements.{cause}
 use Rattle.update_log.specs.Verdicts.{features_for}
-use Rattle.explaining.specs.Explained.{requirement_lines}
-use Rattle.explaining.proofs.requirements_met.put_requirements.Given as goal
+use Rattle.command_outputs.specs.Explained.{requirement_lines}
+use Rattle.command_outputs.proofs.requirements_met.put_requirements.Given as goal
 
 abbrev pub invariant-loop-index : goal.invariant-loop-index
 invariant-loop-index l =

@@ -4,11 +4,11 @@ ghost use Rattle.outer_traits.specs.Faults.{Rose};
 ghost use Rattle.outer_traits.specs.Sinks.{Took, TookFront};
 ghost use Rattle.update_log.specs.Core.{Stands};
 ghost use Rattle.update_log.specs.Pasts.{past_of};
-ghost use Rattle.explaining.specs.Explained.{asked, explained};
+ghost use Rattle.command_outputs.specs.Explained.{asked, explained};
 
-use crate::lines::{put_heading, put_verdict};
+use crate::explained_lines::{put_heading, put_verdict};
 use crate::requirements_met::put_lines;
-use command_outputs::OutputStop;
+use crate::stop::OutputStop;
 use device_list::Selector;
 use fw_base::Name;
 use outer_traits::{Sink, write_whole};

@@ -1,7 +1,7 @@
 use Rattle.std.proofs.Common.{◌≡◌, [], OnOk, subst}
 use Rattle.update_log.specs.Pasts.{past_of}
-use Rattle.explaining.proofs.Wholes.{explained_whole}
-use Rattle.explaining.proofs.explain.put_explained.Goals as goal
+use Rattle.command_outputs.proofs.Wholes.{explained_whole}
+use Rattle.command_outputs.proofs.explain.put_explained.Goals as goal
 
 pub returns : goal.returns
 returns c =

@@ -1,6 +1,6 @@
 use Rattle.std.specs.Prelude.{Some, None}
-use Rattle.explaining.proofs.RequirementLines.{cause_of_only}
-use Rattle.explaining.proofs.requirements_met.cause_of_one.Goals as goal
+use Rattle.command_outputs.proofs.RequirementLines.{cause_of_only}
+use Rattle.command_outputs.proofs.requirements_met.cause_of_one.Goals as goal
 
 pub returns-in-Some : goal.returns-in-Some
 returns-in-Some c =

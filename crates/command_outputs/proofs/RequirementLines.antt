@@ -8,7 +8,7 @@ use Rattle.fw_facts.specs.declared.view.DeviceView.{DeviceView}
 use Rattle.requirements.specs.declared.unmet.Unmet.{Unmet}
 use Rattle.requirements.specs.declared.unmet.UnmetCause.{UnmetCause}
 use Rattle.requirements.specs.Requirements.{cause, first_unmet, first_unmet_of, unmet_at}
-use Rattle.explaining.specs.Explained.{requirement_line, requirement_lines}
+use Rattle.command_outputs.specs.Explained.{requirement_line, requirement_lines}
 
 -- ---- a list of one
 

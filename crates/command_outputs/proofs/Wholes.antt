@@ -8,7 +8,7 @@ use Rattle.update_log.specs.declared.decision.Stage.{Stage}
 use Rattle.update_log.specs.declared.request.Request.{Request}
 use Rattle.update_log.specs.Known.{views}
 use Rattle.update_log.specs.Verdicts.{verdict}
-use Rattle.explaining.specs.Explained.{asked, explained, heading, lines_for, verdict_line}
+use Rattle.command_outputs.specs.Explained.{asked, explained, heading, lines_for, verdict_line}
 
 three_parts : (before first second third one two : List ℕ) → one ≡ before ++ first → two ≡ one ++ second → two ++ third ≡ before ++ (first ++ second ++ third)
 three_parts before first second third one two e f =

@@ -1,8 +1,8 @@
 use Rattle.std.proofs.Common.{◌<◌, List, ℕ, length, take, ap, ◌∙◌, arith}
 use Rattle.requirements.specs.Requirements.{cause}
 use Rattle.update_log.specs.Verdicts.{features_for}
-use Rattle.explaining.proofs.RequirementLines.{put_more}
-use Rattle.explaining.proofs.requirements_met.put_requirements.Goals as goal
+use Rattle.command_outputs.proofs.RequirementLines.{put_more}
+use Rattle.command_outputs.proofs.requirements_met.put_requirements.Goals as goal
 
 pub loop-index-preserved : goal.loop-index-preserved
 loop-index-preserved c =
