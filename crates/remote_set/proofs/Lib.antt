@@ -7,3 +7,8 @@ pub mod Sizes
 pub mod Alone
 pub mod PartsLeft
 pub mod Wholes
+pub mod Equals
+pub mod Order
+pub mod Firsts
+pub mod Searches
+pub mod Finds

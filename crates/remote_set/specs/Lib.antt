@@ -4,4 +4,8 @@ pub mod Keys
 pub mod Merged
 pub mod Orders
 pub mod Pieces
+pub mod Finds
+pub mod Firsts
 pub use Rattle.release_catalogue.specs.Components
+pub use Rattle.version_formats.specs.VersionOrder
+pub use Rattle.release_catalogue.specs.Lookup

@@ -14,10 +14,10 @@ use Rattle.fw_facts.specs.declared.release.Release.{Release}
 use Rattle.release_catalogue.specs.Lookup.{chosen, provides}
 use Rattle.remote_set.specs.declared.remote.Remote.{Remote}
 use Rattle.remote_set.specs.Merged.{Placed, enabled_in_order, is_hidden, left_of, merged, offers, rank_of}
-use Rattle.remote_laws.specs.Finds.{IdsTell, first_answer, found_unhidden, what_is_found}
-use Rattle.remote_laws.proofs.Equals.{has, has_alike}
-use Rattle.remote_laws.proofs.Order.{hidden_at, offering}
-use Rattle.remote_laws.proofs.Searches.{Found, Test, first-map, in_one, search, search-flat, search-without, searched}
+use Rattle.remote_set.specs.Finds.{IdsTell, first_answer, found_unhidden, what_is_found}
+use Rattle.remote_set.proofs.Equals.{has, has_alike}
+use Rattle.remote_set.proofs.Order.{hidden_at, offering}
+use Rattle.remote_set.proofs.Searches.{Found, Test, first-map, in_one, search, search-flat, search-without, searched}
 
 -- A release of the version.
 abbrev of_version : List ℕ → Test

@@ -7,7 +7,7 @@ use Rattle.fw_facts.specs.declared.release.Component.{Component}
 use Rattle.fw_facts.specs.declared.release.Release.{Release}
 use Rattle.release_catalogue.specs.Lookup.{Chosen, provides, releases_of}
 use Rattle.remote_set.specs.Merged.{Placed, without}
-use Rattle.remote_laws.specs.Finds.{first_answer, what_is_found}
+use Rattle.remote_set.specs.Finds.{first_answer, what_is_found}
 
 -- A test of a component's ID and a release.
 abbrev pub Test : Type 0

@@ -15,9 +15,9 @@ use Rattle.fw_facts.specs.declared.release.Component.{Component}
 use Rattle.fw_facts.specs.declared.release.Release.{Release}
 use Rattle.remote_set.specs.declared.remote.Remote.{Remote}
 use Rattle.remote_set.specs.Merged.{Placed, enabled_in_order, is_hidden, left_of, merged, offers, rank_of, without}
-use Rattle.remote_laws.specs.Firsts.{offered, offered_by, of_first}
-use Rattle.remote_laws.proofs.Equals.{has, hidden_alike}
-use Rattle.remote_laws.proofs.Order.{hidden_at, offering}
+use Rattle.remote_set.specs.Firsts.{offered, offered_by, of_first}
+use Rattle.remote_set.proofs.Equals.{has, hidden_alike}
+use Rattle.remote_set.proofs.Order.{hidden_at, offering}
 
 -- ---- what is left of a version
 

@@ -1,5 +1,0 @@
-use Rattle.remote_laws.proofs.Finds.{finds_first_one}
-use Rattle.remote_laws.proofs.laws.finds_first.Goals as goal
-
-pub returns : goal.returns
-returns c = finds_first_one

@@ -1,5 +1,0 @@
-use Rattle.remote_laws.proofs.Finds.{finds_unhidden_one}
-use Rattle.remote_laws.proofs.laws.finds_unhidden.Goals as goal
-
-pub returns : goal.returns
-returns c = finds_unhidden_one
