@@ -1,10 +1,9 @@
 //! The help that a terminal is shown.
 use fw_base::Name;
 use release_catalogue::{Place, Reason};
-use run_status::Status;
+use run_status::{Help, Status, help_for};
 use std::alloc::Global;
 use std::test::Fail;
-use terminal_help::{Help, help_for};
 
 /// How the line of each command begins, behind the line before.
 const COMMANDS: [&str; 5] = [

@@ -17,6 +17,7 @@ use marks_sqlite::FileMarks;
 use outer_traits::{FolderShelf, ReadSource, Sink, Source, WriteSink};
 use plugin_trait::Plugin;
 use report_queue::{MarkKeeper, MemoryMarks};
+use run_status::help_for;
 use std::alloc::{AllocError, Global};
 use std::io::{BufWriter, IsTerminal, Write};
 use std::process::ExitCode;
@@ -24,7 +25,6 @@ use std::rt::{HostRuntime, Runtime};
 use std::sync::Wait;
 use std::thread::Threads;
 use std::{env, io};
-use terminal_help::help_for;
 
 /// The folder of the payloads, in the folder where the program is called.
 const SHELF: &str = "payloads";

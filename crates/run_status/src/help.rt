@@ -1,10 +1,10 @@
 //! The help for a status.
 ghost use Rattle.std.specs.Prelude.{◌≡◌};
-ghost use Rattle.terminal_help.specs.Helps.{help_for};
+ghost use Rattle.run_status.specs.Helps.{help_for};
 
 use crate::meaning::{meaning, part};
+use crate::status::Status;
 use release_catalogue::Reason;
-use run_status::Status;
 use std::fmt;
 
 /// The commands with one line each, where the document is described, and an example.

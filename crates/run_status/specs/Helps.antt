@@ -2,8 +2,8 @@
 use Rattle.std.specs.Prelude.{Option, Some, None}
 use Rattle.run_status.specs.declared.status.Status.{Status}
 use Rattle.run_status.specs.declared.status.Status.TheVariants as statuses
-use Rattle.terminal_help.specs.declared.help.Help.{Help}
-use Rattle.terminal_help.specs.declared.help.Help.TheVariants as helps
+use Rattle.run_status.specs.declared.help.Help.{Help}
+use Rattle.run_status.specs.declared.help.Help.TheVariants as helps
 
 -- the commands for words that are none, the meaning of the reason for a fault of the document, and nothing for
 -- a status whose line says enough
