@@ -1,21 +1,12 @@
--- What a campaign promises of its log and its boards, in the words of the log alone.
+-- What a campaign promises of its log, in the words of the log alone.
 use Rattle.std.specs.Prelude.{◌≡◌, ℕ, Bool, List, length}
 use Rattle.history_keeper.specs.declared.row.Row.{Row}
 use Rattle.update_log.specs.declared.event.Event.{Event}
-use Rattle.update_log.specs.Legal.{Legal}
-use Rattle.update_log.specs.Once.{BoardState, Fits, Once}
 use Rattle.update_log.specs.Pasts.{boots, past_of}
 use Rattle.update_log.specs.Shows.{Campaign}
 use Rattle.client_scripts.specs.declared.item.Item.{Item}
 use Rattle.client_plays.specs.Scripts.{Script}
 use Rattle.client_plays.specs.Tools.{Means}
-
--- Of every campaign, however it ended: each event is allowed by the log before it, so the boots are those
--- of the plans, in order; the boards fit the log; and each was written once for each accepted request.
-pub record IsTrueLog (c : Campaign) (opening : List Row) (log : List Event) (boards : List BoardState) : Type 0 where
-  pub legal : Legal c opening log
-  pub fits : Fits c opening log boards
-  pub once : Once c opening log boards
 
 -- So many boots were run, and in each the daemon did its tasks and each client played its script.
 -- `wanting` says that memory was wanting, and so something was left; `means` has those of each client.
