@@ -1,6 +1,0 @@
-use Rattle.daemon_tests.specs.Begins.{name_of}
-use Rattle.daemon_tests.proofs.own_day.own_day.Given as goal
-use Rattle.daemon_core.specs.Turns.{signs_of}
-
-abbrev pub ghosts-day : goal.ghosts-day
-ghosts-day g a = record { name = name_of (signs_of g.K.Keeper.tells g.K.Keeper.faults) a.house }

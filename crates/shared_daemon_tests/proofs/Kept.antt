@@ -1,0 +1,88 @@
+-- Rows that are there stay there, and a row that was put off waits for the daemon.
+use Rattle.std.proofs.Common.{◌≡◌, ℕ, List, [], ◌∷◌, ◌++◌, refl, ap, sym, ◌∙◌, subst, reverse, IsSome}
+use Rattle.std.proofs.lemmas.List.{reverse-append}
+use Rattle.std.specs.Prelude.{Option, Some, None, option_map}
+use Rattle.fw_facts.specs.declared.seen.Seen.{Seen}
+use Rattle.history_keeper.specs.Histories.{IsHistory}
+use Rattle.history_keeper.specs.declared.row.Row.{Row}
+use Rattle.history_keeper.specs.declared.row.RowState.{RowState}
+use Rattle.update_log.specs.Known.{row_of, rows}
+use Rattle.update_log.specs.Pasts.{past_of}
+use Rattle.update_log.specs.declared.answer.AskAnswer.{AskAnswer}
+use Rattle.update_log.specs.declared.event.Event.{Event}
+use Rattle.update_log.specs.declared.facts.Facts.{Facts}
+use Rattle.update_log.specs.declared.request.Request.{Request}
+use Rattle.daemon_core.specs.Annals.{IsAnnals, IsLegalSo}
+use Rattle.daemon_core.specs.Housed.{Housed}
+use Rattle.daemon_core.specs.Turns.{Signs}
+use Rattle.daemon_core.proofs.BoardsQuiet.{goes-so}
+use Rattle.turn_lock.specs.Lists.{beyond}
+use Rattle.turn_lock.specs.Shown.{LockId, PassView}
+use Rattle.shared_daemon.specs.declared.entry.Entry.{Entry}
+use Rattle.shared_daemon.specs.Calls.{Adds, Took}
+use Rattle.shared_daemon.specs.Entries.{chronicle, events, past_seen}
+use Rattle.shared_daemon.specs.Names.{IsLogOf, IsPass, KeepsName, Name}
+use Rattle.shared_daemon.proofs.Logs.{begins-all, events-append}
+use Rattle.shared_daemon.proofs.OthersRows.{row-same, some-goes_on}
+use Rattle.shared_daemon.proofs.Stayed.{pending-met, rows-met}
+use Rattle.claim_runs.proofs.Kept.{past-added}
+use Rattle.shared_daemon_tests.specs.Waits.{HasRow, IsPutOff}
+
+-- A legal past without its last event.
+rest-legal : (facts : Facts) (first : List Seen) (opening : List Row) (event : Event) (past : List Event) → IsLegalSo facts first opening (event ∷ past) → IsLegalSo facts first opening past
+rest-legal facts first opening event past (c, f, s, legal) = (c, f, s, legal.0)
+
+-- More events take no row away.
+rows-stay : (facts : Facts) (first : List Seen) (opening : List Row) (more past : List Event) (entry : ℕ) → IsHistory opening → IsLegalSo facts first opening (more ++ past) → IsSome (row_of (rows facts opening past) entry) → IsSome (row_of (rows facts opening (more ++ past)) entry)
+rows-stay facts first opening [] past entry valid legal h = h
+rows-stay facts first opening (event ∷ more) past entry valid legal h =
+    some-goes_on (rows facts opening (more ++ past)) (rows facts opening (event ∷ (more ++ past))) entry
+    (goes-so facts first opening (more ++ past) event valid legal)
+    (rows-stay facts first opening more past entry valid (rest-legal facts first opening event (more ++ past) legal) h)
+
+-- A row that was there as the daemon began is in each log of its name.
+pub has-row : (name : Name) (entry : ℕ) (seen : List Entry) → IsLogOf name seen → HasRow name entry name.start → HasRow name entry seen
+has-row name entry seen l h =
+    let more : List Entry = beyond name.start seen in
+    let whole : events seen ≡ events name.start ++ events more = ap events (begins-all seen name.start l.begins) ∙ events-append name.start more in
+    let turned : past_seen seen ≡ reverse (events more) ++ past_seen name.start = ap (λ (x : List Event). past_of x) whole ∙ reverse-append (events name.start) (events more) in
+    let legal : IsLegalSo name.facts name.first name.opening (reverse (events more) ++ past_seen name.start) = subst (λ (x : List Event). IsLegalSo name.facts name.first name.opening x) turned l.legal in
+    subst (λ (x : List Event). IsSome (row_of (rows name.facts name.opening x) entry)) (sym turned)
+    (rows-stay name.facts name.first name.opening (reverse (events more)) (past_seen name.start) entry l.history legal h)
+
+-- One that was put off is there.
+pub has-put-off : (name : Name) (entry : ℕ) (seen : List Entry) → IsPutOff name entry seen → HasRow name entry seen
+has-put-off name entry seen w = subst (λ (o : Option Row). IsSome o) (sym w.row_is) refl
+
+-- An ask leaves a row that was put off.
+pub asked-waits : {did : List Entry → List Entry → Type 0} (name : Name) (lock : LockId) (old new : PassView Entry) → IsPass lock name old → (t : Took name did old new) → old.number ≡ 0
+    → (request : Request) (pending : Option ℕ) (answer : AskAnswer) → Adds 0 (Event.Ask 0 request pending answer) t.met new.seen → (entry : ℕ) → IsPutOff name entry old.seen → IsPutOff name entry new.seen
+asked-waits name lock old new p t own request pending answer a entry w =
+    let met : row_of (rows name.facts name.opening (past_seen t.met)) entry ≡ Some w.row = pending-met name old.number old.seen t.met entry w.row p.log t.meets own w.row_is w.pending in
+    record {
+      row = w.row;
+      row_is = ap (λ (x : List Event). row_of (rows name.facts name.opening x) entry) (past-added 0 (Event.Ask 0 request pending answer) t.met new.seen a)
+          ∙ row-same name.facts name.opening (past_seen t.met) (Event.Ask 0 request pending answer) entry w.row refl refl met;
+      pending = w.pending;
+    }
+
+-- The rows of a house are those that its name sees.
+found-pending : (name : Name) (seen : List Entry) (all : List Row) (entry : ℕ) (o : Option Row) → all ≡ rows name.facts name.opening (past_seen seen) → row_of all entry ≡ o → option_map (λ (r : Row). r.state) o ≡ Some RowState.Pending → IsPutOff name entry seen
+found-pending name seen all entry None e f h = cc
+found-pending name seen all entry (Some row) e f h =
+    record {
+      row = row;
+      row_is = ap (λ (x : List Row). row_of x entry) (sym e) ∙ f;
+      pending = cc;
+    }
+
+found-some : (o : Option Row) (state : RowState) → option_map (λ (r : Row). r.state) o ≡ Some state → IsSome o
+found-some None state h = cc
+found-some (Some row) state h = refl
+
+module _ {K : Type 0} (signs : Signs K) (name : Name) (h : Housed K) (n : KeepsName signs name h) (k : IsAnnals h.annals) where
+  pub put-off-in : (entry : ℕ) → option_map (λ (r : Row). r.state) (row_of h.annals.core.rows entry) ≡ Some RowState.Pending → IsPutOff name entry (chronicle h)
+  put-off-in entry s = found-pending name (chronicle h) h.annals.core.rows entry (row_of h.annals.core.rows entry) (rows-met signs name 0 h n k) refl s
+
+  pub row-in : (entry : ℕ) (state : RowState) → option_map (λ (r : Row). r.state) (row_of h.annals.core.rows entry) ≡ Some state → HasRow name entry (chronicle h)
+  row-in entry state s = subst (λ (x : List Row). IsSome (row_of x entry)) (rows-met signs name 0 h n k) (found-some (row_of h.annals.core.rows entry) state s)

@@ -1,0 +1,8 @@
+use Rattle.std.proofs.Common.{List, ap, sym, ◌∙◌}
+use Rattle.update_log.specs.declared.event.Event.{Event}
+use Rattle.update_log.specs.Holding.{live}
+use Rattle.shared_daemon.proofs.Logs.{past-entries}
+use Rattle.shared_daemon_tests.proofs.own_day.day.Goals as goal
+
+pub into_parts-log-requires : goal.into_parts-log-requires
+into_parts-log-requires g c = sym (ap (λ (p : List Event). live p) (past-entries c.close-house.result.annals c.known.ensures.annals)) ∙ c.close-house.ensures.nothing.1
