@@ -17,7 +17,7 @@ use Rattle.shared_daemon.specs.declared.entry.Entry.{Entry}
 use Rattle.shared_daemon.specs.Closings.{IsFreePass}
 use Rattle.shared_daemon.specs.Entries.{past_seen}
 use Rattle.shared_daemon.specs.Names.{IsPass, Name}
-use Rattle.script_runs.specs.Passes.{Went, own}
+use Rattle.script_runs.specs.Passes.{PassWent, own}
 use Rattle.client_threads.specs.declared.clients.Client.{Client}
 
 -- The client may play: its pass is one of this daemon, with a number from 1 on, and has nothing out.
@@ -30,7 +30,7 @@ pub record MayPlay {P : Type 0} (lock : LockId) (name : Name) (client : Client P
 -- each fault that the client's own events tell.
 pub record PlayedScript {P : Type 0} (files : P → Files) (plugins : ℕ → PluginSteps) (faults : P → ℕ) (lock : LockId) (name : Name) (of_boot : List (List Item)) (old new : Client P) : Type 0 where
   pub pass : IsPass lock name new.pass
-  pub went : Went new.wanting (Plays name.facts name.opening (means_of (files old.shelf) plugins) old.pass.number) (items_of of_boot old.pass.number) old.pass new.pass
+  pub went : PassWent new.wanting (Plays name.facts name.opening (means_of (files old.shelf) plugins) old.pass.number) (items_of of_boot old.pass.number) old.pass new.pass
   pub shelf : ShelfStays (shelf_told files faults old.shelf) (shelf_told files faults new.shelf)
   pub told : FaultsTold (own old.pass) (own new.pass) (faults old.shelf) (faults new.shelf)
 

@@ -17,7 +17,7 @@ use Rattle.update_log.specs.Shows.{FreshShows, IsWritten, told}
 use Rattle.daemon_core.specs.Housed.{Place}
 
 -- What the laws see of a board.
-abbrev pub journal_and_view : BoardState → once.BoardState
+abbrev pub journal_and_view : BoardState → once.JournalAndView
 journal_and_view b = record { journal = b.journal; view = view_of b.condition }
 
 -- A board is out while an entry is live on it.

@@ -12,6 +12,6 @@ GoesOn client (Ok _) old new = Runs old × (old.loaded ≡ true) × (new ≡ old
 GoesOn client (Err _) old new = IsOff client old new
 
 -- A turn of a client that put this event behind the log, or else was answered off.
-abbrev pub Went : {A : Type 0} → ℕ → (A → Event) → Result A Off → Annalled → Annalled → Type 0
-Went client event (Ok answer) old new = Runs old × Appended client (event answer) old new
-Went client event (Err _) old new = WentOff client old new
+abbrev pub TurnedOrOff : {A : Type 0} → ℕ → (A → Event) → Result A Off → Annalled → Annalled → Type 0
+TurnedOrOff client event (Ok answer) old new = Runs old × Appended client (event answer) old new
+TurnedOrOff client event (Err _) old new = WentOff client old new

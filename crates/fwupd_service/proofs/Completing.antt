@@ -40,7 +40,7 @@ use Rattle.fwupd_service.specs.Ends.{CampaignEnds}
 use Rattle.fwupd_service.specs.Makes.{BlamesNoHistory, MadeOrNothing, MakeBegan, MakeEnds, order_status, own_shelves}
 use Rattle.fwupd_service.specs.Plugged.{AreStarted, PluginWords, work_of}
 use Rattle.fwupd_service.specs.Telling.{any_fault}
-use Rattle.fwupd_service.specs.Tops.{CampaignTold, Left, RunEnds, Went, stop_status}
+use Rattle.fwupd_service.specs.Tops.{CampaignTold, CampaignWent, Left, RunEnds, stop_status}
 use Rattle.fwupd_service.proofs.FaultsTold.{counted-none, no-fault-told}
 
 -- ---- what came of the input
@@ -140,7 +140,7 @@ module _ {K Q : Type 0} (told : K → List Row → Type 0) (doubted : K → Opti
           no-fault-told left.log
           (counted-none (2 ^ 64 - 1) (keeper_faults (past_of left.log)) (faults keeper) (faults left.keeper) w.keeper_stands.counted held.no_fault held.counting)
 
-      went : (started : List Q) (campaign : Campaign) (site : Site) → AreStarted words sheets campaign.facts started → IsCampaignOf site sheets (vetoes site.machine) campaign → Went told doubted faults shelves now (work_of words started) status campaign keeper left (report campaign.facts left.opening left.log) before after → Done status site
+      went : (started : List Q) (campaign : Campaign) (site : Site) → AreStarted words sheets campaign.facts started → IsCampaignOf site sheets (vetoes site.machine) campaign → CampaignWent told doubted faults shelves now (work_of words started) status campaign keeper left (report campaign.facts left.opening left.log) before after → Done status site
       went started campaign site a settled (inl w) =
           ended shelves sheets vetoes started site campaign left (λ c. report c.facts left.opening left.log) before after status a settled (valid started campaign w) (quiet started campaign w) w.ends
       went started campaign site a settled (inr (e, nothing)) = subst (λ (s : Status). Done s site) (sym e) tt

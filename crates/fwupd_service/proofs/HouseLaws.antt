@@ -136,7 +136,7 @@ module _ {K : Type 0} (told : K → List Row → Type 0) (doubted : K → Option
     each = λ number s e.
         let m = map-get journal_and_view boards number s e in
         let stands = board-stands boards of number m.x m.there in
-        (stands.0, subst (λ (v : once.BoardState). once.BoardFits facts first opening (past h) number v stands.0) m.is stands.1.fits);
+        (stands.0, subst (λ (v : once.JournalAndView). once.BoardFits facts first opening (past h) number v stands.0) m.is stands.1.fits);
   }
 
   true-log : AtMostOnce → TakenOnce → HistoryStays → (boards : List BoardState) → BoardsOf h boards → IsTrueLog c opening h.annals.core.log boards

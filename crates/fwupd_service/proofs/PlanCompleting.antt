@@ -35,7 +35,7 @@ use Rattle.fwupd_service.specs.Ends.{CampaignEnds}
 use Rattle.fwupd_service.specs.Plugged.{AreStarted, PluginWords, work_of}
 use Rattle.fwupd_service.specs.Loads.{WasLoaded, load_status}
 use Rattle.fwupd_service.specs.Telling.{any_fault}
-use Rattle.fwupd_service.specs.Tops.{CampaignTold, Left, Went, stop_status}
+use Rattle.fwupd_service.specs.Tops.{CampaignTold, CampaignWent, Left, stop_status}
 use Rattle.fwupd_service.specs.Updates.{PlanEnds, PlanGoes, PlanPlayed, UpdateEnds, UpdateGoes, WasPrinted, planned_items, printed_plan}
 use Rattle.fwupd_service.proofs.Completing.{none-gave, site-gave, valid-opening}
 use Rattle.fwupd_service.proofs.FaultsTold.{counted-none, no-fault-told}
@@ -166,7 +166,7 @@ module _ {K Q : Type 0} (told : K → List Row → Type 0) (doubted : K → Opti
       played : (started : List Q) (campaign : Campaign) (site : Site) → AreStarted words sheets campaign.facts started → IsCampaignOf site sheets (vetoes site.machine) campaign → PlanPlayed told doubted faults shelves now (work_of words started) tag campaign status keeper left before after → Done status site
       played started campaign site a settled p = of p.went
         where
-          of : Went told doubted faults shelves now (work_of words started) status p.made p.middle left (report p.made.facts left.opening left.log) before after → Done status site
+          of : CampaignWent told doubted faults shelves now (work_of words started) status p.made p.middle left (report p.made.facts left.opening left.log) before after → Done status site
           of (inl w) =
               update-ended shelves sheets vetoes started tag site campaign p.made p.rows keeper left before after status a settled (planned started p.made p.middle p.rows p.loaded.says.0 w) p.plays
               (valid started p.made p.middle p.loaded.told_stay w) (quiet started p.made p.middle p.loaded.counts w) w.ends

@@ -62,8 +62,8 @@ pub record CampaignTold {K : Type 0} (told : K → List Row → Type 0) (doubted
   pub ends : CampaignEnds told (means_for plugins shelves) status (with_plans campaign.facts (map shown_by campaign.boards.items) campaign.boots) left.opening campaign.scripts left.log left.keeper text before after
 
 -- A campaign could begin: it was played, unless there was no memory for its house.
-abbrev pub Went : {K : Type 0} → (K → List Row → Type 0) → (K → Option Change) → (K → ℕ) → List ShelfTold → List ShelfTold → (ℕ → PluginSteps) → Status → Campaign → K → Left K → List ℕ → Option (List ℕ) → Option (List ℕ) → Type 0
-Went told doubted faults shelves now plugins status campaign keeper left text before after =
+abbrev pub CampaignWent : {K : Type 0} → (K → List Row → Type 0) → (K → Option Change) → (K → ℕ) → List ShelfTold → List ShelfTold → (ℕ → PluginSteps) → Status → Campaign → K → Left K → List ℕ → Option (List ℕ) → Option (List ℕ) → Type 0
+CampaignWent told doubted faults shelves now plugins status campaign keeper left text before after =
     CampaignTold told doubted faults shelves now plugins status campaign keeper left text before after
     ⊎ ((status ≡ statuses.NoMemory) × NothingBegan keeper left before after)
 
@@ -81,7 +81,7 @@ pub record RunWent {K Q : Type 0} (told : K → List Row → Type 0) (doubted : 
   pub opened : IsOpened (limits.Shelves (length shelves)) sheets vetoes old new campaign
   pub started : List Q
   pub started_are : AreStarted words sheets campaign.facts started
-  pub went : Went told doubted faults shelves now (work_of words started) status campaign keeper left (report campaign.facts left.opening left.log) before after
+  pub went : CampaignWent told doubted faults shelves now (work_of words started) status campaign keeper left (report campaign.facts left.opening left.log) before after
 
 abbrev pub RunEnds : {K Q : Type 0} → (K → List Row → Type 0) → (K → Option Change) → (K → ℕ) → List ShelfTold → List ShelfTold → List PluginSheet → (MachineFacts → List PluginVetoes) → PluginWords Q → Status → K → Left K → Option (List ℕ) → Option (List ℕ) → Option (List ℕ) → Option (List ℕ) → Type 0
 RunEnds told doubted faults shelves now sheets vetoes words status keeper left old new before after =

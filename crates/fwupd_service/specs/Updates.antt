@@ -23,7 +23,7 @@ use Rattle.run_status.specs.declared.status.Status.TheVariants as statuses
 use Rattle.fwupd_service.specs.declared.loading.LoadStop.{LoadStop}
 use Rattle.fwupd_service.specs.Loads.{WasLoaded, load_status}
 use Rattle.fwupd_service.specs.Plugged.{AreStarted, PluginWords, work_of}
-use Rattle.fwupd_service.specs.Tops.{Left, RunStopped, Went}
+use Rattle.fwupd_service.specs.Tops.{CampaignWent, Left, RunStopped}
 
 -- What a text was written under a status: all of it, a front of it, or nothing.
 abbrev pub WasPrinted : List ℕ → Status → Option (List ℕ) → Option (List ℕ) → Type 0
@@ -87,7 +87,7 @@ pub record PlanPlayed {K : Type 0} (told : K → List Row → Type 0) (doubted :
   pub loaded : WasLoaded told doubted faults None rows keeper middle
   pub made : Campaign
   pub plays : Plays (planned_items campaign rows tag) campaign made
-  pub went : Went told doubted faults shelves now plugins status made middle left (report made.facts left.opening left.log) before after
+  pub went : CampaignWent told doubted faults shelves now plugins status made middle left (report made.facts left.opening left.log) before after
 
 -- There was no memory for the plan.
 pub record PlanWanted {K : Type 0} (told : K → List Row → Type 0) (doubted : K → Option Change) (faults : K → ℕ) (status : Status) (keeper : K) (left : Left K) (before after : Option (List ℕ)) : Type 0 where

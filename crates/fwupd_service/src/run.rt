@@ -7,7 +7,7 @@ ghost use Rattle.client_plays.specs.Has.{shelves_told};
 ghost use Rattle.report_text.specs.Report.{report};
 ghost use Rattle.fwupd_service.specs.Begins.{CanBePlayed, IsReadyFor};
 ghost use Rattle.fwupd_service.specs.Plugged.{plugin_words};
-ghost use Rattle.fwupd_service.specs.Tops.{RunEnds, Went, stop_status};
+ghost use Rattle.fwupd_service.specs.Tops.{CampaignWent, RunEnds, stop_status};
 ghost use Rattle.plugin_trait.specs.Steps.{steps_at};
 
 use crate::playing::play;
@@ -106,7 +106,7 @@ pub(crate) fn run_ready<
     requires ready { CanBePlayed campaign }
     requires shelves { IsReadyFor (length shelves.items) (length plugins.items) campaign }
     requires no_doubt { K.doubt keeper ≡ None }
-    ensures went { Went K.tells K.doubt K.faults (shelves_told P.files P.faults shelves.items) (shelves_told P.files P.faults result.shelves.items) (steps_at (λ p. steps p) plugins.items) result.status campaign keeper
+    ensures went { CampaignWent K.tells K.doubt K.faults (shelves_told P.files P.faults shelves.items) (shelves_told P.files P.faults result.shelves.items) (steps_at (λ p. steps p) plugins.items) result.status campaign keeper
         (record { log = result.log; opening = result.opening; boards = result.boards; keeper = result.keeper })
         (report campaign.facts result.opening result.log) (T.taken out.old) (T.taken out.new) }
     ensures sink_fault { result.status ≡ Status.SinkFault → Rose (T.faults out.old) (T.faults out.new) }

@@ -24,7 +24,7 @@ use Rattle.fwupd_service.specs.Campaigns.{IsOpening, IsTrueLog, IsUnread, IsUnto
 use Rattle.fwupd_service.specs.Commands.{CommandEnds, NothingHappened, WordsEnd}
 use Rattle.fwupd_service.specs.Makes.{MadeOrNothing, MakeEnds}
 use Rattle.fwupd_service.specs.Plugged.{PluginWords}
-use Rattle.fwupd_service.specs.Tops.{Left, NothingBegan, RunEnds, Went}
+use Rattle.fwupd_service.specs.Tops.{CampaignWent, Left, NothingBegan, RunEnds}
 use Rattle.fwupd_service.specs.Updates.{OnlyLoaded, PlanEnds, PlanGoes, PlanPlayed, UpdateEnds, UpdateGoes}
 use Rattle.host_service.specs.Over.{AreLeft, ArePlayed, NoneTaken, RanOver, WereTaken}
 
@@ -82,7 +82,7 @@ module _ {K : Type 0} (told : K → List Row → Type 0) (doubted : K → Option
   loaded-so stop o = same-so o.log o.loaded.told_stay
 
   went-so : (shelves now : List ShelfTold) (plugins : ℕ → PluginSteps) (status : Status) (campaign : Campaign) (text : List ℕ) (before after : Option (List ℕ))
-      → Went told doubted faults shelves now plugins status campaign keeper left text before after → AreLeft held last left.log ⊎ ArePlayed held last left.opening left.log
+      → CampaignWent told doubted faults shelves now plugins status campaign keeper left text before after → AreLeft held last left.log ⊎ ArePlayed held last left.opening left.log
   went-so shelves now plugins status campaign text before after (inl t) =
       inr (stands-so (with_plans campaign.facts (map shown_by campaign.boards.items) campaign.boots) t.boards t.true_log t.keeper_stands)
   went-so shelves now plugins status campaign text before after (inr n) = inl (began-so n.1)

@@ -18,7 +18,7 @@ use Rattle.turn_lock.specs.Shown.{PassView}
 use Rattle.shared_daemon.specs.declared.entry.Entry.{Entry}
 use Rattle.shared_daemon.specs.Closings.{IsFreePass}
 use Rattle.shared_daemon.specs.Entries.{past_seen}
-use Rattle.script_runs.specs.Passes.{Ended, EndedMore, SoFar, Went}
+use Rattle.script_runs.specs.Passes.{Ended, EndedMore, PassWent, SoFar}
 use Rattle.script_runs.proofs.DidLaws.{did-both, did-nothing}
 
 -- One thing more, by how its play ended.
@@ -47,7 +47,7 @@ so_far-more now wanting Play done x old mid new s m =
       plays = all-push now old.number Play done x s.moments m.moments (still-played now wanting old.number Play done s.moments more.0 s.plays) more.1;
     }
 
-pub went-left : {X : Type 0} (wanting : Bool) (Play : X → List Moment → Type 0) (done : List X) (x : X) (others all : List X) (old mid new : PassView Entry) → done ++ x ∷ others ≡ all → SoFar wanting Play done old mid → EndedMore None wanting (Play x) mid new → Went wanting Play all old new
+pub went-left : {X : Type 0} (wanting : Bool) (Play : X → List Moment → Type 0) (done : List X) (x : X) (others all : List X) (old mid new : PassView Entry) → done ++ x ∷ others ≡ all → SoFar wanting Play done old mid → EndedMore None wanting (Play x) mid new → PassWent wanting Play all old new
 went-left wanting Play done x others all old mid new e s m =
     let more : OnceMore None wanting old.number (Play x) (past_seen new.seen) m.moments =
     subst (λ (n : ℕ). OnceMore None wanting n (Play x) (past_seen new.seen) m.moments) s.did.same m.more in
@@ -60,7 +60,7 @@ went-left wanting Play done x others all old mid new e s m =
     }
 
 -- All were played.
-pub went-all : {X : Type 0} (wanting : Bool) (Play : X → List Moment → Type 0) (all : List X) (old new : PassView Entry) → SoFar wanting Play all old new → Went wanting Play all old new
+pub went-all : {X : Type 0} (wanting : Bool) (Play : X → List Moment → Type 0) (all : List X) (old new : PassView Entry) → SoFar wanting Play all old new → PassWent wanting Play all old new
 went-all wanting Play all old new s =
     record { moments = s.moments; did = s.did; plays = so-all (off (past_seen new.seen)) wanting old.number Play all s.moments s.plays }
 

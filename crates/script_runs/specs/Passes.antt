@@ -40,7 +40,7 @@ pub record SoFar {X : Type 0} (wanting : Bool) (Play : X → List Moment → Typ
   pub plays : PlaysAll wanting old.number Play done moments
 
 -- What a client did who went through a list of things. `wanting` says that memory was wanting.
-pub record Went {X : Type 0} (wanting : Bool) (Play : X → List Moment → Type 0) (xs : List X) (old new : PassView Entry) : Type 0 where
+pub record PassWent {X : Type 0} (wanting : Bool) (Play : X → List Moment → Type 0) (xs : List X) (old new : PassView Entry) : Type 0 where
   pub moments : List Moment
   pub did : Did moments old new
   pub plays : PlayedSo (off (past_seen new.seen)) wanting old.number Play xs moments

@@ -7,7 +7,7 @@ ghost use Rattle.client_plays.specs.Tools.{means_of};
 ghost use Rattle.plugin_trait.specs.Steps.{steps_at};
 ghost use Rattle.shared_daemon.specs.Closings.{IsFreePass};
 ghost use Rattle.shared_daemon.specs.Names.{IsPass};
-ghost use Rattle.script_runs.specs.Passes.{Ended, EndedMore, Went, own};
+ghost use Rattle.script_runs.specs.Passes.{Ended, EndedMore, PassWent, own};
 
 use crate::installing::play_install;
 use crate::playing::{play_plug, play_question, play_schedule, play_settle, play_unplug};
@@ -98,7 +98,7 @@ pub fn play_script<R: Wait, K: Keeper, N: Naming, P: Shelf, G: Gate>(
     requires proper { All IsScriptItem items.now }
     requires served { length N.name.facts.vetoes ≤ length plugins.now }
     ensures pass { IsPass daemon.now.id N.name pass.new }
-    ensures went { Went result (Plays N.name.facts N.name.opening (means_of (P.files shelf.old) (steps_at (λ p. steps p) plugins.now)) pass.old.number) items.now pass.old pass.new }
+    ensures went { PassWent result (Plays N.name.facts N.name.opening (means_of (P.files shelf.old) (steps_at (λ p. steps p) plugins.now)) pass.old.number) items.now pass.old pass.new }
     ensures files { P.files shelf.new ≡ P.files shelf.old }
     ensures counts { P.faults shelf.old ≤ P.faults shelf.new }
     ensures told { FaultsTold (own pass.old) (own pass.new) (P.faults shelf.old) (P.faults shelf.new) }

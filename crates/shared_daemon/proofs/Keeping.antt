@@ -6,7 +6,7 @@ use Rattle.update_log.specs.Pasts.{boots, is_boot, meets_fault, off, past_of}
 use Rattle.daemon_core.specs.declared.off.Off.{Off}
 use Rattle.daemon_core.specs.declared.stop.Stop.{Stop}
 use Rattle.daemon_core.specs.Annals.{Appended, SameFacts, Unchanged}
-use Rattle.daemon_core.specs.Goes.{Went}
+use Rattle.daemon_core.specs.Goes.{TurnedOrOff}
 use Rattle.daemon_core.specs.Housed.{Annalled, Housed, past, past_in}
 use Rattle.daemon_core.specs.Keeping.{keeper_faults}
 use Rattle.daemon_core.specs.Turns.{KeeperFared, Signs, Turned, WentOff}
@@ -100,6 +100,6 @@ turned-grew client event (Ok a) old new b t = inr (event a, b a, t.1)
 turned-grew client event (Err Stop.Off) old new b t = calm-grew client old new (off-calm client old new t)
 turned-grew client event (Err Stop.NoMemory) old new b t = inl t.1
 
-pub went-calm : {A : Type 0} (client : ℕ) (event : A → Event) (result : Result A Off) (old new : Annalled) → ((a : A) → is_boot (event a) ≡ false) → ((a : A) → meets_fault (event a) ≡ false) → Went client event result old new → GrewCalm client old new
+pub went-calm : {A : Type 0} (client : ℕ) (event : A → Event) (result : Result A Off) (old new : Annalled) → ((a : A) → is_boot (event a) ≡ false) → ((a : A) → meets_fault (event a) ≡ false) → TurnedOrOff client event result old new → GrewCalm client old new
 went-calm client event (Ok a) old new b f t = inr (event a, b a, f a, t.1)
 went-calm client event (Err stop) old new b f t = off-calm client old new t

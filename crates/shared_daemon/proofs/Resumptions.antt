@@ -29,7 +29,7 @@ use Rattle.shared_daemon.specs.Entries.{chronicle, entries_in, maker_of, past_se
 use Rattle.daemon_core.specs.Planned.{HavePlans}
 use Rattle.daemon_core.specs.Turns.{Signs}
 use Rattle.shared_daemon.specs.Names.{KeepsName, Name}
-use Rattle.shared_daemon.specs.Resumed.{MayResumeRow, ResumedGave, ResumedIn, StoppedIn}
+use Rattle.shared_daemon.specs.Resumed.{MayResumeRow, ResumeGaveIn, ResumedIn, StoppedIn}
 use Rattle.shared_daemon.proofs.Keeping.{Grew, calm-grew, off-calm}
 use Rattle.shared_daemon.proofs.Logs.{entries-appended, entries-same}
 use Rattle.shared_daemon.proofs.Others as others
@@ -73,7 +73,7 @@ resumed-adds entry fetched (Ok (Claimed.Refused refusal)) met log t = adds-on 0 
 resumed-adds entry fetched (Err stopped) met log t = stopped-adds stopped.stop met log t
 
 pub resumed-gave : {K : Type 0} (signs : Signs K) (name : Name) (entry : ℕ) (held : Option (Ticket × Fetched)) (result : Result Claimed ResumeStop) (old new : Housed K) → KeepsName signs name new → IsAnnals new.annals → HavePlans name.plans old.places → ResumeGave entry held result old new
-    → ResumedGave name entry held result (chronicle new)
+    → ResumeGaveIn name entry held result (chronicle new)
 resumed-gave signs name entry held (Ok (Claimed.Taken taken)) old new n k p g = (
   g.0,
   g.1,

@@ -12,12 +12,12 @@ use Rattle.shared_daemon.specs.Entries.{chronicle}
 use Rattle.daemon_core.specs.Planned.{HavePlans}
 use Rattle.daemon_core.specs.Turns.{Signs}
 use Rattle.shared_daemon.specs.Names.{KeepsName, Name}
-use Rattle.shared_daemon.specs.Taking.{Gave}
+use Rattle.shared_daemon.specs.Taking.{ClaimGaveIn}
 use Rattle.daemon_core.proofs.Planned.{taken-planned}
 use Rattle.shared_daemon.proofs.Seeing.{to-name}
 
 pub gave-named : {K : Type 0} (signs : Signs K) (name : Name) (client : ℕ) (ticket : Ticket) (fetched : Fetched) (result : Result Claimed ClaimStop) (old new : Housed K) → KeepsName signs name new → IsAnnals new.annals → HavePlans name.plans old.places → ClaimGave client ticket fetched result old new
-    → Gave name client ticket fetched result (chronicle new)
+    → ClaimGaveIn name client ticket fetched result (chronicle new)
 gave-named signs name client ticket fetched (Ok (Claimed.Taken taken)) old new n k p g = (
   g.0,
   record {

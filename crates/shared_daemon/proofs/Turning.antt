@@ -6,14 +6,14 @@ use Rattle.update_log.specs.Pasts.{off}
 use Rattle.daemon_core.specs.declared.off.Off.{Off}
 use Rattle.daemon_core.specs.declared.stop.Stop.{Stop}
 use Rattle.daemon_core.specs.Annals.{Appended, IsAnnals, Unchanged}
-use Rattle.daemon_core.specs.Goes.{Went}
+use Rattle.daemon_core.specs.Goes.{TurnedOrOff}
 use Rattle.daemon_core.specs.Housed.{Annalled, Housed, past_in}
 use Rattle.daemon_core.specs.Turns.{Signs, Turned, WentOff}
 use Rattle.turn_lock.specs.Lists.{AddsAtMostOne, BeginsWith, beyond, made_by}
 use Rattle.turn_lock.specs.Shown.{LockId, PassView, TurnView, IsReady}
 use Rattle.turn_lock.proofs.Counting.{beyond_append, made_by-own}
 use Rattle.shared_daemon.specs.declared.entry.Entry.{Entry}
-use Rattle.shared_daemon.specs.Calls.{Adds, AddsNone, AddsOn, Begins, FoundOff, Took, TurnedIn, WasSeen, WentIn}
+use Rattle.shared_daemon.specs.Calls.{Adds, AddsNone, AddsOn, Begins, FoundOff, Took, TurnedIn, TurnedOrOffIn, WasSeen}
 use Rattle.shared_daemon.specs.Entries.{chronicle, entries_in, entry_of, maker_of, past_seen}
 use Rattle.shared_daemon.specs.Names.{IsLogOf, IsPass, KeepsName, Name}
 use Rattle.shared_daemon.proofs.Logs.{begins-all, begins-trans, beyond-longer, entries-appended, entries-same, made_by-append, past-entries}
@@ -33,7 +33,7 @@ turned-in client event (Ok a) old new k t = (off-in old false k t.0.on, entries-
 turned-in client event (Err Stop.Off) old new k t = found-off client old new k t
 turned-in client event (Err Stop.NoMemory) old new k t = (off-in old false k t.0, entries-same old new t.1)
 
-pub went-in : {A : Type 0} (client : ℕ) (event : A → Event) (result : Result A Off) (old new : Annalled) → IsAnnals old → Went client event result old new → WentIn client event result (entries_in old) (entries_in new)
+pub went-in : {A : Type 0} (client : ℕ) (event : A → Event) (result : Result A Off) (old new : Annalled) → IsAnnals old → TurnedOrOff client event result old new → TurnedOrOffIn client event result (entries_in old) (entries_in new)
 went-in client event (Ok a) old new k t = (off-in old false k t.0.on, entries-appended client (event a) old new k t.1)
 went-in client event (Err stop) old new k t = found-off client old new k t
 
@@ -42,9 +42,9 @@ pub turned-named : {A K : Type 0} (client : ℕ) (event : A → Event) (result :
 turned-named {A} {K} client event result self inside new e k t =
     subst (λ (h : Housed K). TurnedIn client event result (chronicle h) (chronicle new)) e (turned-in client event result inside.annals new.annals k t)
 
-pub went-named : {A K : Type 0} (client : ℕ) (event : A → Event) (result : Result A Off) (self inside new : Housed K) → inside ≡ self → IsAnnals inside.annals → Went client event result inside.annals new.annals → WentIn client event result (chronicle self) (chronicle new)
+pub went-named : {A K : Type 0} (client : ℕ) (event : A → Event) (result : Result A Off) (self inside new : Housed K) → inside ≡ self → IsAnnals inside.annals → TurnedOrOff client event result inside.annals new.annals → TurnedOrOffIn client event result (chronicle self) (chronicle new)
 went-named {A} {K} client event result self inside new e k t =
-    subst (λ (h : Housed K). WentIn client event result (chronicle h) (chronicle new)) e (went-in client event result inside.annals new.annals k t)
+    subst (λ (h : Housed K). TurnedOrOffIn client event result (chronicle h) (chronicle new)) e (went-in client event result inside.annals new.annals k t)
 
 pub adds-named : {K : Type 0} (client : ℕ) (event : Event) (self inside new : Housed K) → inside ≡ self → IsAnnals inside.annals → Appended client event inside.annals new.annals → Adds client event (chronicle self) (chronicle new)
 adds-named {K} client event self inside new e k a =
@@ -67,7 +67,7 @@ turned-adds client event (Ok a) met log t = adds-on client (event a) met log t
 turned-adds client event (Err Stop.Off) met log t = adds-off client met log t
 turned-adds client event (Err Stop.NoMemory) met log t = adds-none client met log t
 
-pub went-adds : {A : Type 0} (client : ℕ) (event : A → Event) (result : Result A Off) (met log : List Entry) → WentIn client event result met log → AddsAtMostOne maker_of client met log
+pub went-adds : {A : Type 0} (client : ℕ) (event : A → Event) (result : Result A Off) (met log : List Entry) → TurnedOrOffIn client event result met log → AddsAtMostOne maker_of client met log
 went-adds client event (Ok a) met log t = adds-on client (event a) met log t
 went-adds client event (Err stop) met log t = adds-off client met log t
 

@@ -55,9 +55,9 @@ TurnedIn client event (Err Stop.Off) met log = FoundOff client met log
 TurnedIn client event (Err Stop.NoMemory) met log = AddsNone met log
 
 -- One that takes no memory.
-abbrev pub WentIn : {A : Type 0} → ℕ → (A → Event) → Result A Off → List Entry → List Entry → Type 0
-WentIn client event (Ok answer) met log = AddsOn client (event answer) met log
-WentIn client event (Err stop) met log = FoundOff client met log
+abbrev pub TurnedOrOffIn : {A : Type 0} → ℕ → (A → Event) → Result A Off → List Entry → List Entry → Type 0
+TurnedOrOffIn client event (Ok answer) met log = AddsOn client (event answer) met log
+TurnedOrOffIn client event (Err stop) met log = FoundOff client met log
 
 -- A finish: one that was stopped hands the board and the payload back.
 abbrev pub FinishedIn : ℕ → ℕ → BoardState → SealedBytes → Result Finished FinishStop → List Entry → List Entry → Type 0

@@ -66,10 +66,10 @@ ResumedIn entry fetched (Err stopped) met log = StoppedIn stopped.stop met log
 
 -- An entry that was taken is this one, live, with the payload that came in. A resumption that was stopped
 -- hands back what came in.
-abbrev pub ResumedGave : Name → ℕ → Option (Ticket × Fetched) → Result Claimed ResumeStop → List Entry → Type 0
-ResumedGave name entry held (Ok (Claimed.Taken taken)) log =
+abbrev pub ResumeGaveIn : Name → ℕ → Option (Ticket × Fetched) → Result Claimed ResumeStop → List Entry → Type 0
+ResumeGaveIn name entry held (Ok (Claimed.Taken taken)) log =
     (taken.entry ≡ entry) × ((ticket : Ticket) × (held ≡ Some (ticket, Fetched.Whole taken.payload)))
     × TookEntry name 0 taken log
-ResumedGave name entry held (Ok (Claimed.Kept kept state)) log = ⊥
-ResumedGave name entry held (Ok (Claimed.Refused refusal)) log = Unit {0}
-ResumedGave name entry held (Err stopped) log = stopped.held ≡ held
+ResumeGaveIn name entry held (Ok (Claimed.Kept kept state)) log = ⊥
+ResumeGaveIn name entry held (Ok (Claimed.Refused refusal)) log = Unit {0}
+ResumeGaveIn name entry held (Err stopped) log = stopped.held ≡ held

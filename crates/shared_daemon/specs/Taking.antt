@@ -19,9 +19,9 @@ pub record TookEntry (name : Name) (client : ℕ) (taken : Taken) (log : List En
 
 -- A claim that took an entry has the payload that was fetched. One that was stopped hands the ticket and what
 -- was fetched back.
-abbrev pub Gave : Name → ℕ → Ticket → Fetched → Result Claimed ClaimStop → List Entry → Type 0
-Gave name client ticket fetched (Ok (Claimed.Taken taken)) log =
+abbrev pub ClaimGaveIn : Name → ℕ → Ticket → Fetched → Result Claimed ClaimStop → List Entry → Type 0
+ClaimGaveIn name client ticket fetched (Ok (Claimed.Taken taken)) log =
     (fetched ≡ Fetched.Whole taken.payload) × TookEntry name client taken log
-Gave name client ticket fetched (Ok (Claimed.Kept entry state)) log = Unit {0}
-Gave name client ticket fetched (Ok (Claimed.Refused refusal)) log = Unit {0}
-Gave name client ticket fetched (Err stopped) log = (stopped.ticket ≡ ticket) × (stopped.fetched ≡ fetched)
+ClaimGaveIn name client ticket fetched (Ok (Claimed.Kept entry state)) log = Unit {0}
+ClaimGaveIn name client ticket fetched (Ok (Claimed.Refused refusal)) log = Unit {0}
+ClaimGaveIn name client ticket fetched (Err stopped) log = (stopped.ticket ≡ ticket) × (stopped.fetched ≡ fetched)

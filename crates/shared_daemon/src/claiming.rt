@@ -7,7 +7,7 @@ ghost use Rattle.daemon_core.specs.Holds.{held_by};
 ghost use Rattle.shared_daemon.specs.Calls.{Took, TurnedIn, WasSeen};
 ghost use Rattle.shared_daemon.specs.Entries.{chronicle, past_seen};
 ghost use Rattle.shared_daemon.specs.Names.{IsPass};
-ghost use Rattle.shared_daemon.specs.Taking.{Gave};
+ghost use Rattle.shared_daemon.specs.Taking.{ClaimGaveIn};
 
 use crate::daemon::{Daemon, Pass};
 use crate::named::Named;
@@ -27,7 +27,7 @@ impl<K: Keeper, N: Naming> Named<K, N> {
         requires asked { ticket.pending ≡ None }
         requires whole { IsFetchOf N.name.facts ticket.release fetched }
         ensures turn { TurnedIn client (claim_event client ticket.request fetched) (stopped_by result) (chronicle self.old) (chronicle self.new) }
-        ensures gave { Gave N.name client ticket fetched result (chronicle self.new) }
+        ensures gave { ClaimGaveIn N.name client ticket fetched result (chronicle self.new) }
     {
         self.house.known();
         let claimed = self.house.claim(client, ticket, fetched);
@@ -54,7 +54,7 @@ impl<K: Keeper, N: Naming> Daemon<K, N> {
         ensures pass { IsPass self.now.id N.name pass.new }
         ensures same { pass.new.number ≡ pass.old.number }
         ensures turn { Took N.name (TurnedIn pass.old.number (claim_event pass.old.number ticket.request fetched) (stopped_by result)) pass.old pass.new }
-        ensures gave { Gave N.name pass.old.number ticket fetched result pass.new.seen }
+        ensures gave { ClaimGaveIn N.name pass.old.number ticket fetched result pass.new.seen }
     {
         let mut turn = self.enter(rt, pass);
         let answer = turn.state().claim(pass.number(), ticket, fetched);

@@ -4,7 +4,7 @@ ghost use Rattle.daemon_core.specs.Resumes.{note_in};
 ghost use Rattle.shared_daemon.specs.Calls.{Took, WasSeen};
 ghost use Rattle.shared_daemon.specs.Entries.{chronicle};
 ghost use Rattle.shared_daemon.specs.Names.{IsPass};
-ghost use Rattle.shared_daemon.specs.Resumed.{MayResumeRow, ResumedGave, ResumedIn};
+ghost use Rattle.shared_daemon.specs.Resumed.{MayResumeRow, ResumeGaveIn, ResumedIn};
 
 use crate::daemon::{Daemon, Pass};
 use crate::named::Named;
@@ -21,7 +21,7 @@ impl<K: Keeper, N: Naming> Named<K, N> {
     ) -> Result<Claimed, ResumeStop>
         requires { WasSeen N.name 0 (MayResumeRow N.name entry held) (chronicle self.old) }
         ensures turn { ResumedIn entry (note_in held) result (chronicle self.old) (chronicle self.new) }
-        ensures gave { ResumedGave N.name entry held result (chronicle self.new) }
+        ensures gave { ResumeGaveIn N.name entry held result (chronicle self.new) }
     {
         self.house.known();
         let resumed = self.house.resume(entry, held);
@@ -48,7 +48,7 @@ impl<K: Keeper, N: Naming> Daemon<K, N> {
         ensures pass { IsPass self.now.id N.name pass.new }
         ensures same { pass.new.number ≡ pass.old.number }
         ensures turn { Took N.name (ResumedIn entry (note_in held) result) pass.old pass.new }
-        ensures gave { ResumedGave N.name entry held result pass.new.seen }
+        ensures gave { ResumeGaveIn N.name entry held result pass.new.seen }
     {
         let mut turn = self.enter(rt, pass);
         let answer = turn.state().resume(entry, held);

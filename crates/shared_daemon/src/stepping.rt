@@ -11,7 +11,7 @@ ghost use Rattle.update_log.specs.Legal.{StartAllowed};
 ghost use Rattle.update_log.specs.Pasts.{off};
 ghost use Rattle.daemon_core.specs.Finishes.{AdvancesForFree, IsDone};
 ghost use Rattle.daemon_core.specs.Returns.{ComesHome, StepEnds, new_marks};
-ghost use Rattle.shared_daemon.specs.Calls.{Adds, FinishedIn, Took, WasSeen, WentIn};
+ghost use Rattle.shared_daemon.specs.Calls.{Adds, FinishedIn, Took, TurnedOrOffIn, WasSeen};
 ghost use Rattle.shared_daemon.specs.Entries.{chronicle, past_seen};
 ghost use Rattle.shared_daemon.specs.Names.{IsPass};
 ghost use Rattle.shared_daemon.specs.Steps.{EndsOwn, GoesHome, MayFinish, MayStart};
@@ -29,7 +29,7 @@ use update_log::Op;
 impl<K: Keeper, N: Naming> Named<K, N> {
     pub(crate) fn start(&mut self, client: u32, entry: u32, op: Op) -> Result<(), Off>
         requires { WasSeen N.name client (MayStart N.name client entry op) (chronicle self.old) }
-        ensures { WentIn client (λ _. Event.Start client entry op) result (chronicle self.old) (chronicle self.new) }
+        ensures { TurnedOrOffIn client (λ _. Event.Start client entry op) result (chronicle self.old) (chronicle self.new) }
     {
         self.house.known();
         self.house.start(client, entry, op)
@@ -44,7 +44,7 @@ impl<K: Keeper, N: Naming> Named<K, N> {
         board: &Board,
     ) -> Result<(), Off>
         requires { WasSeen N.name client (EndsOwn N.name client entry op outcome board.now) (chronicle self.old) }
-        ensures { WentIn client (λ _. Event.End client entry op outcome (new_marks N.name.facts N.name.opening (past_seen (chronicle self.old)) entry board.now.journal) (view_of board.now.condition)) result (chronicle self.old) (chronicle self.new) }
+        ensures { TurnedOrOffIn client (λ _. Event.End client entry op outcome (new_marks N.name.facts N.name.opening (past_seen (chronicle self.old)) entry board.now.journal) (view_of board.now.condition)) result (chronicle self.old) (chronicle self.new) }
     {
         self.house.known();
         self.house.end(client, entry, op, outcome, board)
@@ -81,7 +81,7 @@ impl<K: Keeper, N: Naming> Daemon<K, N> {
         requires next { MayStart N.name pass.old.number entry op pass.old.seen }
         ensures pass { IsPass self.now.id N.name pass.new }
         ensures same { pass.new.number ≡ pass.old.number }
-        ensures turn { Took N.name (WentIn pass.old.number (λ _. Event.Start pass.old.number entry op) result) pass.old pass.new }
+        ensures turn { Took N.name (TurnedOrOffIn pass.old.number (λ _. Event.Start pass.old.number entry op) result) pass.old pass.new }
     {
         let mut turn = self.enter(rt, pass);
         let answer = turn.state().start(pass.number(), entry, op);
@@ -104,7 +104,7 @@ impl<K: Keeper, N: Naming> Daemon<K, N> {
         requires ends { EndsOwn N.name pass.old.number entry op outcome board.now pass.old.seen }
         ensures pass { IsPass self.now.id N.name pass.new }
         ensures same { pass.new.number ≡ pass.old.number }
-        ensures turn { Took N.name (WentIn pass.old.number (λ _. Event.End pass.old.number entry op outcome (new_marks N.name.facts N.name.opening (past_seen pass.old.seen) entry board.now.journal) (view_of board.now.condition)) result) pass.old pass.new }
+        ensures turn { Took N.name (TurnedOrOffIn pass.old.number (λ _. Event.End pass.old.number entry op outcome (new_marks N.name.facts N.name.opening (past_seen pass.old.seen) entry board.now.journal) (view_of board.now.condition)) result) pass.old pass.new }
     {
         let mut turn = self.enter(rt, pass);
         let answer = turn.state().end(pass.number(), entry, op, outcome, board);

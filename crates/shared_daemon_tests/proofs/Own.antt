@@ -31,7 +31,7 @@ use Rattle.shared_daemon.specs.Calls.{Adds, JudgedIn, Took}
 use Rattle.shared_daemon.specs.Closings.{IsFreePass}
 use Rattle.shared_daemon.specs.Entries.{past_seen}
 use Rattle.shared_daemon.specs.Names.{IsLogOf, IsPass, Name}
-use Rattle.shared_daemon.specs.Resumed.{MayResumeRow, ResumedGave, ResumedIn}
+use Rattle.shared_daemon.specs.Resumed.{MayResumeRow, ResumeGaveIn, ResumedIn}
 use Rattle.claim_runs.specs.Known.{RunsSeen}
 use Rattle.claim_runs.proofs.Clients.{none-free, quiet-free}
 use Rattle.claim_runs.proofs.Kept.{past-added}
@@ -92,7 +92,7 @@ may-resume name entry seen request given ticket fetched w is held t b d s =
 
 -- What a resumption took, runs.
 pub resume-runs : {did : List Entry → List Entry → Type 0} (name : Name) (entry : ℕ) (held : Option (Ticket × Fetched)) (taken : Taken) (old new : PassView Entry) → IsLogOf name new.seen → new.number ≡ old.number → old.number ≡ 0 → (t : Took name did old new)
-    → ResumedIn entry (note_in held) (Ok (Claimed.Taken taken)) t.met new.seen → ResumedGave name entry held (Ok (Claimed.Taken taken)) new.seen → RunsSeen name new.number (parts_taken taken) None new.seen
+    → ResumedIn entry (note_in held) (Ok (Claimed.Taken taken)) t.met new.seen → ResumeGaveIn name entry held (Ok (Claimed.Taken taken)) new.seen → RunsSeen name new.number (parts_taken taken) None new.seen
 resume-runs name entry held taken old new l same own t a g =
     let event : Event = Event.Resume 0 entry (Some (whole_note taken.payload)) ResumeAnswer.Begun Stored.Yes in
     let added : Adds 0 event t.met new.seen = subst (λ (o : Option (Ticket × Fetched)). Adds 0 (Event.Resume 0 entry (note_in o) ResumeAnswer.Begun Stored.Yes) t.met new.seen) g.1.1 a.1 in

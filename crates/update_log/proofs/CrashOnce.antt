@@ -15,7 +15,7 @@ use Rattle.update_log.specs.Crashes.{CrashOf, IsNextBoot, LeftOf, NextCampaign, 
 use Rattle.update_log.specs.Known.{Target}
 use Rattle.update_log.specs.Laws.{IsSafeCrash}
 use Rattle.update_log.specs.Legal.{Allowed, BoardListed, BootTakes, ClaimAnswered, IsLegal, Legal, ResumeAnswered, ResumeFetched, ResumeStored, ScheduleAnswered, UnchangedExactly, is_fetched}
-use Rattle.update_log.specs.Once.{BoardState, FitsPast, OncePast}
+use Rattle.update_log.specs.Once.{FitsPast, JournalAndView, OncePast}
 use Rattle.update_log.specs.Pasts.{boots, is_boot, is_counted, past_of}
 use Rattle.update_log.specs.Shows.{Campaign, told, untold_of}
 use Rattle.update_log.specs.Steps.{fits}
@@ -127,7 +127,7 @@ get-alike (x' ∷ xs) (y ∷ ys) zero x l h = (y, refl)
 get-alike (x' ∷ xs) (y ∷ ys) (suc i) x l h = get-alike xs ys i x (omega arith) h
 
 -- The boot after a crash is allowed, in a campaign that has its plan.
-pub next-allowed : (c : Campaign) (opening : List Row) (past : List Event) (plan : BootPlan) (states : List BoardState) (found : Found) (boards : List BoardSeen) → slice_get c.plans (boots past) ≡ Some plan → FitsPast c.facts c.first opening past states → IsNextBoot c.facts c.first opening past plan states found boards → MayCome c opening past (next_boot past plan found boards)
+pub next-allowed : (c : Campaign) (opening : List Row) (past : List Event) (plan : BootPlan) (states : List JournalAndView) (found : Found) (boards : List BoardSeen) → slice_get c.plans (boots past) ≡ Some plan → FitsPast c.facts c.first opening past states → IsNextBoot c.facts c.first opening past plan states found boards → MayCome c opening past (next_boot past plan found boards)
 next-allowed c opening past plan states found boards planned fits n = (
   record { booted = λ h. cc; on = λ h. cc; below = λ h. cc },
   (
@@ -155,7 +155,7 @@ next-allowed c opening past plan states found boards planned fits n = (
         record { number = l.number; presence = l.presence; untold = rw same j.tail_is; shown = l.shown }
 
 -- The journals fit after it.
-pub next-fits : (facts : Facts) (first : List Seen) (opening : List Row) (past : List Event) (plan : BootPlan) (states : List BoardState) (found : Found) (boards : List BoardSeen) → FitsPast facts first opening past states → IsNextBoot facts first opening past plan states found boards → JournalsFit facts opening (next_boot past plan found boards ∷ past) states
+pub next-fits : (facts : Facts) (first : List Seen) (opening : List Row) (past : List Event) (plan : BootPlan) (states : List JournalAndView) (found : Found) (boards : List BoardSeen) → FitsPast facts first opening past states → IsNextBoot facts first opening past plan states found boards → JournalsFit facts opening (next_boot past plan found boards ∷ past) states
 next-fits facts first opening past plan states found boards fits n = λ board s e.
     let b = get-alike states boards board s (n.count ∙ sym fits.count) e in
     let tail : untold_of boards board ≡ b.0.untold = ap (λ o. unwrap_or (option_map (λ x. x.untold) o) []) b.1 in
@@ -183,10 +183,10 @@ legal-on c plan opening [] legal = tt
 legal-on c plan opening (event ∷ past) legal = (legal-on c plan opening past legal.0, legal.1, allowed-on c plan opening past event legal.2)
 
 -- The next boot is legal, and the boards were written once then.
-abbrev pub BootSafe : Campaign → List Row → List Event → Event → List BoardState → Type 0
+abbrev pub BootSafe : Campaign → List Row → List Event → Event → List JournalAndView → Type 0
 BootSafe c opening past event states = IsLegal c opening (event ∷ past) × OncePast c.facts opening (event ∷ past) states
 
-pub boot-safe : (c : Campaign) (opening : List Row) (past : List Event) (plan : BootPlan) (states : List BoardState) (found : Found) (boards : List BoardSeen) → IsHistory opening → IsLegal c opening past → slice_get c.plans (boots past) ≡ Some plan → FitsPast c.facts c.first opening past states → IsNextBoot c.facts c.first opening past plan states found boards → BootSafe c opening past (next_boot past plan found boards) states
+pub boot-safe : (c : Campaign) (opening : List Row) (past : List Event) (plan : BootPlan) (states : List JournalAndView) (found : Found) (boards : List BoardSeen) → IsHistory opening → IsLegal c opening past → slice_get c.plans (boots past) ≡ Some plan → FitsPast c.facts c.first opening past states → IsNextBoot c.facts c.first opening past plan states found boards → BootSafe c opening past (next_boot past plan found boards) states
 boot-safe c opening past plan states found boards valid legal planned fits n =
     let a = next-allowed c opening past plan states found boards planned fits n in
     let after : IsLegal c opening (next_boot past plan found boards ∷ past) = (legal, a.0, a.1) in (
@@ -197,7 +197,7 @@ boot-safe c opening past plan states found boards valid legal planned fits n =
           (next-fits c.facts c.first opening past plan states found boards fits n),
     )
 
-pub next-safe : (c after : Campaign) (opening : List Row) (past : List Event) (plan : BootPlan) (states : List BoardState) (found : Found) (boards : List BoardSeen) → IsHistory opening → IsLegal c opening past → FitsPast c.facts c.first opening past states → NextCampaign c past plan after → IsNextBoot c.facts c.first opening past plan states found boards → BootSafe after opening past (next_boot past plan found boards) states
+pub next-safe : (c after : Campaign) (opening : List Row) (past : List Event) (plan : BootPlan) (states : List JournalAndView) (found : Found) (boards : List BoardSeen) → IsHistory opening → IsLegal c opening past → FitsPast c.facts c.first opening past states → NextCampaign c past plan after → IsNextBoot c.facts c.first opening past plan states found boards → BootSafe after opening past (next_boot past plan found boards) states
 next-safe c after opening past plan states found boards valid legal fits (inl (planned, same)) n =
     subst (λ (x : Campaign). BootSafe x opening past (next_boot past plan found boards) states) (sym same)
     (boot-safe c opening past plan states found boards valid legal planned fits n)

@@ -21,7 +21,7 @@ use Rattle.update_log.proofs.TakenKept.{Taken, TakenKept, WaitingKept, taken-at_
 use Rattle.update_log.specs.Holding.{live, open_steps}
 use Rattle.update_log.specs.Known.{Fate, board_of, doubt, fate, fate_stored, reason_of, refusal_number, row_of, rows, rows_by, seen}
 use Rattle.update_log.specs.Legal.{Allowed, BootRuns, IsLegal, IsLegalUnlimited, ResumeAllowed, closing_stored}
-use Rattle.update_log.specs.Once.{AtTaking, BoardState, FitsPast, HasDigest, IsTakenOnce, JournalFits, MarkOnce, OncePast, Stroke, TakenBy, WrittenOnce, accepts, entry_named, how_many, is_like, is_pending, strokes, takes}
+use Rattle.update_log.specs.Once.{AtTaking, FitsPast, HasDigest, IsTakenOnce, JournalAndView, JournalFits, MarkOnce, OncePast, Stroke, TakenBy, WrittenOnce, accepts, entry_named, how_many, is_like, is_pending, strokes, takes}
 use Rattle.update_log.specs.Pasts.{is_keeper_fault, time_of}
 use Rattle.update_log.specs.Shows.{Campaign, digest_of, marks, told, told_by}
 use Rattle.update_log.specs.Steps.{judge, trace}
@@ -227,9 +227,9 @@ entry-taken facts opening past entry k w = at (k.begun entry)
     at (inr t) = t
 
 -- The journals of boards fit.
-abbrev pub JournalsFit : Facts → List Row → List Event → List BoardState → Type 0
+abbrev pub JournalsFit : Facts → List Row → List Event → List JournalAndView → Type 0
 JournalsFit facts opening past boards =
-    (board : ℕ) (b : BoardState) → slice_get boards board ≡ Some b → (tail : List Mark) × JournalFits facts opening past board b.journal tail
+    (board : ℕ) (b : JournalAndView) → slice_get boards board ≡ Some b → (tail : List Mark) × JournalFits facts opening past board b.journal tail
 
 -- What is kept of each mark of a journal that fits.
 pub journal-kept : (facts : Facts) (opening : List Row) (past : List Event) (board : ℕ) (journal tail : List Mark) → PastKept facts opening past → JournalFits facts opening past board journal tail → AllByRecursion (MarkKept facts opening past board) journal
@@ -280,11 +280,11 @@ none-like facts opening past board other mark entry (m ∷ ms) n b d k =
         let both : Some other ≡ Some board = sym at ∙ at' in cc
 
 -- What is left to know of one mark, beside what the past keeps.
-pub record StandsAlone (boards : List BoardState) (board : ℕ) (journal : List Mark) (mark : Mark) : Type 0 where
+pub record StandsAlone (boards : List JournalAndView) (board : ℕ) (journal : List Mark) (mark : Mark) : Type 0 where
   pub alone : how_many (is_like mark) journal ≡ 1
-  pub nowhere_else : (other : ℕ) (b : BoardState) → slice_get boards other ≡ Some b → other ≢ board → how_many (is_like mark) b.journal ≡ 0
+  pub nowhere_else : (other : ℕ) (b : JournalAndView) → slice_get boards other ≡ Some b → other ≢ board → how_many (is_like mark) b.journal ≡ 0
 
-pub mark-once : (facts : Facts) (opening : List Row) (past : List Event) (boards : List BoardState) (board : ℕ) (journal : List Mark) (mark : Mark) (entry : ℕ) → PastKept facts opening past → entry_named mark ≡ Some entry → StandsAlone boards board journal mark → MarkOf facts opening past board mark entry → (row : Row) × WrittenOnce facts opening past boards board journal mark entry row
+pub mark-once : (facts : Facts) (opening : List Row) (past : List Event) (boards : List JournalAndView) (board : ℕ) (journal : List Mark) (mark : Mark) (entry : ℕ) → PastKept facts opening past → entry_named mark ≡ Some entry → StandsAlone boards board journal mark → MarkOf facts opening past board mark entry → (row : Row) × WrittenOnce facts opening past boards board journal mark entry row
 mark-once facts opening past boards board journal mark entry k n one m =
     let t = entry-taken facts opening past entry k.taken m.written in
     let r = row-found (row_of (rows facts opening past) entry) t.row t.row_is in
@@ -306,7 +306,7 @@ mark-once facts opening past boards board journal mark entry k n one m =
       },
     )
 
-pub journal-once : (facts : Facts) (opening : List Row) (past : List Event) (boards : List BoardState) (board : ℕ) (b : BoardState) (tail : List Mark) → PastKept facts opening past → JournalsFit facts opening past boards → JournalFits facts opening past board b.journal tail → AllByRecursion (MarkOnce facts opening past boards board b.journal) b.journal
+pub journal-once : (facts : Facts) (opening : List Row) (past : List Event) (boards : List JournalAndView) (board : ℕ) (b : JournalAndView) (tail : List Mark) → PastKept facts opening past → JournalsFit facts opening past boards → JournalFits facts opening past board b.journal tail → AllByRecursion (MarkOnce facts opening past boards board b.journal) b.journal
 journal-once facts opening past boards board b tail k all f =
     All-both (MarkKept facts opening past board) (IsAmong b.journal) (MarkOnce facts opening past boards board b.journal) b.journal
     (journal-kept facts opening past board b.journal tail k f) (each-among b.journal) (λ mark h i. at mark (entry_named mark) refl h i)
@@ -332,7 +332,7 @@ journal-once facts opening past boards board b tail k all f =
     at mark None n h i = tt
     at mark (Some entry) n h i = mark-once facts opening past boards board b.journal mark entry k n (alone mark entry n i h) h
 
-pub past-once : (facts : Facts) (opening : List Row) (past : List Event) (boards : List BoardState) → PastKept facts opening past → IsHistory (rows facts opening past) → JournalsFit facts opening past boards → OncePast facts opening past boards
+pub past-once : (facts : Facts) (opening : List Row) (past : List Event) (boards : List JournalAndView) → PastKept facts opening past → IsHistory (rows facts opening past) → JournalsFit facts opening past boards → OncePast facts opening past boards
 past-once facts opening past boards k valid f =
     record {
       marks = λ board b e. let t = f board b e in journal-once facts opening past boards board b t.0 k f t.1;
@@ -341,7 +341,7 @@ past-once facts opening past boards k valid f =
       retried = valid.retried;
     }
 
-pub journals-fit : (facts : Facts) (first : List Seen) (opening : List Row) (past : List Event) (boards : List BoardState) → FitsPast facts first opening past boards → JournalsFit facts opening past boards
+pub journals-fit : (facts : Facts) (first : List Seen) (opening : List Row) (past : List Event) (boards : List JournalAndView) → FitsPast facts first opening past boards → JournalsFit facts opening past boards
 journals-fit facts first opening past boards f = λ board b e. let t = f.each board b e in let w = t.1 in (t.0, w.journal)
 
 pub taken-once-on : (c : Campaign) (opening : List Row) (past : List Event) → IsHistory opening → IsLegalUnlimited c opening past → IsTakenOnce c.facts opening past

@@ -16,7 +16,7 @@ use Rattle.update_log.specs.Pasts.{past_of, boots}
 use Rattle.update_log.specs.Known.{doubt}
 use Rattle.update_log.specs.Shows.{Campaign, told, FreshShows}
 use Rattle.update_log.specs.Legal.{FoundAllowed, is_gone, is_absent}
-use Rattle.update_log.specs.Once.{BoardState}
+use Rattle.update_log.specs.Once.{JournalAndView}
 
 -- The event as it is where the keeper fails in place of answering Ok: an entry and a begin become
 -- refusal 16, and what was stored is at fault. Any other event has
@@ -54,16 +54,16 @@ NextCampaign c past plan after =
 
 -- What a boot may list of a board whose journal is this: it tells the journal's tail, and shows the
 -- board gone where the plan says so, else home with what it may show.
-pub record TailListed (facts : Facts) (first : List Seen) (opening : List Row) (past : List Event) (plan : BootPlan) (board : ℕ) (b : BoardSeen) (s : BoardState) : Type 0 where
+pub record TailListed (facts : Facts) (first : List Seen) (opening : List Row) (past : List Event) (plan : BootPlan) (board : ℕ) (b : BoardSeen) (s : JournalAndView) : Type 0 where
   pub number : b.board ≡ board
   pub presence : IsTrue (if is_absent plan board then is_gone b.seen else is_home b.seen)
   pub tail : s.journal ≡ told facts opening past board ++ b.untold
   pub shown : FreshShows facts first opening past board b.untold b.seen
 
 -- A boot by that plan over those boards: it lists each of them, and finds what the doubt lets it find.
-pub record IsNextBoot (facts : Facts) (first : List Seen) (opening : List Row) (past : List Event) (plan : BootPlan) (states : List BoardState) (found : Found) (boards : List BoardSeen) : Type 0 where
+pub record IsNextBoot (facts : Facts) (first : List Seen) (opening : List Row) (past : List Event) (plan : BootPlan) (states : List JournalAndView) (found : Found) (boards : List BoardSeen) : Type 0 where
   pub count : length boards ≡ length facts.sheets
-  pub listed : (board : ℕ) (b : BoardSeen) (s : BoardState) → slice_get boards board ≡ Some b → slice_get states board ≡ Some s → TailListed facts first opening past plan board b s
+  pub listed : (board : ℕ) (b : BoardSeen) (s : JournalAndView) → slice_get boards board ≡ Some b → slice_get states board ≡ Some s → TailListed facts first opening past plan board b s
   pub found_is : FoundAllowed found (doubt facts opening past)
 
 -- That boot.

@@ -13,14 +13,14 @@ use Rattle.update_log.specs.Boards.{OneDevice}
 use Rattle.update_log.specs.declared.facts.Facts.{Facts}
 use Rattle.update_log.specs.Shows.{Campaign}
 use Rattle.update_log.specs.Legal.{Legal}
-use Rattle.update_log.specs.Once.{BoardState, Fits, IsTakenOnce, Once}
+use Rattle.update_log.specs.Once.{Fits, IsTakenOnce, JournalAndView, Once}
 use Rattle.update_log.specs.Crashes.{CrashOf, NextCampaign, IsNextBoot, next_boot}
 
 -- At most once: of every campaign, every valid history before it, every log and all boards, if the
 -- log is legal and the boards fit it, then they were written once.
 abbrev pub AtMostOnce : Type 0
 AtMostOnce =
-    (c : Campaign) (opening : List Row) (log : List Event) (boards : List BoardState)
+    (c : Campaign) (opening : List Row) (log : List Event) (boards : List JournalAndView)
     → IsHistory opening → Legal c opening log → Fits c opening log boards → Once c opening log boards
 
 -- The log with the next boot at its end.
@@ -31,7 +31,7 @@ rebooted log plan found boards = log ++ next_boot (past_of log) plan found board
 -- fit the log, whatever it finds and shows, and those boards were written once.
 pub record IsSafeCrash (c : Campaign) (opening : List Row) (crashed : List Event) : Type 0 where
   pub legal : Legal c opening crashed
-  pub boots : (states : List BoardState) (plan : BootPlan) (after : Campaign) (found : Found) (boards : List BoardSeen)
+  pub boots : (states : List JournalAndView) (plan : BootPlan) (after : Campaign) (found : Found) (boards : List BoardSeen)
       → Fits c opening crashed states → NextCampaign c (past_of crashed) plan after
       → IsNextBoot c.facts c.first opening (past_of crashed) plan states found boards
       → Legal after opening (rebooted crashed plan found boards) × Once after opening (rebooted crashed plan found boards) states

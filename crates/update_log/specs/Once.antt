@@ -27,7 +27,7 @@ use Rattle.update_log.specs.Shows.{Campaign, IsPrefix, told, told_by, is_began, 
 use Rattle.update_log.specs.Legal.{open_on, open_marks, is_whole}
 
 -- A board, as its journal and what it shows.
-pub record BoardState : Type 0 where
+pub record JournalAndView : Type 0 where
   pub journal : List Mark
   pub view : Seen
 
@@ -45,17 +45,17 @@ ShowsFirst Seen.Stranger first = Unit {0}
 -- A board fits a past: its journal does; where no step is open on it and there was a boot, it shows
 -- what it was last seen to show; and where no write of it began, it shows the raw version of its
 -- first image, if it is there.
-pub record BoardFits (facts : Facts) (first : List Seen) (opening : List Row) (past : List Event) (board : ℕ) (b : BoardState) (tail : List Mark) : Type 0 where
+pub record BoardFits (facts : Facts) (first : List Seen) (opening : List Row) (past : List Event) (board : ℕ) (b : JournalAndView) (tail : List Mark) : Type 0 where
   pub journal : JournalFits facts opening past board b.journal tail
   pub view : open_on facts opening past board ≡ None → 0 < boots past → b.view ≡ seen facts opening past board
   pub unwritten : list_any is_began b.journal ≡ false → ShowsFirst b.view (first_of_board first board)
 
 -- All boards fit.
-pub record FitsPast (facts : Facts) (first : List Seen) (opening : List Row) (past : List Event) (boards : List BoardState) : Type 0 where
+pub record FitsPast (facts : Facts) (first : List Seen) (opening : List Row) (past : List Event) (boards : List JournalAndView) : Type 0 where
   pub count : length boards ≡ length facts.sheets
-  pub each : (board : ℕ) (b : BoardState) → slice_get boards board ≡ Some b → (tail : List Mark) × BoardFits facts first opening past board b tail
+  pub each : (board : ℕ) (b : JournalAndView) → slice_get boards board ≡ Some b → (tail : List Mark) × BoardFits facts first opening past board b tail
 
-abbrev pub Fits : Campaign → List Row → List Event → List BoardState → Type 0
+abbrev pub Fits : Campaign → List Row → List Event → List JournalAndView → Type 0
 Fits c opening log boards = FitsPast c.facts c.first opening (past_of log) boards
 
 -- The entry that a mark names.
@@ -201,11 +201,11 @@ HasDigest Mark.Left d = Unit {0}
 -- request: the board is the device of the entry's row, no other mark like this one stands in any
 -- journal, one request of the entry was accepted, one event took the entry and took it well, the
 -- mark has the row's digest, and the steps stand in order, the write's before what was told of it.
-pub record WrittenOnce (facts : Facts) (opening : List Row) (past : List Event) (boards : List BoardState) (board : ℕ) (journal : List Mark) (mark : Mark) (entry : ℕ) (row : Row) : Type 0 where
+pub record WrittenOnce (facts : Facts) (opening : List Row) (past : List Event) (boards : List JournalAndView) (board : ℕ) (journal : List Mark) (mark : Mark) (entry : ℕ) (row : Row) : Type 0 where
   pub row_is : row_of (rows facts opening past) entry ≡ Some row
   pub board_is : IsTrue (is_board_of facts (rows facts opening past) entry board)
   pub alone : how_many (is_like mark) journal ≡ 1
-  pub nowhere_else : (other : ℕ) (b : BoardState) → slice_get boards other ≡ Some b → other ≢ board → how_many (is_like mark) b.journal ≡ 0
+  pub nowhere_else : (other : ℕ) (b : JournalAndView) → slice_get boards other ≡ Some b → other ≢ board → how_many (is_like mark) b.journal ≡ 0
   pub accepted_once : accepted facts opening entry past ≡ 1
   pub taken_once : how_many (takes entry) past ≡ 1
   pub taken_well : AtTaking entry (TakenBy facts opening row) past
@@ -214,20 +214,20 @@ pub record WrittenOnce (facts : Facts) (opening : List Row) (past : List Event) 
   pub after_start : AfterStart facts opening board entry mark past
 
 -- So does each mark of a write in a journal.
-abbrev pub MarkOnce : Facts → List Row → List Event → List BoardState → ℕ → List Mark → Mark → Type 0
+abbrev pub MarkOnce : Facts → List Row → List Event → List JournalAndView → ℕ → List Mark → Mark → Type 0
 MarkOnce facts opening past boards board journal mark =
     IfSome (entry_named mark) (λ entry. (row : Row) × WrittenOnce facts opening past boards board journal mark entry row)
 
 -- Each mark of a write in each journal belongs to one accepted request and one taking of its entry, and
 -- no two rows have one tag. A row that tries another one again tries an earlier failed one of its device,
 -- and no two rows try the same one.
-pub record OncePast (facts : Facts) (opening : List Row) (past : List Event) (boards : List BoardState) : Type 0 where
-  pub marks : (board : ℕ) (b : BoardState) → slice_get boards board ≡ Some b → AllByRecursion (MarkOnce facts opening past boards board b.journal) b.journal
+pub record OncePast (facts : Facts) (opening : List Row) (past : List Event) (boards : List JournalAndView) : Type 0 where
+  pub marks : (board : ℕ) (b : JournalAndView) → slice_get boards board ≡ Some b → AllByRecursion (MarkOnce facts opening past boards board b.journal) b.journal
   pub tags : AllPairs (λ a b. a.tag ≢ b.tag) (rows facts opening past)
   pub linked : AreLinked (rows facts opening past)
   pub retried : RetriedOnce (rows facts opening past)
 
-abbrev pub Once : Campaign → List Row → List Event → List BoardState → Type 0
+abbrev pub Once : Campaign → List Row → List Event → List JournalAndView → Type 0
 Once c opening log boards = OncePast c.facts opening (past_of log) boards
 
 -- No two rows have one tag, and no entry is taken twice, written or not.

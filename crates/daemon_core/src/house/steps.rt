@@ -19,7 +19,7 @@ use update_log::{Back, Event, Op, Told};
 
 impl<K: Keeper> House<K> {
     ghost use Rattle.daemon_core.specs.Annals.{Appended, IsAnnals, Runs};
-    ghost use Rattle.daemon_core.specs.Goes.{GoesOn, Went};
+    ghost use Rattle.daemon_core.specs.Goes.{GoesOn, TurnedOrOff};
     ghost use Rattle.daemon_core.specs.House.{SameElsewhere};
     ghost use Rattle.daemon_core.specs.Housed.{past, rows_before};
     ghost use Rattle.daemon_core.specs.Owed.{owed};
@@ -42,7 +42,7 @@ impl<K: Keeper> House<K> {
     pub fn start(&mut self, client: u32, entry: u32, op: Op) -> Result<(), Off>
         requires booted { 0 < boots (past self.old) }
         requires next { (l : LiveEntry) × StartAllowed self.old.annals.facts (rows_before self.old.annals) (past self.old) client entry op l }
-        ensures turn { Went client (λ _. Event.Start client entry op) result self.old.annals self.new.annals }
+        ensures turn { TurnedOrOff client (λ _. Event.Start client entry op) result self.old.annals self.new.annals }
         ensures elsewhere { SameElsewhere self.old self.new }
     {
         self.go_on(client)?;
@@ -75,7 +75,7 @@ impl<K: Keeper> House<K> {
     ) -> Result<(), Off>
         requires booted { 0 < boots (past self.old) }
         requires ends { (number : ℕ) × StepEnds self.old.annals.facts self.old.annals.first (rows_before self.old.annals) (past self.old) client entry op outcome number board.now }
-        ensures turn { Went client (λ _. Event.End client entry op outcome (new_marks self.old.annals.facts (rows_before self.old.annals) (past self.old) entry board.now.journal) (view_of board.now.condition)) result self.old.annals self.new.annals }
+        ensures turn { TurnedOrOff client (λ _. Event.End client entry op outcome (new_marks self.old.annals.facts (rows_before self.old.annals) (past self.old) entry board.now.journal) (view_of board.now.condition)) result self.old.annals self.new.annals }
         ensures places { SameBoards self.old.places self.new.places }
         ensures pool { self.new.pool ≡ self.old.pool }
         ensures keeper { self.new.keeper ≡ self.old.keeper }

@@ -10,7 +10,7 @@ use Rattle.daemon_core.specs.Fetches.{block_count, note_of}
 use Rattle.daemon_core.specs.Holds.{held_by}
 use Rattle.shared_daemon.specs.Calls.{AddsOn}
 use Rattle.shared_daemon.specs.Entries.{past_seen}
-use Rattle.shared_daemon.specs.Taking.{Gave}
+use Rattle.shared_daemon.specs.Taking.{ClaimGaveIn}
 use Rattle.claim_runs.proofs.Taking.{claim-runs, served-within}
 use Rattle.script_runs.proofs.EndedPlays.{stopped-held, stopped-off, stopped-own}
 use Rattle.script_runs.proofs.InstallEnds.{claim-behind, claim-ended, claim-stopped, held-back}
@@ -23,7 +23,7 @@ run_taken-requires g c =
     let n = c.args.pass.now.number in
     let a = c.in-Ok-Taken in
     let t = a.ensures.turn in
-    let gave = subst (λ (x : Claimed). Gave g.N.Naming.name n c.args.ticket c.args.fetched (Ok x) c.claim.new.pass.seen) a.field-0-is a.ensures.gave in
+    let gave = subst (λ (x : Claimed). ClaimGaveIn g.N.Naming.name n c.args.ticket c.args.fetched (Ok x) c.claim.new.pass.seen) a.field-0-is a.ensures.gave in
     record {
       pass = c.claim.ensures.pass;
       runs =

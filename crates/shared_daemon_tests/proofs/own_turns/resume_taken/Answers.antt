@@ -2,7 +2,7 @@ use Rattle.std.proofs.Common.{subst}
 use Rattle.std.specs.Prelude.{Some, Ok}
 use Rattle.daemon_core.specs.declared.claimed.Claimed.{Claimed}
 use Rattle.daemon_core.specs.Resumes.{note_in}
-use Rattle.shared_daemon.specs.Resumed.{ResumedGave, ResumedIn}
+use Rattle.shared_daemon.specs.Resumed.{ResumeGaveIn, ResumedIn}
 use Rattle.shared_daemon_tests.proofs.Own.{may-resume, resume-runs, sized-enough}
 use Rattle.shared_daemon_tests.proofs.own_turns.resume_taken.Goals as goal
 
@@ -20,4 +20,4 @@ returns-clause-runs g c =
     let held = Some (c.fetch-ticket.result.0, c.fetch-ticket.result.1) in
     resume-runs g.N.Naming.name c.args.entry held c.in-Ok-Taken.taken c.args.pass.now c.resume.new.pass c.resume.ensures.pass.log c.resume.ensures.same c.requires.own t
     (subst (λ (a : Claimed). ResumedIn c.args.entry (note_in held) (Ok a) t.met c.resume.new.pass.seen) c.in-Ok-Taken.field-0-is t.does)
-    (subst (λ (a : Claimed). ResumedGave g.N.Naming.name c.args.entry held (Ok a) c.resume.new.pass.seen) c.in-Ok-Taken.field-0-is c.in-Ok-Taken.ensures.gave)
+    (subst (λ (a : Claimed). ResumeGaveIn g.N.Naming.name c.args.entry held (Ok a) c.resume.new.pass.seen) c.in-Ok-Taken.field-0-is c.in-Ok-Taken.ensures.gave)

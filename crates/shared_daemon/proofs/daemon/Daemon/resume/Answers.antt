@@ -3,7 +3,7 @@ use Rattle.daemon_core.specs.Housed.{Housed}
 use Rattle.daemon_core.specs.Resumes.{note_in}
 use Rattle.shared_daemon.specs.declared.entry.Entry.{Entry}
 use Rattle.shared_daemon.specs.Entries.{chronicle}
-use Rattle.shared_daemon.specs.Resumed.{MayResumeRow, ResumedGave, ResumedIn}
+use Rattle.shared_daemon.specs.Resumed.{MayResumeRow, ResumeGaveIn, ResumedIn}
 use Rattle.shared_daemon.proofs.Resumptions.{resumed-adds}
 use Rattle.shared_daemon.proofs.Turning.{adds, begins-still, took, was-seen}
 use Rattle.shared_daemon.proofs.daemon.Daemon.resume.Goals as goal
@@ -28,4 +28,4 @@ returns-clause-turn g c =
     c.enter-turn.ensures.begins (sym c.requires.own) (c.enter-turn.ensures.list ∙ ap (λ (h : Housed g.row.K.Denot). chronicle h) (sym c.state.ensures.value)) c.resume-answer.ensures.turn c.leave.ensures.seen c.leave.ensures.mine
 
 pub returns-clause-gave : goal.returns-clause-gave
-returns-clause-gave g c = subst (λ (l : List Entry). ResumedGave g.N.Naming.name c.args.entry c.args.held c.resume-answer.result l) (sym c.leave.ensures.seen) c.resume-answer.ensures.gave
+returns-clause-gave g c = subst (λ (l : List Entry). ResumeGaveIn g.N.Naming.name c.args.entry c.args.held c.resume-answer.result l) (sym c.leave.ensures.seen) c.resume-answer.ensures.gave

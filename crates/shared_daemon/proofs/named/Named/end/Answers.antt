@@ -7,7 +7,7 @@ use Rattle.shared_daemon.proofs.Seeing.{booted-named, to-name}
 use Rattle.shared_daemon.proofs.Turning.{went-in}
 use Rattle.shared_daemon.proofs.Stayed.{ends-met}
 use Rattle.daemon_core.specs.Housed.{Housed, past, rows_before}
-use Rattle.shared_daemon.specs.Calls.{WasSeen, WentIn}
+use Rattle.shared_daemon.specs.Calls.{TurnedOrOffIn, WasSeen}
 use Rattle.shared_daemon.specs.Entries.{chronicle, past_seen}
 use Rattle.shared_daemon.specs.Steps.{EndsOwn}
 use Rattle.daemon_core.specs.Returns.{new_marks}
@@ -27,7 +27,7 @@ invariant_of-self g c = keeps-calm (signs_of g.K.Keeper.tells g.K.Keeper.faults)
 pub returns : goal.returns
 returns g c =
     let E : List Mark → Unit {0} → Event = λ marks u. Event.End c.args.client c.args.entry c.args.op c.args.outcome marks (view_of c.args.board.now.condition) in
-    let T : Housed g.row.K.Denot → List Mark → Type 0 = λ h marks. WentIn c.args.client (E marks) c.end.result (chronicle h) (chronicle c.end.new.self) in
+    let T : Housed g.row.K.Denot → List Mark → Type 0 = λ h marks. TurnedOrOffIn c.args.client (E marks) c.end.result (chronicle h) (chronicle c.end.new.self) in
     let inside : T c.self.inside.house (new_marks c.self.inside.house.annals.facts (rows_before c.self.inside.house.annals) (past c.self.inside.house) c.args.entry c.args.board.now.journal) = went-in c.args.client (λ (u : Unit {0}). Event.End c.args.client c.args.entry c.args.op c.args.outcome (new_marks c.self.inside.house.annals.facts (rows_before c.self.inside.house.annals) (past c.self.inside.house) c.args.entry c.args.board.now.journal) (view_of c.args.board.now.condition)) c.end.result c.self.inside.house.annals c.end.new.self.annals c.known.ensures.annals c.end.ensures.turn in
     subst (λ (h : Housed g.row.K.Denot). T h (new_marks g.N.Naming.name.facts g.N.Naming.name.opening (past_seen (chronicle h)) c.args.entry c.args.board.now.journal)) c.self.view_is
     (to-name (signs_of g.K.Keeper.tells g.K.Keeper.faults) g.N.Naming.name c.self.inside.house c.self.invariant c.known.ensures.annals (λ f s o p. T c.self.inside.house (new_marks f o p c.args.entry c.args.board.now.journal)) inside)
