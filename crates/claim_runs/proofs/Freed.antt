@@ -23,7 +23,7 @@ use Rattle.update_log.specs.declared.live.Held.{Held}
 use Rattle.update_log.specs.declared.live.LiveEntry.{LiveEntry}
 use Rattle.update_log.specs.declared.refusal.FetchNote.{FetchNote}
 use Rattle.daemon_core.proofs.HeldOnce.{out-once}
-use Rattle.daemon_core.specs.Annals.{IsLegalSo}
+use Rattle.daemon_core.specs.HouseLog.{IsLegalSo}
 
 -- How many live entries a client has.
 abbrev of_client : ℕ → List LiveEntry → ℕ

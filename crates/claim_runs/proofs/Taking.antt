@@ -12,7 +12,7 @@ use Rattle.update_log.specs.declared.request.Request.{Request}
 use Rattle.update_log.proofs.Lists.{by_test}
 use Rattle.fw_facts.specs.declared.sheet.Sheet.{Sheet}
 use Rattle.update_log.specs.Pasts.{boots, off}
-use Rattle.daemon_core.specs.Annals.{IsLegalSo}
+use Rattle.daemon_core.specs.HouseLog.{IsLegalSo}
 use Rattle.daemon_core.specs.Claims.{IsServedBy, IsTaken}
 use Rattle.daemon_core.specs.Fetches.{note_of, whole_note}
 use Rattle.daemon_core.specs.declared.claimed.Taken.{Taken}

@@ -4,7 +4,7 @@ use Rattle.std.proofs.lemmas.Bool.{ne_eqb, or_parts, or_from}
 use Rattle.std.proofs.lemmas.List.Folds.{list_any-append}
 use Rattle.std.specs.List.{list_any}
 use Rattle.std.specs.Prelude.{Some, None}
-use Rattle.daemon_core.proofs.AnnalsKept.{boots-same}
+use Rattle.daemon_core.proofs.HouseLogKept.{boots-same}
 use Rattle.update_log.specs.declared.event.Event.{Event}
 use Rattle.update_log.specs.Pasts.{boots, client_of, is_boot, is_of, off, puts_off}
 use Rattle.client_plays.specs.Moments.{Did, Grew, Moment, at, began, mine}

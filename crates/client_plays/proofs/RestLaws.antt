@@ -3,8 +3,8 @@ use Rattle.std.proofs.Common.{◌≡◌, ◌⊎◌, ℕ, ◌<◌, Bool, true, fa
 use Rattle.std.specs.Prelude.{Some, None}
 use Rattle.history_keeper.specs.declared.row.Row.{Row}
 use Rattle.update_log.specs.Pasts.{boots, off}
-use Rattle.daemon_core.specs.Annals.{SameFacts}
-use Rattle.daemon_core.specs.Housed.{Annalled, Housed, past, rows_before, rows_taken}
+use Rattle.daemon_core.specs.HouseLog.{SameFacts}
+use Rattle.daemon_core.specs.Housed.{HouseLogView, Housed, past, rows_before, rows_taken}
 use Rattle.daemon_core.specs.Turns.{Signs}
 use Rattle.daemon_core.proofs.Fared.{fared-both, fared-here}
 use Rattle.daemon_core.proofs.Planned.{keeps-both, keeps-here}
@@ -15,7 +15,7 @@ use Rattle.client_plays.specs.Endings.{AtRest, HouseOnceMore, HousePlayed, House
 use Rattle.client_plays.proofs.MomentLaws.{did-both, did-nothing, grew-boots}
 use Rattle.client_plays.proofs.ScriptLaws.{all-more, all-push, so-all, until-left}
 
-pub same-both : (old mid new : Annalled) → SameFacts old mid → SameFacts mid new → SameFacts old new
+pub same-both : (old mid new : HouseLogView) → SameFacts old mid → SameFacts mid new → SameFacts old new
 same-both old mid new a b =
     record {
       facts = b.facts ∙ a.facts;
@@ -29,7 +29,7 @@ pub rest-both : {K : Type 0} (signs : Signs K) (old mid new : Housed K) → AtRe
 rest-both signs old mid new a b =
     record {
       idle = b.idle;
-      same = same-both old.annals mid.annals new.annals a.same b.same;
+      same = same-both old.house_log mid.house_log new.house_log a.same b.same;
       counted = fared-both signs old mid new a.counted b.counted b.counts;
       counts = omega arith;
       plans = keeps-both old.places mid.places new.places a.plans b.plans;
@@ -108,5 +108,5 @@ pub still-booted : {K X : Type 0} (signs : Signs K) (wanting : Bool) (client : �
 still-booted signs wanting client Play done old new s b = subst (λ (n : ℕ). 0 < n) (sym (grew-boots (past old) (past new) s.did.grew)) b
 
 -- The facts and the rows before the log are the same all along.
-pub before-same : (old new : Annalled) → SameFacts old new → rows_before new ≡ rows_before old
+pub before-same : (old new : HouseLogView) → SameFacts old new → rows_before new ≡ rows_before old
 before-same old new s = ap (λ (b : Bool). rows_taken b new.opening) s.loaded ∙ ap (λ (o : List Row). rows_taken old.loaded o) s.opening

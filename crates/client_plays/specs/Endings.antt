@@ -5,7 +5,7 @@ use Rattle.update_log.specs.declared.event.Query.{Query}
 use Rattle.update_log.specs.Holding.{holds, live}
 use Rattle.update_log.specs.Pasts.{is_boot, off}
 use Rattle.daemon_core.specs.declared.stop.Stop.{Stop}
-use Rattle.daemon_core.specs.Annals.{SameFacts}
+use Rattle.daemon_core.specs.HouseLog.{SameFacts}
 use Rattle.daemon_core.specs.Housed.{Housed, past, rows_before}
 use Rattle.daemon_core.specs.Keeping.{keeper_faults}
 use Rattle.daemon_core.specs.Turns.{KeeperFared, Signs}
@@ -63,7 +63,7 @@ pub record Ended (played : Played) (client : ℕ) (Play : List Moment → Type 0
 -- the faults planned that its number had.
 pub record AtRest {K : Type 0} (signs : Signs K) (old new : Housed K) : Type 0 where
   pub idle : IsIdle (past new)
-  pub same : SameFacts old.annals new.annals
+  pub same : SameFacts old.house_log new.house_log
   pub counted : KeeperFared signs old new
   pub counts : signs.faults old.keeper ≤ signs.faults new.keeper
   pub plans : KeepsPlans old.places new.places
@@ -111,7 +111,7 @@ pub record SoFar {K X : Type 0} (signs : Signs K) (wanting : Bool) (client : ℕ
 
 -- A boot was played: the log grew by events of this boot, and the house is at rest.
 pub record HouseBootPlayed {K : Type 0} (signs : Signs K) (wanting : Bool) (means : ℕ → Means) (of_boot : List (List Item)) (old new : Housed K) : Type 0 where
-  pub played : BootPlayed wanting old.annals.facts (rows_before old.annals) means of_boot (past new)
+  pub played : BootPlayed wanting old.house_log.facts (rows_before old.house_log) means of_boot (past new)
   pub grew : Grew (past old) (past new)
   pub rest : AtRest signs old new
 

@@ -22,7 +22,7 @@ pub use Rattle.update_log.specs.Once
 pub use Rattle.update_log.specs.Pasts
 pub use Rattle.update_log.specs.Steps
 pub use Rattle.offline_updates.specs.Waiting
-pub use Rattle.daemon_core.specs.Annals
+pub use Rattle.daemon_core.specs.HouseLog
 pub use Rattle.daemon_core.specs.Holds
 pub use Rattle.daemon_core.specs.Housed
 pub use Rattle.daemon_core.specs.Keeping

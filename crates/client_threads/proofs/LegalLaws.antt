@@ -7,7 +7,7 @@ use Rattle.update_log.specs.declared.facts.BootPlan.{BootPlan}
 use Rattle.update_log.specs.declared.facts.Facts.{Facts}
 use Rattle.update_log.specs.Legal.{Allowed, IsLegal}
 use Rattle.update_log.specs.Shows.{Campaign}
-use Rattle.daemon_core.specs.Annals.{IsLegalSo}
+use Rattle.daemon_core.specs.HouseLog.{IsLegalSo}
 use Rattle.client_threads.specs.Planned.{BootsPlanned, with_plans}
 
 -- What a past says of its newest event.

@@ -2,7 +2,7 @@
 use Rattle.std.proofs.Common.{◌≡◌, ℕ, ◌≤◌, ◌<◌, ◌+◌, Bool, true, false, ◌||◌, List, [], ◌∷◌, ◌++◌, reverse, refl, ap, sym, ◌∙◌, arith}
 use Rattle.std.proofs.lemmas.List.{reverse-append}
 use Rattle.std.specs.List.{list_any}
-use Rattle.daemon_core.proofs.AnnalsKept.{boots-same}
+use Rattle.daemon_core.proofs.HouseLogKept.{boots-same}
 use Rattle.daemon_core.proofs.LogLaws.{loaded-on}
 use Rattle.script_runs.proofs.OwnMoments.{one-more}
 use Rattle.shared_daemon.proofs.Others.{some-boots}

@@ -7,7 +7,7 @@ use Rattle.update_log.specs.declared.event.Event.{Event}
 use Rattle.update_log.specs.declared.facts.Facts.{Facts}
 use Rattle.update_log.specs.Holding.{holds, live}
 use Rattle.update_log.specs.Pasts.{boots, off}
-use Rattle.daemon_core.specs.Annals.{IsAnnals, SameFacts}
+use Rattle.daemon_core.specs.HouseLog.{IsHouseLog, SameFacts}
 use Rattle.daemon_core.specs.Housed.{Housed, past, rows_before}
 use Rattle.daemon_core.specs.Keeping.{keeper_faults}
 use Rattle.daemon_core.specs.Parts.{AllHome}
@@ -36,9 +36,9 @@ use Rattle.client_threads.proofs.Plays.{items-beyond, left-off, left-wanting, no
 
 module _ {K : Type 0} (signs : Signs K) where
   -- A daemon may begin round a house that was booted, and isn't off.
-  pub can-begin : (h : Housed K) → IsAnnals h.annals → 0 < boots (past h) → off (past h) ≡ false → IsCounted signs h → IsIdle (past h) → ReadLast h → CanBegin signs h
+  pub can-begin : (h : Housed K) → IsHouseLog h.house_log → 0 < boots (past h) → off (past h) ≡ false → IsCounted signs h → IsIdle (past h) → ReadLast h → CanBegin signs h
   can-begin h k b o c i r =
-      record { loaded = loaded-on h.annals.loaded (past h) k.unloaded b o; reopened = r (on-read (past h) o); booted = b; counted = c; idle = i }
+      record { loaded = loaded-on h.house_log.loaded (past h) k.unloaded b o; reopened = r (on-read (past h) o); booted = b; counted = c; idle = i }
 
   first-counted : (h : Housed K) → IsCounted signs h → (keeper_faults (past h) + (signs.faults h.keeper - keeper_faults (past h)) ≤ signs.faults h.keeper) ⊎ (2 ^ 64 - 1 ≤ signs.faults h.keeper)
   first-counted h (inl c) = inl (omega arith)
@@ -81,26 +81,26 @@ module _ {K : Type 0} (signs : Signs K) where
         told = e.told_so;
       }
 
-  pub nothing-out : (h : Housed K) → IsAnnals h.annals → IsIdle (past h) → HasNothing (chronicle h)
+  pub nothing-out : (h : Housed K) → IsHouseLog h.house_log → IsIdle (past h) → HasNothing (chronicle h)
   nothing-out h k i =
-      let e = past-entries h.annals k in
+      let e = past-entries h.house_log k in
       (ap (λ (p : List Event). holds p) e ∙ i.no_hold, ap (λ (p : List Event). live p) e ∙ i.no_live)
 
-  idle-left : (h : Housed K) → IsAnnals h.annals → HasNothing (chronicle h) → IsIdle (past h)
+  idle-left : (h : Housed K) → IsHouseLog h.house_log → HasNothing (chronicle h) → IsIdle (past h)
   idle-left h k n =
-      let e = past-entries h.annals k in
+      let e = past-entries h.house_log k in
       record {
         no_hold = ap (λ (p : List Event). holds p) (sym e) ∙ n.0;
         no_live = ap (λ (p : List Event). live p) (sym e) ∙ n.1;
       }
 
   -- The daemon closed.
-  module _ (name : Name) (old new : Housed K) (e : IsNameOf signs name old) (b : CanBegin signs old) (k : IsAnnals old.annals) (w : IsAnnals new.annals) (n : KeepsName signs name new) where
+  module _ (name : Name) (old new : Housed K) (e : IsNameOf signs name old) (b : CanBegin signs old) (k : IsHouseLog old.house_log) (w : IsHouseLog new.house_log) (n : KeepsName signs name new) where
     -- All boards were at home as it began, so the name has the plans of all.
     plans-so : AllHome old.places → KeepsPlans old.places new.places
     plans-so home = keeps-picked old.places new.places home (subst (λ (plans : List (List PlannedFault)). HavePlans plans new.places) e.plans_are n.planned)
 
-    same-facts : SameFacts old.annals new.annals
+    same-facts : SameFacts old.house_log new.house_log
     same-facts =
         record {
           facts = n.facts_are ∙ e.facts_are;
@@ -133,15 +133,15 @@ module _ {K : Type 0} (signs : Signs K) where
           plans = plans-so home;
         }
 
-    rows-so : name.opening ≡ rows_before old.annals
+    rows-so : name.opening ≡ rows_before old.house_log
     rows-so = sym (before-named signs name old (begins-named name old e b))
 
     -- What a log of the name says, of the house.
     old-past : past_seen name.start ≡ past old
-    old-past = ap past_seen e.start_is ∙ past-entries old.annals k
+    old-past = ap past_seen e.start_is ∙ past-entries old.house_log k
 
     new-past : past_seen (chronicle new) ≡ past new
-    new-past = past-entries new.annals w
+    new-past = past-entries new.house_log w
 
     pub shelves-counted : (was now : List ShelfTold) → ShelvesCount (past_seen name.start) (past_seen (chronicle new)) was now → ShelvesCount (past old) (past new) was now
     shelves-counted was now c = count-closed (past_seen name.start) (past_seen (chronicle new)) (past old) (past new) was now old-past new-past c
@@ -152,7 +152,7 @@ module _ {K : Type 0} (signs : Signs K) where
           daemon = ap (mine 0) (sym new-past) ∙ p.daemon ∙ ap (mine 0) old-past;
           clients = λ client c.
               let P : Facts → List Row → List Event → Type 0 = λ f o es. PlayedSo (off es) wanting client (Plays f o (means client) client) (items_of of_boot client) (mine client es) in
-              subst (λ (f : Facts). P f (rows_before old.annals) (past new)) e.facts_are
+              subst (λ (f : Facts). P f (rows_before old.house_log) (past new)) e.facts_are
               (subst (λ (o : List Row). P name.facts o (past new)) rows-so
               (subst (λ (es : List Event). P name.facts name.opening es) new-past
               (p.clients client c (ap (mine client) old-past ∙ none client c))));
@@ -167,7 +167,7 @@ module _ {K : Type 0} (signs : Signs K) where
         record {
           daemon = refl;
           clients = λ client c.
-              nothing-so (off (past h)) wanting client (Plays h.annals.facts (rows_before h.annals) (means client) client) (items_of of_boot client) (mine client (past h))
+              nothing-so (off (past h)) wanting client (Plays h.house_log.facts (rows_before h.house_log) (means client) client) (items_of of_boot client) (mine client (past h))
               (ap (λ (all : List (List Item)). items_of all client) e ∙ items-beyond [] client c) (none client c);
           grew = grew-nothing (past h);
           rest = rest-here signs h i;
@@ -178,7 +178,7 @@ module _ {K : Type 0} (signs : Signs K) where
         record {
           daemon = refl;
           clients = λ client c.
-              left-off h.annals.facts (rows_before h.annals) (means client) client (items_of of_boot client) (mine client (past h)) (off (past h)) wanting o (none client c);
+              left-off h.house_log.facts (rows_before h.house_log) (means client) client (items_of of_boot client) (mine client (past h)) (off (past h)) wanting o (none client c);
           grew = grew-nothing (past h);
           rest = rest-here signs h i;
         }
@@ -188,7 +188,7 @@ module _ {K : Type 0} (signs : Signs K) where
         record {
           daemon = refl;
           clients = λ client c.
-              left-wanting h.annals.facts (rows_before h.annals) (means client) client (items_of of_boot client) (mine client (past h)) (off (past h)) (none client c);
+              left-wanting h.house_log.facts (rows_before h.house_log) (means client) client (items_of of_boot client) (mine client (past h)) (off (past h)) (none client c);
           grew = grew-nothing (past h);
           rest = rest-here signs h i;
         }

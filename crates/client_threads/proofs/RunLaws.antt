@@ -52,29 +52,29 @@ earlier-told before now facts opening means scripts (event ∷ past) h p = (
 )
 
 -- The boots before one that just began.
-earlier-begun : {K : Type 0} (signs : Signs K) (wanting : Bool) (means : ℕ → Means) (plan : BootPlan) (scripts : List (List (List Item))) (count : ℕ) (mid begun : Housed K) → HasBegun signs plan mid begun → boots (past mid) ≡ count → BootPlayed wanting mid.annals.facts (rows_before mid.annals) means (scripts_in scripts count) (past mid) → EarlierPlayed wanting mid.annals.facts (rows_before mid.annals) means scripts (past mid) → EarlierPlayed wanting mid.annals.facts (rows_before begun.annals) means scripts (past begun)
+earlier-begun : {K : Type 0} (signs : Signs K) (wanting : Bool) (means : ℕ → Means) (plan : BootPlan) (scripts : List (List (List Item))) (count : ℕ) (mid begun : Housed K) → HasBegun signs plan mid begun → boots (past mid) ≡ count → BootPlayed wanting mid.house_log.facts (rows_before mid.house_log) means (scripts_in scripts count) (past mid) → EarlierPlayed wanting mid.house_log.facts (rows_before mid.house_log) means scripts (past mid) → EarlierPlayed wanting mid.house_log.facts (rows_before begun.house_log) means scripts (past begun)
 earlier-begun signs wanting means plan scripts count mid begun b n p e =
-    let facts = mid.annals.facts in
+    let facts = mid.house_log.facts in
     let P = λ (o : List Row). BootPlayed wanting facts o means (scripts_in scripts (boots (past mid))) (past mid) × EarlierPlayed wanting facts o means scripts (past mid) in
-    let both : P (rows_before begun.annals) =
+    let both : P (rows_before begun.house_log) =
     elim b.before [
-      | inl same ↦ subst P (sym same) (subst (λ (k : ℕ). BootPlayed wanting facts (rows_before mid.annals) means (scripts_in scripts k) (past mid)) (sym n) p, e)
-      | inr a ↦ (faults-played wanting facts (rows_before begun.annals) means scripts (past mid) a, faults-earlier wanting facts (rows_before begun.annals) means scripts (past mid) a)
+      | inl same ↦ subst P (sym same) (subst (λ (k : ℕ). BootPlayed wanting facts (rows_before mid.house_log) means (scripts_in scripts k) (past mid)) (sym n) p, e)
+      | inr a ↦ (faults-played wanting facts (rows_before begun.house_log) means scripts (past mid) a, faults-earlier wanting facts (rows_before begun.house_log) means scripts (past mid) a)
     ]
     in
-    subst (EarlierPlayed wanting facts (rows_before begun.annals) means scripts) (sym b.past_is) both
+    subst (EarlierPlayed wanting facts (rows_before begun.house_log) means scripts) (sym b.past_is) both
 
 -- One boot more was started and played.
-pub run-more : {K : Type 0} (signs : Signs K) (before now : Bool) (means : ℕ → Means) (plans : List BootPlan) (scripts : List (List (List Item))) (count : ℕ) (plan : BootPlan) (old mid begun new : Housed K) → slice_get plans count ≡ Some plan → RanSoFar signs before means plans scripts count old mid → HasBegun signs plan mid begun → BootMore signs now before means (scripts_in scripts (count + 1)) begun new → (begun.annals.loaded ≡ false → new ≡ begun) → RanSoFar signs now means plans scripts (count + 1) old new
+pub run-more : {K : Type 0} (signs : Signs K) (before now : Bool) (means : ℕ → Means) (plans : List BootPlan) (scripts : List (List (List Item))) (count : ℕ) (plan : BootPlan) (old mid begun new : Housed K) → slice_get plans count ≡ Some plan → RanSoFar signs before means plans scripts count old mid → HasBegun signs plan mid begun → BootMore signs now before means (scripts_in scripts (count + 1)) begun new → (begun.house_log.loaded ≡ false → new ≡ begun) → RanSoFar signs now means plans scripts (count + 1) old new
 run-more {K = K} signs before now means plans scripts count plan old mid begun new at r b m unread =
     let g = m.played.grew in
-    let facts : new.annals.facts ≡ mid.annals.facts = m.played.rest.same.facts ∙ b.facts in
-    let rows : rows_before new.annals ≡ rows_before begun.annals = before-same begun.annals new.annals m.played.rest.same in
+    let facts : new.house_log.facts ≡ mid.house_log.facts = m.played.rest.same.facts ∙ b.facts in
+    let rows : rows_before new.house_log ≡ rows_before begun.house_log = before-same begun.house_log new.house_log m.played.rest.same in
     let n : boots (past begun) ≡ count + 1 = ap boots b.past_is ∙ ap (λ (k : ℕ). k + 1) r.count_is in
     let planned : BootsPlanned plans (past begun) =
     subst (BootsPlanned plans) (sym b.past_is) ((plan, subst (λ (k : ℕ). slice_get plans k ≡ Some plan) (sym r.count_is) at, b.planned), r.planned) in
     let earlier = earlier-begun signs before means plan scripts count mid begun b r.count_is (midfacts r.played) r.earlier in
-    let grown = earlier-grown before mid.annals.facts (rows_before begun.annals) means scripts (past begun) (past new) g earlier in
+    let grown = earlier-grown before mid.house_log.facts (rows_before begun.house_log) means scripts (past begun) (past new) g earlier in
     let E = λ (f : Facts) (o : List Row). EarlierPlayed now f o means scripts (past new) in
     let B = λ (f : Facts) (o : List Row). BootPlayed now f o means (scripts_in scripts (count + 1)) (past new) in
     record {
@@ -82,20 +82,20 @@ run-more {K = K} signs before now means plans scripts count plan old mid begun n
       first = m.played.rest.same.first ∙ b.first ∙ r.first;
       count_is = grew-boots (past begun) (past new) g ∙ n;
       planned = planned-grown plans (past begun) (past new) g planned;
-      played = subst (λ (f : Facts). B f (rows_before new.annals)) (sym m.played.rest.same.facts) (subst (λ (o : List Row). B begun.annals.facts o) (sym rows) m.played.played);
-      earlier = subst (λ (f : Facts). E f (rows_before new.annals)) (sym facts) (subst (λ (o : List Row). E mid.annals.facts o) (sym rows)
-          (earlier-told before now mid.annals.facts (rows_before begun.annals) means scripts (past new) m.told grown));
+      played = subst (λ (f : Facts). B f (rows_before new.house_log)) (sym m.played.rest.same.facts) (subst (λ (o : List Row). B begun.house_log.facts o) (sym rows) m.played.played);
+      earlier = subst (λ (f : Facts). E f (rows_before new.house_log)) (sym facts) (subst (λ (o : List Row). E mid.house_log.facts o) (sym rows)
+          (earlier-told before now mid.house_log.facts (rows_before begun.house_log) means scripts (past new) m.told grown));
       idle = m.played.rest.idle;
       counted = fared-both signs old mid new r.counted (fared-both signs mid begun new b.counted m.played.rest.counted m.played.rest.counts) (le-both _ _ _ b.counts m.played.rest.counts);
       counts = le-both _ _ _ r.counts (le-both _ _ _ b.counts m.played.rest.counts);
       board_plans = keeps-both old.places mid.places new.places r.board_plans (keeps-both mid.places begun.places new.places b.board_plans m.played.rest.plans);
-      opening = told-stays begun.annals.loaded new.annals.loaded (signs.tells begun.keeper) (signs.tells new.keeper) (signs.tells old.keeper) begun.annals.opening new.annals.opening m.played.rest.counted.told
-          (stays-same begun.annals.loaded new.annals.loaded (signs.tells begun.keeper) (signs.tells new.keeper) begun.annals.opening new.annals.opening m.played.rest.same.loaded
+      opening = told-stays begun.house_log.loaded new.house_log.loaded (signs.tells begun.keeper) (signs.tells new.keeper) (signs.tells old.keeper) begun.house_log.opening new.house_log.opening m.played.rest.counted.told
+          (stays-same begun.house_log.loaded new.house_log.loaded (signs.tells begun.keeper) (signs.tells new.keeper) begun.house_log.opening new.house_log.opening m.played.rest.same.loaded
           (λ u all t. subst (λ (h : Housed K). signs.tells h.keeper all) (unread u) t) m.played.rest.same.opening)
-          (told-stays mid.annals.loaded begun.annals.loaded (signs.tells mid.keeper) (signs.tells begun.keeper) (signs.tells old.keeper) mid.annals.opening begun.annals.opening b.counted.told b.opening r.opening);
+          (told-stays mid.house_log.loaded begun.house_log.loaded (signs.tells mid.keeper) (signs.tells begun.keeper) (signs.tells old.keeper) mid.house_log.opening begun.house_log.opening b.counted.told b.opening r.opening);
     }
   where
-    midfacts : BootPlayed before mid.annals.facts (rows_before mid.annals) means (scripts_in scripts count) (past mid) → BootPlayed before mid.annals.facts (rows_before mid.annals) means (scripts_in scripts count) (past mid)
+    midfacts : BootPlayed before mid.house_log.facts (rows_before mid.house_log) means (scripts_in scripts count) (past mid) → BootPlayed before mid.house_log.facts (rows_before mid.house_log) means (scripts_in scripts count) (past mid)
     midfacts p = p
 
     le-both : (a b c : ℕ) → a ≤ b → b ≤ c → a ≤ c
@@ -111,32 +111,32 @@ run-stopped signs wanting means plans scripts count old mid new r n =
       first = n.first ∙ r.first;
       count_is = ap boots n.past_is ∙ r.count_is;
       planned = subst (BootsPlanned plans) (sym n.past_is) r.planned;
-      played = subst (λ (f : Facts). B f (rows_before new.annals) (past new)) (sym n.facts)
-          (subst (λ (o : List Row). B mid.annals.facts o (past new)) (sym n.before) (subst (λ (p : List Event). B mid.annals.facts (rows_before mid.annals) p) (sym n.past_is) r.played));
-      earlier = subst (λ (f : Facts). E f (rows_before new.annals) (past new)) (sym n.facts)
-          (subst (λ (o : List Row). E mid.annals.facts o (past new)) (sym n.before) (subst (λ (p : List Event). E mid.annals.facts (rows_before mid.annals) p) (sym n.past_is) r.earlier));
+      played = subst (λ (f : Facts). B f (rows_before new.house_log) (past new)) (sym n.facts)
+          (subst (λ (o : List Row). B mid.house_log.facts o (past new)) (sym n.before) (subst (λ (p : List Event). B mid.house_log.facts (rows_before mid.house_log) p) (sym n.past_is) r.played));
+      earlier = subst (λ (f : Facts). E f (rows_before new.house_log) (past new)) (sym n.facts)
+          (subst (λ (o : List Row). E mid.house_log.facts o (past new)) (sym n.before) (subst (λ (p : List Event). E mid.house_log.facts (rows_before mid.house_log) p) (sym n.past_is) r.earlier));
       idle = subst IsIdle (sym n.past_is) r.idle;
       counted = fared-both signs old mid new r.counted n.counted n.counts;
       counts = omega arith;
       board_plans = keeps-both old.places mid.places new.places r.board_plans n.board_plans;
-      opening = told-stays mid.annals.loaded new.annals.loaded (signs.tells mid.keeper) (signs.tells new.keeper) (signs.tells old.keeper) mid.annals.opening new.annals.opening n.counted.told n.opening r.opening;
+      opening = told-stays mid.house_log.loaded new.house_log.loaded (signs.tells mid.keeper) (signs.tells new.keeper) (signs.tells old.keeper) mid.house_log.opening new.house_log.opening n.counted.told n.opening r.opening;
     }
 
 -- Nothing was run yet.
-pub run-none : {K : Type 0} (signs : Signs K) (wanting : Bool) (means : ℕ → Means) (plans : List BootPlan) (scripts : List (List (List Item))) (h : Housed K) → past h ≡ [] → h.annals.loaded ≡ false → h.annals.opening ≡ [] → RanSoFar signs wanting means plans scripts 0 h h
+pub run-none : {K : Type 0} (signs : Signs K) (wanting : Bool) (means : ℕ → Means) (plans : List BootPlan) (scripts : List (List (List Item))) (h : Housed K) → past h ≡ [] → h.house_log.loaded ≡ false → h.house_log.opening ≡ [] → RanSoFar signs wanting means plans scripts 0 h h
 run-none signs wanting means plans scripts h e unread blank =
     record {
       facts = refl;
       first = refl;
       count_is = ap boots e;
       planned = subst (BootsPlanned plans) (sym e) tt;
-      played = subst (λ (p : List Event). BootPlayed wanting h.annals.facts (rows_before h.annals) means (scripts_in scripts 0) p) (sym e) (faults-played wanting h.annals.facts (rows_before h.annals) means scripts [] tt);
-      earlier = subst (EarlierPlayed wanting h.annals.facts (rows_before h.annals) means scripts) (sym e) tt;
+      played = subst (λ (p : List Event). BootPlayed wanting h.house_log.facts (rows_before h.house_log) means (scripts_in scripts 0) p) (sym e) (faults-played wanting h.house_log.facts (rows_before h.house_log) means scripts [] tt);
+      earlier = subst (EarlierPlayed wanting h.house_log.facts (rows_before h.house_log) means scripts) (sym e) tt;
       idle = subst IsIdle (sym e) (record { no_hold = refl; no_live = refl });
       counted = fared-here signs h;
       counts = omega arith;
       board_plans = keeps-here h.places;
-      opening = told-new h.annals.loaded (signs.tells h.keeper) h.annals.opening unread blank;
+      opening = told-new h.house_log.loaded (signs.tells h.keeper) h.house_log.opening unread blank;
     }
 
 -- The last boot is that which was played.
@@ -158,7 +158,7 @@ pub boot-either : {K : Type 0} (signs : Signs K) (told before now : Bool) (means
 boot-either signs told before now means of_boot old new e h =
     record {
       played = record {
-        played = played-told now told old.annals.facts (rows_before old.annals) means of_boot (past new) (λ n. e ∙ or_right before now n) h.played;
+        played = played-told now told old.house_log.facts (rows_before old.house_log) means of_boot (past new) (λ n. e ∙ or_right before now n) h.played;
         grew = h.grew;
         rest = h.rest;
       };
@@ -179,7 +179,7 @@ pub same-means : {K : Type 0} (signs : Signs K) (wanting before : Bool) (now mea
 same-means signs wanting before now means of_boot old new e m =
     record {
       played = record {
-        played = boot-means wanting old.annals.facts (rows_before old.annals) now means of_boot (past new) e m.played.played;
+        played = boot-means wanting old.house_log.facts (rows_before old.house_log) now means of_boot (past new) e m.played.played;
         grew = m.played.grew;
         rest = m.played.rest;
       };

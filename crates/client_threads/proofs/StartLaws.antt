@@ -12,7 +12,7 @@ use Rattle.update_log.specs.CoreFolds.{AllFaults}
 use Rattle.update_log.specs.Crashes.{next_boot}
 use Rattle.update_log.specs.Pasts.{past_of}
 use Rattle.daemon_core.specs.declared.booting.BootStop.{BootStop}
-use Rattle.daemon_core.specs.Annals.{IsAnnals}
+use Rattle.daemon_core.specs.HouseLog.{IsHouseLog}
 use Rattle.daemon_core.specs.Booting.{AllStarted}
 use Rattle.daemon_core.specs.Boots.{BootTurned, CouldntRead, NoBoot, WentWell}
 use Rattle.daemon_core.specs.Housed.{Housed, Place, past, rows_taken}
@@ -44,21 +44,21 @@ rows-first : (A : Type 0) (loaded new_loaded : Bool) (opening new_opening : List
 rows-first A true new_loaded opening new_opening Fault e f m = inl (ap (λ (b : Bool). rows_taken b new_opening) e ∙ m)
 rows-first A false new_loaded opening new_opening Fault e f m = inr (f refl)
 
-begun-well : {K : Type 0} (signs : Signs K) (doubted : K → Option Change) (settled : K → K → Type 0) (plan : BootPlan) (found : Found) (listed : List BoardSeen) (old new : Housed K) → IsAnnals old.annals → KeeperFared signs old new → signs.faults old.keeper ≤ signs.faults new.keeper → WentWell signs.tells doubted settled plan found listed old new → HasBegun signs plan old new
+begun-well : {K : Type 0} (signs : Signs K) (doubted : K → Option Change) (settled : K → K → Type 0) (plan : BootPlan) (found : Found) (listed : List BoardSeen) (old new : Housed K) → IsHouseLog old.house_log → KeeperFared signs old new → signs.faults old.keeper ≤ signs.faults new.keeper → WentWell signs.tells doubted settled plan found listed old new → HasBegun signs plan old new
 begun-well signs doubted settled plan found listed old new k counted counts w =
     record {
       facts = w.noted.grounds.facts;
       first = w.noted.grounds.first;
       found = found;
       listed = listed;
-      past_is = ap past_of w.noted.log ∙ past-push old.annals.core.log (next_boot (past old) plan found listed);
+      past_is = ap past_of w.noted.log ∙ past-push old.house_log.core.log (next_boot (past old) plan found listed);
       planned = planned-so plan old.places new.places listed w.noted.started;
       read = λ _. w.reopened;
-      before = rows-first (IsHistory new.annals.opening × AreTold (signs.tells old.keeper) (signs.tells new.keeper) new.annals.opening) old.annals.loaded new.annals.loaded old.annals.opening new.annals.opening (AllFaults (past old)) w.loaded k.unloaded w.opening;
+      before = rows-first (IsHistory new.house_log.opening × AreTold (signs.tells old.keeper) (signs.tells new.keeper) new.house_log.opening) old.house_log.loaded new.house_log.loaded old.house_log.opening new.house_log.opening (AllFaults (past old)) w.loaded k.unloaded w.opening;
       counted = counted;
       counts = counts;
       board_plans = keeps-started plan old.places new.places listed w.noted.started;
-      opening = stays-well old.annals.loaded new.annals.loaded (signs.tells old.keeper) (signs.tells new.keeper) old.annals.opening new.annals.opening w.loaded w.opening;
+      opening = stays-well old.house_log.loaded new.house_log.loaded (signs.tells old.keeper) (signs.tells new.keeper) old.house_log.opening new.house_log.opening w.loaded w.opening;
     }
 
 begun-fault : {K : Type 0} (signs : Signs K) (plan : BootPlan) (listed : List BoardSeen) (old new : Housed K) → KeeperFared signs old new → signs.faults old.keeper ≤ signs.faults new.keeper → CouldntRead signs.tells plan listed old new → HasBegun signs plan old new
@@ -68,32 +68,32 @@ begun-fault signs plan listed old new counted counts w =
       first = w.noted.grounds.first;
       found = Found.Fault;
       listed = listed;
-      past_is = ap past_of w.noted.log ∙ past-push old.annals.core.log (next_boot (past old) plan Found.Fault listed);
+      past_is = ap past_of w.noted.log ∙ past-push old.house_log.core.log (next_boot (past old) plan Found.Fault listed);
       planned = planned-so plan old.places new.places listed w.noted.started;
       read = λ f.
-          let e : last_faulted (past new) ≡ true = ap last_faulted (ap past_of w.noted.log ∙ past-push old.annals.core.log (next_boot (past old) plan Found.Fault listed)) in
+          let e : last_faulted (past new) ≡ true = ap last_faulted (ap past_of w.noted.log ∙ past-push old.house_log.core.log (next_boot (past old) plan Found.Fault listed)) in
           let bad : true ≡ false = sym e ∙ f in cc;
-      before = inl (rows-same old.annals.loaded new.annals.loaded old.annals.opening new.annals.opening w.loaded (λ t. w.opening));
+      before = inl (rows-same old.house_log.loaded new.house_log.loaded old.house_log.opening new.house_log.opening w.loaded (λ t. w.opening));
       counted = counted;
       counts = counts;
       board_plans = keeps-started plan old.places new.places listed w.noted.started;
-      opening = stays-same old.annals.loaded new.annals.loaded (signs.tells old.keeper) (signs.tells new.keeper) old.annals.opening new.annals.opening w.loaded w.stays w.opening;
+      opening = stays-same old.house_log.loaded new.house_log.loaded (signs.tells old.keeper) (signs.tells new.keeper) old.house_log.opening new.house_log.opening w.loaded w.stays w.opening;
     }
 
-none-began : {K : Type 0} (signs : Signs K) (old new : Housed K) → KeeperFared signs old new → signs.faults old.keeper ≤ signs.faults new.keeper → NoBoot signs.tells old new → (old.annals.loaded ≡ true → new.annals.opening ≡ old.annals.opening) → OpeningStays signs.tells old new → NoneBegan signs old new
+none-began : {K : Type 0} (signs : Signs K) (old new : Housed K) → KeeperFared signs old new → signs.faults old.keeper ≤ signs.faults new.keeper → NoBoot signs.tells old new → (old.house_log.loaded ≡ true → new.house_log.opening ≡ old.house_log.opening) → OpeningStays signs.tells old new → NoneBegan signs old new
 none-began signs old new counted counts n o opening =
     record {
       facts = n.grounds.facts;
       first = n.grounds.first;
       past_is = ap past_of n.log;
-      before = rows-same old.annals.loaded new.annals.loaded old.annals.opening new.annals.opening n.loaded o;
+      before = rows-same old.house_log.loaded new.house_log.loaded old.house_log.opening new.house_log.opening n.loaded o;
       counted = counted;
       counts = counts;
       board_plans = keeps-same old.places new.places n.places;
       opening = opening;
     }
 
-pub started-so : {K : Type 0} (signs : Signs K) (doubted : K → Option Change) (settled : K → K → Type 0) (plan : BootPlan) (outcome : Result (Unit {0}) BootStop) (ending : Option Ending) (old new : Housed K) → ending ≡ ended_by outcome → IsAnnals old.annals → KeeperFared signs old new → signs.faults old.keeper ≤ signs.faults new.keeper → BootTurned signs.tells doubted settled plan outcome old new → StartedSo signs ending plan old new
+pub started-so : {K : Type 0} (signs : Signs K) (doubted : K → Option Change) (settled : K → K → Type 0) (plan : BootPlan) (outcome : Result (Unit {0}) BootStop) (ending : Option Ending) (old new : Housed K) → ending ≡ ended_by outcome → IsHouseLog old.house_log → KeeperFared signs old new → signs.faults old.keeper ≤ signs.faults new.keeper → BootTurned signs.tells doubted settled plan outcome old new → StartedSo signs ending plan old new
 started-so signs doubted settled plan outcome ending old new e k counted counts t =
     subst (λ (x : Option Ending). StartedSo signs x plan old new) (sym e) (so outcome t)
   where
@@ -102,11 +102,11 @@ started-so signs doubted settled plan outcome ending old new e k counted counts 
     so (Err BootStop.KeeperFault) t = begun-fault signs plan t.0 old new counted counts t.1
     so (Err (BootStop.BadHistory entry)) t = (
       none-began signs old new counted counts t.none (λ l. (t.later l).0)
-          (stays-refused old.annals.loaded new.annals.loaded (signs.tells old.keeper) (signs.tells new.keeper) old.annals.opening new.annals.opening t.none.loaded t.none.stays (λ l. (t.later l).0) (λ u. (t.first u).1)),
+          (stays-refused old.house_log.loaded new.house_log.loaded (signs.tells old.keeper) (signs.tells new.keeper) old.house_log.opening new.house_log.opening t.none.loaded t.none.stays (λ l. (t.later l).0) (λ u. (t.first u).1)),
       (k, t),
     )
     so (Err BootStop.NoMemory) t = (
       none-began signs old new counted counts t.0 (λ l. t.1)
-          (stays-same old.annals.loaded new.annals.loaded (signs.tells old.keeper) (signs.tells new.keeper) old.annals.opening new.annals.opening t.0.loaded t.0.stays t.1),
+          (stays-same old.house_log.loaded new.house_log.loaded (signs.tells old.keeper) (signs.tells new.keeper) old.house_log.opening new.house_log.opening t.0.loaded t.0.stays t.1),
       tt,
     )

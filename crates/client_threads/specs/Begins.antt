@@ -14,8 +14,8 @@ use Rattle.shared_daemon.specs.Names.{Name}
 -- keeper again since; each fault of the keeper that its log tells was counted;
 -- and nobody has anything out.
 pub record CanBegin {K : Type 0} (signs : Signs K) (h : Housed K) : Type 0 where
-  pub loaded : h.annals.loaded ≡ true
-  pub reopened : h.annals.reopened ≡ false
+  pub loaded : h.house_log.loaded ≡ true
+  pub reopened : h.house_log.reopened ≡ false
   pub booted : 0 < boots (past h)
   pub counted : IsCounted signs h
   pub idle : IsIdle (past h)
@@ -24,10 +24,10 @@ pub record CanBegin {K : Type 0} (signs : Signs K) (h : Housed K) : Type 0 where
 abbrev pub name_of : {K : Type 0} → Signs K → Housed K → Name
 name_of signs h =
     record {
-      facts = h.annals.facts;
-      first = h.annals.first;
+      facts = h.house_log.facts;
+      first = h.house_log.first;
       plans = plans_in h.places;
-      opening = h.annals.opening;
+      opening = h.house_log.opening;
       boots = boots (past h);
       start = chronicle h;
       start_faults = signs.faults h.keeper;
@@ -38,10 +38,10 @@ name_of signs h =
 
 -- The name of a house as it is now. It says that something is so of the keeper exactly where the keeper tells rows.
 pub record IsNameOf {K : Type 0} (signs : Signs K) (name : Name) (h : Housed K) : Type 0 where
-  pub facts_are : name.facts ≡ h.annals.facts
-  pub first_are : name.first ≡ h.annals.first
+  pub facts_are : name.facts ≡ h.house_log.facts
+  pub first_are : name.first ≡ h.house_log.first
   pub plans_are : name.plans ≡ plans_in h.places
-  pub opening_is : name.opening ≡ h.annals.opening
+  pub opening_is : name.opening ≡ h.house_log.opening
   pub boots_are : name.boots ≡ boots (past h)
   pub start_is : name.start ≡ chronicle h
   pub start_faults_are : name.start_faults ≡ signs.faults h.keeper

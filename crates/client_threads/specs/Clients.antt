@@ -37,7 +37,7 @@ pub record PlayedScript {P : Type 0} (files : P → Files) (plugins : ℕ → Pl
 -- The clients of a boot went through their scripts, the daemon itself did nothing, and the house is at rest.
 pub record ClientsPlayed {K : Type 0} (signs : Signs K) (wanting : Bool) (means : ℕ → Means) (of_boot : List (List Item)) (old new : Housed K) : Type 0 where
   pub daemon : mine 0 (past new) ≡ mine 0 (past old)
-  pub clients : (client : ℕ) → 0 < client → PlayedSo (off (past new)) wanting client (Plays old.annals.facts (rows_before old.annals) (means client) client) (items_of of_boot client) (mine client (past new))
+  pub clients : (client : ℕ) → 0 < client → PlayedSo (off (past new)) wanting client (Plays old.house_log.facts (rows_before old.house_log) (means client) client) (items_of of_boot client) (mine client (past new))
   pub grew : Grew (past old) (past new)
   pub rest : AtRest signs old new
 

@@ -6,7 +6,7 @@ pub mod Clients
 pub use Rattle.turn_lock.specs.Shown
 pub use Rattle.update_log.specs.Legal
 pub use Rattle.update_log.specs.Pasts
-pub use Rattle.daemon_core.specs.Annals
+pub use Rattle.daemon_core.specs.HouseLog
 pub use Rattle.daemon_core.specs.Housed
 pub use Rattle.daemon_core.specs.Keeping
 pub use Rattle.daemon_core.specs.Planned as DaemonCorePlanned

@@ -9,7 +9,7 @@ use Rattle.update_log.specs.CoreFolds.{AllFaults}
 use Rattle.update_log.specs.Crashes.{next_boot}
 use Rattle.update_log.specs.Pasts.{boots}
 use Rattle.daemon_core.specs.declared.booting.BootStop.{BootStop}
-use Rattle.daemon_core.specs.Annals.{IsAnnals}
+use Rattle.daemon_core.specs.HouseLog.{IsHouseLog}
 use Rattle.daemon_core.specs.Boots.{ReadOthers}
 use Rattle.daemon_core.specs.Housed.{Housed, past, rows_before}
 use Rattle.daemon_core.specs.Keeping.{last_faulted}
@@ -27,34 +27,34 @@ use Rattle.client_threads.specs.Planned.{BootsPlanned, IsPlanned}
 -- still. Until then what it tells it told as it came; and what a boot refused, if one did, were those.
 abbrev pub OpeningTold : {K : Type 0} → (K → List Row → Type 0) → (List Row → Type 0) → Housed K → Type 0
 OpeningTold told came h =
-    MatchBool h.annals.loaded
-    (AreTold came (told h.keeper) h.annals.opening)
-    (StillTold came (told h.keeper) × ((h.annals.opening ≡ []) ⊎ AreTold came (told h.keeper) h.annals.opening))
+    MatchBool h.house_log.loaded
+    (AreTold came (told h.keeper) h.house_log.opening)
+    (StillTold came (told h.keeper) × ((h.house_log.opening ≡ []) ⊎ AreTold came (told h.keeper) h.house_log.opening))
 
 -- The same over the start of a boot: rows that were taken stay; and those that are taken in it, or refused, the
 -- keeper told before.
 abbrev pub OpeningStays : {K : Type 0} → (K → List Row → Type 0) → Housed K → Housed K → Type 0
 OpeningStays told old new =
-    MatchBool old.annals.loaded
-    ((new.annals.loaded ≡ true) × (new.annals.opening ≡ old.annals.opening))
-    (MatchBool new.annals.loaded
-    (AreTold (told old.keeper) (told new.keeper) new.annals.opening)
-    (StillTold (told old.keeper) (told new.keeper) × ((new.annals.opening ≡ old.annals.opening) ⊎ AreTold (told old.keeper) (told new.keeper) new.annals.opening)))
+    MatchBool old.house_log.loaded
+    ((new.house_log.loaded ≡ true) × (new.house_log.opening ≡ old.house_log.opening))
+    (MatchBool new.house_log.loaded
+    (AreTold (told old.keeper) (told new.keeper) new.house_log.opening)
+    (StillTold (told old.keeper) (told new.keeper) × ((new.house_log.opening ≡ old.house_log.opening) ⊎ AreTold (told old.keeper) (told new.keeper) new.house_log.opening)))
 
 -- Where the last boot read the history, nobody opened the keeper again since.
 abbrev pub ReadLast : {K : Type 0} → Housed K → Type 0
-ReadLast h = last_faulted (past h) ≡ false → h.annals.reopened ≡ false
+ReadLast h = last_faulted (past h) ≡ false → h.house_log.reopened ≡ false
 
 -- So many boots of a campaign were run: each by its plan, in order, and played. Nobody has anything out,
 -- each fault of the keeper that the log tells was counted, and each board at home has the faults planned that
 -- its number had.
 pub record RanSoFar {K : Type 0} (signs : Signs K) (wanting : Bool) (means : ℕ → Means) (plans : List BootPlan) (scripts : List (List (List Item))) (count : ℕ) (old new : Housed K) : Type 0 where
-  pub facts : new.annals.facts ≡ old.annals.facts
-  pub first : new.annals.first ≡ old.annals.first
+  pub facts : new.house_log.facts ≡ old.house_log.facts
+  pub first : new.house_log.first ≡ old.house_log.first
   pub count_is : boots (past new) ≡ count
   pub planned : BootsPlanned plans (past new)
-  pub played : BootPlayed wanting new.annals.facts (rows_before new.annals) means (scripts_in scripts count) (past new)
-  pub earlier : EarlierPlayed wanting new.annals.facts (rows_before new.annals) means scripts (past new)
+  pub played : BootPlayed wanting new.house_log.facts (rows_before new.house_log) means (scripts_in scripts count) (past new)
+  pub earlier : EarlierPlayed wanting new.house_log.facts (rows_before new.house_log) means scripts (past new)
   pub idle : IsIdle (past new)
   pub counted : KeeperFared signs old new
   pub counts : signs.faults old.keeper ≤ signs.faults new.keeper
@@ -66,7 +66,7 @@ pub record RanSoFar {K : Type 0} (signs : Signs K) (wanting : Bool) (means : ℕ
 -- the last two the boots before were run.
 abbrev pub EndedSo : {K : Type 0} → (K → List Row → Type 0) → Ending → List BootPlan → ℕ → Housed K → Type 0
 EndedSo told Ending.Whole plans count new = (count ≡ length plans) × ReadLast new
-EndedSo told (Ending.BadHistory entry) plans count new = (count < length plans) × ((mid : Housed _) × IsAnnals mid.annals × ReadOthers told entry mid new)
+EndedSo told (Ending.BadHistory entry) plans count new = (count < length plans) × ((mid : Housed _) × IsHouseLog mid.house_log × ReadOthers told entry mid new)
 EndedSo told Ending.NoMemory plans count new = count < length plans
 
 -- The boots of a campaign were run, as far as it went.
@@ -79,13 +79,13 @@ pub record CampaignRan {K : Type 0} (signs : Signs K) (ending : Ending) (wanting
 -- log are as before, unless no boot before could read the history, and the faults that are planned for the
 -- boards at home are.
 pub record HasBegun {K : Type 0} (signs : Signs K) (plan : BootPlan) (old new : Housed K) : Type 0 where
-  pub facts : new.annals.facts ≡ old.annals.facts
-  pub first : new.annals.first ≡ old.annals.first
+  pub facts : new.house_log.facts ≡ old.house_log.facts
+  pub first : new.house_log.first ≡ old.house_log.first
   pub found : Found
   pub listed : List BoardSeen
   pub past_is : past new ≡ next_boot (past old) plan found listed ∷ past old
   pub planned : IsPlanned plan plan.time plan.limit listed
-  pub before : (rows_before new.annals ≡ rows_before old.annals) ⊎ AllFaults (past old)
+  pub before : (rows_before new.house_log ≡ rows_before old.house_log) ⊎ AllFaults (past old)
   pub read : ReadLast new
   pub counted : KeeperFared signs old new
   pub counts : signs.faults old.keeper ≤ signs.faults new.keeper
@@ -94,10 +94,10 @@ pub record HasBegun {K : Type 0} (signs : Signs K) (plan : BootPlan) (old new : 
 
 -- No boot began.
 pub record NoneBegan {K : Type 0} (signs : Signs K) (old new : Housed K) : Type 0 where
-  pub facts : new.annals.facts ≡ old.annals.facts
-  pub first : new.annals.first ≡ old.annals.first
+  pub facts : new.house_log.facts ≡ old.house_log.facts
+  pub first : new.house_log.first ≡ old.house_log.first
   pub past_is : past new ≡ past old
-  pub before : rows_before new.annals ≡ rows_before old.annals
+  pub before : rows_before new.house_log ≡ rows_before old.house_log
   pub counted : KeeperFared signs old new
   pub counts : signs.faults old.keeper ≤ signs.faults new.keeper
   pub board_plans : KeepsPlans old.places new.places
@@ -106,7 +106,7 @@ pub record NoneBegan {K : Type 0} (signs : Signs K) (old new : Housed K) : Type 
 -- Why none began.
 abbrev pub StoppedBy : {K : Type 0} → (K → List Row → Type 0) → Ending → Housed K → Housed K → Type 0
 StoppedBy told Ending.Whole old new = ⊥
-StoppedBy told (Ending.BadHistory entry) old new = IsAnnals old.annals × ReadOthers told entry old new
+StoppedBy told (Ending.BadHistory entry) old new = IsHouseLog old.house_log × ReadOthers told entry old new
 StoppedBy told Ending.NoMemory old new = Unit {0}
 
 -- Whether a boot ends the campaign: a history that couldn't be read doesn't.

@@ -3,7 +3,7 @@ ghost use Rattle.std.specs.Prelude.{◌≡◌, ◌+◌, ◌≤◌, ◌<◌, [], 
 ghost use Rattle.std.specs.List.{range_with_len};
 ghost use Rattle.plugin_trait.specs.Steps.{steps_at};
 ghost use Rattle.update_log.specs.Pasts.{boots};
-ghost use Rattle.daemon_core.specs.Annals.{IsAnnals};
+ghost use Rattle.daemon_core.specs.HouseLog.{IsHouseLog};
 ghost use Rattle.daemon_core.specs.Housed.{past};
 ghost use Rattle.daemon_core.specs.Turns.{signs_of};
 ghost use Rattle.turn_lock.specs.Shown.{IsFresh as IsNewPass};
@@ -69,7 +69,7 @@ fn play_behind<
     ensures name { KeepsName (signs_of K.tells K.faults) N.name result.0 }
     ensures log { IsLogOf N.name (chronicle result.0) }
     ensures nothing { HasNothing (chronicle result.0) }
-    ensures annals { IsAnnals result.0.annals }
+    ensures house_log { IsHouseLog result.0.house_log }
     ensures played { PlayedBehind result.1 N.name (means_for (steps_at (λ p. steps p) plugins.now) (shelves_told P.files P.faults shelves.old.items)) of_boot.now (chronicle result.0) }
     ensures kept { ShelvesStay (shelves_told P.files P.faults shelves.old.items) (shelves_told P.files P.faults shelves.new.items) }
     ensures told { ShelvesCount (past_seen N.name.start) (past_seen (chronicle result.0)) (shelves_told P.files P.faults shelves.old.items) (shelves_told P.files P.faults shelves.new.items) }
@@ -120,7 +120,7 @@ fn play_named<
     requires few { length of_boot.now ≤ 16 }
     requires proper { All (All IsScriptItem) of_boot.now }
     requires shelves { length of_boot.now ≤ length shelves.old.items }
-    requires served { length house.annals.facts.vetoes ≤ length plugins.now }
+    requires served { length house.house_log.facts.vetoes ≤ length plugins.now }
     ensures played { ClientsPlayed (signs_of K.tells K.faults) result.1 (means_for (steps_at (λ p. steps p) plugins.now) (shelves_told P.files P.faults shelves.old.items)) of_boot.now house result.0 }
     ensures kept { ShelvesStay (shelves_told P.files P.faults shelves.old.items) (shelves_told P.files P.faults shelves.new.items) }
     ensures told { ShelvesCount (past house) (past result.0) (shelves_told P.files P.faults shelves.old.items) (shelves_told P.files P.faults shelves.new.items) }
@@ -165,7 +165,7 @@ fn play_clients<R: Threads + Wait + Sync, K: Keeper + Send, P: Shelf + Send, G: 
     requires few { length of_boot.now ≤ 16 }
     requires proper { All (All IsScriptItem) of_boot.now }
     requires shelves { length of_boot.now ≤ length shelves.old.items }
-    requires served { length house.annals.facts.vetoes ≤ length plugins.now }
+    requires served { length house.house_log.facts.vetoes ≤ length plugins.now }
     ensures played { ClientsPlayed (signs_of K.tells K.faults) result.1 (means_for (steps_at (λ p. steps p) plugins.now) (shelves_told P.files P.faults shelves.old.items)) of_boot.now house result.0 }
     ensures kept { ShelvesStay (shelves_told P.files P.faults shelves.old.items) (shelves_told P.files P.faults shelves.new.items) }
     ensures told { ShelvesCount (past house) (past result.0) (shelves_told P.files P.faults shelves.old.items) (shelves_told P.files P.faults shelves.new.items) }
@@ -204,8 +204,8 @@ pub(crate) fn play_boot<
     requires read { ReadLast house }
     requires proper { All (All IsScriptItem) of_boot.now }
     requires few { length of_boot.now ≤ 16 }
-    requires serves { Serves (tools_of P.files P.faults (length plugins.now) shelves.old.items) house.annals.facts (length of_boot.now) }
-    ensures unread { house.annals.loaded ≡ false → result.0 ≡ house }
+    requires serves { Serves (tools_of P.files P.faults (length plugins.now) shelves.old.items) house.house_log.facts (length of_boot.now) }
+    ensures unread { house.house_log.loaded ≡ false → result.0 ≡ house }
     ensures played { HouseBootPlayed (signs_of K.tells K.faults) result.1 (means_for (steps_at (λ p. steps p) plugins.now) (shelves_told P.files P.faults shelves.old.items)) of_boot.now house result.0 }
     ensures kept { ShelvesStay (shelves_told P.files P.faults shelves.old.items) (shelves_told P.files P.faults shelves.new.items) }
     ensures told { ShelvesCount (past house) (past result.0) (shelves_told P.files P.faults shelves.old.items) (shelves_told P.files P.faults shelves.new.items) }

@@ -39,17 +39,17 @@ pub fn run_on_threads<R: Threads + Wait + Sync, K: Keeper + Send, P: Shelf + Sen
     plans: &[BootPlan],
     scripts: &[Listed<Listed<Item>>],
 ) -> (House<K>, Ran, Vec<P>)
-    requires new { house.annals.core.log ≡ [] }
-    requires unread { house.annals.loaded ≡ false }
-    requires blank { house.annals.opening ≡ [] }
-    requires serves { Serves (tools_of P.files P.faults (length plugins.items) shelves.items) house.annals.facts 0 }
+    requires new { house.house_log.core.log ≡ [] }
+    requires unread { house.house_log.loaded ≡ false }
+    requires blank { house.house_log.opening ≡ [] }
+    requires serves { Serves (tools_of P.files P.faults (length plugins.items) shelves.items) house.house_log.facts 0 }
     requires few { length plans.now < 2 ^ 32 - 1 }
     requires timely { All (λ plan. plan.time ≤ 2 ^ 63 - 1) plans.now }
     requires proper { All (All (All IsScriptItem)) scripts.now }
     requires clients { All (λ of_boot. length of_boot ≤ 16) scripts.now }
     requires shelves { All (λ of_boot. length of_boot ≤ length (shelves_told P.files P.faults shelves.items)) scripts.now }
     ensures ran { CampaignRan (signs_of K.tells K.faults) result.1.ending result.1.wanting (means_for (steps_at (λ p. steps p) plugins.items) (shelves_told P.files P.faults shelves.items)) plans.now scripts.now house result.0 }
-    ensures legal { IsLegal (with_plans result.0.annals.facts result.0.annals.first plans.now) (rows_before result.0.annals) (past result.0) }
+    ensures legal { IsLegal (with_plans result.0.house_log.facts result.0.house_log.first plans.now) (rows_before result.0.house_log) (past result.0) }
     ensures kept { ShelvesStay (shelves_told P.files P.faults shelves.items) (shelves_told P.files P.faults result.2.items) }
     ensures told { ShelvesCount (past house) (past result.0) (shelves_told P.files P.faults shelves.items) (shelves_told P.files P.faults result.2.items) }
 {

@@ -45,8 +45,8 @@ fn play_next<R: Threads + Wait + Sync, K: Keeper + Send, P: Shelf + Send, G: Gat
     requires read { ReadLast house }
     requires proper { All (All IsScriptItem) of_boot.now }
     requires few { length of_boot.now ≤ 16 }
-    requires serves { Serves (tools_of P.files P.faults (length plugins.now) shelves.old.items) house.annals.facts (length of_boot.now) }
-    ensures unread { house.annals.loaded ≡ false → result.0 ≡ house }
+    requires serves { Serves (tools_of P.files P.faults (length plugins.now) shelves.old.items) house.house_log.facts (length of_boot.now) }
+    ensures unread { house.house_log.loaded ≡ false → result.0 ≡ house }
     ensures more { BootMore (signs_of K.tells K.faults) result.1 wanting (means_for (steps_at (λ p. steps p) plugins.now) (shelves_told P.files P.faults shelves.old.items)) of_boot.now house result.0 }
     ensures kept { ShelvesStay (shelves_told P.files P.faults shelves.old.items) (shelves_told P.files P.faults shelves.new.items) }
     ensures told { ShelvesCount (past house) (past result.0) (shelves_told P.files P.faults shelves.old.items) (shelves_told P.files P.faults shelves.new.items) }
@@ -83,14 +83,14 @@ pub(crate) fn run_boots<
     plans: &[BootPlan],
     scripts: &[Listed<Listed<Item>>],
 ) -> (House<K>, Ran)
-    requires new { house.annals.core.log ≡ [] }
-    requires unread { house.annals.loaded ≡ false }
-    requires blank { house.annals.opening ≡ [] }
+    requires new { house.house_log.core.log ≡ [] }
+    requires unread { house.house_log.loaded ≡ false }
+    requires blank { house.house_log.opening ≡ [] }
     requires few { length plans.now < 2 ^ 32 - 1 }
     requires timely { All (λ plan. plan.time ≤ 2 ^ 63 - 1) plans.now }
     requires proper { All (All (All IsScriptItem)) scripts.now }
     requires clients { All (λ of_boot. length of_boot ≤ 16) scripts.now }
-    requires serves { Serves (tools_of P.files P.faults (length plugins.now) shelves.old.items) house.annals.facts 0 }
+    requires serves { Serves (tools_of P.files P.faults (length plugins.now) shelves.old.items) house.house_log.facts 0 }
     requires shelves { All (λ of_boot. length of_boot ≤ length (shelves_told P.files P.faults shelves.old.items)) scripts.now }
     ensures ran { CampaignRan (signs_of K.tells K.faults) result.1.ending result.1.wanting (means_for (steps_at (λ p. steps p) plugins.now) (shelves_told P.files P.faults shelves.old.items)) plans.now scripts.now house result.0 }
     ensures kept { ShelvesStay (shelves_told P.files P.faults shelves.old.items) (shelves_told P.files P.faults shelves.new.items) }

@@ -32,8 +32,8 @@ pub(crate) fn do_tasks_first<K: Keeper, P: Shelf>(
     requires idle { IsIdle (past house.old) }
     requires fresh { IsFresh (past house.old) }
     requires shelf { 0 < length shelves.old.items }
-    requires served { length house.old.annals.facts.vetoes ≤ length plugins.now }
-    ensures went { HouseWent (signs_of K.tells K.faults) result 0 (TaskPlays house.old.annals.facts (rows_before house.old.annals) (means_for (steps_at (λ p. steps p) plugins.now) (shelves_told P.files P.faults shelves.old.items) 0)) (tasks house.old.annals.facts (rows_before house.old.annals) (began (past house.old))) house.old house.new }
+    requires served { length house.old.house_log.facts.vetoes ≤ length plugins.now }
+    ensures went { HouseWent (signs_of K.tells K.faults) result 0 (TaskPlays house.old.house_log.facts (rows_before house.old.house_log) (means_for (steps_at (λ p. steps p) plugins.now) (shelves_told P.files P.faults shelves.old.items) 0)) (tasks house.old.house_log.facts (rows_before house.old.house_log) (began (past house.old))) house.old house.new }
     ensures kept { ShelvesStay (shelves_told P.files P.faults shelves.old.items) (shelves_told P.files P.faults shelves.new.items) }
     ensures told { ShelvesCount (past house.old) (past house.new) (shelves_told P.files P.faults shelves.old.items) (shelves_told P.files P.faults shelves.new.items) }
 {

@@ -30,9 +30,9 @@ use Rattle.update_log.specs.declared.request.Request.{Request}
 use Rattle.block_pool.specs.Views.{PoolCounts}
 use Rattle.history_keeper.specs.declared.change.Change.{Change}
 use Rattle.update_log.specs.Pasts.{off}
-use Rattle.daemon_core.specs.Annals.{Appended, IsAnnals}
+use Rattle.daemon_core.specs.HouseLog.{Appended, IsHouseLog}
 use Rattle.daemon_core.specs.House.{IsHouse}
-use Rattle.daemon_core.specs.Housed.{Annalled, Housed, past, past_in, rows_before}
+use Rattle.daemon_core.specs.Housed.{HouseLogView, Housed, past, past_in, rows_before}
 use Rattle.fw_facts.specs.declared.release.Component.{Component}
 use Rattle.daemon_core.specs.Keeping.{KeepsSo}
 use Rattle.daemon_core.specs.Owed.{hold_needs, owed}
@@ -152,21 +152,21 @@ held-more past client request pending blocks release h =
     rw e (omega arith)
 
 -- A house, after an ask that was accepted.
-pub house-held : {K : Type 0} (told : K → List Row → Type 0) (doubted : K → Option Change) (client : ℕ) (request : Request) (pending : Option ℕ) (blocks : ℕ) (release : ReleaseRef) (old : Housed K) (new : Annalled) (pool : PoolCounts) → IsHouse told doubted old → IsAnnals old.annals → IsAnnals new → Appended client (Event.Ask client request pending (AskAnswer.Hold blocks release)) old.annals new → old.annals.loaded ≡ true
-    → hold (past old) client ≡ None → pool.capacity ≡ old.pool.capacity → pool.free + blocks ≡ old.pool.free → IsHouse told doubted (record old { annals = new; pool = pool })
+pub house-held : {K : Type 0} (told : K → List Row → Type 0) (doubted : K → Option Change) (client : ℕ) (request : Request) (pending : Option ℕ) (blocks : ℕ) (release : ReleaseRef) (old : Housed K) (new : HouseLogView) (pool : PoolCounts) → IsHouse told doubted old → IsHouseLog old.house_log → IsHouseLog new → Appended client (Event.Ask client request pending (AskAnswer.Hold blocks release)) old.house_log new → old.house_log.loaded ≡ true
+    → hold (past old) client ≡ None → pool.capacity ≡ old.pool.capacity → pool.free + blocks ≡ old.pool.free → IsHouse told doubted (record old { house_log = new; pool = pool })
 house-held told doubted client request pending blocks release old new pool h o k a l none cap free =
     let more = held-more (past old) client request pending blocks release none in
     let was = h.free in
-    house-next told doubted client (Event.Ask client request pending (AskAnswer.Hold blocks release)) old (record old { annals = new; pool = pool }) h a k
+    house-next told doubted client (Event.Ask client request pending (AskAnswer.Hold blocks release)) old (record old { house_log = new; pool = pool }) h a k
     (record {
       count = refl;
       places = λ number place e.
-          place-same old.annals.facts old.annals.first (rows_before old.annals) (past old) (Event.Ask client request pending (AskAnswer.Hold blocks release) ∷ past old) number place
-          (ask-board old.annals.facts old.annals.first (rows_before old.annals) (past old) client request pending (AskAnswer.Hold blocks release) number) (h.places number place e);
+          place-same old.house_log.facts old.house_log.first (rows_before old.house_log) (past old) (Event.Ask client request pending (AskAnswer.Hold blocks release) ∷ past old) number place
+          (ask-board old.house_log.facts old.house_log.first (rows_before old.house_log) (past old) client request pending (AskAnswer.Hold blocks release) number) (h.places number place e);
       loaded = l;
       kept =
-          subst (λ (x : List Row). KeepsSo old.annals.reopened told doubted old.keeper x (doubt old.annals.facts (rows_before old.annals) (past old))) o.stands.rows
-          (subst (λ (x : Option Change). KeepsSo old.annals.reopened told doubted old.keeper old.annals.core.rows x) o.stands.doubt (h.kept l));
+          subst (λ (x : List Row). KeepsSo old.house_log.reopened told doubted old.keeper x (doubt old.house_log.facts (rows_before old.house_log) (past old))) o.stands.rows
+          (subst (λ (x : Option Change). KeepsSo old.house_log.reopened told doubted old.keeper old.house_log.core.rows x) o.stands.doubt (h.kept l));
       capacity = cap;
       free = omega (arith, more, was, free);
     })
@@ -178,8 +178,8 @@ release-same catalogue at a b k l =
     let e : k.component ≡ l.component = same_Some k.component l.component c in
     same_Some a b (sym k.release_is ∙ ap (λ (x : Component). slice_get x.releases at.release) e ∙ l.release_is)
 
--- What was accepted over some annals, over annals that are the same.
-pub found-over : (a b : Annalled) (client : ℕ) (request : Request) (pending : Option ℕ) (at : ReleaseRef) (blocks : ℕ) → b ≡ a
+-- What was accepted over a house log, over one that is the same.
+pub found-over : (a b : HouseLogView) (client : ℕ) (request : Request) (pending : Option ℕ) (at : ReleaseRef) (blocks : ℕ) → b ≡ a
     → (device : ℕ) × (verdict a.facts (rows_before a) (past_in a) client request (ask_stage pending) ≡ Decision.Accept device at blocks) → Found b.facts (past_in b) at blocks
 found-over a b client request pending at blocks e h =
-    subst (λ (x : Annalled). Found x.facts (past_in x) at blocks) (sym e) (ask-found a.facts (rows_before a) (past_in a) client request pending h.0 blocks at h.1)
+    subst (λ (x : HouseLogView). Found x.facts (past_in x) at blocks) (sym e) (ask-found a.facts (rows_before a) (past_in a) client request pending h.0 blocks at h.1)

@@ -20,21 +20,21 @@ use Rattle.update_log.specs.Pasts.{boots, past_of, time_of}
 use Rattle.update_log.specs.Shows.{Campaign, FreshShows, HasRaw, first_of_board}
 use Rattle.update_log.specs.declared.event.Event.{Event}
 use Rattle.update_log.specs.declared.facts.Facts.{Facts}
-use Rattle.daemon_core.specs.Annals.{IsAnnals, IsBlank, MadeBy}
+use Rattle.daemon_core.specs.HouseLog.{IsBlank, IsHouseLog, MadeBy}
 use Rattle.daemon_core.specs.Boards.{PlaceStands}
 use Rattle.daemon_core.specs.House.{IsHouse, IsNewBoard, IsNewHouse, place_of, shown_by}
-use Rattle.daemon_core.specs.Housed.{Annalled, Housed, Place, past, past_in, rows_before, rows_taken}
+use Rattle.daemon_core.specs.Housed.{HouseLogView, Housed, Place, past, past_in, rows_before, rows_taken}
 use Rattle.daemon_core.specs.Owed.{owed}
 
-blank-past : (facts : Facts) (first : List Seen) (a : Annalled) → IsBlank facts first a → past_in a ≡ []
+blank-past : (facts : Facts) (first : List Seen) (a : HouseLogView) → IsBlank facts first a → past_in a ≡ []
 blank-past facts first a b = ap past_of b.log
 
-blank-before : (facts : Facts) (first : List Seen) (a : Annalled) → IsBlank facts first a → rows_before a ≡ []
+blank-before : (facts : Facts) (first : List Seen) (a : HouseLogView) → IsBlank facts first a → rows_before a ≡ []
 blank-before facts first a b = ap (λ (l : Bool). rows_taken l a.opening) b.loaded
 
--- Blank annals are annals.
-pub annals-blank : (a : Annalled) → IsBlank a.facts a.first a → length a.facts.sheets ≤ 256 → length a.first ≡ length a.facts.sheets → Stands a.facts [] a.core → IsAnnals a
-annals-blank a b few firsts s =
+-- A blank house log is one.
+pub house_log-blank : (a : HouseLogView) → IsBlank a.facts a.first a → length a.facts.sheets ≤ 256 → length a.first ≡ length a.facts.sheets → Stands a.facts [] a.core → IsHouseLog a
+house_log-blank a b few firsts s =
     let p : past_in a ≡ [] = blank-past a.facts a.first a b in
     let c : Campaign = record { facts = a.facts; first = a.first; plans = [] } in
     let o = ap owed p in
@@ -121,21 +121,21 @@ map-get f (x' ∷ xs) (suc i) x h = map-get f xs i x h
 pub house-new : {K : Type 0} (told : K → List Row → Type 0) (doubted : K → Option Change) (facts : Facts) (boards : List BoardState) (pool : PoolCounts) (keeper : K) (h : Housed K) → IsNewHouse facts boards pool keeper h → length boards ≡ length facts.sheets
     → ((number : ℕ) (b : BoardState) → slice_get boards number ≡ Some b → IsNewBoard b) → doubted keeper ≡ None → pool.capacity ≡ facts.pool → pool.free ≡ pool.capacity → IsHouse told doubted h
 house-new {K} told doubted facts boards pool keeper h n count new no_doubt capacity free =
-    let p : past h ≡ [] = blank-past facts (map shown_by boards) h.annals n.blank in
-    let r : rows_before h.annals ≡ [] = blank-before facts (map shown_by boards) h.annals n.blank in
-    let f : h.annals.facts ≡ facts = n.blank.facts_are in
+    let p : past h ≡ [] = blank-past facts (map shown_by boards) h.house_log n.blank in
+    let r : rows_before h.house_log ≡ [] = blank-before facts (map shown_by boards) h.house_log n.blank in
+    let f : h.house_log.facts ≡ facts = n.blank.facts_are in
     let none : held (past h) ≡ 0 = ap held p in
     let cap : h.pool.capacity ≡ pool.capacity = ap (λ (x : PoolCounts). x.capacity) n.pool_is in
     let free' : h.pool.free ≡ pool.free = ap (λ (x : PoolCounts). x.free) n.pool_is in
-    let all : h.annals.facts.pool ≡ facts.pool = ap (λ (x : Facts). x.pool) f in
+    let all : h.house_log.facts.pool ≡ facts.pool = ap (λ (x : Facts). x.pool) f in
     record {
       count = ap length n.places ∙ length-map boards place_of ∙ count ∙ ap (λ (x : Facts). length x.sheets) (sym f);
       places = λ number place e.
           let g = get-map place_of boards number place (ap (λ (x : List Place). slice_get x number) (sym n.places) ∙ e) in
           let b : BoardState = g.0 in
           let shown : first_of_board (map shown_by boards) number ≡ shown_by b = ap (λ (o : Option Seen). unwrap_or o Seen.Gone) (map-get shown_by boards number b g.1) in
-          subst (λ (x : Facts). PlaceStands x h.annals.first (rows_before h.annals) (past h) number place) (sym f)
-          (subst (λ (x : List Seen). PlaceStands facts x (rows_before h.annals) (past h) number place) (sym n.blank.first_are)
+          subst (λ (x : Facts). PlaceStands x h.house_log.first (rows_before h.house_log) (past h) number place) (sym f)
+          (subst (λ (x : List Seen). PlaceStands facts x (rows_before h.house_log) (past h) number place) (sym n.blank.first_are)
           (subst (λ (x : List Row). PlaceStands facts (map shown_by boards) x (past h) number place) (sym r)
           (subst (λ (x : List Event). PlaceStands facts (map shown_by boards) [] x number place) (sym p)
           (subst (λ (x : Place). PlaceStands facts (map shown_by boards) [] [] number x) g.2

@@ -24,7 +24,7 @@ use Rattle.update_log.specs.Pasts.{is_boot}
 use Rattle.update_log.specs.Shows.{digest_of, marks, raw_of, told_by}
 use Rattle.daemon_core.proofs.PlacesKept.{SameOfBoard}
 use Rattle.daemon_core.specs.Boards.{is_faulty_end, is_out}
-use Rattle.daemon_core.specs.Annals.{IsLegalSo}
+use Rattle.daemon_core.specs.HouseLog.{IsLegalSo}
 
 -- what a legal past keeps
 pub kept-so : (facts : Facts) (first : List Seen) (opening : List Row) (past : List Event) → IsHistory opening → IsLegalSo facts first opening past → PastKept facts opening past

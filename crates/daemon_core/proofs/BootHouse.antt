@@ -22,16 +22,16 @@ use Rattle.update_log.specs.Holding.{blocks_out, held, holds, live}
 use Rattle.update_log.specs.Known.{doubt_found, rows, rows_found}
 use Rattle.update_log.specs.Legal.{BoardListed, is_absent, open_marks, open_on}
 use Rattle.update_log.specs.Shows.{IsPrefix, digest_of, marks, told}
-use Rattle.daemon_core.proofs.AnnalsKept.{appended-before, appended-past}
-use Rattle.daemon_core.proofs.BootAnnals.{annals-reopened, boot-rows}
+use Rattle.daemon_core.proofs.HouseLogKept.{appended-before, appended-past}
+use Rattle.daemon_core.proofs.BootHouseLog.{boot-rows, house_log-reopened}
 use Rattle.daemon_core.proofs.BootOpenings.{place-over, said-over}
 use Rattle.daemon_core.proofs.BootPlaces.{listed-so, place-started}
 use Rattle.daemon_core.proofs.HouseKept.{appended-doubt, appended-rows}
-use Rattle.daemon_core.specs.Annals.{Appended, IsAnnals, IsLegalSo}
+use Rattle.daemon_core.specs.HouseLog.{Appended, IsHouseLog, IsLegalSo}
 use Rattle.daemon_core.specs.Boards.{BoardIsHome, BoardStands, PlaceStands}
 use Rattle.daemon_core.specs.Booting.{AllCanStart, AllListed, AllStarted, BoardsStarted, CanBeStarted, PlacesStand, opened}
 use Rattle.daemon_core.specs.House.{IsHouse}
-use Rattle.daemon_core.specs.Housed.{Annalled, Place, past_in, rows_before}
+use Rattle.daemon_core.specs.Housed.{HouseLogView, Place, past_in, rows_before}
 use Rattle.daemon_core.specs.Keeping.{KeepsSo, still_reopened}
 
 pub take-front : {X : Type 0} (n : ℕ) (xs ys : List X) → n ≡ length xs → take n (xs ++ ys) ≡ xs
@@ -74,7 +74,7 @@ can-start facts first opening past number place l p =
     let t : place.told ≡ length (told facts opening past number) = p.told in
     (h.board, record { home = h.is; told = omega (arith, e, t); few = omega (arith, e, t, s, f) })
 
-module _ (a : Annalled) (places after : List Place) (plan : BootPlan) (listed : List BoardSeen) (k : IsLegalSo a.facts a.first (rows_before a) (past_in a)) (p : PlacesStand a places) (l : live (past_in a) ≡ []) where
+module _ (a : HouseLogView) (places after : List Place) (plan : BootPlan) (listed : List BoardSeen) (k : IsLegalSo a.facts a.first (rows_before a) (past_in a)) (p : PlacesStand a places) (l : live (past_in a) ≡ []) where
   pub all-can_start : AllCanStart places
   all-can_start number place e = can-start a.facts a.first (rows_before a) (past_in a) number place l (p.each number place e)
 
@@ -112,8 +112,8 @@ module _ (a : Annalled) (places after : List Place) (plan : BootPlan) (listed : 
         (subst (λ (x : BoardState). BoardStands a.facts a.first (rows_before a) (past_in a) number x h.tail) b_is h.stands) pl.told w.2
         _ plan.time plan.limit found listed t.3)
 
--- the boards, over the annals with an event more
-pub stand-after : (client : ℕ) (event : Event) (old new : Annalled) (places : List Place) → Appended client event old new → length places ≡ length old.facts.sheets
+-- the boards, over the house log with an event more
+pub stand-after : (client : ℕ) (event : Event) (old new : HouseLogView) (places : List Place) → Appended client event old new → length places ≡ length old.facts.sheets
     → ((number : ℕ) (place : Place) → slice_get places number ≡ Some place → PlaceStands old.facts old.first (rows_before old) (event ∷ past_in old) number place)
     → PlacesStand new places
 stand-after client event old new places a n h =
@@ -128,7 +128,7 @@ stand-after client event old new places a n h =
     }
 
 -- the boards over other rows before a log of boots that couldn't read any
-pub stand-over : (old : Annalled) (all : List Row) (n : ℕ) (places : List Place) → IsAnnals old → old.loaded ≡ false → PlacesStand old places → PlacesStand (opened all n old) places
+pub stand-over : (old : HouseLogView) (all : List Row) (n : ℕ) (places : List Place) → IsHouseLog old → old.loaded ≡ false → PlacesStand old places → PlacesStand (opened all n old) places
 stand-over old all n places k l p =
     record {
       count = p.count;
@@ -137,15 +137,15 @@ stand-over old all n places k l p =
     }
 
 -- the house behind a boot
-pub house-booted : {K : Type 0} (tells : K → List Row → Type 0) (doubts : K → Option Change) (mid new : Annalled) (places after : List Place) (pool : PoolCounts) (keeper : K) (plan : BootPlan) (found : Found)
-    → IsAnnals mid → IsAnnals new → PlacesStand mid places → live (past_in mid) ≡ [] → holds (past_in mid) ≡ [] → BoardsStarted plan found mid new places after
+pub house-booted : {K : Type 0} (tells : K → List Row → Type 0) (doubts : K → Option Change) (mid new : HouseLogView) (places after : List Place) (pool : PoolCounts) (keeper : K) (plan : BootPlan) (found : Found)
+    → IsHouseLog mid → IsHouseLog new → PlacesStand mid places → live (past_in mid) ≡ [] → holds (past_in mid) ≡ [] → BoardsStarted plan found mid new places after
     → pool.capacity ≡ mid.facts.pool → pool.free + held (past_in mid) ≡ mid.facts.pool
     → (mid.loaded ≡ false → doubts keeper ≡ None)
     → (mid.loaded ≡ true → KeepsSo (still_reopened found mid.reopened) tells doubts keeper (rows_found found mid.core.doubt mid.core.rows) (doubt_found found mid.core.doubt))
-    → IsHouse tells doubts (record { annals = new; places = after; pool = pool; keeper = keeper })
+    → IsHouse tells doubts (record { house_log = new; places = after; pool = pool; keeper = keeper })
 house-booted tells doubts mid new places after pool keeper plan found k kn p l hs b c f u t =
-    let noted : Annalled = record new { reopened = mid.reopened } in
-    let ka : IsAnnals noted = annals-reopened new mid.reopened (λ u. k.unopened (sym b.appended.same.loaded ∙ u)) kn in
+    let noted : HouseLogView = record new { reopened = mid.reopened } in
+    let ka : IsHouseLog noted = house_log-reopened new mid.reopened (λ u. k.unopened (sym b.appended.same.loaded ∙ u)) kn in
     let s = stand-after 0 (next_boot (past_in mid) plan found b.listed) mid noted after b.appended (b.started.places ∙ p.count)
     (all-stand mid places after plan b.listed k.legal p l b.started found) in
     let past : past_in new ≡ next_boot (past_in mid) plan found b.listed ∷ past_in mid = appended-past 0 (next_boot (past_in mid) plan found b.listed) mid noted b.appended in

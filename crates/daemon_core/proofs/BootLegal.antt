@@ -16,7 +16,7 @@ use Rattle.update_log.specs.Known.{doubt}
 use Rattle.update_log.specs.Legal.{FoundAllowed, IsLegal}
 use Rattle.update_log.specs.Pasts.{boots}
 use Rattle.update_log.specs.Shows.{Campaign}
-use Rattle.daemon_core.specs.Annals.{IsLegalSo}
+use Rattle.daemon_core.specs.HouseLog.{IsLegalSo}
 use Rattle.daemon_core.specs.Booting.{AllListed}
 
 abbrev with_plans : Campaign → List BootPlan → Campaign

@@ -15,7 +15,7 @@ use Rattle.update_log.specs.declared.facts.Facts.{Facts}
 use Rattle.update_log.specs.Known.{seen}
 use Rattle.update_log.specs.Legal.{Allowed, BoardListed, IsLegal, open_marks, open_on}
 use Rattle.update_log.specs.Shows.{Campaign, FreshShows, HasRaw, IsPrefix, RawAllowed, began_since, home_before, home_or, is_began, told, untold_of}
-use Rattle.daemon_core.specs.Annals.{IsLegalSo}
+use Rattle.daemon_core.specs.HouseLog.{IsLegalSo}
 use Rattle.daemon_core.specs.Boards.{BoardIsHome, BoardStands, PlaceStands, faulty_ends, is_out}
 use Rattle.daemon_core.specs.Housed.{Place}
 

@@ -23,7 +23,7 @@ use Rattle.update_log.specs.Legal.{BoardListed, is_absent, is_gone, open_marks}
 use Rattle.update_log.specs.Once.{ShowsFirst}
 use Rattle.update_log.specs.Shows.{FreshShows, HasRaw, IsPrefix, RawAllowed, began_since, first_of_board, home_before, home_or, is_began, tells_home, told}
 use Rattle.daemon_core.proofs.BoardsUnwritten.{Unwritten, BeginsToo, allowed-first, append-begins, open-begins, told-begins, unwritten}
-use Rattle.daemon_core.specs.Annals.{IsLegalSo}
+use Rattle.daemon_core.specs.HouseLog.{IsLegalSo}
 use Rattle.daemon_core.specs.Boards.{BoardIsHome, BoardStands, PlaceStands, faulty_ends}
 use Rattle.daemon_core.specs.Booting.{WasStarted}
 use Rattle.daemon_core.specs.Housed.{Place}

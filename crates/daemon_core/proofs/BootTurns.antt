@@ -17,48 +17,48 @@ use Rattle.update_log.specs.declared.facts.BootPlan.{BootPlan}
 use Rattle.update_log.specs.Holding.{holds, live}
 use Rattle.update_log.specs.Known.{rows_found}
 use Rattle.update_log.specs.Pasts.{boots, is_found_fault, past_of}
-use Rattle.daemon_core.proofs.AnnalsKept.{appended-past}
+use Rattle.daemon_core.proofs.HouseLogKept.{appended-past}
 use Rattle.daemon_core.proofs.Fared.{fared-quiet, fared-same}
 use Rattle.daemon_core.proofs.KeptSo.{still-read}
-use Rattle.daemon_core.specs.Annals.{roomier}
+use Rattle.daemon_core.specs.HouseLog.{roomier}
 use Rattle.daemon_core.specs.Booting.{AllStarted, BoardsStarted, opened}
 use Rattle.daemon_core.specs.Boots.{BootNoted, CouldntRead, IsReady, NoBoot, ReadOthers, SameGrounds, WentWell}
 use Rattle.daemon_core.specs.House.{SameElsewhere}
-use Rattle.daemon_core.specs.Housed.{Annalled, Housed, Place, past}
+use Rattle.daemon_core.specs.Housed.{HouseLogView, Housed, Place, past}
 use Rattle.daemon_core.specs.Keeping.{HasRows, keeper_faults}
 use Rattle.daemon_core.specs.Reading.{AreOthers, AreTold, CanBoot, FirstRead, IsUngiven, LaterRead, WasShown}
 use Rattle.daemon_core.specs.Turns.{KeeperFared, ToldBefore, signs_of}
 use Rattle.daemon_core.specs.declared.reading.Loaded.{Loaded}
 
--- the annals with the same log
-pub record SameLog (old new : Annalled) : Type 0 where
+-- the house log with the same log
+pub record SameLog (old new : HouseLogView) : Type 0 where
   pub facts : new.facts ≡ old.facts
   pub first : new.first ≡ old.first
   pub log : new.core.log ≡ old.core.log
   pub makers : new.makers ≡ old.makers
 
-same-trans : (a b c : Annalled) → SameLog a b → SameLog b c → SameLog a c
+same-trans : (a b c : HouseLogView) → SameLog a b → SameLog b c → SameLog a c
 same-trans a b c s t = record { facts = t.facts ∙ s.facts; first = t.first ∙ s.first; log = t.log ∙ s.log; makers = t.makers ∙ s.makers }
 
-same-roomier : (old new : Annalled) → new ≡ roomier old new → SameLog old new
+same-roomier : (old new : HouseLogView) → new ≡ roomier old new → SameLog old new
 same-roomier old new e =
-    record { facts = ap (λ (a : Annalled). a.facts) e; first = ap (λ (a : Annalled). a.first) e; log = ap (λ (a : Annalled). a.core.log) e; makers = ap (λ (a : Annalled). a.makers) e }
+    record { facts = ap (λ (a : HouseLogView). a.facts) e; first = ap (λ (a : HouseLogView). a.first) e; log = ap (λ (a : HouseLogView). a.core.log) e; makers = ap (λ (a : HouseLogView). a.makers) e }
 
-same-itself : (old new : Annalled) → new ≡ old → SameLog old new
+same-itself : (old new : HouseLogView) → new ≡ old → SameLog old new
 same-itself old new e =
-    record { facts = ap (λ (a : Annalled). a.facts) e; first = ap (λ (a : Annalled). a.first) e; log = ap (λ (a : Annalled). a.core.log) e; makers = ap (λ (a : Annalled). a.makers) e }
+    record { facts = ap (λ (a : HouseLogView). a.facts) e; first = ap (λ (a : HouseLogView). a.first) e; log = ap (λ (a : HouseLogView). a.core.log) e; makers = ap (λ (a : HouseLogView). a.makers) e }
 
-same-reopened : (old new : Annalled) → new ≡ record old { reopened = true } → SameLog old new
+same-reopened : (old new : HouseLogView) → new ≡ record old { reopened = true } → SameLog old new
 same-reopened old new e =
-    record { facts = ap (λ (a : Annalled). a.facts) e; first = ap (λ (a : Annalled). a.first) e; log = ap (λ (a : Annalled). a.core.log) e; makers = ap (λ (a : Annalled). a.makers) e }
+    record { facts = ap (λ (a : HouseLogView). a.facts) e; first = ap (λ (a : HouseLogView). a.first) e; log = ap (λ (a : HouseLogView). a.core.log) e; makers = ap (λ (a : HouseLogView). a.makers) e }
 
-same-opened : (old new : Annalled) (all : List Row) (n : ℕ) → new ≡ opened all n old → SameLog old new
+same-opened : (old new : HouseLogView) (all : List Row) (n : ℕ) → new ≡ opened all n old → SameLog old new
 same-opened old new all n e =
-    record { facts = ap (λ (a : Annalled). a.facts) e; first = ap (λ (a : Annalled). a.first) e; log = ap (λ (a : Annalled). a.core.log) e; makers = ap (λ (a : Annalled). a.makers) e }
+    record { facts = ap (λ (a : HouseLogView). a.facts) e; first = ap (λ (a : HouseLogView). a.first) e; log = ap (λ (a : HouseLogView). a.core.log) e; makers = ap (λ (a : HouseLogView). a.makers) e }
 
-same-refused : (old new : Annalled) (all : List Row) → new ≡ record old { opening = all } → SameLog old new
+same-refused : (old new : HouseLogView) (all : List Row) → new ≡ record old { opening = all } → SameLog old new
 same-refused old new all e =
-    record { facts = ap (λ (a : Annalled). a.facts) e; first = ap (λ (a : Annalled). a.first) e; log = ap (λ (a : Annalled). a.core.log) e; makers = ap (λ (a : Annalled). a.makers) e }
+    record { facts = ap (λ (a : HouseLogView). a.facts) e; first = ap (λ (a : HouseLogView). a.first) e; log = ap (λ (a : HouseLogView). a.core.log) e; makers = ap (λ (a : HouseLogView). a.makers) e }
 
 -- from the count of faults to what the log tells of them
 rose-cases : (a b : ℕ) → Rose a b → (a + 1 ≤ b) ⊎ (2 ^ 64 - 1 ≤ b)
@@ -68,7 +68,7 @@ rose-cases a b r =
     (λ f. let g = leb-false (a + 1) b f in inr (omega (arith, r, g)))
 
 module _ {K : Type 0} (tells : K → List Row → Type 0) (doubts : K → Option Change) (faults : K → ℕ) (settled : K → K → Type 0) (old room mid new : Housed K) (plan : BootPlan)
-    (roomy : room.annals ≡ roomier old.annals room.annals) (elsewhere : SameElsewhere old room)
+    (roomy : room.house_log ≡ roomier old.house_log room.house_log) (elsewhere : SameElsewhere old room)
     (places : mid.places ≡ room.places) (pool : mid.pool ≡ room.pool) (counts : faults room.keeper ≤ faults mid.keeper) (told : ToldBefore tells room.keeper mid.keeper) where
   pub counted : faults old.keeper ≤ faults mid.keeper
   counted = subst (λ (k : K). faults k ≤ faults mid.keeper) elsewhere.keeper counts
@@ -78,17 +78,17 @@ module _ {K : Type 0} (tells : K → List Row → Type 0) (doubts : K → Option
 
   -- what reading left
   module _ (result : Result Loaded NoMemory)
-      (first : room.annals.loaded ≡ false → FirstRead tells doubts faults result room.annals mid.annals room.keeper mid.keeper)
-      (later : room.annals.loaded ≡ true → (mid.annals ≡ record room.annals { reopened = true }) × LaterRead tells doubts faults settled result room.annals.core.rows room.annals.core.doubt room.keeper mid.keeper) where
-    first-same : (r : Result Loaded NoMemory) → FirstRead tells doubts faults r room.annals mid.annals room.keeper mid.keeper → SameLog room.annals mid.annals
-    first-same (Ok (Loaded.Found found)) f = same-opened room.annals mid.annals mid.annals.opening mid.annals.core.row_room f.0.opened_so
-    first-same (Ok (Loaded.Bad entry)) f = same-refused room.annals mid.annals mid.annals.opening f.0.same
-    first-same (Ok Loaded.Fault) f = same-itself room.annals mid.annals f.0.same
-    first-same (Err refused) f = same-itself room.annals mid.annals f.0.same
+      (first : room.house_log.loaded ≡ false → FirstRead tells doubts faults result room.house_log mid.house_log room.keeper mid.keeper)
+      (later : room.house_log.loaded ≡ true → (mid.house_log ≡ record room.house_log { reopened = true }) × LaterRead tells doubts faults settled result room.house_log.core.rows room.house_log.core.doubt room.keeper mid.keeper) where
+    first-same : (r : Result Loaded NoMemory) → FirstRead tells doubts faults r room.house_log mid.house_log room.keeper mid.keeper → SameLog room.house_log mid.house_log
+    first-same (Ok (Loaded.Found found)) f = same-opened room.house_log mid.house_log mid.house_log.opening mid.house_log.core.row_room f.0.opened_so
+    first-same (Ok (Loaded.Bad entry)) f = same-refused room.house_log mid.house_log mid.house_log.opening f.0.same
+    first-same (Ok Loaded.Fault) f = same-itself room.house_log mid.house_log f.0.same
+    first-same (Err refused) f = same-itself room.house_log mid.house_log f.0.same
 
-    pub same-log : SameLog old.annals mid.annals
-    same-log = same-trans old.annals room.annals mid.annals (same-roomier old.annals room.annals roomy)
-        (by_test room.annals.loaded _ (λ t. same-reopened room.annals mid.annals (later t).0) (λ l. first-same result (first l)))
+    pub same-log : SameLog old.house_log mid.house_log
+    same-log = same-trans old.house_log room.house_log mid.house_log (same-roomier old.house_log room.house_log roomy)
+        (by_test room.house_log.loaded _ (λ t. same-reopened room.house_log mid.house_log (later t).0) (λ l. first-same result (first l)))
 
     pub same-past : past mid ≡ past old
     same-past = ap past_of same-log.log
@@ -97,15 +97,15 @@ module _ {K : Type 0} (tells : K → List Row → Type 0) (doubts : K → Option
     grounds = record { facts = same-log.facts; first = same-log.first; pool = pool ∙ elsewhere.pool }
 
     -- it left the room
-    first-room : (r : Result Loaded NoMemory) → FirstRead tells doubts faults r room.annals mid.annals room.keeper mid.keeper → mid.annals.room ≡ room.annals.room
-    first-room (Ok (Loaded.Found found)) f = ap (λ (a : Annalled). a.room) f.0.opened_so
-    first-room _ f = ap (λ (a : Annalled). a.room) f.0.same
+    first-room : (r : Result Loaded NoMemory) → FirstRead tells doubts faults r room.house_log mid.house_log room.keeper mid.keeper → mid.house_log.room ≡ room.house_log.room
+    first-room (Ok (Loaded.Found found)) f = ap (λ (a : HouseLogView). a.room) f.0.opened_so
+    first-room _ f = ap (λ (a : HouseLogView). a.room) f.0.same
 
-    same-room : mid.annals.room ≡ room.annals.room
-    same-room = by_test room.annals.loaded _ (λ t. ap (λ (a : Annalled). a.room) (later t).0) (λ l. first-room result (first l))
+    same-room : mid.house_log.room ≡ room.house_log.room
+    same-room = by_test room.house_log.loaded _ (λ t. ap (λ (a : HouseLogView). a.room) (later t).0) (λ l. first-room result (first l))
 
     -- the boot can be put behind the log
-    pub ready-now : (found : Found) (listed : List BoardSeen) (cap : ℕ) → holds (past old) ≡ [] → live (past old) ≡ [] → CanBoot tells doubts found mid → listed ≡ [] → length old.places ≤ cap → 2 ≤ room.annals.room
+    pub ready-now : (found : Found) (listed : List BoardSeen) (cap : ℕ) → holds (past old) ≡ [] → live (past old) ≡ [] → CanBoot tells doubts found mid → listed ≡ [] → length old.places ≤ cap → 2 ≤ room.house_log.room
         → boots (past old) + 1 < 2 ^ 32 → plan.time ≤ 2 ^ 63 - 1 → IsReady tells doubts plan found listed cap mid
     ready-now found listed cap h l can e n r few t =
         record {
@@ -119,14 +119,14 @@ module _ {K : Type 0} (tells : K → List Row → Type 0) (doubts : K → Option
           timely = t;
         }
 
-    pub none-noted : mid.annals.loaded ≡ old.annals.loaded → (old.annals.loaded ≡ false → StillTold (tells old.keeper) (tells mid.keeper)) → NoBoot tells old mid
+    pub none-noted : mid.house_log.loaded ≡ old.house_log.loaded → (old.house_log.loaded ≡ false → StillTold (tells old.keeper) (tells mid.keeper)) → NoBoot tells old mid
     none-noted l s = record { grounds = grounds; log = same-log.log; makers = same-log.makers; loaded = l; places = places ∙ elsewhere.places; stays = s }
 
     pub fared-none : faults mid.keeper ≡ faults room.keeper → KeeperFared (signs_of tells faults) old mid
     fared-none e = fared-quiet (signs_of tells faults) old mid (ap keeper_faults same-past) (e ∙ ap faults elsewhere.keeper) told-mid
 
     -- what a boot put behind the log
-    module _ (found : Found) (b : BoardsStarted plan found mid.annals new.annals mid.places new.places) (keeper : new.keeper ≡ mid.keeper) (pool_new : new.pool ≡ mid.pool) where
+    module _ (found : Found) (b : BoardsStarted plan found mid.house_log new.house_log mid.places new.places) (keeper : new.keeper ≡ mid.keeper) (pool_new : new.pool ≡ mid.pool) where
       pub noted : BootNoted plan found b.listed old new
       noted =
           record {
@@ -137,7 +137,7 @@ module _ {K : Type 0} (tells : K → List Row → Type 0) (doubts : K → Option
           }
 
       past-new : past new ≡ next_boot (past mid) plan found b.listed ∷ past mid
-      past-new = appended-past 0 (next_boot (past mid) plan found b.listed) mid.annals (record new.annals { reopened = mid.annals.reopened }) b.appended
+      past-new = appended-past 0 (next_boot (past mid) plan found b.listed) mid.house_log (record new.house_log { reopened = mid.house_log.reopened }) b.appended
 
       pub counts-new : faults old.keeper ≤ faults new.keeper
       counts-new = subst (λ (k : K). faults old.keeper ≤ faults k) (sym keeper) counted
@@ -179,92 +179,92 @@ ungiven-over settled old room mid new e k u =
     subst (λ (x : _). IsUngiven settled old x) (sym k) (subst (λ (x : _). IsUngiven settled x mid) e u)
 
 -- what a boot did that found no room
-pub turn-no_room : {K : Type 0} (tells : K → List Row → Type 0) (faults : K → ℕ) (old room : Housed K) → room.annals ≡ roomier old.annals room.annals → SameElsewhere old room
-    → (NoBoot tells old room × (room.annals.opening ≡ old.annals.opening)) × KeeperFared (signs_of tells faults) old room × (faults old.keeper ≤ faults room.keeper)
+pub turn-no_room : {K : Type 0} (tells : K → List Row → Type 0) (faults : K → ℕ) (old room : Housed K) → room.house_log ≡ roomier old.house_log room.house_log → SameElsewhere old room
+    → (NoBoot tells old room × (room.house_log.opening ≡ old.house_log.opening)) × KeeperFared (signs_of tells faults) old room × (faults old.keeper ≤ faults room.keeper)
 turn-no_room tells faults old room e s =
-    let l = same-roomier old.annals room.annals e in
+    let l = same-roomier old.house_log room.house_log e in
     let k : faults room.keeper ≡ faults old.keeper = ap faults s.keeper in (
       (
         record {
           grounds = record { facts = l.facts; first = l.first; pool = s.pool };
           log = l.log;
           makers = l.makers;
-          loaded = ap (λ (a : Annalled). a.loaded) e;
+          loaded = ap (λ (a : HouseLogView). a.loaded) e;
           places = s.places;
           stays = λ _ all t. subst (λ (x : _). tells x all) s.keeper t;
         },
-        ap (λ (a : Annalled). a.opening) e,
+        ap (λ (a : HouseLogView). a.opening) e,
       ),
       fared-same (signs_of tells faults) old room (ap (λ (es : List Event). keeper_faults (past_of es)) l.log) s.keeper,
       omega (arith, k),
     )
 
 module _ {K : Type 0} (tells : K → List Row → Type 0) (doubts : K → Option Change) (faults : K → ℕ) (settled : K → K → Type 0) (old room mid new : Housed K) (plan : BootPlan)
-    (roomy : room.annals ≡ roomier old.annals room.annals) (elsewhere : SameElsewhere old room)
+    (roomy : room.house_log ≡ roomier old.house_log room.house_log) (elsewhere : SameElsewhere old room)
     (places : mid.places ≡ room.places) (pool : mid.pool ≡ room.pool) (counts : faults room.keeper ≤ faults mid.keeper) (told : ToldBefore tells room.keeper mid.keeper) where
-  loaded-was : room.annals.loaded ≡ old.annals.loaded
-  loaded-was = ap (λ (a : Annalled). a.loaded) roomy
+  loaded-was : room.house_log.loaded ≡ old.house_log.loaded
+  loaded-was = ap (λ (a : HouseLogView). a.loaded) roomy
 
-  opening-was : room.annals.opening ≡ old.annals.opening
-  opening-was = ap (λ (a : Annalled). a.opening) roomy
+  opening-was : room.house_log.opening ≡ old.house_log.opening
+  opening-was = ap (λ (a : HouseLogView). a.opening) roomy
 
   -- want of memory
   pub turn-none : (refused : NoMemory)
-      → (room.annals.loaded ≡ false → FirstRead tells doubts faults (Err refused) room.annals mid.annals room.keeper mid.keeper)
-      → (room.annals.loaded ≡ true → (mid.annals ≡ record room.annals { reopened = true }) × LaterRead tells doubts faults settled (Err refused) room.annals.core.rows room.annals.core.doubt room.keeper mid.keeper)
-      → (NoBoot tells old mid × (mid.annals.opening ≡ old.annals.opening)) × KeeperFared (signs_of tells faults) old mid × (faults old.keeper ≤ faults mid.keeper)
+      → (room.house_log.loaded ≡ false → FirstRead tells doubts faults (Err refused) room.house_log mid.house_log room.keeper mid.keeper)
+      → (room.house_log.loaded ≡ true → (mid.house_log ≡ record room.house_log { reopened = true }) × LaterRead tells doubts faults settled (Err refused) room.house_log.core.rows room.house_log.core.doubt room.keeper mid.keeper)
+      → (NoBoot tells old mid × (mid.house_log.opening ≡ old.house_log.opening)) × KeeperFared (signs_of tells faults) old mid × (faults old.keeper ≤ faults mid.keeper)
   turn-none refused first later =
-      let loaded : mid.annals.loaded ≡ room.annals.loaded = by_test room.annals.loaded _ (λ t. ap (λ (a : Annalled). a.loaded) (later t).0) (λ l. ap (λ (a : Annalled). a.loaded) (first l).0.same) in
-      let opening : mid.annals.opening ≡ room.annals.opening = by_test room.annals.loaded _ (λ t. ap (λ (a : Annalled). a.opening) (later t).0) (λ l. ap (λ (a : Annalled). a.opening) (first l).0.same) in (
+      let loaded : mid.house_log.loaded ≡ room.house_log.loaded = by_test room.house_log.loaded _ (λ t. ap (λ (a : HouseLogView). a.loaded) (later t).0) (λ l. ap (λ (a : HouseLogView). a.loaded) (first l).0.same) in
+      let opening : mid.house_log.opening ≡ room.house_log.opening = by_test room.house_log.loaded _ (λ t. ap (λ (a : HouseLogView). a.opening) (later t).0) (λ l. ap (λ (a : HouseLogView). a.opening) (first l).0.same) in (
         (
           none-noted tells doubts faults settled old room mid new plan roomy elsewhere places pool counts told (Err refused) first later (loaded ∙ loaded-was)
               (λ l all t. subst (λ (k : K). tells k all) elsewhere.keeper ((first (loaded-was ∙ l)).0.told_stay all t)),
           opening ∙ opening-was,
         ),
         fared-none tells doubts faults settled old room mid new plan roomy elsewhere places pool counts told (Err refused) first later
-            (by_test room.annals.loaded _ (λ t. (later t).1.1) (λ l. (first l).1)),
+            (by_test room.house_log.loaded _ (λ t. (later t).1.1) (λ l. (first l).1)),
         counted tells doubts faults settled old room mid new plan roomy elsewhere places pool counts told,
       )
 
   -- other rows
   pub turn-others : (entry : ℕ)
-      → (room.annals.loaded ≡ false → FirstRead tells doubts faults (Ok (Loaded.Bad entry)) room.annals mid.annals room.keeper mid.keeper)
-      → (room.annals.loaded ≡ true → (mid.annals ≡ record room.annals { reopened = true }) × LaterRead tells doubts faults settled (Ok (Loaded.Bad entry)) room.annals.core.rows room.annals.core.doubt room.keeper mid.keeper)
+      → (room.house_log.loaded ≡ false → FirstRead tells doubts faults (Ok (Loaded.Bad entry)) room.house_log mid.house_log room.keeper mid.keeper)
+      → (room.house_log.loaded ≡ true → (mid.house_log ≡ record room.house_log { reopened = true }) × LaterRead tells doubts faults settled (Ok (Loaded.Bad entry)) room.house_log.core.rows room.house_log.core.doubt room.keeper mid.keeper)
       → ReadOthers tells entry old mid × KeeperFared (signs_of tells faults) old mid × (faults old.keeper ≤ faults mid.keeper)
   turn-others entry first later =
-      let loaded : mid.annals.loaded ≡ room.annals.loaded = by_test room.annals.loaded _ (λ t. ap (λ (a : Annalled). a.loaded) (later t).0) (λ l. ap (λ (a : Annalled). a.loaded) (first l).0.same) in (
+      let loaded : mid.house_log.loaded ≡ room.house_log.loaded = by_test room.house_log.loaded _ (λ t. ap (λ (a : HouseLogView). a.loaded) (later t).0) (λ l. ap (λ (a : HouseLogView). a.loaded) (first l).0.same) in (
         record {
           none = none-noted tells doubts faults settled old room mid new plan roomy elsewhere places pool counts told (Ok (Loaded.Bad entry)) first later (loaded ∙ loaded-was)
               (λ l all t. subst (λ (k : K). tells k all) elsewhere.keeper ((first (loaded-was ∙ l)).0.told_stay all t));
           first = λ l.
               let f = (first (loaded-was ∙ l)).0 in
-              (record { at = f.at; faulty = f.faulty; entry_is = f.entry_is }, subst (λ (k : K). AreTold (tells k) (tells mid.keeper) mid.annals.opening) elsewhere.keeper f.told_are);
+              (record { at = f.at; faulty = f.faulty; entry_is = f.entry_is }, subst (λ (k : K). AreTold (tells k) (tells mid.keeper) mid.house_log.opening) elsewhere.keeper f.told_are);
           later = λ t.
               let w = later (loaded-was ∙ t) in
               let o = w.1.0 in (
-                ap (λ (a : Annalled). a.opening) w.0 ∙ opening-was,
+                ap (λ (a : HouseLogView). a.opening) w.0 ∙ opening-was,
                 o.silent,
                 (
                   o.loaded,
-                  subst (λ (rs : List Row). AreOthers entry o.loaded rs old.annals.core.doubt) (ap (λ (a : Annalled). a.core.rows) roomy)
-                      (subst (λ (d : Option Change). AreOthers entry o.loaded room.annals.core.rows d) (ap (λ (a : Annalled). a.core.doubt) roomy) o.others),
+                  subst (λ (rs : List Row). AreOthers entry o.loaded rs old.house_log.core.doubt) (ap (λ (a : HouseLogView). a.core.rows) roomy)
+                      (subst (λ (d : Option Change). AreOthers entry o.loaded room.house_log.core.rows d) (ap (λ (a : HouseLogView). a.core.doubt) roomy) o.others),
                 ),
               );
         },
         fared-none tells doubts faults settled old room mid new plan roomy elsewhere places pool counts told (Ok (Loaded.Bad entry)) first later
-            (by_test room.annals.loaded _ (λ t. (later t).1.1) (λ l. (first l).1)),
+            (by_test room.house_log.loaded _ (λ t. (later t).1.1) (λ l. (first l).1)),
         counted tells doubts faults settled old room mid new plan roomy elsewhere places pool counts told,
       )
 
   -- a boot that couldn't read
-  pub turn-fault : (first : room.annals.loaded ≡ false → FirstRead tells doubts faults (Ok Loaded.Fault) room.annals mid.annals room.keeper mid.keeper)
-      → (later : room.annals.loaded ≡ true → (mid.annals ≡ record room.annals { reopened = true }) × LaterRead tells doubts faults settled (Ok Loaded.Fault) room.annals.core.rows room.annals.core.doubt room.keeper mid.keeper)
-      → (b : BoardsStarted plan Found.Fault mid.annals new.annals mid.places new.places) → new.keeper ≡ mid.keeper → new.pool ≡ mid.pool
+  pub turn-fault : (first : room.house_log.loaded ≡ false → FirstRead tells doubts faults (Ok Loaded.Fault) room.house_log mid.house_log room.keeper mid.keeper)
+      → (later : room.house_log.loaded ≡ true → (mid.house_log ≡ record room.house_log { reopened = true }) × LaterRead tells doubts faults settled (Ok Loaded.Fault) room.house_log.core.rows room.house_log.core.doubt room.keeper mid.keeper)
+      → (b : BoardsStarted plan Found.Fault mid.house_log new.house_log mid.places new.places) → new.keeper ≡ mid.keeper → new.pool ≡ mid.pool
       → ((listed : List BoardSeen) × CouldntRead tells plan listed old new) × KeeperFared (signs_of tells faults) old new × (faults old.keeper ≤ faults new.keeper)
   turn-fault first later b keeper pool_new =
-      let loaded : mid.annals.loaded ≡ room.annals.loaded = by_test room.annals.loaded _ (λ t. ap (λ (a : Annalled). a.loaded) (later t).0) (λ l. ap (λ (a : Annalled). a.loaded) (first l).0.same) in
-      let opening : mid.annals.opening ≡ room.annals.opening = by_test room.annals.loaded _ (λ t. ap (λ (a : Annalled). a.opening) (later t).0) (λ l. ap (λ (a : Annalled). a.opening) (first l).0.same) in
-      let rose : Rose (faults room.keeper) (faults mid.keeper) = by_test room.annals.loaded _ (λ t. (later t).1.1) (λ l. (first l).1) in (
+      let loaded : mid.house_log.loaded ≡ room.house_log.loaded = by_test room.house_log.loaded _ (λ t. ap (λ (a : HouseLogView). a.loaded) (later t).0) (λ l. ap (λ (a : HouseLogView). a.loaded) (first l).0.same) in
+      let opening : mid.house_log.opening ≡ room.house_log.opening = by_test room.house_log.loaded _ (λ t. ap (λ (a : HouseLogView). a.opening) (later t).0) (λ l. ap (λ (a : HouseLogView). a.opening) (first l).0.same) in
+      let rose : Rose (faults room.keeper) (faults mid.keeper) = by_test room.house_log.loaded _ (λ t. (later t).1.1) (λ l. (first l).1) in (
         (
           b.listed,
           record {
@@ -280,46 +280,46 @@ module _ {K : Type 0} (tells : K → List Row → Type 0) (doubts : K → Option
 
   -- one that went well
   module _ (found : Found)
-      (first : room.annals.loaded ≡ false → FirstRead tells doubts faults (Ok (Loaded.Found found)) room.annals mid.annals room.keeper mid.keeper)
-      (later : room.annals.loaded ≡ true → (mid.annals ≡ record room.annals { reopened = true }) × LaterRead tells doubts faults settled (Ok (Loaded.Found found)) room.annals.core.rows room.annals.core.doubt room.keeper mid.keeper)
-      (b : BoardsStarted plan found mid.annals new.annals mid.places new.places) (keeper : new.keeper ≡ mid.keeper) (pool_new : new.pool ≡ mid.pool)
-      (rows_are : new.annals.core.rows ≡ rows_found found mid.annals.core.doubt mid.annals.core.rows) where
+      (first : room.house_log.loaded ≡ false → FirstRead tells doubts faults (Ok (Loaded.Found found)) room.house_log mid.house_log room.keeper mid.keeper)
+      (later : room.house_log.loaded ≡ true → (mid.house_log ≡ record room.house_log { reopened = true }) × LaterRead tells doubts faults settled (Ok (Loaded.Found found)) room.house_log.core.rows room.house_log.core.doubt room.keeper mid.keeper)
+      (b : BoardsStarted plan found mid.house_log new.house_log mid.places new.places) (keeper : new.keeper ≡ mid.keeper) (pool_new : new.pool ≡ mid.pool)
+      (rows_are : new.house_log.core.rows ≡ rows_found found mid.house_log.core.doubt mid.house_log.core.rows) where
     was-read : is_found_fault found ≡ false
-    was-read = by_test room.annals.loaded _ (λ t. (later t).1.0.well) (λ l. ap is_found_fault (first l).0.found_is)
+    was-read = by_test room.house_log.loaded _ (λ t. (later t).1.0.well) (λ l. ap is_found_fault (first l).0.found_is)
 
-    now-loaded : mid.annals.loaded ≡ true
-    now-loaded = by_test room.annals.loaded _ (λ t. ap (λ (a : Annalled). a.loaded) (later t).0 ∙ t) (λ l. ap (λ (a : Annalled). a.loaded) (first l).0.opened_so)
+    now-loaded : mid.house_log.loaded ≡ true
+    now-loaded = by_test room.house_log.loaded _ (λ t. ap (λ (a : HouseLogView). a.loaded) (later t).0 ∙ t) (λ l. ap (λ (a : HouseLogView). a.loaded) (first l).0.opened_so)
 
-    mid-keeps : HasRows tells doubts mid.keeper (rows_found found mid.annals.core.doubt mid.annals.core.rows) None
+    mid-keeps : HasRows tells doubts mid.keeper (rows_found found mid.house_log.core.doubt mid.house_log.core.rows) None
     mid-keeps =
-        by_test room.annals.loaded _
-        (λ t. subst (λ (a : Annalled). HasRows tells doubts mid.keeper (rows_found found a.core.doubt a.core.rows) None) (sym (later t).0) (later t).1.0.keeps)
+        by_test room.house_log.loaded _
+        (λ t. subst (λ (a : HouseLogView). HasRows tells doubts mid.keeper (rows_found found a.core.doubt a.core.rows) None) (sym (later t).0) (later t).1.0.keeps)
         (λ l.
         let f = (first l).0 in
-        let all : rows_found found mid.annals.core.doubt mid.annals.core.rows ≡ mid.annals.opening =
-        ap (λ (x : Found). rows_found x mid.annals.core.doubt mid.annals.core.rows) f.found_is ∙ ap (λ (a : Annalled). a.core.rows) f.opened_so in
+        let all : rows_found found mid.house_log.core.doubt mid.house_log.core.rows ≡ mid.house_log.opening =
+        ap (λ (x : Found). rows_found x mid.house_log.core.doubt mid.house_log.core.rows) f.found_is ∙ ap (λ (a : HouseLogView). a.core.rows) f.opened_so in
         subst (λ (rs : List Row). HasRows tells doubts mid.keeper rs None) (sym all) f.keeps)
 
-    opened-well : MatchBool old.annals.loaded (new.annals.opening ≡ old.annals.opening) (IsHistory new.annals.opening × AreTold (tells old.keeper) (tells new.keeper) new.annals.opening)
+    opened-well : MatchBool old.house_log.loaded (new.house_log.opening ≡ old.house_log.opening) (IsHistory new.house_log.opening × AreTold (tells old.keeper) (tells new.keeper) new.house_log.opening)
     opened-well =
-        by_test old.annals.loaded _
-        (λ t. rw t (b.appended.same.opening ∙ ap (λ (a : Annalled). a.opening) (later (loaded-was ∙ t)).0 ∙ opening-was))
+        by_test old.house_log.loaded _
+        (λ t. rw t (b.appended.same.opening ∙ ap (λ (a : HouseLogView). a.opening) (later (loaded-was ∙ t)).0 ∙ opening-was))
         (λ l.
         let f = (first (loaded-was ∙ l)).0 in
-        let o : mid.annals.opening ≡ new.annals.opening = sym b.appended.same.opening in
-        let told_are : AreTold (tells old.keeper) (tells new.keeper) new.annals.opening =
-        subst (λ (k : K). AreTold (tells old.keeper) (tells k) new.annals.opening) (sym keeper)
-        (subst (λ (k : K). AreTold (tells k) (tells mid.keeper) new.annals.opening) elsewhere.keeper
+        let o : mid.house_log.opening ≡ new.house_log.opening = sym b.appended.same.opening in
+        let told_are : AreTold (tells old.keeper) (tells new.keeper) new.house_log.opening =
+        subst (λ (k : K). AreTold (tells old.keeper) (tells k) new.house_log.opening) (sym keeper)
+        (subst (λ (k : K). AreTold (tells k) (tells mid.keeper) new.house_log.opening) elsewhere.keeper
         (subst (λ (rs : List Row). AreTold (tells room.keeper) (tells mid.keeper) rs) o f.told_are)) in
         rw l (subst IsHistory o f.history, told_are))
 
     -- what the reopened keeper showed
-    shown-well : old.annals.loaded ≡ true → WasShown tells settled new.annals.core.rows old.keeper new.keeper
+    shown-well : old.house_log.loaded ≡ true → WasShown tells settled new.house_log.core.rows old.keeper new.keeper
     shown-well t =
         let w = later (loaded-was ∙ t) in
-        let same : new.annals.core.rows ≡ rows_found found room.annals.core.doubt room.annals.core.rows = rows_are ∙ ap (λ (a : Annalled). rows_found found a.core.doubt a.core.rows) w.0 in
-        subst (λ (k : K). WasShown tells settled new.annals.core.rows old.keeper k) (sym keeper)
-        (subst (λ (k : K). WasShown tells settled new.annals.core.rows k mid.keeper) elsewhere.keeper
+        let same : new.house_log.core.rows ≡ rows_found found room.house_log.core.doubt room.house_log.core.rows = rows_are ∙ ap (λ (a : HouseLogView). rows_found found a.core.doubt a.core.rows) w.0 in
+        subst (λ (k : K). WasShown tells settled new.house_log.core.rows old.keeper k) (sym keeper)
+        (subst (λ (k : K). WasShown tells settled new.house_log.core.rows k mid.keeper) elsewhere.keeper
         (subst (λ (rs : List Row). WasShown tells settled rs room.keeper mid.keeper) (sym same) w.1.0.shown))
 
     pub turn-well : ((f : Found) × (listed : List BoardSeen) × WentWell tells doubts settled plan f listed old new) × KeeperFared (signs_of tells faults) old new × (faults old.keeper ≤ faults new.keeper)
@@ -331,13 +331,13 @@ module _ {K : Type 0} (tells : K → List Row → Type 0) (doubts : K → Option
           noted = noted tells doubts faults settled old room mid new plan roomy elsewhere places pool counts told (Ok (Loaded.Found found)) first later found b keeper pool_new;
           read = was-read;
           loaded = b.appended.same.loaded ∙ now-loaded;
-          reopened = b.reopened ∙ still-read found mid.annals.reopened was-read;
+          reopened = b.reopened ∙ still-read found mid.house_log.reopened was-read;
           opening = opened-well;
           shown = shown-well;
-          keeps = subst (λ (k : K). HasRows tells doubts k new.annals.core.rows None) (sym keeper) (subst (λ (rs : List Row). HasRows tells doubts mid.keeper rs None) (sym rows_are) mid-keeps);
+          keeps = subst (λ (k : K). HasRows tells doubts k new.house_log.core.rows None) (sym keeper) (subst (λ (rs : List Row). HasRows tells doubts mid.keeper rs None) (sym rows_are) mid-keeps);
         },
       ),
       fared-well tells doubts faults settled old room mid new plan roomy elsewhere places pool counts told (Ok (Loaded.Found found)) first later found b keeper pool_new was-read
-          (by_test room.annals.loaded _ (λ t. (later t).1.1) (λ l. (first l).1)),
+          (by_test room.house_log.loaded _ (λ t. (later t).1.1) (λ l. (first l).1)),
       counts-new tells doubts faults settled old room mid new plan roomy elsewhere places pool counts told (Ok (Loaded.Found found)) first later found b keeper pool_new,
     )

@@ -15,13 +15,13 @@ use Rattle.daemon_core.specs.declared.claimed.Taken.{Taken}
 use Rattle.daemon_core.specs.declared.fetched.Fetched.{Fetched}
 use Rattle.daemon_core.specs.declared.hold.Ticket.{Ticket}
 use Rattle.daemon_core.specs.declared.stop.Stop.{Stop}
-use Rattle.daemon_core.specs.Annals.{Appended, IsAnnals, Ready, roomier}
+use Rattle.daemon_core.specs.HouseLog.{Appended, IsHouseLog, Ready, roomier}
 use Rattle.daemon_core.specs.Boards.{BoardStands}
 use Rattle.daemon_core.specs.Claims.{ClaimGave, IsToStore, MayClaim, RoomierBoard, RoomierPlaces, place_given, places_without, plugin_at}
 use Rattle.daemon_core.specs.Fetches.{IsPayloadOf, block_count}
 use Rattle.daemon_core.specs.Holds.{held_by}
 use Rattle.daemon_core.specs.House.{IsHouse}
-use Rattle.daemon_core.specs.Housed.{Annalled, Housed, past, past_in, rows_before}
+use Rattle.daemon_core.specs.Housed.{HouseLogView, Housed, past, past_in, rows_before}
 use Rattle.daemon_core.specs.Keeping.{keeper_faults}
 use Rattle.daemon_core.specs.Returns.{place_at}
 use Rattle.daemon_core.specs.Turns.{KeeperFared, Signs, Turned}
@@ -33,17 +33,17 @@ use Rattle.daemon_core.proofs.ClaimTurns.{claim-board, claim-taken, takes_event}
 -- ---- after a turn began
 
 -- The client may claim.
-pub entered-may : (old mid : Annalled) (client blocks : ℕ) (ticket : Ticket) → Ready 16 old mid → 0 < boots (past_in old) → hold (past_in old) client ≡ Some (held_by ticket blocks) → ticket.pending ≡ None → MayClaim mid client ticket blocks
+pub entered-may : (old mid : HouseLogView) (client blocks : ℕ) (ticket : Ticket) → Ready 16 old mid → 0 < boots (past_in old) → hold (past_in old) client ≡ Some (held_by ticket blocks) → ticket.pending ≡ None → MayClaim mid client ticket blocks
 entered-may old mid client blocks ticket r n h p =
     let m : MayClaim (roomier old mid) client ticket blocks =
     record { loaded = r.loaded; runs = record { on = r.runs.on; below = r.runs.below }; booted = n; held_is = h; asked = p; room = r.room; row_room = r.row_room } in
-    subst (λ (a : Annalled). MayClaim a client ticket blocks) (sym r.same) m
+    subst (λ (a : HouseLogView). MayClaim a client ticket blocks) (sym r.same) m
 
 -- What came of the turn since, came of all of it.
-pub turned-after : {A : Type 0} (client events : ℕ) (event : A → Event) (result : Result A Stop) (old mid new : Annalled) → Ready events old mid → Turned client event result mid new → Turned client event result old new
+pub turned-after : {A : Type 0} (client events : ℕ) (event : A → Event) (result : Result A Stop) (old mid new : HouseLogView) → Ready events old mid → Turned client event result mid new → Turned client event result old new
 turned-after client events event (Ok answer) old mid new r t = (r.runs, unchanged-appended client (event answer) old mid new (roomier-same old mid r.same) t.1)
 turned-after client events event (Err Stop.Off) old mid new r (inl t) =
-    let same : off (past_in mid) ≡ off (past_in old) = ap (λ (a : Annalled). off (past_in a)) r.same in
+    let same : off (past_in mid) ≡ off (past_in old) = ap (λ (a : HouseLogView). off (past_in a)) r.same in
     let bad : true ≡ false = sym t.0 ∙ same ∙ r.runs.on in cc
 turned-after client events event (Err Stop.Off) old mid new r (inr t) = inr (r.runs.on, unchanged-appended client Event.Cut old mid new (roomier-same old mid r.same) t.1)
 turned-after client events event (Err Stop.NoMemory) old mid new r t = (r.runs.on, unchanged-on old mid new (roomier-same old mid r.same) t.1)
@@ -65,9 +65,9 @@ pub faults-after : {K : Type 0} (signs : Signs K) (old mid new : Housed K) → k
 faults-after signs old mid new e k c h = fared-both signs old mid new (fared-same signs old mid e k) h c
 
 -- What became of a claim that took its entry.
-pub gave-taken : {K : Type 0} (told : K → List Row → Type 0) (doubted : K → Option Change) (client : ℕ) (ticket : Ticket) (payload : SealedBytes) (row : Row) (number : ℕ) (taken : Taken) (old new : Housed K) → IsHouse told doubted old → IsAnnals old.annals → MayClaim old.annals client ticket payload.count → IsPayloadOf old.annals.facts ticket.release payload → IsToStore old.annals client ticket row number → number < length old.places
-    → IfSome (place_at old.places number).board (λ b. 8 ≤ b.room) → Appended client (takes_event client ticket payload row) old.annals new.annals → new.pool ≡ old.pool → new.places ≡ places_without old.places number → (place_at old.places number).board ≡ Some taken.board → taken.entry ≡ row.entry → taken.payload ≡ payload
-    → taken.plugin ≡ place_given (unwrap_or (plugin_at new.annals.facts number) 0) → trace new.annals.facts (rows_before new.annals) row.entry (past new) ≡ Some taken.trace
+pub gave-taken : {K : Type 0} (told : K → List Row → Type 0) (doubted : K → Option Change) (client : ℕ) (ticket : Ticket) (payload : SealedBytes) (row : Row) (number : ℕ) (taken : Taken) (old new : Housed K) → IsHouse told doubted old → IsHouseLog old.house_log → MayClaim old.house_log client ticket payload.count → IsPayloadOf old.house_log.facts ticket.release payload → IsToStore old.house_log client ticket row number → number < length old.places
+    → IfSome (place_at old.places number).board (λ b. 8 ≤ b.room) → Appended client (takes_event client ticket payload row) old.house_log new.house_log → new.pool ≡ old.pool → new.places ≡ places_without old.places number → (place_at old.places number).board ≡ Some taken.board → taken.entry ≡ row.entry → taken.payload ≡ payload
+    → taken.plugin ≡ place_given (unwrap_or (plugin_at new.house_log.facts number) 0) → trace new.house_log.facts (rows_before new.house_log) row.entry (past new) ≡ Some taken.trace
     → ClaimGave client ticket (Fetched.Whole payload) (Ok (Claimed.Taken taken)) old new
 gave-taken told doubted client ticket payload row number taken old new h k m p s within marks a pool places board entry same plugin traced =
     let b = claim-board told doubted client payload.count ticket row number old h k m s within in
@@ -76,5 +76,5 @@ gave-taken told doubted client ticket payload row number taken old new h k m p s
     let room : 8 ≤ taken.board.room = subst (λ (o : Option BoardState). IfSome o (λ x. 8 ≤ x.room)) board marks in (
       ap Fetched.Whole (sym same),
       pool,
-      (number, claim-taken old.annals new.annals client ticket payload row number taken k m p s a (subst (λ (x : BoardState). BoardStands old.annals.facts old.annals.first (rows_before old.annals) (past old) number x []) is b.2) room entry same plugin traced, places-same (places_without old.places number) new.places places, subst (λ (o : Option BoardState). RoomierBoard o (Some taken.board)) (sym board) (board-itself (Some taken.board))),
+      (number, claim-taken old.house_log new.house_log client ticket payload row number taken k m p s a (subst (λ (x : BoardState). BoardStands old.house_log.facts old.house_log.first (rows_before old.house_log) (past old) number x []) is b.2) room entry same plugin traced, places-same (places_without old.places number) new.places places, subst (λ (o : Option BoardState). RoomierBoard o (Some taken.board)) (sym board) (board-itself (Some taken.board))),
     )

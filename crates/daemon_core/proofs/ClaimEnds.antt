@@ -24,10 +24,10 @@ use Rattle.update_log.specs.Known.{board_of, doubt, is_board_of, row_of, rows}
 use Rattle.update_log.specs.Legal.{EndAllowed}
 use Rattle.update_log.specs.Pasts.{boots, off}
 use Rattle.update_log.specs.Shows.{IsPrefix, digest_of, marks, told}
-use Rattle.daemon_core.specs.Annals.{Appended, IsAllowedSo, IsAnnals, Runs}
+use Rattle.daemon_core.specs.HouseLog.{Appended, IsAllowedSo, IsHouseLog, Runs}
 use Rattle.daemon_core.specs.Boards.{BoardIsHome, PlaceStands, is_out}
 use Rattle.daemon_core.specs.House.{IsHouse}
-use Rattle.daemon_core.specs.Housed.{Annalled, Housed, Place, past, past_in, rows_before}
+use Rattle.daemon_core.specs.Housed.{HouseLogView, Housed, Place, past, past_in, rows_before}
 use Rattle.daemon_core.specs.Keeping.{KeepsSo}
 use Rattle.daemon_core.specs.Owed.{owed}
 use Rattle.daemon_core.specs.Returns.{SameBoards, StepEnds, new_marks, number_of, place_at}
@@ -111,22 +111,22 @@ end-place_own facts first opening past client entry op outcome ms shown number p
 pub few-told : (op : Op) (entry : ℕ) (digest : List ℕ) (ms : List Mark) → IsPrefix ms (marks op entry digest) → length ms ≤ 2
 few-told op entry digest ms p = let a = prefix-shorter ms (marks op entry digest) p in let b = marks-few op entry digest in omega (arith, a, b)
 
--- The step's end over annals.
-abbrev pub EndsIn : Annalled → ℕ → ℕ → Op → Result (Unit {0}) BoardFault → ℕ → BoardState → Type 0
+-- The step's end over a house log.
+abbrev pub EndsIn : HouseLogView → ℕ → ℕ → Op → Result (Unit {0}) BoardFault → ℕ → BoardState → Type 0
 EndsIn a client entry op outcome number b = StepEnds a.facts a.first (rows_before a) (past_in a) client entry op outcome number b
 
-abbrev pub marks_in : Annalled → ℕ → BoardState → List Mark
+abbrev pub marks_in : HouseLogView → ℕ → BoardState → List Mark
 marks_in a entry b = new_marks a.facts (rows_before a) (past_in a) entry b.journal
 
-abbrev pub end_event : Annalled → ℕ → ℕ → Op → Result (Unit {0}) BoardFault → BoardState → Event
+abbrev pub end_event : HouseLogView → ℕ → ℕ → Op → Result (Unit {0}) BoardFault → BoardState → Event
 end_event a client entry op outcome b = Event.End client entry op outcome (marks_in a entry b) (view_of b.condition)
 
-end-allowed : (a : Annalled) (client entry : ℕ) (op : Op) (outcome : Result (Unit {0}) BoardFault) (number : ℕ) (b : BoardState) → EndsIn a client entry op outcome number b → IsAllowedSo a.facts a.first (rows_before a) (past_in a) (end_event a client entry op outcome b)
+end-allowed : (a : HouseLogView) (client entry : ℕ) (op : Op) (outcome : Result (Unit {0}) BoardFault) (number : ℕ) (b : BoardState) → EndsIn a client entry op outcome number b → IsAllowedSo a.facts a.first (rows_before a) (past_in a) (end_event a client entry op outcome b)
 end-allowed a client entry op outcome number b s = λ c f g.
     subst (λ (x : Facts). EndAllowed x c.first (rows_before a) (past_in a) client entry op outcome (marks_in a entry b) (view_of b.condition)) (sym f)
     (subst (λ (x : List Seen). EndAllowed a.facts x (rows_before a) (past_in a) client entry op outcome (marks_in a entry b) (view_of b.condition)) (sym g) s.allowed)
 
-pub end-ready : (a : Annalled) (client entry : ℕ) (op : Op) (outcome : Result (Unit {0}) BoardFault) (number : ℕ) (b : BoardState) → IsAnnals a → Runs a → 0 < boots (past_in a) → EndsIn a client entry op outcome number b → IsReady a (end_event a client entry op outcome b)
+pub end-ready : (a : HouseLogView) (client entry : ℕ) (op : Op) (outcome : Result (Unit {0}) BoardFault) (number : ℕ) (b : BoardState) → IsHouseLog a → Runs a → 0 < boots (past_in a) → EndsIn a client entry op outcome number b → IsReady a (end_event a client entry op outcome b)
 end-ready a client entry op outcome number b k r n s =
     spent-ready a (end_event a client entry op outcome b) k
     (runs-takes a (end_event a client entry op outcome b) r n refl)
@@ -134,94 +134,94 @@ end-ready a client entry op outcome number b k r n s =
     refl (le_refl (length (rows a.facts (rows_before a) (past_in a))))
 
 -- the live entry of the step
-pub end-live : (a : Annalled) (client entry : ℕ) (op : Op) (outcome : Result (Unit {0}) BoardFault) (number : ℕ) (b : BoardState) → IsAnnals a → Runs a → EndsIn a client entry op outcome number b → (l : LiveEntry) × (live_entry (past_in a) entry ≡ Some l)
+pub end-live : (a : HouseLogView) (client entry : ℕ) (op : Op) (outcome : Result (Unit {0}) BoardFault) (number : ℕ) (b : BoardState) → IsHouseLog a → Runs a → EndsIn a client entry op outcome number b → (l : LiveEntry) × (live_entry (past_in a) entry ≡ Some l)
 end-live a client entry op outcome number b k r s =
     let w = k.legal in open-entry_live w.0 (rows_before a) (past_in a) entry (record { client = client; entry = entry; op = op }) w.3 r.on s.allowed.open_is
 
 -- After the end of a step.
-pub house-ended : {K : Type 0} (told : K → List Row → Type 0) (doubted : K → Option Change) (client entry : ℕ) (op : Op) (outcome : Result (Unit {0}) BoardFault) (number : ℕ) (b : BoardState) (old : Housed K) (new : Annalled) → IsHouse told doubted old → IsAnnals old.annals → IsAnnals new → Appended client (end_event old.annals client entry op outcome b) old.annals new → old.annals.loaded ≡ true → Runs old.annals → EndsIn old.annals client entry op outcome number b
-    → IsHouse told doubted (record old { annals = new; places = slice_set old.places number (record (place_at old.places number) { told = length b.journal }) })
+pub house-ended : {K : Type 0} (told : K → List Row → Type 0) (doubted : K → Option Change) (client entry : ℕ) (op : Op) (outcome : Result (Unit {0}) BoardFault) (number : ℕ) (b : BoardState) (old : Housed K) (new : HouseLogView) → IsHouse told doubted old → IsHouseLog old.house_log → IsHouseLog new → Appended client (end_event old.house_log client entry op outcome b) old.house_log new → old.house_log.loaded ≡ true → Runs old.house_log → EndsIn old.house_log client entry op outcome number b
+    → IsHouse told doubted (record old { house_log = new; places = slice_set old.places number (record (place_at old.places number) { told = length b.journal }) })
 house-ended told doubted client entry op outcome number b old new h o k a loaded r s =
-    house-next told doubted client (end_event old.annals client entry op outcome b) old (record old { annals = new; places = slice_set old.places number (record (place_at old.places number) { told = length b.journal }) }) h a k
+    house-next told doubted client (end_event old.house_log client entry op outcome b) old (record old { house_log = new; places = slice_set old.places number (record (place_at old.places number) { told = length b.journal }) }) h a k
     (record {
       count = length-set old.places number (record (place_at old.places number) { told = length b.journal });
       places = λ m place e. at m place (get-set old.places number m (record (place_at old.places number) { told = length b.journal }) place e);
       loaded = loaded;
       kept =
-          subst (λ (x : List Row). KeepsSo old.annals.reopened told doubted old.keeper x (doubt old.annals.facts (rows_before old.annals) (past old))) o.stands.rows
-          (subst (λ (x : Option Change). KeepsSo old.annals.reopened told doubted old.keeper old.annals.core.rows x) o.stands.doubt (h.kept loaded));
+          subst (λ (x : List Row). KeepsSo old.house_log.reopened told doubted old.keeper x (doubt old.house_log.facts (rows_before old.house_log) (past old))) o.stands.rows
+          (subst (λ (x : Option Change). KeepsSo old.house_log.reopened told doubted old.keeper old.house_log.core.rows x) o.stands.doubt (h.kept loaded));
       capacity = refl;
       free = h.free;
     })
   where
     within : number < length old.places
-    within = (let w = number-within old.annals.facts (rows old.annals.facts (rows_before old.annals) (past old)) entry number s.board in let e = h.count in omega (arith, w, e))
+    within = (let w = number-within old.house_log.facts (rows old.house_log.facts (rows_before old.house_log) (past old)) entry number s.board in let e = h.count in omega (arith, w, e))
 
-    at : (m : ℕ) (place : Place) → ((m ≡ number) × (record (place_at old.places number) { told = length b.journal } ≡ place)) ⊎ ((m ≢ number) × (slice_get old.places m ≡ Some place)) → PlaceStands old.annals.facts old.annals.first (rows_before old.annals) (end_event old.annals client entry op outcome b ∷ past old) m place
+    at : (m : ℕ) (place : Place) → ((m ≡ number) × (record (place_at old.places number) { told = length b.journal } ≡ place)) ⊎ ((m ≢ number) × (slice_get old.places m ≡ Some place)) → PlaceStands old.house_log.facts old.house_log.first (rows_before old.house_log) (end_event old.house_log client entry op outcome b ∷ past old) m place
     at m place (inl e) =
-        let l = end-live old.annals client entry op outcome number b o r s in
-        let was : PlaceStands old.annals.facts old.annals.first (rows_before old.annals) (past old) number (place_at old.places number) = h.places number (place_at old.places number) (place-found old.places number within) in
-        let own : is_board_of old.annals.facts (rows old.annals.facts (rows_before old.annals) (past old)) entry number ≡ true = own-board old.annals.facts (rows old.annals.facts (rows_before old.annals) (past old)) entry number s.board in
-        let now : PlaceStands old.annals.facts old.annals.first (rows_before old.annals) (end_event old.annals client entry op outcome b ∷ past old) number (record (place_at old.places number) { told = length b.journal }) =
-        end-place_own old.annals.facts old.annals.first (rows_before old.annals) (past old) client entry op outcome (marks_in old.annals entry b) (view_of b.condition) number (place_at old.places number) l.0 b.journal l.1 own s.journal was in
-        subst (λ (n : ℕ). PlaceStands old.annals.facts old.annals.first (rows_before old.annals) (end_event old.annals client entry op outcome b ∷ past old) n place) (sym e.0)
-        (subst (λ (p : Place). PlaceStands old.annals.facts old.annals.first (rows_before old.annals) (end_event old.annals client entry op outcome b ∷ past old) number p) e.1 now)
+        let l = end-live old.house_log client entry op outcome number b o r s in
+        let was : PlaceStands old.house_log.facts old.house_log.first (rows_before old.house_log) (past old) number (place_at old.places number) = h.places number (place_at old.places number) (place-found old.places number within) in
+        let own : is_board_of old.house_log.facts (rows old.house_log.facts (rows_before old.house_log) (past old)) entry number ≡ true = own-board old.house_log.facts (rows old.house_log.facts (rows_before old.house_log) (past old)) entry number s.board in
+        let now : PlaceStands old.house_log.facts old.house_log.first (rows_before old.house_log) (end_event old.house_log client entry op outcome b ∷ past old) number (record (place_at old.places number) { told = length b.journal }) =
+        end-place_own old.house_log.facts old.house_log.first (rows_before old.house_log) (past old) client entry op outcome (marks_in old.house_log entry b) (view_of b.condition) number (place_at old.places number) l.0 b.journal l.1 own s.journal was in
+        subst (λ (n : ℕ). PlaceStands old.house_log.facts old.house_log.first (rows_before old.house_log) (end_event old.house_log client entry op outcome b ∷ past old) n place) (sym e.0)
+        (subst (λ (p : Place). PlaceStands old.house_log.facts old.house_log.first (rows_before old.house_log) (end_event old.house_log client entry op outcome b ∷ past old) number p) e.1 now)
     at m place (inr e) =
-        end-place_other old.annals.facts old.annals.first (rows_before old.annals) (past old) client entry op outcome (marks_in old.annals entry b) (view_of b.condition) m place
-        (other-number old.annals.facts (rows old.annals.facts (rows_before old.annals) (past old)) entry number m s.board e.0)
+        end-place_other old.house_log.facts old.house_log.first (rows_before old.house_log) (past old) client entry op outcome (marks_in old.house_log entry b) (view_of b.condition) m place
+        (other-number old.house_log.facts (rows old.house_log.facts (rows_before old.house_log) (past old)) entry number m s.board e.0)
         (h.places m place e.1)
 
 -- What the code reads before the end of a step.
-pub record EndPlan (a : Annalled) (places : List Place) (entry number n : ℕ) (b : BoardState) : Type 0 where
+pub record EndPlan (a : HouseLogView) (places : List Place) (entry number n : ℕ) (b : BoardState) : Type 0 where
   pub number_is : n ≡ number
   pub within : n < length places
   pub behind : (place_at places n).told ≤ length b.journal
   pub marks_are : drop (place_at places n).told b.journal ≡ marks_in a entry b
   pub few : length (drop (place_at places n).told b.journal) ≤ 2
 
-pub end-plan : {K : Type 0} (told : K → List Row → Type 0) (doubted : K → Option Change) (client entry : ℕ) (op : Op) (outcome : Result (Unit {0}) BoardFault) (number n : ℕ) (b : BoardState) (h : Housed K) → IsHouse told doubted h → IsAnnals h.annals → EndsIn h.annals client entry op outcome number b
-    → n ≡ unwrap_or (board_of h.annals.facts h.annals.core.rows entry) 0 → EndPlan h.annals h.places entry number n b
+pub end-plan : {K : Type 0} (told : K → List Row → Type 0) (doubted : K → Option Change) (client entry : ℕ) (op : Op) (outcome : Result (Unit {0}) BoardFault) (number n : ℕ) (b : BoardState) (h : Housed K) → IsHouse told doubted h → IsHouseLog h.house_log → EndsIn h.house_log client entry op outcome number b
+    → n ≡ unwrap_or (board_of h.house_log.facts h.house_log.core.rows entry) 0 → EndPlan h.house_log h.places entry number n b
 end-plan told' doubted client entry op outcome number n b h k o s e =
     record {
       number_is = num;
       within = omega (arith, num, within);
       behind = omega (arith, at, long);
       marks_are = marks;
-      few = subst (λ (ms : List Mark). length ms ≤ 2) (sym marks) (few-told op entry (digest_of (rows h.annals.facts (rows_before h.annals) (past h)) entry) (marks_in h.annals entry b) s.allowed.told_is);
+      few = subst (λ (ms : List Mark). length ms ≤ 2) (sym marks) (few-told op entry (digest_of (rows h.house_log.facts (rows_before h.house_log) (past h)) entry) (marks_in h.house_log entry b) s.allowed.told_is);
     }
   where
-    all : board_of h.annals.facts h.annals.core.rows entry ≡ Some number
-    all = ap (λ (rs : List Row). board_of h.annals.facts rs entry) o.stands.rows ∙ s.board
+    all : board_of h.house_log.facts h.house_log.core.rows entry ≡ Some number
+    all = ap (λ (rs : List Row). board_of h.house_log.facts rs entry) o.stands.rows ∙ s.board
 
     num : n ≡ number
     num = e ∙ ap (λ (x : Option ℕ). unwrap_or x 0) all
 
     within : number < length h.places
-    within = (let w = number-within h.annals.facts (rows h.annals.facts (rows_before h.annals) (past h)) entry number s.board in let c = k.count in omega (arith, w, c))
+    within = (let w = number-within h.house_log.facts (rows h.house_log.facts (rows_before h.house_log) (past h)) entry number s.board in let c = k.count in omega (arith, w, c))
 
-    was : PlaceStands h.annals.facts h.annals.first (rows_before h.annals) (past h) number (place_at h.places number)
+    was : PlaceStands h.house_log.facts h.house_log.first (rows_before h.house_log) (past h) number (place_at h.places number)
     was = k.places number (place_at h.places number) (place-found h.places number within)
 
-    at : (place_at h.places n).told ≡ length (told h.annals.facts (rows_before h.annals) (past h) number)
+    at : (place_at h.places n).told ≡ length (told h.house_log.facts (rows_before h.house_log) (past h) number)
     at = ap (λ (m : ℕ). (place_at h.places m).told) num ∙ was.told
 
-    long : length (told h.annals.facts (rows_before h.annals) (past h) number) ≤ length b.journal
-    long = (let j = ap length s.journal in let l = length-append (told h.annals.facts (rows_before h.annals) (past h) number) (marks_in h.annals entry b) in omega (arith, j, l))
+    long : length (told h.house_log.facts (rows_before h.house_log) (past h) number) ≤ length b.journal
+    long = (let j = ap length s.journal in let l = length-append (told h.house_log.facts (rows_before h.house_log) (past h) number) (marks_in h.house_log entry b) in omega (arith, j, l))
 
-    own : number_of h.annals.facts (rows_before h.annals) (past h) entry ≡ number
+    own : number_of h.house_log.facts (rows_before h.house_log) (past h) entry ≡ number
     own = ap (λ (x : Option ℕ). unwrap_or x 0) s.board
 
-    marks : drop (place_at h.places n).told b.journal ≡ marks_in h.annals entry b
-    marks = ap (λ (m : ℕ). drop m b.journal) (at ∙ ap (λ (m : ℕ). length (told h.annals.facts (rows_before h.annals) (past h) m)) (sym own))
+    marks : drop (place_at h.places n).told b.journal ≡ marks_in h.house_log entry b
+    marks = ap (λ (m : ℕ). drop m b.journal) (at ∙ ap (λ (m : ℕ). length (told h.house_log.facts (rows_before h.house_log) (past h) m)) (sym own))
 
 -- The event that tells and shows that.
-pub end-event_is : (a : Annalled) (client entry : ℕ) (op : Op) (outcome : Result (Unit {0}) BoardFault) (b : BoardState) (ms : List Mark) (shown : Seen) → ms ≡ marks_in a entry b → shown ≡ view_of b.condition → Event.End client entry op outcome ms shown ≡ end_event a client entry op outcome b
+pub end-event_is : (a : HouseLogView) (client entry : ℕ) (op : Op) (outcome : Result (Unit {0}) BoardFault) (b : BoardState) (ms : List Mark) (shown : Seen) → ms ≡ marks_in a entry b → shown ≡ view_of b.condition → Event.End client entry op outcome ms shown ≡ end_event a client entry op outcome b
 end-event_is a client entry op outcome b ms shown e f = ap (λ (x : List Mark). Event.End client entry op outcome x shown) e ∙ ap (λ (x : Seen). Event.End client entry op outcome (marks_in a entry b) x) f
 
 -- A cut at the end of a step has room.
-pub end-spared : (a b : Annalled) (client entry : ℕ) (op : Op) (outcome : Result (Unit {0}) BoardFault) (number : ℕ) (board : BoardState) → a ≡ b → IsAnnals a → EndsIn b client entry op outcome number board → off (past_in b) ≡ false → owed (Event.Cut ∷ past_in b) + 1 ≤ owed (past_in b)
+pub end-spared : (a b : HouseLogView) (client entry : ℕ) (op : Op) (outcome : Result (Unit {0}) BoardFault) (number : ℕ) (board : BoardState) → a ≡ b → IsHouseLog a → EndsIn b client entry op outcome number board → off (past_in b) ≡ false → owed (Event.Cut ∷ past_in b) + 1 ≤ owed (past_in b)
 end-spared a b client entry op outcome number board e k s o =
-    let kb : IsAnnals b = subst IsAnnals e k in
+    let kb : IsHouseLog b = subst IsHouseLog e k in
     let w = kb.legal in
     let l = open-entry_live w.0 (rows_before b) (past_in b) entry (record { client = client; entry = entry; op = op }) w.3 o s.allowed.open_is in
     owed-cut_live (past_in b) entry l.0 o l.1

@@ -21,11 +21,11 @@ use Rattle.update_log.specs.Holding.{held}
 use Rattle.update_log.specs.Known.{doubt, doubt_by, fate_stored, reason_of, row_of, rows, rows_by}
 use Rattle.update_log.specs.Legal.{FinishAllowed, UnchangedExactly, closing_stored}
 use Rattle.update_log.specs.Pasts.{boots, off, time_of}
-use Rattle.daemon_core.specs.Annals.{Appended, IsAnnals, Runs}
+use Rattle.daemon_core.specs.HouseLog.{Appended, IsHouseLog, Runs}
 use Rattle.daemon_core.specs.Commits.{StoredAs}
 use Rattle.daemon_core.specs.Finishes.{ClosedAs, IsDone}
 use Rattle.daemon_core.specs.House.{IsHouse}
-use Rattle.daemon_core.specs.Housed.{Annalled, Housed, past, past_in, rows_before}
+use Rattle.daemon_core.specs.Housed.{HouseLogView, Housed, past, past_in, rows_before}
 use Rattle.daemon_core.specs.Keeping.{HasRows, keeper_faults}
 use Rattle.daemon_core.specs.Turns.{KeeperFared, Signs, ToldBefore}
 use Rattle.daemon_core.specs.Returns.{place_at, places_with}
@@ -41,11 +41,11 @@ use Rattle.daemon_core.proofs.HeldOnce.{out-once}
 use Rattle.daemon_core.proofs.HouseKept.{house-next}
 use Rattle.daemon_core.proofs.KeptSo.{so-has}
 
--- What is done, over annals.
-abbrev pub DoneIn : Annalled → ℕ → RowState → Type 0
+-- What is done, over a house log.
+abbrev pub DoneIn : HouseLogView → ℕ → RowState → Type 0
 DoneIn a entry closed = IsDone a.facts (rows_before a) (past_in a) entry closed
 
-abbrev pub closing_change : Annalled → ℕ → RowState → Change
+abbrev pub closing_change : HouseLogView → ℕ → RowState → Change
 closing_change a entry closed = Change.Advance entry closed (reason_of a.core.rows entry) (time_of (past_in a))
 
 -- A row of an entry is among the rows.
@@ -60,12 +60,12 @@ all-told : (o : List Row → Type 0) (all : List Row) (entry : ℕ) → ((x : Li
 all-told o all entry h s x t = subst (λ (r : List Row). Any (λ row. row.entry ≡ entry) r) (sym (h x t)) s
 
 -- What the keeper is asked for suits its rows.
-pub close-suits : {K : Type 0} (told : K → List Row → Type 0) (doubted : K → Option Change) (client entry number : ℕ) (l : LiveEntry) (tail : List Mark) (b : BoardState) (blocks : ℕ) (h : Housed K) → HasRows told doubted h.keeper h.annals.core.rows None → IsAnnals h.annals → HomeTo h.annals client entry number l tail b blocks
+pub close-suits : {K : Type 0} (told : K → List Row → Type 0) (doubted : K → Option Change) (client entry number : ℕ) (l : LiveEntry) (tail : List Mark) (b : BoardState) (blocks : ℕ) (h : Housed K) → HasRows told doubted h.keeper h.house_log.core.rows None → IsHouseLog h.house_log → HomeTo h.house_log client entry number l tail b blocks
     → (all : List Row) → told h.keeper all → Any (λ row. row.entry ≡ entry) all
 close-suits told doubted client entry number l tail b blocks h k o s =
-    let r = row-on h.annals.facts (rows h.annals.facts (rows_before h.annals) (past h)) entry number (own-board h.annals.facts (rows h.annals.facts (rows_before h.annals) (past h)) entry number s.board) in
-    let found : row_of h.annals.core.rows entry ≡ Some r.row = ap (λ (rs : List Row). row_of rs entry) o.stands.rows ∙ r.row_is in
-    all-told (told h.keeper) h.annals.core.rows entry k.rows_are (any-row h.annals.core.rows entry r.row found)
+    let r = row-on h.house_log.facts (rows h.house_log.facts (rows_before h.house_log) (past h)) entry number (own-board h.house_log.facts (rows h.house_log.facts (rows_before h.house_log) (past h)) entry number s.board) in
+    let found : row_of h.house_log.core.rows entry ≡ Some r.row = ap (λ (rs : List Row). row_of rs entry) o.stands.rows ∙ r.row_is in
+    all-told (told h.keeper) h.house_log.core.rows entry k.rows_are (any-row h.house_log.core.rows entry r.row found)
 
 stored-changed : {K : Type 0} (told : K → List Row → Type 0) (doubted : K → Option Change) (change : Change) (stored : Stored) (old new : K) → StoredAs change stored (told old) (told new) (doubted new) → stored ≢ Stored.Unchanged
 stored-changed told doubted change Stored.Unchanged old new s = absurd s
@@ -103,7 +103,7 @@ advanced-length : (stored : Stored) (entry : ℕ) (state : RowState) (reason tim
 advanced-length Stored.Yes entry state reason time all = let e = length-map all (with_state entry state reason time) in omega (arith, e)
 advanced-length _ entry state reason time all = omega arith
 
-pub finish-ready : (a : Annalled) (client entry number : ℕ) (l : LiveEntry) (tail : List Mark) (b : BoardState) (blocks : ℕ) (closed : RowState) (stored : Stored) → IsAnnals a → Runs a → 0 < boots (past_in a) → HomeTo a client entry number l tail b blocks → DoneIn a entry closed → UnchangedExactly closed stored → IsReady a (finish_event client entry closed stored)
+pub finish-ready : (a : HouseLogView) (client entry number : ℕ) (l : LiveEntry) (tail : List Mark) (b : BoardState) (blocks : ℕ) (closed : RowState) (stored : Stored) → IsHouseLog a → Runs a → 0 < boots (past_in a) → HomeTo a client entry number l tail b blocks → DoneIn a entry closed → UnchangedExactly closed stored → IsReady a (finish_event client entry closed stored)
 finish-ready a client entry number l tail b blocks closed stored k r n s d u =
     spent-ready a (finish_event client entry closed stored) k
     (runs-takes a (finish_event client entry closed stored) r n refl)
@@ -117,33 +117,33 @@ finish-ready a client entry number l tail b blocks closed stored k r n s d u =
     (advanced-length stored entry (closing_stored closed stored) (reason_of (rows a.facts (rows_before a) (past_in a)) entry) (time_of (past_in a)) (rows a.facts (rows_before a) (past_in a)))
 
 -- The blocks that are held.
-pub finish-held : (a : Annalled) (client entry number : ℕ) (l : LiveEntry) (tail : List Mark) (b : BoardState) (blocks : ℕ) (closed : RowState) (stored : Stored) → IsAnnals a → HomeTo a client entry number l tail b blocks → held (finish_event client entry closed stored ∷ past_in a) + blocks ≡ held (past_in a)
+pub finish-held : (a : HouseLogView) (client entry number : ℕ) (l : LiveEntry) (tail : List Mark) (b : BoardState) (blocks : ℕ) (closed : RowState) (stored : Stored) → IsHouseLog a → HomeTo a client entry number l tail b blocks → held (finish_event client entry closed stored ∷ past_in a) + blocks ≡ held (past_in a)
 finish-held a client entry number l tail b blocks closed stored k s =
     let w = k.legal in
     let h = held-finished (past_in a) client entry (closing_stored closed stored) stored l (out-once w.0 (rows_before a) (past_in a) k.stands.history w.3) s.live in
     let e = s.blocks_are in omega (arith, h, e)
 
 -- After a finish.
-pub house-finished : {K : Type 0} (told : K → List Row → Type 0) (doubted : K → Option Change) (client entry number : ℕ) (l : LiveEntry) (tail : List Mark) (b : BoardState) (blocks : ℕ) (closed : RowState) (stored : Stored) (old : Housed K) (new : Annalled) (pool : PoolCounts) (keeper : K) → IsHouse told doubted old → IsAnnals old.annals → IsAnnals new
-    → Appended client (finish_event client entry closed stored) old.annals new → old.annals.loaded ≡ true → off (past old) ≡ false → HomeTo old.annals client entry number l tail b blocks
-    → ClosedAs told doubted closed (closing_change old.annals entry closed) stored old.keeper keeper → pool.capacity ≡ old.pool.capacity → pool.free ≡ old.pool.free + blocks
-    → IsHouse told doubted (record { annals = new; places = places_with old.places number b; pool = pool; keeper = keeper })
+pub house-finished : {K : Type 0} (told : K → List Row → Type 0) (doubted : K → Option Change) (client entry number : ℕ) (l : LiveEntry) (tail : List Mark) (b : BoardState) (blocks : ℕ) (closed : RowState) (stored : Stored) (old : Housed K) (new : HouseLogView) (pool : PoolCounts) (keeper : K) → IsHouse told doubted old → IsHouseLog old.house_log → IsHouseLog new
+    → Appended client (finish_event client entry closed stored) old.house_log new → old.house_log.loaded ≡ true → off (past old) ≡ false → HomeTo old.house_log client entry number l tail b blocks
+    → ClosedAs told doubted closed (closing_change old.house_log entry closed) stored old.keeper keeper → pool.capacity ≡ old.pool.capacity → pool.free ≡ old.pool.free + blocks
+    → IsHouse told doubted (record { house_log = new; places = places_with old.places number b; pool = pool; keeper = keeper })
 house-finished told doubted client entry number l tail b blocks closed stored old new pool keeper h o k a loaded on s cs pc pf =
     let clear = house-clear told doubted old h o loaded on in
-    let all : List Row = rows old.annals.facts (rows_before old.annals) (past old) in
-    let kept = after-closed told doubted old.keeper keeper old.annals.core.rows entry closed (reason_of old.annals.core.rows entry) (time_of (past old)) stored clear cs in
-    let none : doubt old.annals.facts (rows_before old.annals) (past old) ≡ None = no-doubt old.annals o on in
-    house-next told doubted client (finish_event client entry closed stored) old (record { annals = new; places = places_with old.places number b; pool = pool; keeper = keeper }) h a k
+    let all : List Row = rows old.house_log.facts (rows_before old.house_log) (past old) in
+    let kept = after-closed told doubted old.keeper keeper old.house_log.core.rows entry closed (reason_of old.house_log.core.rows entry) (time_of (past old)) stored clear cs in
+    let none : doubt old.house_log.facts (rows_before old.house_log) (past old) ≡ None = no-doubt old.house_log o on in
+    house-next told doubted client (finish_event client entry closed stored) old (record { house_log = new; places = places_with old.places number b; pool = pool; keeper = keeper }) h a k
     (record {
       count = length-set old.places number (record (place_at old.places number) { board = Some b });
-      places = home-places old.annals (finish_event client entry closed stored) client entry number l tail b blocks old.places o h.count h.places s (finish-ends old.annals.facts (rows_before old.annals) (past old) client entry (closing_stored closed stored) stored);
+      places = home-places old.house_log (finish_event client entry closed stored) client entry number l tail b blocks old.places o h.count h.places s (finish-ends old.house_log.facts (rows_before old.house_log) (past old) client entry (closing_stored closed stored) stored);
       loaded = loaded;
       kept =
-          so-has old.annals.reopened told doubted keeper (rows old.annals.facts (rows_before old.annals) (finish_event client entry closed stored ∷ past old)) (doubt old.annals.facts (rows_before old.annals) (finish_event client entry closed stored ∷ past old))
-          (subst (λ (x : Option Change). HasRows told doubted keeper (rows old.annals.facts (rows_before old.annals) (finish_event client entry closed stored ∷ past old)) (doubt_by (fate_stored stored) (Some (Change.Advance entry (closing_stored closed stored) (reason_of (rows old.annals.facts (rows_before old.annals) (past old)) entry) (time_of (past old)))) x)) (sym none)
+          so-has old.house_log.reopened told doubted keeper (rows old.house_log.facts (rows_before old.house_log) (finish_event client entry closed stored ∷ past old)) (doubt old.house_log.facts (rows_before old.house_log) (finish_event client entry closed stored ∷ past old))
+          (subst (λ (x : Option Change). HasRows told doubted keeper (rows old.house_log.facts (rows_before old.house_log) (finish_event client entry closed stored ∷ past old)) (doubt_by (fate_stored stored) (Some (Change.Advance entry (closing_stored closed stored) (reason_of (rows old.house_log.facts (rows_before old.house_log) (past old)) entry) (time_of (past old)))) x)) (sym none)
           (subst (λ (x : List Row). HasRows told doubted keeper (rows_by (fate_stored stored) (Some (Change.Advance entry (closing_stored closed stored) (reason_of x entry) (time_of (past old)))) x) (doubt_by (fate_stored stored) (Some (Change.Advance entry (closing_stored closed stored) (reason_of x entry) (time_of (past old)))) None)) o.stands.rows kept));
       capacity = pc;
-      free = (let e = finish-held old.annals client entry number l tail b blocks closed stored o s in let f = h.free in omega (arith, pf, e, f));
+      free = (let e = finish-held old.house_log client entry number l tail b blocks closed stored o s in let f = h.free in omega (arith, pf, e, f));
     })
 
 closed-before : {K : Type 0} (told : K → List Row → Type 0) (doubted : K → Option Change) (closed : RowState) (change : Change) (stored : Stored) (old new : K) → ClosedAs told doubted closed change stored old new → ToldBefore told old new

@@ -18,10 +18,10 @@ use Rattle.update_log.specs.Known.{board_of, doubt, rows}
 use Rattle.update_log.specs.Legal.{IsLegal}
 use Rattle.update_log.specs.Pasts.{boots, off}
 use Rattle.update_log.specs.Shows.{Campaign}
-use Rattle.daemon_core.specs.Annals.{Appended, IsAnnals}
+use Rattle.daemon_core.specs.HouseLog.{Appended, IsHouseLog}
 use Rattle.daemon_core.specs.Boards.{BoardStands, PlaceStands}
 use Rattle.daemon_core.specs.House.{IsHouse}
-use Rattle.daemon_core.specs.Housed.{Annalled, Housed, Place, past, past_in, rows_before}
+use Rattle.daemon_core.specs.Housed.{HouseLogView, Housed, Place, past, past_in, rows_before}
 use Rattle.daemon_core.specs.Keeping.{KeepsSo}
 use Rattle.daemon_core.specs.Returns.{ComesHome, place_at, places_with}
 use Rattle.daemon_core.proofs.ClaimDone.{Ends, back-ends, ends-other, ends-own}
@@ -31,8 +31,8 @@ use Rattle.daemon_core.proofs.Held.{held-given_entry}
 use Rattle.daemon_core.proofs.HeldOnce.{out-once}
 use Rattle.daemon_core.proofs.HouseKept.{house-next}
 
--- What comes home to annals.
-abbrev pub HomeTo : Annalled → ℕ → ℕ → ℕ → LiveEntry → List Mark → BoardState → ℕ → Type 0
+-- What comes home to a house log.
+abbrev pub HomeTo : HouseLogView → ℕ → ℕ → ℕ → LiveEntry → List Mark → BoardState → ℕ → Type 0
 HomeTo a client entry number l tail b blocks = ComesHome a.facts a.first (rows_before a) (past_in a) client entry number l tail b blocks
 
 -- What the code reads before.
@@ -40,17 +40,17 @@ pub record HomePlan (places : List Place) (number n : ℕ) : Type 0 where
   pub number_is : n ≡ number
   pub within : n < length places
 
-pub home-plan : {K : Type 0} (told : K → List Row → Type 0) (doubted : K → Option Change) (client entry number n : ℕ) (l : LiveEntry) (tail : List Mark) (b : BoardState) (blocks : ℕ) (h : Housed K) → IsHouse told doubted h → IsAnnals h.annals → HomeTo h.annals client entry number l tail b blocks
-    → n ≡ unwrap_or (board_of h.annals.facts h.annals.core.rows entry) 0 → HomePlan h.places number n
+pub home-plan : {K : Type 0} (told : K → List Row → Type 0) (doubted : K → Option Change) (client entry number n : ℕ) (l : LiveEntry) (tail : List Mark) (b : BoardState) (blocks : ℕ) (h : Housed K) → IsHouse told doubted h → IsHouseLog h.house_log → HomeTo h.house_log client entry number l tail b blocks
+    → n ≡ unwrap_or (board_of h.house_log.facts h.house_log.core.rows entry) 0 → HomePlan h.places number n
 home-plan told doubted client entry number n l tail b blocks h k o s e =
-    let all : board_of h.annals.facts h.annals.core.rows entry ≡ Some number = ap (λ (rs : List Row). board_of h.annals.facts rs entry) o.stands.rows ∙ s.board in
+    let all : board_of h.house_log.facts h.house_log.core.rows entry ≡ Some number = ap (λ (rs : List Row). board_of h.house_log.facts rs entry) o.stands.rows ∙ s.board in
     let num : n ≡ number = e ∙ ap (λ (x : Option ℕ). unwrap_or x 0) all in
-    let w = number-within h.annals.facts (rows h.annals.facts (rows_before h.annals) (past h)) entry number s.board in
+    let w = number-within h.house_log.facts (rows h.house_log.facts (rows_before h.house_log) (past h)) entry number s.board in
     let c = k.count in
     record { number_is = num; within = omega (arith, num, w, c) }
 
 -- The places once it is home, at an event that ends the entry.
-pub home-places : (a : Annalled) (event : Event) (client entry number : ℕ) (l : LiveEntry) (tail : List Mark) (b : BoardState) (blocks : ℕ) (places : List Place) → IsAnnals a → length places ≡ length a.facts.sheets
+pub home-places : (a : HouseLogView) (event : Event) (client entry number : ℕ) (l : LiveEntry) (tail : List Mark) (b : BoardState) (blocks : ℕ) (places : List Place) → IsHouseLog a → length places ≡ length a.facts.sheets
     → ((m : ℕ) (place : Place) → slice_get places m ≡ Some place → PlaceStands a.facts a.first (rows_before a) (past_in a) m place)
     → HomeTo a client entry number l tail b blocks → Ends a.facts (rows_before a) (past_in a) event entry
     → (m : ℕ) (place : Place) → slice_get (places_with places number b) m ≡ Some place → PlaceStands a.facts a.first (rows_before a) (event ∷ past_in a) m place
@@ -82,7 +82,7 @@ home-places a event client entry number l tail b blocks places k count stand s e
 abbrev pub back_event : ℕ → ℕ → Event
 back_event client entry = Event.GiveBack client (Back.Entry entry)
 
-pub back-ready : (a : Annalled) (client entry number : ℕ) (l : LiveEntry) (tail : List Mark) (b : BoardState) (blocks : ℕ) → IsAnnals a → 0 < boots (past_in a) → off (past_in a) ≡ true → HomeTo a client entry number l tail b blocks → IsReady a (back_event client entry)
+pub back-ready : (a : HouseLogView) (client entry number : ℕ) (l : LiveEntry) (tail : List Mark) (b : BoardState) (blocks : ℕ) → IsHouseLog a → 0 < boots (past_in a) → off (past_in a) ≡ true → HomeTo a client entry number l tail b blocks → IsReady a (back_event client entry)
 back-ready a client entry number l tail b blocks k n o s =
     spent-ready a (back_event client entry) k
     (record { booted = λ _. n; on = λ h. cc; below = λ h. absurd (no h) })
@@ -93,30 +93,30 @@ back-ready a client entry number l tail b blocks k n o s =
     no h = cc
 
 -- the blocks that are held
-pub back-held : (a : Annalled) (client entry number : ℕ) (l : LiveEntry) (tail : List Mark) (b : BoardState) (blocks : ℕ) → IsAnnals a → HomeTo a client entry number l tail b blocks → held (back_event client entry ∷ past_in a) + blocks ≡ held (past_in a)
+pub back-held : (a : HouseLogView) (client entry number : ℕ) (l : LiveEntry) (tail : List Mark) (b : BoardState) (blocks : ℕ) → IsHouseLog a → HomeTo a client entry number l tail b blocks → held (back_event client entry ∷ past_in a) + blocks ≡ held (past_in a)
 back-held a client entry number l tail b blocks k s =
     let w = k.legal in
     let h = held-given_entry (past_in a) client entry l (out-once w.0 (rows_before a) (past_in a) k.stands.history w.3) s.live s.client_is in
     let e = s.blocks_are in omega (arith, h, e)
 
-pub back-fits : {K : Type 0} (told : K → List Row → Type 0) (doubted : K → Option Change) (client entry number : ℕ) (l : LiveEntry) (tail : List Mark) (b : BoardState) (blocks : ℕ) (h : Housed K) → IsHouse told doubted h → IsAnnals h.annals → HomeTo h.annals client entry number l tail b blocks → h.pool.free + blocks ≤ h.pool.capacity
+pub back-fits : {K : Type 0} (told : K → List Row → Type 0) (doubted : K → Option Change) (client entry number : ℕ) (l : LiveEntry) (tail : List Mark) (b : BoardState) (blocks : ℕ) (h : Housed K) → IsHouse told doubted h → IsHouseLog h.house_log → HomeTo h.house_log client entry number l tail b blocks → h.pool.free + blocks ≤ h.pool.capacity
 back-fits told doubted client entry number l tail b blocks h k o s =
-    let e = back-held h.annals client entry number l tail b blocks o s in
+    let e = back-held h.house_log client entry number l tail b blocks o s in
     let f = k.free in let c = k.capacity in omega (arith, e, f, c)
 
-pub house-back : {K : Type 0} (told : K → List Row → Type 0) (doubted : K → Option Change) (client entry number : ℕ) (l : LiveEntry) (tail : List Mark) (b : BoardState) (blocks : ℕ) (old : Housed K) (new : Annalled) (pool : PoolCounts) → IsHouse told doubted old → IsAnnals old.annals → IsAnnals new → Appended client (back_event client entry) old.annals new → old.annals.loaded ≡ true → HomeTo old.annals client entry number l tail b blocks
-    → pool.capacity ≡ old.pool.capacity → pool.free ≡ old.pool.free + blocks → IsHouse told doubted (record { annals = new; places = places_with old.places number b; pool = pool; keeper = old.keeper })
+pub house-back : {K : Type 0} (told : K → List Row → Type 0) (doubted : K → Option Change) (client entry number : ℕ) (l : LiveEntry) (tail : List Mark) (b : BoardState) (blocks : ℕ) (old : Housed K) (new : HouseLogView) (pool : PoolCounts) → IsHouse told doubted old → IsHouseLog old.house_log → IsHouseLog new → Appended client (back_event client entry) old.house_log new → old.house_log.loaded ≡ true → HomeTo old.house_log client entry number l tail b blocks
+    → pool.capacity ≡ old.pool.capacity → pool.free ≡ old.pool.free + blocks → IsHouse told doubted (record { house_log = new; places = places_with old.places number b; pool = pool; keeper = old.keeper })
 house-back told doubted client entry number l tail b blocks old new pool h o k a loaded s pc pf =
-    house-next told doubted client (back_event client entry) old (record { annals = new; places = places_with old.places number b; pool = pool; keeper = old.keeper }) h a k
+    house-next told doubted client (back_event client entry) old (record { house_log = new; places = places_with old.places number b; pool = pool; keeper = old.keeper }) h a k
     (record {
       count = length-set old.places number (record (place_at old.places number) { board = Some b });
-      places = home-places old.annals (back_event client entry) client entry number l tail b blocks old.places o h.count h.places s (back-ends old.annals.facts (rows_before old.annals) (past old) client entry);
+      places = home-places old.house_log (back_event client entry) client entry number l tail b blocks old.places o h.count h.places s (back-ends old.house_log.facts (rows_before old.house_log) (past old) client entry);
       loaded = loaded;
       kept =
-          subst (λ (x : List Row). KeepsSo old.annals.reopened told doubted old.keeper x (doubt old.annals.facts (rows_before old.annals) (past old))) o.stands.rows
-          (subst (λ (x : Option Change). KeepsSo old.annals.reopened told doubted old.keeper old.annals.core.rows x) o.stands.doubt (h.kept loaded));
+          subst (λ (x : List Row). KeepsSo old.house_log.reopened told doubted old.keeper x (doubt old.house_log.facts (rows_before old.house_log) (past old))) o.stands.rows
+          (subst (λ (x : Option Change). KeepsSo old.house_log.reopened told doubted old.keeper old.house_log.core.rows x) o.stands.doubt (h.kept loaded));
       capacity = pc;
-      free = (let e = back-held old.annals client entry number l tail b blocks o s in let f = h.free in omega (arith, pf, e, f));
+      free = (let e = back-held old.house_log client entry number l tail b blocks o s in let f = h.free in omega (arith, pf, e, f));
     })
 
 pub loaded-live : (loaded : Bool) (past : List Event) (entry : ℕ) (l : LiveEntry) → (loaded ≡ false → AllFaults past) → live_entry past entry ≡ Some l → loaded ≡ true

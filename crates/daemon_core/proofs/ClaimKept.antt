@@ -28,14 +28,14 @@ use Rattle.update_log.specs.declared.refusal.FetchNote.{FetchNote}
 use Rattle.update_log.specs.declared.refusal.Refusal.{Refusal}
 use Rattle.update_log.specs.declared.request.Request.{Request}
 use Rattle.daemon_core.specs.declared.hold.Ticket.{Ticket}
-use Rattle.daemon_core.specs.Annals.{Appended, IsAllowedSo, IsAnnals, IsLegalSo}
+use Rattle.daemon_core.specs.HouseLog.{Appended, IsAllowedSo, IsHouseLog, IsLegalSo}
 use Rattle.daemon_core.specs.Claims.{MayAnswer, MayClaim, places_without}
 use Rattle.daemon_core.specs.Holds.{IsReleaseAt, held_by}
 use Rattle.daemon_core.specs.House.{IsHouse}
-use Rattle.daemon_core.specs.Housed.{Annalled, Housed, past, past_in, rows_before}
+use Rattle.daemon_core.specs.Housed.{HouseLogView, Housed, past, past_in, rows_before}
 use Rattle.daemon_core.specs.Keeping.{HasRows, KeepsSo}
 use Rattle.daemon_core.specs.Returns.{place_at}
-use Rattle.daemon_core.proofs.AnnalsKept.{legal-next}
+use Rattle.daemon_core.proofs.HouseLogKept.{legal-next}
 use Rattle.daemon_core.proofs.Asking.{ask-found}
 use Rattle.daemon_core.proofs.BoardsQuiet.{quiet-board}
 use Rattle.daemon_core.proofs.ClaimEnds.{length-set}
@@ -88,16 +88,16 @@ hold-sized facts first opening past client h l e =
 abbrev pub claims : ℕ → Ticket → FetchNote → ClaimAnswer → Event
 claims client ticket note answer = Event.Claim client ticket.request note answer
 
-pub claim-takes : (a : Annalled) (client blocks : ℕ) (ticket : Ticket) (note : FetchNote) (answer : ClaimAnswer) → MayClaim a client ticket blocks → BootTakes (past_in a) (claims client ticket note answer)
+pub claim-takes : (a : HouseLogView) (client blocks : ℕ) (ticket : Ticket) (note : FetchNote) (answer : ClaimAnswer) → MayClaim a client ticket blocks → BootTakes (past_in a) (claims client ticket note answer)
 claim-takes a client blocks ticket note answer m = runs-takes a (claims client ticket note answer) m.runs m.booted refl
 
-pub claim-allowed : (a : Annalled) (client blocks : ℕ) (ticket : Ticket) (note : FetchNote) (answer : ClaimAnswer) → MayClaim a client ticket blocks → MayAnswer a client ticket note answer → IsAllowedSo a.facts a.first (rows_before a) (past_in a) (claims client ticket note answer)
+pub claim-allowed : (a : HouseLogView) (client blocks : ℕ) (ticket : Ticket) (note : FetchNote) (answer : ClaimAnswer) → MayClaim a client ticket blocks → MayAnswer a client ticket note answer → IsAllowedSo a.facts a.first (rows_before a) (past_in a) (claims client ticket note answer)
 claim-allowed a client blocks ticket note answer m w =
     let k : ClaimAllowed a.facts (rows_before a) (past_in a) client ticket.request note answer (held_by ticket blocks) =
     record { held_is = m.held_is; request_is = refl; pending = m.asked; answer_is = w } in
     λ c f i. (held_by ticket blocks, subst (λ (x : Facts). ClaimAllowed x (rows_before a) (past_in a) client ticket.request note answer (held_by ticket blocks)) (sym f) k)
 
-pub claim-legal : (a : Annalled) (client blocks : ℕ) (ticket : Ticket) (note : FetchNote) (answer : ClaimAnswer) → IsAnnals a → MayClaim a client ticket blocks → MayAnswer a client ticket note answer → IsLegalSo a.facts a.first (rows_before a) (claims client ticket note answer ∷ past_in a)
+pub claim-legal : (a : HouseLogView) (client blocks : ℕ) (ticket : Ticket) (note : FetchNote) (answer : ClaimAnswer) → IsHouseLog a → MayClaim a client ticket blocks → MayAnswer a client ticket note answer → IsLegalSo a.facts a.first (rows_before a) (claims client ticket note answer ∷ past_in a)
 claim-legal a client blocks ticket note answer k m w =
     legal-next a.facts a.first (rows_before a) (past_in a) (claims client ticket note answer) k.legal (claim-takes a client blocks ticket note answer m) (claim-allowed a client blocks ticket note answer m w)
 
@@ -110,7 +110,7 @@ made-few : {X : Type 0} (fate : Fate) (f : X → Row) (o : Option X) (all : List
 made-few Fate.Made f (Some x) all = let e = length_push all (f x) in omega (arith, e)
 made-few _ f _ all = omega arith
 
-pub claim-ready : (a : Annalled) (client blocks : ℕ) (ticket : Ticket) (note : FetchNote) (answer : ClaimAnswer) → IsAnnals a → MayClaim a client ticket blocks → MayAnswer a client ticket note answer → IsReady a (claims client ticket note answer)
+pub claim-ready : (a : HouseLogView) (client blocks : ℕ) (ticket : Ticket) (note : FetchNote) (answer : ClaimAnswer) → IsHouseLog a → MayClaim a client ticket blocks → MayAnswer a client ticket note answer → IsReady a (claims client ticket note answer)
 claim-ready a client blocks ticket note answer k m w =
     let l = claim-legal a client blocks ticket note answer k m w in
     let more = adds-legal l.0 (rows_before a) (past_in a) (claims client ticket note answer) l.3 refl in
@@ -152,7 +152,7 @@ claim-live_same past client request note (ClaimAnswer.Entry entry) h = cc
 claim-live_same past client request note (ClaimAnswer.Kept entry state) h = refl
 claim-live_same past client request note (ClaimAnswer.Refused refusal) h = refl
 
-claim-held : (a : Annalled) (client blocks : ℕ) (ticket : Ticket) (note : FetchNote) (answer : ClaimAnswer) → IsAnnals a → MayClaim a client ticket blocks → gives_entry answer ≡ false → held (claims client ticket note answer ∷ past_in a) + blocks ≡ held (past_in a)
+claim-held : (a : HouseLogView) (client blocks : ℕ) (ticket : Ticket) (note : FetchNote) (answer : ClaimAnswer) → IsHouseLog a → MayClaim a client ticket blocks → gives_entry answer ≡ false → held (claims client ticket note answer ∷ past_in a) + blocks ≡ held (past_in a)
 claim-held a client blocks ticket note (ClaimAnswer.Entry entry) k m h = cc
 claim-held a client blocks ticket note (ClaimAnswer.Kept entry state) k m h =
     let w = k.legal in held-kept (past_in a) client ticket.request note entry state (held_by ticket blocks) (out-once w.0 (rows_before a) (past_in a) k.stands.history w.3) m.held_is
@@ -160,33 +160,33 @@ claim-held a client blocks ticket note (ClaimAnswer.Refused refusal) k m h =
     let w = k.legal in held-refused (past_in a) client ticket.request note refusal (held_by ticket blocks) (out-once w.0 (rows_before a) (past_in a) k.stands.history w.3) m.held_is
 
 -- The blocks fit into the pool.
-pub claim-fits : {K : Type 0} (told : K → List Row → Type 0) (doubted : K → Option Change) (client blocks : ℕ) (ticket : Ticket) (h : Housed K) → IsHouse told doubted h → IsAnnals h.annals → MayClaim h.annals client ticket blocks → h.pool.free + blocks ≤ h.pool.capacity
+pub claim-fits : {K : Type 0} (told : K → List Row → Type 0) (doubted : K → Option Change) (client blocks : ℕ) (ticket : Ticket) (h : Housed K) → IsHouse told doubted h → IsHouseLog h.house_log → MayClaim h.house_log client ticket blocks → h.pool.free + blocks ≤ h.pool.capacity
 claim-fits told doubted client blocks ticket h w k m =
-    let e = claim-held h.annals client blocks ticket FetchNote.Missing (ClaimAnswer.Refused Refusal.KeeperFault) k m refl in
+    let e = claim-held h.house_log client blocks ticket FetchNote.Missing (ClaimAnswer.Refused Refusal.KeeperFault) k m refl in
     let f = w.free in let c = w.capacity in omega (arith, e, f, c)
 
 -- The keeper, where nothing was asked of it.
-pub claim-keeps : {K : Type 0} (told : K → List Row → Type 0) (doubted : K → Option Change) (client : ℕ) (ticket : Ticket) (note : FetchNote) (answer : ClaimAnswer) (h : Housed K) → IsHouse told doubted h → IsAnnals h.annals → h.annals.loaded ≡ true → is_taken answer ≡ false
-    → KeepsSo h.annals.reopened told doubted h.keeper (rows h.annals.facts (rows_before h.annals) (claims client ticket note answer ∷ past h)) (doubt h.annals.facts (rows_before h.annals) (claims client ticket note answer ∷ past h))
+pub claim-keeps : {K : Type 0} (told : K → List Row → Type 0) (doubted : K → Option Change) (client : ℕ) (ticket : Ticket) (note : FetchNote) (answer : ClaimAnswer) (h : Housed K) → IsHouse told doubted h → IsHouseLog h.house_log → h.house_log.loaded ≡ true → is_taken answer ≡ false
+    → KeepsSo h.house_log.reopened told doubted h.keeper (rows h.house_log.facts (rows_before h.house_log) (claims client ticket note answer ∷ past h)) (doubt h.house_log.facts (rows_before h.house_log) (claims client ticket note answer ∷ past h))
 claim-keeps told doubted client ticket note answer h w k l n =
-    let s = claim-rows_same h.annals.facts (rows_before h.annals) (past h) client ticket.request note answer n in
-    subst (λ (x : List Row). KeepsSo h.annals.reopened told doubted h.keeper x (doubt h.annals.facts (rows_before h.annals) (claims client ticket note answer ∷ past h))) (sym (s.0 ∙ sym k.stands.rows))
-    (subst (λ (x : Option Change). KeepsSo h.annals.reopened told doubted h.keeper h.annals.core.rows x) (sym (s.1 ∙ sym k.stands.doubt)) (w.kept l))
+    let s = claim-rows_same h.house_log.facts (rows_before h.house_log) (past h) client ticket.request note answer n in
+    subst (λ (x : List Row). KeepsSo h.house_log.reopened told doubted h.keeper x (doubt h.house_log.facts (rows_before h.house_log) (claims client ticket note answer ∷ past h))) (sym (s.0 ∙ sym k.stands.rows))
+    (subst (λ (x : Option Change). KeepsSo h.house_log.reopened told doubted h.keeper h.house_log.core.rows x) (sym (s.1 ∙ sym k.stands.doubt)) (w.kept l))
 
-pub house-unclaimed : {K : Type 0} (told : K → List Row → Type 0) (doubted : K → Option Change) (client blocks : ℕ) (ticket : Ticket) (note : FetchNote) (answer : ClaimAnswer) (old : Housed K) (new : Annalled) (pool : PoolCounts) (keeper : K) → IsHouse told doubted old → IsAnnals old.annals → IsAnnals new
-    → Appended client (claims client ticket note answer) old.annals new → MayClaim old.annals client ticket blocks → MayAnswer old.annals client ticket note answer → gives_entry answer ≡ false
-    → KeepsSo old.annals.reopened told doubted keeper (rows old.annals.facts (rows_before old.annals) (claims client ticket note answer ∷ past old)) (doubt old.annals.facts (rows_before old.annals) (claims client ticket note answer ∷ past old))
-    → pool.capacity ≡ old.pool.capacity → pool.free ≡ old.pool.free + blocks → IsHouse told doubted (record { annals = new; places = old.places; pool = pool; keeper = keeper })
+pub house-unclaimed : {K : Type 0} (told : K → List Row → Type 0) (doubted : K → Option Change) (client blocks : ℕ) (ticket : Ticket) (note : FetchNote) (answer : ClaimAnswer) (old : Housed K) (new : HouseLogView) (pool : PoolCounts) (keeper : K) → IsHouse told doubted old → IsHouseLog old.house_log → IsHouseLog new
+    → Appended client (claims client ticket note answer) old.house_log new → MayClaim old.house_log client ticket blocks → MayAnswer old.house_log client ticket note answer → gives_entry answer ≡ false
+    → KeepsSo old.house_log.reopened told doubted keeper (rows old.house_log.facts (rows_before old.house_log) (claims client ticket note answer ∷ past old)) (doubt old.house_log.facts (rows_before old.house_log) (claims client ticket note answer ∷ past old))
+    → pool.capacity ≡ old.pool.capacity → pool.free ≡ old.pool.free + blocks → IsHouse told doubted (record { house_log = new; places = old.places; pool = pool; keeper = keeper })
 house-unclaimed told doubted client blocks ticket note answer old new pool keeper h o k a m w n kept cap free =
-    let l = claim-legal old.annals client blocks ticket note answer o m w in
-    let out = claim-held old.annals client blocks ticket note answer o m n in
+    let l = claim-legal old.house_log client blocks ticket note answer o m w in
+    let out = claim-held old.house_log client blocks ticket note answer o m n in
     let was = h.free in
-    house-next told doubted client (claims client ticket note answer) old (record { annals = new; places = old.places; pool = pool; keeper = keeper }) h a k
+    house-next told doubted client (claims client ticket note answer) old (record { house_log = new; places = old.places; pool = pool; keeper = keeper }) h a k
     (record {
       count = refl;
       places = λ number place e.
-          place-same old.annals.facts old.annals.first (rows_before old.annals) (past old) (claims client ticket note answer ∷ past old) number place
-          (quiet-board old.annals.facts old.annals.first (rows_before old.annals) (past old) (claims client ticket note answer) o.stands.history l number refl refl refl refl (claim-live_same (past old) client ticket.request note answer n) refl) (h.places number place e);
+          place-same old.house_log.facts old.house_log.first (rows_before old.house_log) (past old) (claims client ticket note answer ∷ past old) number place
+          (quiet-board old.house_log.facts old.house_log.first (rows_before old.house_log) (past old) (claims client ticket note answer) o.stands.history l number refl refl refl refl (claim-live_same (past old) client ticket.request note answer n) refl) (h.places number place e);
       loaded = m.loaded;
       kept = kept;
       capacity = cap;
@@ -196,10 +196,10 @@ house-unclaimed told doubted client blocks ticket note answer old new pool keepe
 -- ---- the keeper, after it was asked
 
 -- The row that is added.
-abbrev pub AddsRow : Annalled → ℕ → Ticket → Row → Type 0
+abbrev pub AddsRow : HouseLogView → ℕ → Ticket → Row → Type 0
 AddsRow a client ticket row = addition a.facts (time_of (past_in a)) (live (past_in a)) (known a.facts (rows_before a) (past_in a)) client ticket.request RowState.Begun ≡ Some (Change.Add row)
 
-pub claim-made : {K : Type 0} (told : K → List Row → Type 0) (doubted : K → Option Change) (a : Annalled) (client : ℕ) (ticket : Ticket) (note : FetchNote) (entry : ℕ) (row : Row) (keeper : K) → IsAnnals a → off (past_in a) ≡ false → AddsRow a client ticket row → HasRows told doubted keeper (changed (Change.Add row) a.core.rows) None
+pub claim-made : {K : Type 0} (told : K → List Row → Type 0) (doubted : K → Option Change) (a : HouseLogView) (client : ℕ) (ticket : Ticket) (note : FetchNote) (entry : ℕ) (row : Row) (keeper : K) → IsHouseLog a → off (past_in a) ≡ false → AddsRow a client ticket row → HasRows told doubted keeper (changed (Change.Add row) a.core.rows) None
     → HasRows told doubted keeper (rows a.facts (rows_before a) (claims client ticket note (ClaimAnswer.Entry entry) ∷ past_in a)) (doubt a.facts (rows_before a) (claims client ticket note (ClaimAnswer.Entry entry) ∷ past_in a))
 claim-made told doubted a client ticket note entry row keeper k o e h =
     let all : List Row = rows a.facts (rows_before a) (past_in a) in
@@ -207,27 +207,27 @@ claim-made told doubted a client ticket note entry row keeper k o e h =
     ap (λ (x : List Row). changed (Change.Add row) x) k.stands.rows ∙ sym (ap (λ (x : Option Change). rows_by Fate.Made x all) e) in
     record { rows_are = subst (λ (x : List Row). (y : List Row) → told keeper y → y ≡ x) r h.rows_are; doubt_is = h.doubt_is ∙ sym (no-doubt a k o) }
 
-pub claim-doubted : {K : Type 0} (told : K → List Row → Type 0) (doubted : K → Option Change) (a : Annalled) (client : ℕ) (ticket : Ticket) (note : FetchNote) (row : Row) (keeper : K) → IsAnnals a → AddsRow a client ticket row → HasRows told doubted keeper a.core.rows (Some (Change.Add row))
+pub claim-doubted : {K : Type 0} (told : K → List Row → Type 0) (doubted : K → Option Change) (a : HouseLogView) (client : ℕ) (ticket : Ticket) (note : FetchNote) (row : Row) (keeper : K) → IsHouseLog a → AddsRow a client ticket row → HasRows told doubted keeper a.core.rows (Some (Change.Add row))
     → HasRows told doubted keeper (rows a.facts (rows_before a) (claims client ticket note (ClaimAnswer.Refused Refusal.KeeperFault) ∷ past_in a)) (doubt a.facts (rows_before a) (claims client ticket note (ClaimAnswer.Refused Refusal.KeeperFault) ∷ past_in a))
 claim-doubted told doubted a client ticket note row keeper k e h =
     record { rows_are = subst (λ (x : List Row). (y : List Row) → told keeper y → y ≡ x) k.stands.rows h.rows_are; doubt_is = h.doubt_is ∙ sym e }
 
 -- ---- a claim that took an entry
 
-pub house-claimed : {K : Type 0} (told : K → List Row → Type 0) (doubted : K → Option Change) (client blocks : ℕ) (ticket : Ticket) (note : FetchNote) (entry number : ℕ) (old : Housed K) (new : Annalled) (keeper : K) → IsHouse told doubted old → IsAnnals old.annals → IsAnnals new
-    → Appended client (claims client ticket note (ClaimAnswer.Entry entry)) old.annals new → MayClaim old.annals client ticket blocks → MayAnswer old.annals client ticket note (ClaimAnswer.Entry entry)
-    → HasRows told doubted keeper (rows old.annals.facts (rows_before old.annals) (claims client ticket note (ClaimAnswer.Entry entry) ∷ past old)) (doubt old.annals.facts (rows_before old.annals) (claims client ticket note (ClaimAnswer.Entry entry) ∷ past old))
-    → Takes old.annals.facts (rows_before old.annals) (past old) (claims client ticket note (ClaimAnswer.Entry entry)) entry number → number < length old.places → held (claims client ticket note (ClaimAnswer.Entry entry) ∷ past old) ≡ held (past old)
-    → IsHouse told doubted (record { annals = new; places = places_without old.places number; pool = old.pool; keeper = keeper })
+pub house-claimed : {K : Type 0} (told : K → List Row → Type 0) (doubted : K → Option Change) (client blocks : ℕ) (ticket : Ticket) (note : FetchNote) (entry number : ℕ) (old : Housed K) (new : HouseLogView) (keeper : K) → IsHouse told doubted old → IsHouseLog old.house_log → IsHouseLog new
+    → Appended client (claims client ticket note (ClaimAnswer.Entry entry)) old.house_log new → MayClaim old.house_log client ticket blocks → MayAnswer old.house_log client ticket note (ClaimAnswer.Entry entry)
+    → HasRows told doubted keeper (rows old.house_log.facts (rows_before old.house_log) (claims client ticket note (ClaimAnswer.Entry entry) ∷ past old)) (doubt old.house_log.facts (rows_before old.house_log) (claims client ticket note (ClaimAnswer.Entry entry) ∷ past old))
+    → Takes old.house_log.facts (rows_before old.house_log) (past old) (claims client ticket note (ClaimAnswer.Entry entry)) entry number → number < length old.places → held (claims client ticket note (ClaimAnswer.Entry entry) ∷ past old) ≡ held (past old)
+    → IsHouse told doubted (record { house_log = new; places = places_without old.places number; pool = old.pool; keeper = keeper })
 house-claimed told doubted client blocks ticket note entry number old new keeper h o k a m w kept t within same =
-    let l = claim-legal old.annals client blocks ticket note (ClaimAnswer.Entry entry) o m w in
+    let l = claim-legal old.house_log client blocks ticket note (ClaimAnswer.Entry entry) o m w in
     let was = h.free in
-    house-next told doubted client (claims client ticket note (ClaimAnswer.Entry entry)) old (record { annals = new; places = places_without old.places number; pool = old.pool; keeper = keeper }) h a k
+    house-next told doubted client (claims client ticket note (ClaimAnswer.Entry entry)) old (record { house_log = new; places = places_without old.places number; pool = old.pool; keeper = keeper }) h a k
     (record {
       count = length-set old.places number (record (place_at old.places number) { board = None });
-      places = takes-places old.annals.facts old.annals.first (rows_before old.annals) (past old) (claims client ticket note (ClaimAnswer.Entry entry)) o.stands.history l entry number t old.places within h.places;
+      places = takes-places old.house_log.facts old.house_log.first (rows_before old.house_log) (past old) (claims client ticket note (ClaimAnswer.Entry entry)) o.stands.history l entry number t old.places within h.places;
       loaded = m.loaded;
-      kept = so-has old.annals.reopened told doubted keeper (rows old.annals.facts (rows_before old.annals) (claims client ticket note (ClaimAnswer.Entry entry) ∷ past old)) (doubt old.annals.facts (rows_before old.annals) (claims client ticket note (ClaimAnswer.Entry entry) ∷ past old)) kept;
+      kept = so-has old.house_log.reopened told doubted keeper (rows old.house_log.facts (rows_before old.house_log) (claims client ticket note (ClaimAnswer.Entry entry) ∷ past old)) (doubt old.house_log.facts (rows_before old.house_log) (claims client ticket note (ClaimAnswer.Entry entry) ∷ past old)) kept;
       capacity = refl;
       free = omega (arith, same, was);
     })

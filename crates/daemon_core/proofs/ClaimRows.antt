@@ -26,8 +26,8 @@ use Rattle.update_log.specs.declared.decision.Stage.{Stage}
 use Rattle.update_log.specs.declared.facts.Facts.{Facts}
 use Rattle.update_log.specs.declared.live.LiveEntry.{LiveEntry}
 use Rattle.update_log.specs.declared.request.Request.{Request}
-use Rattle.daemon_core.specs.Annals.{IsAnnals}
-use Rattle.daemon_core.specs.Housed.{Annalled, past_in, rows_before}
+use Rattle.daemon_core.specs.HouseLog.{IsHouseLog}
+use Rattle.daemon_core.specs.Housed.{HouseLogView, past_in, rows_before}
 use Rattle.daemon_core.specs.PutOff.{IsAccept}
 use Rattle.daemon_core.proofs.ClaimAccepted.{claimable}
 
@@ -60,13 +60,13 @@ board-found facts opening core device s =
 
 -- ---- the row of a claim
 
-abbrev pub accept_in : Annalled → ℕ → Request → ReleaseRef → Type 0
+abbrev pub accept_in : HouseLogView → ℕ → Request → ReleaseRef → Type 0
 accept_in a client request release = IsAccept (verdict a.facts (rows_before a) (past_in a) client request (Stage.Claim release))
 
-pub accept-over_claim : (a b : Annalled) (client : ℕ) (request : Request) (release : ReleaseRef) → a ≡ b → accept_in b client request release → accept_in a client request release
-accept-over_claim a b client request release e h = subst (λ (x : Annalled). accept_in x client request release) (sym e) h
+pub accept-over_claim : (a b : HouseLogView) (client : ℕ) (request : Request) (release : ReleaseRef) → a ≡ b → accept_in b client request release → accept_in a client request release
+accept-over_claim a b client request release e h = subst (λ (x : HouseLogView). accept_in x client request release) (sym e) h
 
-pub few-begun : (a : Annalled) (client : ℕ) (request : Request) (release : ReleaseRef) → IsAnnals a → accept_in a client request release → length a.core.rows < 65536
+pub few-begun : (a : HouseLogView) (client : ℕ) (request : Request) (release : ReleaseRef) → IsHouseLog a → accept_in a client request release → length a.core.rows < 65536
 few-begun a client request release k h =
     let f = (claimable a.facts (rows_before a) (past_in a) client request release h).1.few in
     let e = ap length k.stands.rows in
@@ -76,7 +76,7 @@ same-begun : (facts : Facts) (core : Core) (time : ℕ) (all : List Row) (seen :
     → addition_on facts time core.views core.rows client request RowState.Begun ≡ Some (Change.Add (new_row (length all + 1) time client request RowState.Begun t))
 same-begun facts core time all seen client request t r v e = rw (r, v, e) refl
 
-pub suits-begun : (a : Annalled) (client : ℕ) (request : Request) (release : ReleaseRef) (row : Row) → IsAnnals a → accept_in a client request release
+pub suits-begun : (a : HouseLogView) (client : ℕ) (request : Request) (release : ReleaseRef) (row : Row) → IsHouseLog a → accept_in a client request release
     → addition_on a.facts (time_of (past_in a)) a.core.views a.core.rows client request RowState.Begun ≡ Some (Change.Add row) → Suits (Change.Add row) a.core.rows
 suits-begun a client request release row k h e =
     let o = claimable a.facts (rows_before a) (past_in a) client request release h in

@@ -23,7 +23,7 @@ use Rattle.update_log.specs.declared.live.LiveEntry.{LiveEntry}
 use Rattle.daemon_core.proofs.BoardsQuiet.{any-same, goes-so, is-board-kept, kept-so, legal-before, open-kept, open-marks-kept, raws-stay}
 use Rattle.daemon_core.proofs.ClaimEnds.{get-set, other-number, place-found, own-board}
 use Rattle.daemon_core.proofs.PlacesKept.{SameOfBoard, place-same}
-use Rattle.daemon_core.specs.Annals.{IsLegalSo}
+use Rattle.daemon_core.specs.HouseLog.{IsLegalSo}
 use Rattle.daemon_core.specs.Boards.{BoardStands, PlaceStands, faulty_ends, is_faulty_end, is_out}
 use Rattle.daemon_core.specs.Claims.{places_without}
 use Rattle.daemon_core.specs.Housed.{Place}

@@ -32,16 +32,16 @@ use Rattle.update_log.specs.declared.trace.Trace.{Trace}
 use Rattle.daemon_core.specs.declared.claimed.Taken.{Taken}
 use Rattle.daemon_core.specs.declared.fetched.Fetched.{Fetched}
 use Rattle.daemon_core.specs.declared.hold.Ticket.{Ticket}
-use Rattle.daemon_core.specs.Annals.{Appended, IsAnnals}
+use Rattle.daemon_core.specs.HouseLog.{Appended, IsHouseLog}
 use Rattle.daemon_core.specs.Boards.{BoardStands}
 use Rattle.daemon_core.specs.Claims.{DeviceHome, IsServedBy, IsTaken, IsToStore, MayAnswer, MayClaim, claim_verdict, place_given, plugin_at}
 use Rattle.daemon_core.specs.Fetches.{IsPayloadOf, note_of, is_payload, whole_note}
 use Rattle.daemon_core.specs.Holds.{held_by}
 use Rattle.daemon_core.specs.House.{IsHouse}
-use Rattle.daemon_core.specs.Housed.{Annalled, Housed, past, past_in, rows_before}
+use Rattle.daemon_core.specs.Housed.{HouseLogView, Housed, past, past_in, rows_before}
 use Rattle.daemon_core.specs.PutOff.{IsAccept}
 use Rattle.daemon_core.specs.Returns.{ComesHome, place_at}
-use Rattle.daemon_core.proofs.AnnalsKept.{appended-before, appended-past}
+use Rattle.daemon_core.proofs.HouseLogKept.{appended-before, appended-past}
 use Rattle.daemon_core.proofs.Asking.{release-same}
 use Rattle.daemon_core.proofs.BoardsQuiet.{kept-so}
 use Rattle.daemon_core.proofs.ClaimAccepted.{claimable, device-served, target-seen, view-home, whole-fetched}
@@ -56,10 +56,10 @@ use Rattle.daemon_core.proofs.HeldOnce.{out-once}
 -- ---- what may be answered
 
 -- A claim that isn't accepted is answered what was decided.
-pub answers-kept : (a : Annalled) (client : ℕ) (ticket : Ticket) (note : FetchNote) (entry : ℕ) (state : RowState) → claim_verdict a client ticket ≡ Decision.Kept entry state → MayAnswer a client ticket note (ClaimAnswer.Kept entry state)
+pub answers-kept : (a : HouseLogView) (client : ℕ) (ticket : Ticket) (note : FetchNote) (entry : ℕ) (state : RowState) → claim_verdict a client ticket ≡ Decision.Kept entry state → MayAnswer a client ticket note (ClaimAnswer.Kept entry state)
 answers-kept a client ticket note entry state e = subst (λ (d : Decision). ClaimAnswered note (target a.facts (views a.facts (rows_before a) (past_in a)) ticket.request) (next_entry a.facts (rows_before a) (past_in a)) d (ClaimAnswer.Kept entry state)) (sym e) refl
 
-pub answers-refused : (a : Annalled) (client : ℕ) (ticket : Ticket) (note : FetchNote) (refusal : Refusal) → claim_verdict a client ticket ≡ Decision.Refused refusal → MayAnswer a client ticket note (ClaimAnswer.Refused refusal)
+pub answers-refused : (a : HouseLogView) (client : ℕ) (ticket : Ticket) (note : FetchNote) (refusal : Refusal) → claim_verdict a client ticket ≡ Decision.Refused refusal → MayAnswer a client ticket note (ClaimAnswer.Refused refusal)
 answers-refused a client ticket note refusal e = subst (λ (d : Decision). ClaimAnswered note (target a.facts (views a.facts (rows_before a) (past_in a)) ticket.request) (next_entry a.facts (rows_before a) (past_in a)) d (ClaimAnswer.Refused refusal)) (sym e) refl
 
 -- One whose payload isn't whole is answered that.
@@ -74,14 +74,14 @@ broken-fetched (Fetched.Mismatch found blocks) (Some t) h = refl
 broken-fetched (Fetched.ShelfFault blocks) None h = refl
 broken-fetched (Fetched.ShelfFault blocks) (Some t) h = refl
 
-pub answers-broken : (a : Annalled) (client : ℕ) (ticket : Ticket) (fetched : Fetched) → IsAccept (claim_verdict a client ticket) → is_payload fetched ≡ false → MayAnswer a client ticket (note_of fetched) (ClaimAnswer.Refused (Refusal.Payload (note_of fetched)))
+pub answers-broken : (a : HouseLogView) (client : ℕ) (ticket : Ticket) (fetched : Fetched) → IsAccept (claim_verdict a client ticket) → is_payload fetched ≡ false → MayAnswer a client ticket (note_of fetched) (ClaimAnswer.Refused (Refusal.Payload (note_of fetched)))
 answers-broken a client ticket fetched w h =
     let f = broken-fetched fetched (target a.facts (views a.facts (rows_before a) (past_in a)) ticket.request) h in
     subst (λ (d : Decision). ClaimAnswered (note_of fetched) (target a.facts (views a.facts (rows_before a) (past_in a)) ticket.request) (next_entry a.facts (rows_before a) (past_in a)) d (ClaimAnswer.Refused (Refusal.Payload (note_of fetched)))) (sym w.3)
     (rw f refl)
 
 -- One whose payload is, is answered the next entry, or that the keeper failed.
-pub answers-whole : (a : Annalled) (client : ℕ) (ticket : Ticket) (payload : SealedBytes) (answer : ClaimAnswer) → IsAccept (claim_verdict a client ticket) → IsPayloadOf a.facts ticket.release payload
+pub answers-whole : (a : HouseLogView) (client : ℕ) (ticket : Ticket) (payload : SealedBytes) (answer : ClaimAnswer) → IsAccept (claim_verdict a client ticket) → IsPayloadOf a.facts ticket.release payload
     → (answer ≡ ClaimAnswer.Entry (next_entry a.facts (rows_before a) (past_in a))) ⊎ (answer ≡ ClaimAnswer.Refused Refusal.KeeperFault) → MayAnswer a client ticket (whole_note payload) answer
 answers-whole a client ticket payload answer w p e =
     let k = claimable a.facts (rows_before a) (past_in a) client ticket.request ticket.release w in
@@ -99,16 +99,16 @@ some-added : (a b : Row) → Some (Change.Add a) ≡ Some (Change.Add b) → a �
 some-added a b h = cc
 
 -- The row is that of the target.
-pub row-is : (a : Annalled) (client : ℕ) (ticket : Ticket) (row : Row) (t : Target) → target a.facts (views a.facts (rows_before a) (past_in a)) ticket.request ≡ Some t → AddsRow a client ticket row
+pub row-is : (a : HouseLogView) (client : ℕ) (ticket : Ticket) (row : Row) (t : Target) → target a.facts (views a.facts (rows_before a) (past_in a)) ticket.request ≡ Some t → AddsRow a client ticket row
     → new_row (length (rows a.facts (rows_before a) (past_in a)) + 1) (time_of (past_in a)) client ticket.request RowState.Begun t ≡ row
 row-is a client ticket row t f e = some-added _ row (sym (addition-begun a.facts (rows_before a) (past_in a) client ticket.request t f) ∙ e)
 
 -- What is to be stored.
-pub record StorePlan (a : Annalled) (client : ℕ) (ticket : Ticket) (row : Row) (number : ℕ) : Type 0 where
+pub record StorePlan (a : HouseLogView) (client : ℕ) (ticket : Ticket) (row : Row) (number : ℕ) : Type 0 where
   pub within : number < length a.facts.sheets
   pub store : IsToStore a client ticket row number
 
-pub store-plan : (a : Annalled) (client : ℕ) (ticket : Ticket) (row : Row) (number : ℕ) → IsAccept (claim_verdict a client ticket) → AddsRow a client ticket row → row.entry ≡ length a.core.rows + 1 → Suits (Change.Add row) a.core.rows → IsTimely (Change.Add row)
+pub store-plan : (a : HouseLogView) (client : ℕ) (ticket : Ticket) (row : Row) (number : ℕ) → IsAccept (claim_verdict a client ticket) → AddsRow a client ticket row → row.entry ≡ length a.core.rows + 1 → Suits (Change.Add row) a.core.rows → IsTimely (Change.Add row)
     → number ≡ unwrap_or (board_with a.facts row.device) 0 → StorePlan a client ticket row number
 store-plan a client ticket row number w e n s t b =
     let k = claimable a.facts (rows_before a) (past_in a) client ticket.request ticket.release w in
@@ -142,10 +142,10 @@ abbrev pub takes_event : ℕ → Ticket → SealedBytes → Row → Event
 takes_event client ticket payload row = claims client ticket (whole_note payload) (ClaimAnswer.Entry row.entry)
 
 -- The entry is the next one.
-pub entry-next : (a : Annalled) (client : ℕ) (ticket : Ticket) (row : Row) (number : ℕ) → IsAnnals a → IsToStore a client ticket row number → row.entry ≡ next_entry a.facts (rows_before a) (past_in a)
+pub entry-next : (a : HouseLogView) (client : ℕ) (ticket : Ticket) (row : Row) (number : ℕ) → IsHouseLog a → IsToStore a client ticket row number → row.entry ≡ next_entry a.facts (rows_before a) (past_in a)
 entry-next a client ticket row number k s = s.entry_is ∙ ap (λ (rs : List Row). length rs + 1) k.stands.rows
 
-pub claim-takes_entry : (a : Annalled) (client : ℕ) (ticket : Ticket) (payload : SealedBytes) (row : Row) (number : ℕ) → IsAnnals a → IsToStore a client ticket row number → Takes a.facts (rows_before a) (past_in a) (takes_event client ticket payload row) row.entry number
+pub claim-takes_entry : (a : HouseLogView) (client : ℕ) (ticket : Ticket) (payload : SealedBytes) (row : Row) (number : ℕ) → IsHouseLog a → IsToStore a client ticket row number → Takes a.facts (rows_before a) (past_in a) (takes_event client ticket payload row) row.entry number
 claim-takes_entry a client ticket payload row number k s =
     let w = kept-so a.facts a.first (rows_before a) (past_in a) k.stands.history k.legal in
     let all : List Row = rows a.facts (rows_before a) (past_in a) in
@@ -166,13 +166,13 @@ claim-takes_entry a client ticket payload row number k s =
     }
 
 -- The blocks of the payload are those of the hold.
-pub claim-blocks : (a : Annalled) (client : ℕ) (ticket : Ticket) (payload : SealedBytes) → IsAnnals a → MayClaim a client ticket payload.count → IsPayloadOf a.facts ticket.release payload → payload.count ≡ blocks_of (length payload.bytes)
+pub claim-blocks : (a : HouseLogView) (client : ℕ) (ticket : Ticket) (payload : SealedBytes) → IsHouseLog a → MayClaim a client ticket payload.count → IsPayloadOf a.facts ticket.release payload → payload.count ≡ blocks_of (length payload.bytes)
 claim-blocks a client ticket payload k m p =
     let s = hold-sized a.facts a.first (rows_before a) (past_in a) client (held_by ticket payload.count) k.legal m.held_is in
     let same : s.0 ≡ p.release = release-same a.facts.catalogue ticket.release s.0 p.release s.1 p.there in
     s.2 ∙ ap (λ (r : Release). blocks_of r.size) same ∙ sym (ap blocks_of p.size_is)
 
-pub claim-same_held : (a : Annalled) (client : ℕ) (ticket : Ticket) (payload : SealedBytes) (row : Row) → IsAnnals a → MayClaim a client ticket payload.count → IsPayloadOf a.facts ticket.release payload → held (takes_event client ticket payload row ∷ past_in a) ≡ held (past_in a)
+pub claim-same_held : (a : HouseLogView) (client : ℕ) (ticket : Ticket) (payload : SealedBytes) (row : Row) → IsHouseLog a → MayClaim a client ticket payload.count → IsPayloadOf a.facts ticket.release payload → held (takes_event client ticket payload row ∷ past_in a) ≡ held (past_in a)
 claim-same_held a client ticket payload row k m p =
     let l = k.legal in
     let t = held-taken (past_in a) client ticket.request (whole_note payload) row.entry (held_by ticket payload.count) (out-once l.0 (rows_before a) (past_in a) k.stands.history l.3) m.held_is in
@@ -188,7 +188,7 @@ claim-served facts device number plugin b e =
     record { place = p.0; place_is = p.1; plugin_is = e ∙ ap (λ (o : Option ℕ). place_given (unwrap_or o 0)) p.1 }
 
 -- its trace, which has no step
-claim-traced : (a : Annalled) (client : ℕ) (ticket : Ticket) (payload : SealedBytes) (row : Row) (number : ℕ) (t : Trace) → IsToStore a client ticket row number → trace a.facts (rows_before a) row.entry (takes_event client ticket payload row ∷ past_in a) ≡ Some t → t.steps ≡ []
+claim-traced : (a : HouseLogView) (client : ℕ) (ticket : Ticket) (payload : SealedBytes) (row : Row) (number : ℕ) (t : Trace) → IsToStore a client ticket row number → trace a.facts (rows_before a) row.entry (takes_event client ticket payload row ∷ past_in a) ≡ Some t → t.steps ≡ []
 claim-traced a client ticket payload row number t s e =
     let k = claimable a.facts (rows_before a) (past_in a) client ticket.request ticket.release s.accepted in
     let f : trace a.facts (rows_before a) row.entry (takes_event client ticket payload row ∷ past_in a) ≡ Some (first_trace k.0) = rw (eqb-self row.entry, k.1.found) refl in
@@ -197,7 +197,7 @@ claim-traced a client ticket payload row number t s e =
     ap (λ (x : Trace). x.steps) (sym h)
 
 -- the live entry
-pub claim-live : (a : Annalled) (client : ℕ) (ticket : Ticket) (payload : SealedBytes) (row : Row) (number : ℕ) → IsAnnals a → IsToStore a client ticket row number
+pub claim-live : (a : HouseLogView) (client : ℕ) (ticket : Ticket) (payload : SealedBytes) (row : Row) (number : ℕ) → IsHouseLog a → IsToStore a client ticket row number
     → live_entry (takes_event client ticket payload row ∷ past_in a) row.entry ≡ Some (record { client = client; entry = row.entry; blocks = blocks_of (length payload.bytes) })
 claim-live a client ticket payload row number k s =
     let w = kept-so a.facts a.first (rows_before a) (past_in a) k.stands.history k.legal in
@@ -209,7 +209,7 @@ claim-live a client ticket payload row number k s =
     (eqb-self row.entry)
 
 -- over the log with the claim
-taken-there : (a : Annalled) (client : ℕ) (ticket : Ticket) (payload : SealedBytes) (row : Row) (number : ℕ) (taken : Taken) → IsAnnals a → MayClaim a client ticket payload.count → IsPayloadOf a.facts ticket.release payload → IsToStore a client ticket row number
+taken-there : (a : HouseLogView) (client : ℕ) (ticket : Ticket) (payload : SealedBytes) (row : Row) (number : ℕ) (taken : Taken) → IsHouseLog a → MayClaim a client ticket payload.count → IsPayloadOf a.facts ticket.release payload → IsToStore a client ticket row number
     → BoardStands a.facts a.first (rows_before a) (past_in a) number taken.board [] → 8 ≤ taken.board.room → taken.entry ≡ row.entry → taken.payload ≡ payload → taken.plugin ≡ place_given (unwrap_or (plugin_at a.facts number) 0)
     → trace a.facts (rows_before a) row.entry (takes_event client ticket payload row ∷ past_in a) ≡ Some taken.trace → IsTaken a.facts a.first (rows_before a) (takes_event client ticket payload row ∷ past_in a) client taken number
 taken-there a client ticket payload row number taken k m p s b r e q g t =
@@ -238,11 +238,11 @@ taken-there a client ticket payload row number taken k m p s b r e q g t =
       served = claim-served a.facts row.device number taken.plugin s.board.board_is g;
     }
 
--- over the annals with it
-abbrev pub TakenIn : Annalled → ℕ → Taken → ℕ → Type 0
+-- over the house log with it
+abbrev pub TakenIn : HouseLogView → ℕ → Taken → ℕ → Type 0
 TakenIn a client taken number = IsTaken a.facts a.first (rows_before a) (past_in a) client taken number
 
-pub claim-taken : (a new : Annalled) (client : ℕ) (ticket : Ticket) (payload : SealedBytes) (row : Row) (number : ℕ) (taken : Taken) → IsAnnals a → MayClaim a client ticket payload.count → IsPayloadOf a.facts ticket.release payload → IsToStore a client ticket row number → Appended client (takes_event client ticket payload row) a new
+pub claim-taken : (a new : HouseLogView) (client : ℕ) (ticket : Ticket) (payload : SealedBytes) (row : Row) (number : ℕ) (taken : Taken) → IsHouseLog a → MayClaim a client ticket payload.count → IsPayloadOf a.facts ticket.release payload → IsToStore a client ticket row number → Appended client (takes_event client ticket payload row) a new
     → BoardStands a.facts a.first (rows_before a) (past_in a) number taken.board [] → 8 ≤ taken.board.room → taken.entry ≡ row.entry → taken.payload ≡ payload → taken.plugin ≡ place_given (unwrap_or (plugin_at new.facts number) 0)
     → trace new.facts (rows_before new) row.entry (past_in new) ≡ Some taken.trace → TakenIn new client taken number
 claim-taken a new client ticket payload row number taken k m p s ap' b r e q g t =
@@ -260,16 +260,16 @@ claim-taken a new client ticket payload row number taken k m p s ap' b r e q g t
 -- ---- the board that goes out
 
 -- It is home, and stands with no untold mark.
-pub claim-board : {K : Type 0} (told : K → List Row → Type 0) (doubted : K → Option Change) (client blocks : ℕ) (ticket : Ticket) (row : Row) (number : ℕ) (h : Housed K) → IsHouse told doubted h → IsAnnals h.annals → MayClaim h.annals client ticket blocks → IsToStore h.annals client ticket row number → number < length h.places
-    → (b : BoardState) × ((place_at h.places number).board ≡ Some b) × BoardStands h.annals.facts h.annals.first (rows_before h.annals) (past h) number b []
+pub claim-board : {K : Type 0} (told : K → List Row → Type 0) (doubted : K → Option Change) (client blocks : ℕ) (ticket : Ticket) (row : Row) (number : ℕ) (h : Housed K) → IsHouse told doubted h → IsHouseLog h.house_log → MayClaim h.house_log client ticket blocks → IsToStore h.house_log client ticket row number → number < length h.places
+    → (b : BoardState) × ((place_at h.places number).board ≡ Some b) × BoardStands h.house_log.facts h.house_log.first (rows_before h.house_log) (past h) number b []
 claim-board told doubted client blocks ticket row number h w k m s within =
     let p = w.places number (place_at h.places number) (place-found h.places number within) in
-    let b = home-board h.annals.facts h.annals.first (rows_before h.annals) (past h) number (place_at h.places number).board s.board.home p.home in
-    (b.0, b.1, home-tail h.annals.facts h.annals.first (rows_before h.annals) (past h) number b.0 b.2.0 k.legal m.runs.on s.board.home b.2.1)
+    let b = home-board h.house_log.facts h.house_log.first (rows_before h.house_log) (past h) number (place_at h.places number).board s.board.home p.home in
+    (b.0, b.1, home-tail h.house_log.facts h.house_log.first (rows_before h.house_log) (past h) number b.0 b.2.0 k.legal m.runs.on s.board.home b.2.1)
 
 -- Its number is a place.
-pub store-within : {K : Type 0} (told : K → List Row → Type 0) (doubted : K → Option Change) (client : ℕ) (ticket : Ticket) (row : Row) (number : ℕ) (h : Housed K) → IsHouse told doubted h → IsToStore h.annals client ticket row number → number < length h.places
+pub store-within : {K : Type 0} (told : K → List Row → Type 0) (doubted : K → Option Change) (client : ℕ) (ticket : Ticket) (row : Row) (number : ℕ) (h : Housed K) → IsHouse told doubted h → IsToStore h.house_log client ticket row number → number < length h.places
 store-within told doubted client ticket row number h w s =
-    let on = on-board h.annals.facts row.device number s.board.board_is in
-    let within = slice_get_within h.annals.facts.sheets number on.board.sheet on.sheet in
+    let on = on-board h.house_log.facts row.device number s.board.board_is in
+    let within = slice_get_within h.house_log.facts.sheets number on.board.sheet on.sheet in
     let c = w.count in omega (arith, within, c)

@@ -13,13 +13,13 @@ use Rattle.update_log.specs.Holding.{holds, live, open_steps}
 use Rattle.update_log.specs.Known.{doubt, doubt_by, fate_stored, known, rows, rows_by, tells}
 use Rattle.update_log.specs.Pasts.{is_boot, off}
 use Rattle.update_log.specs.Shows.{told_by}
-use Rattle.daemon_core.specs.Annals.{Appended, IsAnnals, IsLegalSo}
+use Rattle.daemon_core.specs.HouseLog.{Appended, IsHouseLog, IsLegalSo}
 use Rattle.fw_facts.specs.declared.seen.Seen.{Seen}
-use Rattle.daemon_core.proofs.AnnalsKept.{appended-before, appended-past}
+use Rattle.daemon_core.proofs.HouseLogKept.{appended-before, appended-past}
 use Rattle.daemon_core.specs.Boards.{is_faulty_end}
 use Rattle.daemon_core.specs.Commits.{StoredAs}
 use Rattle.daemon_core.specs.House.{IsHouse}
-use Rattle.daemon_core.specs.Housed.{Annalled, Housed, past, past_in, rows_before}
+use Rattle.daemon_core.specs.Housed.{HouseLogView, Housed, past, past_in, rows_before}
 use Rattle.daemon_core.specs.Keeping.{HasRows, KeepsSo}
 use Rattle.daemon_core.specs.Turns.{ToldBefore}
 use Rattle.daemon_core.proofs.BoardsQuiet.{quiet-board}
@@ -28,10 +28,10 @@ use Rattle.daemon_core.proofs.KeptSo.{so-clear, so-has}
 use Rattle.daemon_core.proofs.PlacesKept.{place-same}
 
 -- The keeper of a house whose boot isn't off has the rows of the log, and no doubt.
-pub house-clear : {K : Type 0} (told : K → List Row → Type 0) (doubted : K → Option Change) (h : Housed K) → IsHouse told doubted h → IsAnnals h.annals → h.annals.loaded ≡ true → off (past h) ≡ false → HasRows told doubted h.keeper h.annals.core.rows None
+pub house-clear : {K : Type 0} (told : K → List Row → Type 0) (doubted : K → Option Change) (h : Housed K) → IsHouse told doubted h → IsHouseLog h.house_log → h.house_log.loaded ≡ true → off (past h) ≡ false → HasRows told doubted h.keeper h.house_log.core.rows None
 house-clear told doubted h k a l o =
-    so-clear h.annals.reopened told doubted h.keeper h.annals.core.rows
-    (subst (λ (d : Option Change). KeepsSo h.annals.reopened told doubted h.keeper h.annals.core.rows d) (a.stands.doubt ∙ no-doubt h.annals a o) (k.kept l))
+    so-clear h.house_log.reopened told doubted h.keeper h.house_log.core.rows
+    (subst (λ (d : Option Change). KeepsSo h.house_log.reopened told doubted h.keeper h.house_log.core.rows d) (a.stands.doubt ∙ no-doubt h.house_log a o) (k.kept l))
 
 changed-told : (o p : List Row → Type 0) (rows : List Row) (change : Change) → ((all : List Row) → o all → all ≡ rows) → ToldWith change o p → (all : List Row) → p all → all ≡ changed change rows
 changed-told o p rows change h w all t = let before = w all t in before.2 ∙ ap (λ (l : List Row). changed change l) (h before.0 before.1)
@@ -46,21 +46,21 @@ stored-before told old new change Stored.Fault left s all t = (all, s.0 all t)
 stored-before told old new change Stored.NoMemory left s all t = (all, s.0 all t)
 stored-before told old new change Stored.Unchanged left s all t = absurd s
 
--- A house whose keeper made no change, over annals that are equal to those that a call began with.
-pub house-unstored : {K : Type 0} (told : K → List Row → Type 0) (doubted : K → Option Change) (h : Housed K) (b : Annalled) (keeper : K) → h.annals ≡ b → IsHouse told doubted h → IsAnnals h.annals → b.loaded ≡ true → off (past_in b) ≡ false → StillTold (told h.keeper) (told keeper) × (doubted keeper ≡ None)
+-- A house whose keeper made no change, over a house log that is equal to those that a call began with.
+pub house-unstored : {K : Type 0} (told : K → List Row → Type 0) (doubted : K → Option Change) (h : Housed K) (b : HouseLogView) (keeper : K) → h.house_log ≡ b → IsHouse told doubted h → IsHouseLog h.house_log → b.loaded ≡ true → off (past_in b) ≡ false → StillTold (told h.keeper) (told keeper) × (doubted keeper ≡ None)
     → IsHouse told doubted (record h { keeper = keeper })
 house-unstored told doubted h b keeper e w k l o c =
-    let l' : h.annals.loaded ≡ true = ap (λ (x : Annalled). x.loaded) e ∙ l in
-    let o' : off (past h) ≡ false = ap (λ (x : Annalled). off (past_in x)) e ∙ o in
+    let l' : h.house_log.loaded ≡ true = ap (λ (x : HouseLogView). x.loaded) e ∙ l in
+    let o' : off (past h) ≡ false = ap (λ (x : HouseLogView). off (past_in x)) e ∙ o in
     let clear = house-clear told doubted h w k l' o' in
-    let d : h.annals.core.doubt ≡ None = k.stands.doubt ∙ no-doubt h.annals k o' in
+    let d : h.house_log.core.doubt ≡ None = k.stands.doubt ∙ no-doubt h.house_log k o' in
     record {
       count = w.count;
       places = w.places;
       unloaded = λ u. c.1;
       kept = λ l.
-          so-has h.annals.reopened told doubted keeper h.annals.core.rows h.annals.core.doubt
-          (record { rows_are = same-told (told h.keeper) (told keeper) h.annals.core.rows clear.rows_are c.0; doubt_is = c.1 ∙ sym d });
+          so-has h.house_log.reopened told doubted keeper h.house_log.core.rows h.house_log.core.doubt
+          (record { rows_are = same-told (told h.keeper) (told keeper) h.house_log.core.rows clear.rows_are c.0; doubt_is = c.1 ∙ sym d });
       capacity = w.capacity;
       free = w.free;
     }
@@ -74,7 +74,7 @@ stored-keeps told doubted old new rows change Stored.NoMemory h s = record { row
 stored-keeps told doubted old new rows change Stored.Unchanged h s = absurd s
 
 -- The log with the event is legal.
-pub legal-after : (client : ℕ) (event : Event) (old new : Annalled) → Appended client event old new → IsAnnals new → IsLegalSo old.facts old.first (rows_before old) (event ∷ past_in old)
+pub legal-after : (client : ℕ) (event : Event) (old new : HouseLogView) → Appended client event old new → IsHouseLog new → IsLegalSo old.facts old.first (rows_before old) (event ∷ past_in old)
 legal-after client event old new a k =
     subst (λ (f : Facts). IsLegalSo f old.first (rows_before old) (event ∷ past_in old)) a.same.facts
     (subst (λ (s : List Seen). IsLegalSo new.facts s (rows_before old) (event ∷ past_in old)) a.same.first
@@ -94,27 +94,27 @@ pub record AsksOnly (facts : Facts) (opening : List Row) (past : List Event) (ev
   pub doubt_is : doubt facts opening (event ∷ past) ≡ doubt_by (fate_stored stored) (Some change) (doubt facts opening past)
 
 -- After such an event, and the keeper's commit, it is a house.
-pub house-asked : {K : Type 0} (told : K → List Row → Type 0) (doubted : K → Option Change) (client : ℕ) (event : Event) (change : Change) (stored : Stored) (old : Housed K) (new : Annalled) (keeper : K) → IsHouse told doubted old → IsAnnals old.annals → IsAnnals new → Appended client event old.annals new → old.annals.loaded ≡ true → off (past old) ≡ false
-    → AsksOnly old.annals.facts (rows_before old.annals) (past old) event change stored → StoredAs change stored (told old.keeper) (told keeper) (doubted keeper) → IsHouse told doubted (record old { annals = new; keeper = keeper })
+pub house-asked : {K : Type 0} (told : K → List Row → Type 0) (doubted : K → Option Change) (client : ℕ) (event : Event) (change : Change) (stored : Stored) (old : Housed K) (new : HouseLogView) (keeper : K) → IsHouse told doubted old → IsHouseLog old.house_log → IsHouseLog new → Appended client event old.house_log new → old.house_log.loaded ≡ true → off (past old) ≡ false
+    → AsksOnly old.house_log.facts (rows_before old.house_log) (past old) event change stored → StoredAs change stored (told old.keeper) (told keeper) (doubted keeper) → IsHouse told doubted (record old { house_log = new; keeper = keeper })
 house-asked told doubted client event change stored old new keeper h o k a l on q s =
-    let f : Facts = old.annals.facts in
-    let b : List Row = rows_before old.annals in
+    let f : Facts = old.house_log.facts in
+    let b : List Row = rows_before old.house_log in
     let clear = house-clear told doubted old h o l on in
-    let kept = stored-keeps told doubted old.keeper keeper old.annals.core.rows change stored clear s in
-    let legal = legal-after client event old.annals new a k in
-    house-next told doubted client event old (record old { annals = new; keeper = keeper }) h a k
+    let kept = stored-keeps told doubted old.keeper keeper old.house_log.core.rows change stored clear s in
+    let legal = legal-after client event old.house_log new a k in
+    house-next told doubted client event old (record old { house_log = new; keeper = keeper }) h a k
     (record {
       count = refl;
       places = λ number place e.
-          place-same f old.annals.first b (past old) (event ∷ past old) number place
-          (quiet-board f old.annals.first b (past old) event o.stands.history legal number (q.told number) (q.same_tells number) (q.faulty number) q.no_boot q.same_live q.same_steps)
+          place-same f old.house_log.first b (past old) (event ∷ past old) number place
+          (quiet-board f old.house_log.first b (past old) event o.stands.history legal number (q.told number) (q.same_tells number) (q.faulty number) q.no_boot q.same_live q.same_steps)
           (h.places number place e);
       loaded = l;
       kept =
-          so-has old.annals.reopened told doubted keeper (rows f b (event ∷ past old)) (doubt f b (event ∷ past old))
+          so-has old.house_log.reopened told doubted keeper (rows f b (event ∷ past old)) (doubt f b (event ∷ past old))
           (subst (λ (x : List Row). HasRows told doubted keeper x (doubt f b (event ∷ past old))) (ap (rows_by (fate_stored stored) (Some change)) o.stands.rows ∙ sym q.rows_are)
-          (subst (λ (x : Option Change). HasRows told doubted keeper (rows_by (fate_stored stored) (Some change) old.annals.core.rows) x)
-          (ap (doubt_by (fate_stored stored) (Some change)) (sym (no-doubt old.annals o on)) ∙ sym q.doubt_is) kept));
+          (subst (λ (x : Option Change). HasRows told doubted keeper (rows_by (fate_stored stored) (Some change) old.house_log.core.rows) x)
+          (ap (doubt_by (fate_stored stored) (Some change)) (sym (no-doubt old.house_log o on)) ∙ sym q.doubt_is) kept));
       capacity = refl;
       free = ap (λ (n : ℕ). old.pool.free + n) (held-same (past old) (event ∷ past old) q.same_holds q.same_live) ∙ h.free;
     })

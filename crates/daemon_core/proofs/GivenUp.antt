@@ -17,13 +17,13 @@ use Rattle.update_log.specs.declared.event.Event.{Event}
 use Rattle.update_log.specs.declared.facts.Facts.{Facts}
 use Rattle.update_log.specs.declared.live.Held.{Held}
 use Rattle.update_log.specs.declared.request.Request.{Request}
-use Rattle.daemon_core.specs.Annals.{Appended, IsAllowedSo, IsAnnals, IsLegalSo}
+use Rattle.daemon_core.specs.HouseLog.{Appended, IsAllowedSo, IsHouseLog, IsLegalSo}
 use Rattle.daemon_core.specs.Holds.{back_of}
 use Rattle.daemon_core.specs.House.{IsHouse}
-use Rattle.daemon_core.specs.Housed.{Annalled, Housed, past, past_in, rows_before}
+use Rattle.daemon_core.specs.Housed.{HouseLogView, Housed, past, past_in, rows_before}
 use Rattle.daemon_core.specs.Keeping.{KeepsSo}
 use Rattle.daemon_core.specs.Owed.{owed}
-use Rattle.daemon_core.proofs.AnnalsKept.{legal-next}
+use Rattle.daemon_core.proofs.HouseLogKept.{legal-next}
 use Rattle.daemon_core.proofs.Held.{held-given_pending, held-given_tag}
 use Rattle.daemon_core.proofs.HeldOnce.{OutOnce, out-once}
 use Rattle.daemon_core.proofs.HouseKept.{house-next}
@@ -71,8 +71,8 @@ back-doubt : (facts : Facts) (opening : List Row) (past : List Event) (client : 
 back-doubt facts opening past client None request = refl
 back-doubt facts opening past client (Some entry) request = refl
 
--- What giving a hold back needs of the annals.
-pub record MayGive (a : Annalled) (client : ℕ) (pending : Option ℕ) (request : Request) (blocks : ℕ) : Type 0 where
+-- What giving a hold back needs of the house log.
+pub record MayGive (a : HouseLogView) (client : ℕ) (pending : Option ℕ) (request : Request) (blocks : ℕ) : Type 0 where
   pub loaded : a.loaded ≡ true
   pub takes : BootTakes (past_in a) (back client pending request)
   pub allowed : IsAllowedSo a.facts a.first (rows_before a) (past_in a) (back client pending request)
@@ -80,10 +80,10 @@ pub record MayGive (a : Annalled) (client : ℕ) (pending : Option ℕ) (request
   pub row : length (rows a.facts (rows_before a) (back client pending request ∷ past_in a)) ≤ length a.core.rows + a.core.row_room
   pub blocks_out : held (back client pending request ∷ past_in a) + blocks ≡ held (past_in a)
 
-pub may-give : (a b : Annalled) (client : ℕ) (h : Held) → a ≡ b → IsAnnals a → 0 < boots (past_in b) → hold (past_in b) client ≡ Some h → MayGive a client h.pending h.request h.blocks
+pub may-give : (a b : HouseLogView) (client : ℕ) (h : Held) → a ≡ b → IsHouseLog a → 0 < boots (past_in b) → hold (past_in b) client ≡ Some h → MayGive a client h.pending h.request h.blocks
 may-give a b client h same k booted e =
-    let e' : hold (past_in a) client ≡ Some h = ap (λ (x : Annalled). hold (past_in x) client) same ∙ e in
-    let t : BootTakes (past_in a) (back client h.pending h.request) = record { booted = λ _. subst (λ (x : Annalled). 0 < boots (past_in x)) (sym same) booted; on = λ n. cc; below = λ n. cc } in
+    let e' : hold (past_in a) client ≡ Some h = ap (λ (x : HouseLogView). hold (past_in x) client) same ∙ e in
+    let t : BootTakes (past_in a) (back client h.pending h.request) = record { booted = λ _. subst (λ (x : HouseLogView). 0 < boots (past_in x)) (sym same) booted; on = λ n. cc; below = λ n. cc } in
     let w : IsAllowedSo a.facts a.first (rows_before a) (past_in a) (back client h.pending h.request) = λ c f i. back-allowed (past_in a) client h.pending h.request h e' refl refl in
     let l : IsLegalSo a.facts a.first (rows_before a) (back client h.pending h.request ∷ past_in a) = legal-next a.facts a.first (rows_before a) (past_in a) (back client h.pending h.request) k.legal t w in
     let s = back-spends l.0 (rows_before a) (past_in a) client h.pending h.request k.stands.history l.3 in
@@ -99,23 +99,23 @@ may-give a b client h same k booted e =
     }
 
 -- A house, after a hold was given back.
-pub house-given : {K : Type 0} (told : K → List Row → Type 0) (doubted : K → Option Change) (client : ℕ) (pending : Option ℕ) (request : Request) (blocks : ℕ) (old : Housed K) (new : Annalled) (pool : PoolCounts) → IsHouse told doubted old → IsAnnals old.annals → IsAnnals new
-    → Appended client (back client pending request) old.annals new → MayGive old.annals client pending request blocks → pool.capacity ≡ old.pool.capacity → pool.free ≡ old.pool.free + blocks → IsHouse told doubted (record old { annals = new; pool = pool })
+pub house-given : {K : Type 0} (told : K → List Row → Type 0) (doubted : K → Option Change) (client : ℕ) (pending : Option ℕ) (request : Request) (blocks : ℕ) (old : Housed K) (new : HouseLogView) (pool : PoolCounts) → IsHouse told doubted old → IsHouseLog old.house_log → IsHouseLog new
+    → Appended client (back client pending request) old.house_log new → MayGive old.house_log client pending request blocks → pool.capacity ≡ old.pool.capacity → pool.free ≡ old.pool.free + blocks → IsHouse told doubted (record old { house_log = new; pool = pool })
 house-given told doubted client pending request blocks old new pool h o k a m cap free =
     let out = m.blocks_out in
     let was = h.free in
-    let facts : Facts = old.annals.facts in
-    let before : List Row = rows_before old.annals in
-    house-next told doubted client (back client pending request) old (record old { annals = new; pool = pool }) h a k
+    let facts : Facts = old.house_log.facts in
+    let before : List Row = rows_before old.house_log in
+    house-next told doubted client (back client pending request) old (record old { house_log = new; pool = pool }) h a k
     (record {
       count = refl;
       places = λ number place e.
-          place-same facts old.annals.first before (past old) (back client pending request ∷ past old) number place
-          (back-board facts old.annals.first before (past old) client pending request number) (h.places number place e);
+          place-same facts old.house_log.first before (past old) (back client pending request ∷ past old) number place
+          (back-board facts old.house_log.first before (past old) client pending request number) (h.places number place e);
       loaded = m.loaded;
       kept =
-          subst (λ (x : List Row). KeepsSo old.annals.reopened told doubted old.keeper x (doubt facts before (back client pending request ∷ past old))) (sym (back-rows facts before (past old) client pending request ∙ sym o.stands.rows))
-          (subst (λ (x : Option Change). KeepsSo old.annals.reopened told doubted old.keeper old.annals.core.rows x) (sym (back-doubt facts before (past old) client pending request ∙ sym o.stands.doubt)) (h.kept m.loaded));
+          subst (λ (x : List Row). KeepsSo old.house_log.reopened told doubted old.keeper x (doubt facts before (back client pending request ∷ past old))) (sym (back-rows facts before (past old) client pending request ∙ sym o.stands.rows))
+          (subst (λ (x : Option Change). KeepsSo old.house_log.reopened told doubted old.keeper old.house_log.core.rows x) (sym (back-doubt facts before (past old) client pending request ∙ sym o.stands.doubt)) (h.kept m.loaded));
       capacity = cap;
       free = omega (arith, out, was, free);
     })

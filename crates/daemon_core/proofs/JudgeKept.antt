@@ -22,17 +22,17 @@ use Rattle.update_log.specs.Steps.{judge, view_of_row}
 use Rattle.update_log.specs.declared.event.Event.{Event}
 use Rattle.update_log.specs.declared.event.Stored.{Stored}
 use Rattle.update_log.specs.declared.facts.Facts.{Facts}
-use Rattle.daemon_core.specs.Annals.{Appended, IsAllowedSo, IsAnnals, Runs}
+use Rattle.daemon_core.specs.HouseLog.{Appended, IsAllowedSo, IsHouseLog, Runs}
 use Rattle.daemon_core.specs.Commits.{StoredAs}
 use Rattle.daemon_core.specs.House.{IsHouse}
-use Rattle.daemon_core.specs.Housed.{Annalled, Housed, past, past_in, rows_before}
+use Rattle.daemon_core.specs.Housed.{HouseLogView, Housed, past, past_in, rows_before}
 use Rattle.daemon_core.specs.Judging.{judged_by, judged_on, must_wait, standing, standing_of}
 use Rattle.daemon_core.specs.Keeping.{HasRows, keeper_faults}
 use Rattle.daemon_core.specs.Owed.{owed}
 use Rattle.daemon_core.specs.Turns.{KeeperFared, Signs}
 use Rattle.daemon_core.proofs.Fared.{calm-stored, counted-more, fared-quiet}
 use Rattle.daemon_core.specs.declared.judged.Standing.{Standing}
-use Rattle.daemon_core.proofs.AnnalsKept.{legal-next}
+use Rattle.daemon_core.proofs.HouseLogKept.{legal-next}
 use Rattle.daemon_core.proofs.ClaimHouse.{IsReady, runs-takes}
 use Rattle.daemon_core.proofs.CommitKept.{AsksOnly, house-asked, house-clear, stored-before}
 use Rattle.daemon_core.proofs.Owed.{adds-legal}
@@ -104,7 +104,7 @@ is-judged past views rows entry version state h = at-row (row_of rows entry) ref
         at-tests row e (is_unsettled row.state) (must_wait past entry row.state) refl refl k
 
 -- Such a judgement may come next.
-pub judge-allowed : (a : Annalled) (client entry : ℕ) (version : List ℕ) (state : RowState) (stored : Stored) → IsAnnals a → standing_of a entry ≡ Some (Standing.Judged version state) → (stored ≡ Stored.Yes) ⊎ (stored ≡ Stored.Fault)
+pub judge-allowed : (a : HouseLogView) (client entry : ℕ) (version : List ℕ) (state : RowState) (stored : Stored) → IsHouseLog a → standing_of a entry ≡ Some (Standing.Judged version state) → (stored ≡ Stored.Yes) ⊎ (stored ≡ Stored.Fault)
     → IsAllowedSo a.facts a.first (rows_before a) (past_in a) (Event.Judge client entry version state stored)
 judge-allowed a client entry version state stored k h s =
     let j = is-judged (past_in a) a.core.views a.core.rows entry version state h in
@@ -124,7 +124,7 @@ judge-allowed a client entry version state stored k h s =
     )
 
 -- It asks for the advance of its row.
-pub judge-asks : (a : Annalled) (client entry : ℕ) (version : List ℕ) (state : RowState) (stored : Stored) → IsAnnals a
+pub judge-asks : (a : HouseLogView) (client entry : ℕ) (version : List ℕ) (state : RowState) (stored : Stored) → IsHouseLog a
     → AsksOnly a.facts (rows_before a) (past_in a) (Event.Judge client entry version state stored) (advance_on (time_of (past_in a)) a.core.rows entry state) stored
 judge-asks a client entry version state stored k =
     subst (λ (rs : List Row). AsksOnly a.facts (rows_before a) (past_in a) (Event.Judge client entry version state stored) (advance_on (time_of (past_in a)) rs entry state) stored) (sym k.stands.rows)
@@ -135,7 +135,7 @@ pub judge-suits : (rows : List Row) (time entry : ℕ) (state : RowState) (row :
 judge-suits rows time entry state row h = any-row rows entry row h
 
 -- There is room for it.
-pub judge-ready : (a : Annalled) (client entry : ℕ) (version : List ℕ) (state : RowState) (stored : Stored) → IsAnnals a → Runs a → 0 < boots (past_in a) → owed (past_in a) + 1 ≤ a.room → standing_of a entry ≡ Some (Standing.Judged version state) → (stored ≡ Stored.Yes) ⊎ (stored ≡ Stored.Fault)
+pub judge-ready : (a : HouseLogView) (client entry : ℕ) (version : List ℕ) (state : RowState) (stored : Stored) → IsHouseLog a → Runs a → 0 < boots (past_in a) → owed (past_in a) + 1 ≤ a.room → standing_of a entry ≡ Some (Standing.Judged version state) → (stored ≡ Stored.Yes) ⊎ (stored ≡ Stored.Fault)
     → IsReady a (Event.Judge client entry version state stored)
 judge-ready a client entry version state stored k r b room h s =
     let event : Event = Event.Judge client entry version state stored in
@@ -150,7 +150,7 @@ judge-ready a client entry version state stored k r b room h s =
       row = (let e = ap length k.stands.rows in let m = same-many a entry state stored in omega (arith, e, m));
     }
   where
-    same-many : (a : Annalled) (entry : ℕ) (state : RowState) (stored : Stored) → length (rows a.facts (rows_before a) (Event.Judge client entry version state stored ∷ past_in a)) ≡ length (rows a.facts (rows_before a) (past_in a))
+    same-many : (a : HouseLogView) (entry : ℕ) (state : RowState) (stored : Stored) → length (rows a.facts (rows_before a) (Event.Judge client entry version state stored ∷ past_in a)) ≡ length (rows a.facts (rows_before a) (past_in a))
     same-many a entry state Stored.Yes = length-map (rows a.facts (rows_before a) (past_in a)) _
     same-many a entry state Stored.Fault = refl
     same-many a entry state Stored.NoMemory = refl
@@ -171,33 +171,33 @@ done-stored change Stored.Fault old new left s n = inr refl
 done-stored change Stored.NoMemory old new left s n = absurd (n refl)
 done-stored change Stored.Unchanged old new left s n = absurd s
 
--- The same over annals that are equal to those that a call began with.
-pub clear-over : {K : Type 0} (told : K → List Row → Type 0) (doubted : K → Option Change) (h : Housed K) (b : Annalled) → h.annals ≡ b → IsHouse told doubted h → IsAnnals h.annals → b.loaded ≡ true → Runs b → HasRows told doubted h.keeper h.annals.core.rows None
+-- The same over a house log that is equal to those that a call began with.
+pub clear-over : {K : Type 0} (told : K → List Row → Type 0) (doubted : K → Option Change) (h : Housed K) (b : HouseLogView) → h.house_log ≡ b → IsHouse told doubted h → IsHouseLog h.house_log → b.loaded ≡ true → Runs b → HasRows told doubted h.keeper h.house_log.core.rows None
 clear-over told doubted h b e k a l r =
-    house-clear told doubted h k a (subst (λ (x : Annalled). x.loaded ≡ true) (sym e) l) (subst Runs (sym e) r).on
+    house-clear told doubted h k a (subst (λ (x : HouseLogView). x.loaded ≡ true) (sym e) l) (subst Runs (sym e) r).on
 
-pub suits-over : (o : List Row → Type 0) (a b : Annalled) (entry : ℕ) (version : List ℕ) (state : RowState) (change : Change) → a ≡ b → ((all : List Row) → o all → all ≡ a.core.rows) → standing_of b entry ≡ Some (Standing.Judged version state) → change ≡ advance_on (time_of (past_in a)) a.core.rows entry state
+pub suits-over : (o : List Row → Type 0) (a b : HouseLogView) (entry : ℕ) (version : List ℕ) (state : RowState) (change : Change) → a ≡ b → ((all : List Row) → o all → all ≡ a.core.rows) → standing_of b entry ≡ Some (Standing.Judged version state) → change ≡ advance_on (time_of (past_in a)) a.core.rows entry state
     → (all : List Row) → o all → Suits change all
 suits-over o a b entry version state change e told h is =
-    let j = is-judged (past_in a) a.core.views a.core.rows entry version state (subst (λ (x : Annalled). standing_of x entry ≡ Some (Standing.Judged version state)) (sym e) h) in
+    let j = is-judged (past_in a) a.core.views a.core.rows entry version state (subst (λ (x : HouseLogView). standing_of x entry ≡ Some (Standing.Judged version state)) (sym e) h) in
     suits-told o a.core.rows change told
     (subst (λ (x : Change). Suits x a.core.rows) (sym is) (judge-suits a.core.rows (time_of (past_in a)) entry state j.row j.row_is))
 
-pub ready-over : (a b : Annalled) (client entry : ℕ) (version : List ℕ) (state : RowState) (stored : Stored) → a ≡ b → IsAnnals a → Runs b → 0 < boots (past_in b) → owed (past_in b) + 1 ≤ b.room → standing_of b entry ≡ Some (Standing.Judged version state) → (stored ≡ Stored.Yes) ⊎ (stored ≡ Stored.Fault)
+pub ready-over : (a b : HouseLogView) (client entry : ℕ) (version : List ℕ) (state : RowState) (stored : Stored) → a ≡ b → IsHouseLog a → Runs b → 0 < boots (past_in b) → owed (past_in b) + 1 ≤ b.room → standing_of b entry ≡ Some (Standing.Judged version state) → (stored ≡ Stored.Yes) ⊎ (stored ≡ Stored.Fault)
     → IsReady a (Event.Judge client entry version state stored)
 ready-over a b client entry version state stored e k r n room h s =
     judge-ready a client entry version state stored k
     (subst Runs (sym e) r)
-    (subst (λ (x : Annalled). 0 < boots (past_in x)) (sym e) n)
-    (subst (λ (x : Annalled). owed (past_in x) + 1 ≤ x.room) (sym e) room)
-    (subst (λ (x : Annalled). standing_of x entry ≡ Some (Standing.Judged version state)) (sym e) h) s
+    (subst (λ (x : HouseLogView). 0 < boots (past_in x)) (sym e) n)
+    (subst (λ (x : HouseLogView). owed (past_in x) + 1 ≤ x.room) (sym e) room)
+    (subst (λ (x : HouseLogView). standing_of x entry ≡ Some (Standing.Judged version state)) (sym e) h) s
 
 -- A house, after a judgement.
-pub house-judged : {K : Type 0} (told : K → List Row → Type 0) (doubted : K → Option Change) (client entry : ℕ) (version : List ℕ) (state : RowState) (stored : Stored) (change : Change) (old : Housed K) (b : Annalled) (new : Annalled) (keeper : K) → old.annals ≡ b → IsHouse told doubted old → IsAnnals old.annals → IsAnnals new
-    → Appended client (Event.Judge client entry version state stored) old.annals new → b.loaded ≡ true → Runs b → change ≡ advance_on (time_of (past old)) old.annals.core.rows entry state → StoredAs change stored (told old.keeper) (told keeper) (doubted keeper) → IsHouse told doubted (record old { annals = new; keeper = keeper })
+pub house-judged : {K : Type 0} (told : K → List Row → Type 0) (doubted : K → Option Change) (client entry : ℕ) (version : List ℕ) (state : RowState) (stored : Stored) (change : Change) (old : Housed K) (b : HouseLogView) (new : HouseLogView) (keeper : K) → old.house_log ≡ b → IsHouse told doubted old → IsHouseLog old.house_log → IsHouseLog new
+    → Appended client (Event.Judge client entry version state stored) old.house_log new → b.loaded ≡ true → Runs b → change ≡ advance_on (time_of (past old)) old.house_log.core.rows entry state → StoredAs change stored (told old.keeper) (told keeper) (doubted keeper) → IsHouse told doubted (record old { house_log = new; keeper = keeper })
 house-judged told doubted client entry version state stored change old b new keeper e h o k a l r is s =
     house-asked told doubted client (Event.Judge client entry version state stored) change stored old new keeper h o k a
-    (subst (λ (x : Annalled). x.loaded ≡ true) (sym e) l)
+    (subst (λ (x : HouseLogView). x.loaded ≡ true) (sym e) l)
     (subst Runs (sym e) r).on
-    (subst (λ (x : Change). AsksOnly old.annals.facts (rows_before old.annals) (past old) (Event.Judge client entry version state stored) x stored) (sym is) (judge-asks old.annals client entry version state stored o))
+    (subst (λ (x : Change). AsksOnly old.house_log.facts (rows_before old.house_log) (past old) (Event.Judge client entry version state stored) x stored) (sym is) (judge-asks old.house_log client entry version state stored o))
     s

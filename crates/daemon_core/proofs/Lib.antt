@@ -1,6 +1,6 @@
 pub mod LogLaws
 pub mod OwedLaws
-pub mod AnnalsKept
+pub mod HouseLogKept
 pub mod PlacesKept
 pub mod Quiet
 pub mod OwedLists
@@ -21,7 +21,7 @@ pub mod BoardsUnwritten
 pub mod BootLegal
 pub mod BootOpenings
 pub mod BootPlaces
-pub mod BootAnnals
+pub mod BootHouseLog
 pub mod BootHouse
 pub mod Compared
 pub mod BootLoops

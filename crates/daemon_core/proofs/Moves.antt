@@ -32,10 +32,10 @@ use Rattle.update_log.specs.declared.answer.PlugAnswer.{PlugAnswer}
 use Rattle.update_log.specs.declared.event.Event.{Event}
 use Rattle.update_log.specs.declared.facts.Facts.{Facts}
 use Rattle.update_log.specs.declared.live.LiveEntry.{LiveEntry}
-use Rattle.daemon_core.specs.Annals.{Appended, IsAllowedSo, IsAnnals, Runs, roomier}
+use Rattle.daemon_core.specs.HouseLog.{Appended, IsAllowedSo, IsHouseLog, Runs, roomier}
 use Rattle.daemon_core.specs.Boards.{BoardIsHome, BoardStands, PlaceStands, faulty_ends, is_out}
 use Rattle.daemon_core.specs.House.{IsHouse}
-use Rattle.daemon_core.specs.Housed.{Annalled, Housed, Place, past, past_in, rows_before}
+use Rattle.daemon_core.specs.Housed.{HouseLogView, Housed, Place, past, past_in, rows_before}
 use Rattle.daemon_core.specs.Keeping.{KeepsSo}
 use Rattle.daemon_core.specs.Owed.{owed}
 use Rattle.daemon_core.specs.Plugging.{BoardMoved, Moved, MovedAs, WasMoved, number_found}
@@ -105,7 +105,7 @@ at-home facts first opening past number None n h = let bad : true ≡ false = sy
 at-home facts first opening past number (Some b) n h = refl
 
 -- What is known of the board that is to be moved, whose number the code reads.
-pub record MovePlan (a : Annalled) (places : List Place) (device : Selector) (n : ℕ) : Type 0 where
+pub record MovePlan (a : HouseLogView) (places : List Place) (device : Selector) (n : ℕ) : Type 0 where
   pub found : board_found a.facts (live (past_in a)) (known a.facts (rows_before a) (past_in a)) device ≡ Some n
   pub number_is : number_found a device ≡ Some n
   pub within : n < length places
@@ -121,15 +121,15 @@ selector-board facts entries k selector = at (place selector (views_in facts ent
     at None = refl
     at (Some n) = slice_get-map (λ (b : Board). b.number) (devices facts) n
 
-number-over : (a : Annalled) (device : Selector) → IsAnnals a → number_found a device ≡ board_found a.facts (live (past_in a)) (known a.facts (rows_before a) (past_in a)) device
+number-over : (a : HouseLogView) (device : Selector) → IsHouseLog a → number_found a device ≡ board_found a.facts (live (past_in a)) (known a.facts (rows_before a) (past_in a)) device
 number-over a device k =
     ap (λ (bs : List ℕ). board_on bs a.core.views device) k.stands.boards
     ∙ ap (λ (vs : List DeviceView). board_on (map (λ b. b.number) (devices a.facts)) vs device) k.stands.views
     ∙ selector-board a.facts (live (past_in a)) (known a.facts (rows_before a) (past_in a)) device
 
-pub move-plan : {K : Type 0} (told : K → List Row → Type 0) (doubted : K → Option Change) (h : Housed K) (device : Selector) (n : ℕ) (view : DeviceView) → IsHouse told doubted h → IsAnnals h.annals → found_view h.annals.core.views device ≡ Some view → view.claim ≡ None → n ≡ unwrap_or (number_found h.annals device) 0 → MovePlan h.annals h.places device n
+pub move-plan : {K : Type 0} (told : K → List Row → Type 0) (doubted : K → Option Change) (h : Housed K) (device : Selector) (n : ℕ) (view : DeviceView) → IsHouse told doubted h → IsHouseLog h.house_log → found_view h.house_log.core.views device ≡ Some view → view.claim ≡ None → n ≡ unwrap_or (number_found h.house_log device) 0 → MovePlan h.house_log h.places device n
 move-plan told doubted h device n view k o f free e =
-    let a : Annalled = h.annals in
+    let a : HouseLogView = h.house_log in
     let g = found-board a.facts (live (past_in a)) (known a.facts (rows_before a) (past_in a)) device view (subst (λ (vs : List DeviceView). found_view vs device ≡ Some view) o.stands.views f) in
     let num : number_found a device ≡ Some g.board.number = number-over a device o ∙ g.number_is in
     let same : n ≡ g.board.number = e ∙ ap (λ (x : Option ℕ). unwrap_or x 0) num in
@@ -150,30 +150,30 @@ move-plan told doubted h device n view k o f free e =
     }
 
 -- A house whose board at one place was moved, at an event that tells of that board alone.
-pub house-moved : {K : Type 0} (told : K → List Row → Type 0) (doubted : K → Option Change) (client : ℕ) (event : Event) (n : ℕ) (after : Place) (old : Housed K) (new : Annalled) → IsHouse told doubted old → IsAnnals old.annals → IsAnnals new → Appended client event old.annals new → old.annals.loaded ≡ true
-    → rows old.annals.facts (rows_before old.annals) (event ∷ past old) ≡ rows old.annals.facts (rows_before old.annals) (past old) → doubt old.annals.facts (rows_before old.annals) (event ∷ past old) ≡ doubt old.annals.facts (rows_before old.annals) (past old) → held (event ∷ past old) ≡ held (past old)
-    → ((m : ℕ) → m ≢ n → Passes old.annals.facts (rows_before old.annals) (past old) event m) → PlaceStands old.annals.facts old.annals.first (rows_before old.annals) (event ∷ past old) n after
-    → IsHouse told doubted (record { annals = new; places = slice_set old.places n after; pool = old.pool; keeper = old.keeper })
+pub house-moved : {K : Type 0} (told : K → List Row → Type 0) (doubted : K → Option Change) (client : ℕ) (event : Event) (n : ℕ) (after : Place) (old : Housed K) (new : HouseLogView) → IsHouse told doubted old → IsHouseLog old.house_log → IsHouseLog new → Appended client event old.house_log new → old.house_log.loaded ≡ true
+    → rows old.house_log.facts (rows_before old.house_log) (event ∷ past old) ≡ rows old.house_log.facts (rows_before old.house_log) (past old) → doubt old.house_log.facts (rows_before old.house_log) (event ∷ past old) ≡ doubt old.house_log.facts (rows_before old.house_log) (past old) → held (event ∷ past old) ≡ held (past old)
+    → ((m : ℕ) → m ≢ n → Passes old.house_log.facts (rows_before old.house_log) (past old) event m) → PlaceStands old.house_log.facts old.house_log.first (rows_before old.house_log) (event ∷ past old) n after
+    → IsHouse told doubted (record { house_log = new; places = slice_set old.places n after; pool = old.pool; keeper = old.keeper })
 house-moved told doubted client event n after old new h o k a loaded r d l passes own =
-    house-next told doubted client event old (record { annals = new; places = slice_set old.places n after; pool = old.pool; keeper = old.keeper }) h a k
+    house-next told doubted client event old (record { house_log = new; places = slice_set old.places n after; pool = old.pool; keeper = old.keeper }) h a k
     (record {
       count = length-set old.places n after;
       places = λ m place e. at m place (get-set old.places n m after place e);
       loaded = loaded;
       kept =
-          subst (λ (x : List Row). KeepsSo old.annals.reopened told doubted old.keeper x (doubt old.annals.facts (rows_before old.annals) (event ∷ past old))) (o.stands.rows ∙ sym r)
-          (subst (λ (x : Option Change). KeepsSo old.annals.reopened told doubted old.keeper old.annals.core.rows x) (o.stands.doubt ∙ sym d) (h.kept loaded));
+          subst (λ (x : List Row). KeepsSo old.house_log.reopened told doubted old.keeper x (doubt old.house_log.facts (rows_before old.house_log) (event ∷ past old))) (o.stands.rows ∙ sym r)
+          (subst (λ (x : Option Change). KeepsSo old.house_log.reopened told doubted old.keeper old.house_log.core.rows x) (o.stands.doubt ∙ sym d) (h.kept loaded));
       capacity = refl;
       free = ap (λ (x : ℕ). old.pool.free + x) l ∙ h.free;
     })
   where
-    at : (m : ℕ) (place : Place) → ((m ≡ n) × (after ≡ place)) ⊎ ((m ≢ n) × (slice_get old.places m ≡ Some place)) → PlaceStands old.annals.facts old.annals.first (rows_before old.annals) (event ∷ past old) m place
+    at : (m : ℕ) (place : Place) → ((m ≡ n) × (after ≡ place)) ⊎ ((m ≢ n) × (slice_get old.places m ≡ Some place)) → PlaceStands old.house_log.facts old.house_log.first (rows_before old.house_log) (event ∷ past old) m place
     at m place (inl e) =
-        subst (λ (x : ℕ). PlaceStands old.annals.facts old.annals.first (rows_before old.annals) (event ∷ past old) x place) (sym e.0)
-        (subst (λ (p : Place). PlaceStands old.annals.facts old.annals.first (rows_before old.annals) (event ∷ past old) n p) e.1 own)
+        subst (λ (x : ℕ). PlaceStands old.house_log.facts old.house_log.first (rows_before old.house_log) (event ∷ past old) x place) (sym e.0)
+        (subst (λ (p : Place). PlaceStands old.house_log.facts old.house_log.first (rows_before old.house_log) (event ∷ past old) n p) e.1 own)
     at m place (inr e) =
-        place-same old.annals.facts old.annals.first (rows_before old.annals) (past old) (event ∷ past old) m place
-        (passes-same old.annals.facts old.annals.first (rows_before old.annals) (past old) event m (passes m e.0)) (h.places m place e.1)
+        place-same old.house_log.facts old.house_log.first (rows_before old.house_log) (past old) (event ∷ past old) m place
+        (passes-same old.house_log.facts old.house_log.first (rows_before old.house_log) (past old) event m (passes m e.0)) (h.places m place e.1)
 
 -- Unplugs.
 
@@ -268,7 +268,7 @@ free-out (Some view) h = at view.claim refl h
     at (Some entry) e g = cc
     at None e g = record { view = view; view_is = refl; free = e }
 
-unplug-allowed : (a : Annalled) (client : ℕ) (device : Selector) (o : Option PlugAnswer) (answer : PlugAnswer) → IsAnnals a → unplug_refused (found_view a.core.views device) ≡ o → PlugAnswered o (λ s. s ≡ Seen.Gone) answer → IsAllowedSo a.facts a.first (rows_before a) (past_in a) (Event.Unplug client device answer)
+unplug-allowed : (a : HouseLogView) (client : ℕ) (device : Selector) (o : Option PlugAnswer) (answer : PlugAnswer) → IsHouseLog a → unplug_refused (found_view a.core.views device) ≡ o → PlugAnswered o (λ s. s ≡ Seen.Gone) answer → IsAllowedSo a.facts a.first (rows_before a) (past_in a) (Event.Unplug client device answer)
 unplug-allowed a client device o answer k e p =
     λ c f g.
     subst (λ (x : Facts). UnplugAllowed x (rows_before a) (past_in a) device answer) (sym f)
@@ -276,29 +276,29 @@ unplug-allowed a client device o answer k e p =
     (subst (λ (x : Option PlugAnswer). PlugAnswered x (λ s. s ≡ Seen.Gone) answer) (sym e) p))
 
 -- What was refused may be put behind the log.
-pub unplug-refused_over : (a b : Annalled) (core : Core) (client : ℕ) (device : Selector) (refused : PlugAnswer) (event : Event) → a ≡ b → core ≡ a.core → IsAnnals a → Some refused ≡ unplug_refused (found_view core.views device) → event ≡ Event.Unplug client device refused → IsAllowedSo b.facts b.first (rows_before b) (past_in b) event
+pub unplug-refused_over : (a b : HouseLogView) (core : Core) (client : ℕ) (device : Selector) (refused : PlugAnswer) (event : Event) → a ≡ b → core ≡ a.core → IsHouseLog a → Some refused ≡ unplug_refused (found_view core.views device) → event ≡ Event.Unplug client device refused → IsAllowedSo b.facts b.first (rows_before b) (past_in b) event
 unplug-refused_over a b core client device refused event e s k h q =
-    subst (λ (x : Annalled). IsAllowedSo x.facts x.first (rows_before x) (past_in x) event) e
+    subst (λ (x : HouseLogView). IsAllowedSo x.facts x.first (rows_before x) (past_in x) event) e
     (subst (λ (x : Event). IsAllowedSo a.facts a.first (rows_before a) (past_in a) x) (sym q)
     (unplug-allowed a client device (Some refused) refused k (ap (λ (x : Core). unplug_refused (found_view x.views device)) (sym s) ∙ sym h) refl))
 
-pub unplug-free_over : (a b : Annalled) (core : Core) (device : Selector) → a ≡ b → core ≡ a.core → None ≡ unplug_refused (found_view core.views device) → unplug_refused (found_view b.core.views device) ≡ None
+pub unplug-free_over : (a b : HouseLogView) (core : Core) (device : Selector) → a ≡ b → core ≡ a.core → None ≡ unplug_refused (found_view core.views device) → unplug_refused (found_view b.core.views device) ≡ None
 unplug-free_over a b core device e s h =
-    ap (λ (x : Annalled). unplug_refused (found_view x.core.views device)) (sym e) ∙ ap (λ (x : Core). unplug_refused (found_view x.views device)) (sym s) ∙ sym h
+    ap (λ (x : HouseLogView). unplug_refused (found_view x.core.views device)) (sym e) ∙ ap (λ (x : Core). unplug_refused (found_view x.views device)) (sym s) ∙ sym h
 
-pub unplug-ready : (a b : Annalled) (client : ℕ) (device : Selector) → a ≡ b → IsAnnals a → Runs b → 0 < boots (past_in b) → owed (past_in b) + 1 ≤ b.room → unplug_refused (found_view b.core.views device) ≡ None → IsReady a (gone_event client device)
+pub unplug-ready : (a b : HouseLogView) (client : ℕ) (device : Selector) → a ≡ b → IsHouseLog a → Runs b → 0 < boots (past_in b) → owed (past_in b) + 1 ≤ b.room → unplug_refused (found_view b.core.views device) ≡ None → IsReady a (gone_event client device)
 unplug-ready a b client device e k r z w h =
     record {
-      takes = runs-takes a (gone_event client device) (subst Runs (sym e) r) (subst (λ (x : Annalled). 0 < boots (past_in x)) (sym e) z) refl;
-      allowed = unplug-allowed a client device None (PlugAnswer.Done Seen.Gone) k (ap (λ (x : Annalled). unplug_refused (found_view x.core.views device)) e ∙ h) refl;
-      room = subst (λ (x : Annalled). owed (past_in x) + 1 ≤ x.room) (sym e) w;
+      takes = runs-takes a (gone_event client device) (subst Runs (sym e) r) (subst (λ (x : HouseLogView). 0 < boots (past_in x)) (sym e) z) refl;
+      allowed = unplug-allowed a client device None (PlugAnswer.Done Seen.Gone) k (ap (λ (x : HouseLogView). unplug_refused (found_view x.core.views device)) e ∙ h) refl;
+      room = subst (λ (x : HouseLogView). owed (past_in x) + 1 ≤ x.room) (sym e) w;
       row = (let n = ap length k.stands.rows in omega (arith, n));
     }
 
 -- The place that the code reads.
-pub unplug-plan : {K : Type 0} (told : K → List Row → Type 0) (doubted : K → Option Change) (h : Housed K) (b : Annalled) (device : Selector) (n : ℕ) → h.annals ≡ b → IsHouse told doubted h → IsAnnals h.annals → unplug_refused (found_view b.core.views device) ≡ None → n ≡ unwrap_or (number_found h.annals device) 0 → MovePlan h.annals h.places device n
+pub unplug-plan : {K : Type 0} (told : K → List Row → Type 0) (doubted : K → Option Change) (h : Housed K) (b : HouseLogView) (device : Selector) (n : ℕ) → h.house_log ≡ b → IsHouse told doubted h → IsHouseLog h.house_log → unplug_refused (found_view b.core.views device) ≡ None → n ≡ unwrap_or (number_found h.house_log device) 0 → MovePlan h.house_log h.places device n
 unplug-plan told doubted h b device n e k o r num =
-    let f = free-out (found_view h.annals.core.views device) (ap (λ (x : Annalled). unplug_refused (found_view x.core.views device)) e ∙ r) in
+    let f = free-out (found_view h.house_log.core.views device) (ap (λ (x : HouseLogView). unplug_refused (found_view x.core.views device)) e ∙ r) in
     move-plan told doubted h device n f.view k o f.view_is f.free num
 
 -- What is read at a place within.
@@ -311,31 +311,31 @@ index-place (p ∷ ps) (suc n) d h = index-place ps n d (omega arith)
 abbrev pub MovedAt : (Condition → Condition) → ℕ → List Place → List Place → Type 0
 MovedAt move n old new = (after : Place) × Moved move (place_at old n) after × (new ≡ slice_set old n after)
 
-pub board-moved : (move : Condition → Condition) (a : Annalled) (device : Selector) (n : ℕ) (old new : List Place) → MovePlan a old device n → MovedAt move n old new → BoardMoved move a device old new
+pub board-moved : (move : Condition → Condition) (a : HouseLogView) (device : Selector) (n : ℕ) (old new : List Place) → MovePlan a old device n → MovedAt move n old new → BoardMoved move a device old new
 board-moved move a device n old new p (after, m, e) =
     record { number = n; before = place_at old n; after = after; found = p.number_is; there = p.there; moved = m; places = e }
 
 -- After an unplug.
-pub house-unplugged : {K : Type 0} (told : K → List Row → Type 0) (doubted : K → Option Change) (client : ℕ) (device : Selector) (n : ℕ) (old : Housed K) (b : Annalled) (new : Annalled) (places : List Place) → old.annals ≡ b → IsHouse told doubted old → IsAnnals old.annals → IsAnnals new → Appended client (gone_event client device) old.annals new → b.loaded ≡ true
-    → MovePlan old.annals old.places device n → MovedAt unplugged n old.places places → IsHouse told doubted (record { annals = new; places = places; pool = old.pool; keeper = old.keeper })
+pub house-unplugged : {K : Type 0} (told : K → List Row → Type 0) (doubted : K → Option Change) (client : ℕ) (device : Selector) (n : ℕ) (old : Housed K) (b : HouseLogView) (new : HouseLogView) (places : List Place) → old.house_log ≡ b → IsHouse told doubted old → IsHouseLog old.house_log → IsHouseLog new → Appended client (gone_event client device) old.house_log new → b.loaded ≡ true
+    → MovePlan old.house_log old.places device n → MovedAt unplugged n old.places places → IsHouse told doubted (record { house_log = new; places = places; pool = old.pool; keeper = old.keeper })
 house-unplugged told doubted client device n old b new places e h o k a loaded p (after, m, q) =
-    subst (λ (ps : List Place). IsHouse told doubted (record { annals = new; places = ps; pool = old.pool; keeper = old.keeper })) (sym q)
-    (house-moved told doubted client (gone_event client device) n after old new h o k a (ap (λ (x : Annalled). x.loaded) e ∙ loaded) refl refl refl
-    (gone-passes old.annals.facts old.annals.first (rows_before old.annals) (past old) client device n p.found)
-    (place-gone old.annals.facts old.annals.first (rows_before old.annals) (past old) client device n p.found (place_at old.places n) after m p.stands))
+    subst (λ (ps : List Place). IsHouse told doubted (record { house_log = new; places = ps; pool = old.pool; keeper = old.keeper })) (sym q)
+    (house-moved told doubted client (gone_event client device) n after old new h o k a (ap (λ (x : HouseLogView). x.loaded) e ∙ loaded) refl refl refl
+    (gone-passes old.house_log.facts old.house_log.first (rows_before old.house_log) (past old) client device n p.found)
+    (place-gone old.house_log.facts old.house_log.first (rows_before old.house_log) (past old) client device n p.found (place_at old.places n) after m p.stands))
 
 -- What is said of the boards, where nothing was moved.
-pub moved-none : (move : Condition → Condition) (a : Annalled) (device : Selector) (answer : PlugAnswer) (old mid new : List Place) → moves_none answer ≡ true → new ≡ mid → mid ≡ old → MovedAs move a device (Ok answer) old new
+pub moved-none : (move : Condition → Condition) (a : HouseLogView) (device : Selector) (answer : PlugAnswer) (old mid new : List Place) → moves_none answer ≡ true → new ≡ mid → mid ≡ old → MovedAs move a device (Ok answer) old new
 moved-none move a device answer old mid new s e f = subst (λ (x : Bool). MatchBool x (new ≡ old) (BoardMoved move a device old new)) (sym s) (e ∙ f)
 
 -- The same over a house with more room.
-pub moved-over : (move : Condition → Condition) (a b : Annalled) (device : Selector) (old mid new : List Place) → b ≡ roomier a b → mid ≡ old → BoardMoved move b device mid new → BoardMoved move a device old new
+pub moved-over : (move : Condition → Condition) (a b : HouseLogView) (device : Selector) (old mid new : List Place) → b ≡ roomier a b → mid ≡ old → BoardMoved move b device mid new → BoardMoved move a device old new
 moved-over move a b device old mid new r e m =
     record {
       number = m.number;
       before = m.before;
       after = m.after;
-      found = ap (λ (x : Annalled). number_found x device) (sym r) ∙ m.found;
+      found = ap (λ (x : HouseLogView). number_found x device) (sym r) ∙ m.found;
       there = ap (λ (ps : List Place). slice_get ps m.number) (sym e) ∙ m.there;
       moved = m.moved;
       places = m.places ∙ ap (λ (ps : List Place). slice_set ps m.number m.after) e;

@@ -29,10 +29,10 @@ use Rattle.update_log.specs.declared.answer.PlugAnswer.{PlugAnswer}
 use Rattle.update_log.specs.declared.event.Event.{Event}
 use Rattle.update_log.specs.declared.facts.Facts.{Facts}
 use Rattle.update_log.specs.declared.live.OpenStep.{OpenStep}
-use Rattle.daemon_core.specs.Annals.{Appended, IsAllowedSo, IsAnnals, IsLegalSo, Runs}
+use Rattle.daemon_core.specs.HouseLog.{Appended, IsAllowedSo, IsHouseLog, IsLegalSo, Runs}
 use Rattle.daemon_core.specs.Boards.{BoardIsHome, BoardStands, PlaceStands, faulty_ends, is_out}
 use Rattle.daemon_core.specs.House.{IsHouse}
-use Rattle.daemon_core.specs.Housed.{Annalled, Housed, Place, past, past_in, rows_before}
+use Rattle.daemon_core.specs.Housed.{HouseLogView, Housed, Place, past, past_in, rows_before}
 use Rattle.daemon_core.specs.Owed.{owed}
 use Rattle.daemon_core.specs.Plugging.{BoardMoved, MovedShowing, WasMoved, number_found}
 use Rattle.daemon_core.specs.Returns.{place_at}
@@ -201,7 +201,7 @@ free-back (Some view) h = at view.claim refl h
     at (Some entry) e g = cc
     at None e g = record { view = view; view_is = refl; free = e }
 
-plug-allowed : (a : Annalled) (client : ℕ) (device : Selector) (o : Option PlugAnswer) (answer : PlugAnswer) → IsAnnals a → plug_refused (found_view a.core.views device) ≡ o → PlugAnswered o (PlugShows a.facts a.first (rows_before a) (past_in a) device) answer → IsAllowedSo a.facts a.first (rows_before a) (past_in a) (Event.Plug client device answer)
+plug-allowed : (a : HouseLogView) (client : ℕ) (device : Selector) (o : Option PlugAnswer) (answer : PlugAnswer) → IsHouseLog a → plug_refused (found_view a.core.views device) ≡ o → PlugAnswered o (PlugShows a.facts a.first (rows_before a) (past_in a) device) answer → IsAllowedSo a.facts a.first (rows_before a) (past_in a) (Event.Plug client device answer)
 plug-allowed a client device o answer k e p =
     λ c f g.
     subst (λ (x : Facts). PlugAllowed x c.first (rows_before a) (past_in a) device answer) (sym f)
@@ -210,51 +210,51 @@ plug-allowed a client device o answer k e p =
     (subst (λ (x : Option PlugAnswer). PlugAnswered x (PlugShows a.facts a.first (rows_before a) (past_in a) device) answer) (sym e) p)))
 
 -- What was refused may be put behind the log.
-pub plug-refused_over : (a b : Annalled) (core : Core) (client : ℕ) (device : Selector) (refused : PlugAnswer) (event : Event) → a ≡ b → core ≡ a.core → IsAnnals a → Some refused ≡ plug_refused (found_view core.views device) → event ≡ Event.Plug client device refused → IsAllowedSo b.facts b.first (rows_before b) (past_in b) event
+pub plug-refused_over : (a b : HouseLogView) (core : Core) (client : ℕ) (device : Selector) (refused : PlugAnswer) (event : Event) → a ≡ b → core ≡ a.core → IsHouseLog a → Some refused ≡ plug_refused (found_view core.views device) → event ≡ Event.Plug client device refused → IsAllowedSo b.facts b.first (rows_before b) (past_in b) event
 plug-refused_over a b core client device refused event e s k h q =
-    subst (λ (x : Annalled). IsAllowedSo x.facts x.first (rows_before x) (past_in x) event) e
+    subst (λ (x : HouseLogView). IsAllowedSo x.facts x.first (rows_before x) (past_in x) event) e
     (subst (λ (x : Event). IsAllowedSo a.facts a.first (rows_before a) (past_in a) x) (sym q)
     (plug-allowed a client device (Some refused) refused k (ap (λ (x : Core). plug_refused (found_view x.views device)) (sym s) ∙ sym h) refl))
 
-pub plug-free_over : (a b : Annalled) (core : Core) (device : Selector) → a ≡ b → core ≡ a.core → None ≡ plug_refused (found_view core.views device) → plug_refused (found_view b.core.views device) ≡ None
+pub plug-free_over : (a b : HouseLogView) (core : Core) (device : Selector) → a ≡ b → core ≡ a.core → None ≡ plug_refused (found_view core.views device) → plug_refused (found_view b.core.views device) ≡ None
 plug-free_over a b core device e s h =
-    ap (λ (x : Annalled). plug_refused (found_view x.core.views device)) (sym e) ∙ ap (λ (x : Core). plug_refused (found_view x.views device)) (sym s) ∙ sym h
+    ap (λ (x : HouseLogView). plug_refused (found_view x.core.views device)) (sym e) ∙ ap (λ (x : Core). plug_refused (found_view x.views device)) (sym s) ∙ sym h
 
 -- The place that the code reads.
-pub plug-plan : {K : Type 0} (told : K → List Row → Type 0) (doubted : K → Option Change) (h : Housed K) (b : Annalled) (device : Selector) (n : ℕ) → h.annals ≡ b → IsHouse told doubted h → IsAnnals h.annals → plug_refused (found_view b.core.views device) ≡ None → n ≡ unwrap_or (number_found h.annals device) 0 → MovePlan h.annals h.places device n
+pub plug-plan : {K : Type 0} (told : K → List Row → Type 0) (doubted : K → Option Change) (h : Housed K) (b : HouseLogView) (device : Selector) (n : ℕ) → h.house_log ≡ b → IsHouse told doubted h → IsHouseLog h.house_log → plug_refused (found_view b.core.views device) ≡ None → n ≡ unwrap_or (number_found h.house_log device) 0 → MovePlan h.house_log h.places device n
 plug-plan told doubted h b device n e k o r num =
-    let f = free-back (found_view h.annals.core.views device) (ap (λ (x : Annalled). plug_refused (found_view x.core.views device)) e ∙ r) in
+    let f = free-back (found_view h.house_log.core.views device) (ap (λ (x : HouseLogView). plug_refused (found_view x.core.views device)) e ∙ r) in
     move-plan told doubted h device n f.view k o f.view_is f.free num
 
 -- What became of the place that was read.
 abbrev pub BackAt : ℕ → List Place → List Place → Seen → Type 0
 BackAt n old new shown = (after : Place) × MovedShowing plugged (place_at old n) after shown × (new ≡ slice_set old n after)
 
-pub board-back : (a : Annalled) (device : Selector) (n : ℕ) (old new : List Place) (shown : Seen) → MovePlan a old device n → BackAt n old new shown → BoardMoved plugged a device old new
+pub board-back : (a : HouseLogView) (device : Selector) (n : ℕ) (old new : List Place) (shown : Seen) → MovePlan a old device n → BackAt n old new shown → BoardMoved plugged a device old new
 board-back a device n old new shown p (after, (b, moved, w, s), e) =
     record { number = n; before = place_at old n; after = after; found = p.number_is; there = p.there; moved = (b, moved, w); places = e }
 
-closed-at : (a : Annalled) (n : ℕ) → IsAnnals a → off (past_in a) ≡ false → is_out a.facts (rows_before a) (past_in a) n ≡ false → open_on a.facts (rows_before a) (past_in a) n ≡ None
+closed-at : (a : HouseLogView) (n : ℕ) → IsHouseLog a → off (past_in a) ≡ false → is_out a.facts (rows_before a) (past_in a) n ≡ false → open_on a.facts (rows_before a) (past_in a) n ≡ None
 closed-at a n k on out = home-closed_so a.facts a.first (rows_before a) (past_in a) n k.legal on out
 
-pub plug-ready : (a b : Annalled) (client : ℕ) (device : Selector) (n : ℕ) (old new : List Place) (shown : Seen) → a ≡ b → IsAnnals a → Runs b → 0 < boots (past_in b) → owed (past_in b) + 1 ≤ b.room → plug_refused (found_view b.core.views device) ≡ None → MovePlan a old device n → BackAt n old new shown → IsReady a (back_event client device shown)
+pub plug-ready : (a b : HouseLogView) (client : ℕ) (device : Selector) (n : ℕ) (old new : List Place) (shown : Seen) → a ≡ b → IsHouseLog a → Runs b → 0 < boots (past_in b) → owed (past_in b) + 1 ≤ b.room → plug_refused (found_view b.core.views device) ≡ None → MovePlan a old device n → BackAt n old new shown → IsReady a (back_event client device shown)
 plug-ready a b client device n old new shown e k r z w h p (after, m, q) =
     let runs : Runs a = subst Runs (sym e) r in
     record {
-      takes = runs-takes a (back_event client device shown) runs (subst (λ (x : Annalled). 0 < boots (past_in x)) (sym e) z) refl;
-      allowed = plug-allowed a client device None (PlugAnswer.Done shown) k (ap (λ (x : Annalled). plug_refused (found_view x.core.views device)) e ∙ h)
+      takes = runs-takes a (back_event client device shown) runs (subst (λ (x : HouseLogView). 0 < boots (past_in x)) (sym e) z) refl;
+      allowed = plug-allowed a client device None (PlugAnswer.Done shown) k (ap (λ (x : HouseLogView). plug_refused (found_view x.core.views device)) e ∙ h)
           (shows-back a.facts a.first (rows_before a) (past_in a) client device shown n p.found (place_at old n) after (closed-at a n k runs.on p.is_in) m p.stands);
-      room = subst (λ (x : Annalled). owed (past_in x) + 1 ≤ x.room) (sym e) w;
+      room = subst (λ (x : HouseLogView). owed (past_in x) + 1 ≤ x.room) (sym e) w;
       row = (let l = ap length k.stands.rows in omega (arith, l));
     }
 
 -- After a plug.
-pub house-plugged : {K : Type 0} (told : K → List Row → Type 0) (doubted : K → Option Change) (client : ℕ) (device : Selector) (n : ℕ) (shown : Seen) (old : Housed K) (b : Annalled) (new : Annalled) (places : List Place) → old.annals ≡ b → IsHouse told doubted old → IsAnnals old.annals → IsAnnals new → Appended client (back_event client device shown) old.annals new → b.loaded ≡ true → Runs b
-    → MovePlan old.annals old.places device n → BackAt n old.places places shown → IsHouse told doubted (record { annals = new; places = places; pool = old.pool; keeper = old.keeper })
+pub house-plugged : {K : Type 0} (told : K → List Row → Type 0) (doubted : K → Option Change) (client : ℕ) (device : Selector) (n : ℕ) (shown : Seen) (old : Housed K) (b : HouseLogView) (new : HouseLogView) (places : List Place) → old.house_log ≡ b → IsHouse told doubted old → IsHouseLog old.house_log → IsHouseLog new → Appended client (back_event client device shown) old.house_log new → b.loaded ≡ true → Runs b
+    → MovePlan old.house_log old.places device n → BackAt n old.places places shown → IsHouse told doubted (record { house_log = new; places = places; pool = old.pool; keeper = old.keeper })
 house-plugged told doubted client device n shown old b new places e h o k a loaded r p (after, m, q) =
-    let runs : Runs old.annals = subst Runs (sym e) r in
-    subst (λ (ps : List Place). IsHouse told doubted (record { annals = new; places = ps; pool = old.pool; keeper = old.keeper })) (sym q)
-    (house-moved told doubted client (back_event client device shown) n after old new h o k a (ap (λ (x : Annalled). x.loaded) e ∙ loaded) refl refl refl
-    (back-passes old.annals.facts old.annals.first (rows_before old.annals) (past old) client device shown n p.found)
-    (place-back old.annals.facts old.annals.first (rows_before old.annals) (past old) client device shown n p.found (place_at old.places n) after
-    (closed-at old.annals n o runs.on p.is_in) o.legal m p.stands))
+    let runs : Runs old.house_log = subst Runs (sym e) r in
+    subst (λ (ps : List Place). IsHouse told doubted (record { house_log = new; places = ps; pool = old.pool; keeper = old.keeper })) (sym q)
+    (house-moved told doubted client (back_event client device shown) n after old new h o k a (ap (λ (x : HouseLogView). x.loaded) e ∙ loaded) refl refl refl
+    (back-passes old.house_log.facts old.house_log.first (rows_before old.house_log) (past old) client device shown n p.found)
+    (place-back old.house_log.facts old.house_log.first (rows_before old.house_log) (past old) client device shown n p.found (place_at old.places n) after
+    (closed-at old.house_log n o runs.on p.is_in) o.legal m p.stands))

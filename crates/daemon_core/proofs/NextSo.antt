@@ -6,7 +6,7 @@ use Rattle.update_log.specs.CoreAfter.{IsNext}
 use Rattle.update_log.specs.declared.event.Event.{Event}
 use Rattle.update_log.specs.declared.facts.Facts.{Facts}
 use Rattle.update_log.proofs.Unlimited.{next-legal}
-use Rattle.daemon_core.specs.Annals.{IsLegalSo}
+use Rattle.daemon_core.specs.HouseLog.{IsLegalSo}
 
 pub next_so : (facts : Facts) (first : List Seen) (opening : List Row) (past : List Event) (event : Event) → IsLegalSo facts first opening (event ∷ past)
     → IsNext facts opening past event

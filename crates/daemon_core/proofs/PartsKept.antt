@@ -52,7 +52,7 @@ all-home (p ∷ ps) h = (h 0 p refl, all-home ps (λ n q e. h (suc n) q e))
 
 pub house-home : {K : Type 0} (told : K → List Row → Type 0) (doubted : K → Option Change) (h : Housed K) → IsHouse told doubted h → live (past h) ≡ [] → AllHome h.places
 house-home told doubted h w e =
-    all-home h.places (λ n p g. home-there h.annals.facts h.annals.first (rows_before h.annals) (past h) n p.board e (w.places n p g).home)
+    all-home h.places (λ n p g. home-there h.house_log.facts h.house_log.first (rows_before h.house_log) (past h) n p.board e (w.places n p g).home)
 
 pub house-boards : {K : Type 0} (told : K → List Row → Type 0) (doubted : K → Option Change) (h : Housed K) → IsHouse told doubted h → live (past h) ≡ [] → BoardsOf h (boards_in h.places)
 house-boards told doubted h w e =
@@ -66,7 +66,7 @@ house-boards told doubted h w e =
     own n b p f None q g = cc
     own n b p f (Some x) q g =
         let s : x ≡ b = cc in
-        let home : BoardIsHome h.annals.facts h.annals.first (rows_before h.annals) (past h) n (Some x) = subst (BoardIsHome h.annals.facts h.annals.first (rows_before h.annals) (past h) n) q (w.places n p f).home in
+        let home : BoardIsHome h.house_log.facts h.house_log.first (rows_before h.house_log) (past h) n (Some x) = subst (BoardIsHome h.house_log.facts h.house_log.first (rows_before h.house_log) (past h) n) q (w.places n p f).home in
         subst (λ (y : BoardState). IsBoardOf h n y) s (record { place = p; place_is = f; board_is = q; tail = home.1.0; stands = home.1.1 })
 
     at : (n : ℕ) (b : BoardState) (o : Option Place) → slice_get h.places n ≡ o → option_and_then (λ (p : Place). p.board) o ≡ Some b → IsBoardOf h n b

@@ -21,7 +21,7 @@ use Rattle.daemon_core.specs.declared.stop.Stop.{Stop}
 use Rattle.daemon_core.specs.Booting.{AllStarted, StartedAt}
 use Rattle.daemon_core.specs.Claims.{ClaimGave, RoomierBoard, RoomierPlaces, places_without}
 use Rattle.daemon_core.specs.Finishes.{FinishedSo}
-use Rattle.daemon_core.specs.Housed.{Annalled, Housed, Place}
+use Rattle.daemon_core.specs.Housed.{HouseLogView, Housed, Place}
 use Rattle.daemon_core.specs.Parts.{AllHome}
 use Rattle.daemon_core.specs.Plugging.{BoardMoved, MovedAs}
 use Rattle.daemon_core.specs.Quiet.{moves_none}
@@ -125,7 +125,7 @@ module _ (plans : List (List PlannedFault)) where
   finish-plans client entry number board payload (Err stop) old new f p h = plans-same old.places new.places f.1.places h
 
   -- The board of a device that was moved.
-  moved-planned : (move : Condition → Condition) (a : Annalled) (device : Selector) (old new : List Place) → (m : BoardMoved move a device old new) → HavePlans plans old → (b : BoardState) → m.after.board ≡ Some b → HasPlan plans m.number b
+  moved-planned : (move : Condition → Condition) (a : HouseLogView) (device : Selector) (old new : List Place) → (m : BoardMoved move a device old new) → HavePlans plans old → (b : BoardState) → m.after.board ≡ Some b → HasPlan plans m.number b
   moved-planned move a device old new m h b e =
       let before : BoardState = m.moved.0 in
       let after : BoardState = m.moved.1 in
@@ -134,12 +134,12 @@ module _ (plans : List (List PlannedFault)) where
       subst (λ (y : BoardState). HasPlan plans m.number y) (same-board after b (sym w.is ∙ e))
       (planned-so m.number before after w.same.plan (h m.number before home))
 
-  moved-by : (quiet : Bool) (move : Condition → Condition) (a : Annalled) (device : Selector) (old new : List Place) → MatchBool quiet (new ≡ old) (BoardMoved move a device old new) → HavePlans plans old → HavePlans plans new
+  moved-by : (quiet : Bool) (move : Condition → Condition) (a : HouseLogView) (device : Selector) (old new : List Place) → MatchBool quiet (new ≡ old) (BoardMoved move a device old new) → HavePlans plans old → HavePlans plans new
   moved-by true move a device old new m h = plans-same old new m h
   moved-by false move a device old new m h =
       plans-same (slice_set old m.number m.after) new m.places (plans-set old m.number m.after (moved-planned move a device old new m h) h)
 
-  pub moved-plans : (move : Condition → Condition) (a : Annalled) (device : Selector) (result : Result PlugAnswer Stop) (old new : List Place) → MovedAs move a device result old new → HavePlans plans old → HavePlans plans new
+  pub moved-plans : (move : Condition → Condition) (a : HouseLogView) (device : Selector) (result : Result PlugAnswer Stop) (old new : List Place) → MovedAs move a device result old new → HavePlans plans old → HavePlans plans new
   moved-plans move a device (Ok answer) old new m h = moved-by (moves_none answer) move a device old new m h
   moved-plans move a device (Err stop) old new m h = plans-same old new m h
 

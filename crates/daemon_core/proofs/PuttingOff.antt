@@ -30,12 +30,12 @@ use Rattle.update_log.specs.declared.event.Event.{Event}
 use Rattle.update_log.specs.declared.facts.Facts.{Facts}
 use Rattle.update_log.specs.declared.refusal.Refusal.{Refusal}
 use Rattle.update_log.specs.declared.request.Request.{Request}
-use Rattle.daemon_core.specs.Annals.{Appended, IsAllowedSo, IsAnnals, IsLegalSo, Runs}
+use Rattle.daemon_core.specs.HouseLog.{Appended, IsAllowedSo, IsHouseLog, IsLegalSo, Runs}
 use Rattle.daemon_core.specs.Owed.{owed}
-use Rattle.daemon_core.proofs.AnnalsKept.{appended-past, legal-next}
+use Rattle.daemon_core.proofs.HouseLogKept.{appended-past, legal-next}
 use Rattle.daemon_core.proofs.OwedLaws.{owed-cut}
 use Rattle.daemon_core.specs.House.{IsHouse}
-use Rattle.daemon_core.specs.Housed.{Annalled, Housed, past, past_in, rows_before}
+use Rattle.daemon_core.specs.Housed.{HouseLogView, Housed, past, past_in, rows_before}
 use Rattle.daemon_core.specs.Keeping.{HasRows, KeepsSo, keeper_faults}
 use Rattle.daemon_core.specs.PutOff.{IsAccept}
 use Rattle.daemon_core.proofs.BoardsQuiet.{kept-so, quiet-board}
@@ -116,34 +116,34 @@ pub off-allowed : (facts : Facts) (first : List Seen) (opening : List Row) (past
 off-allowed facts first opening past client request answer a = λ c f i. subst (λ (x : Facts). ScheduleAllowed x opening past client request answer) (sym f) a
 
 -- A house, after a request was put off, or might have been.
-pub house-off : {K : Type 0} (told : K → List Row → Type 0) (doubted : K → Option Change) (client : ℕ) (request : Request) (answer : ClaimAnswer) (old : Housed K) (new : Annalled) (keeper : K) → IsHouse told doubted old → IsAnnals old.annals → IsAnnals new
-    → Appended client (Event.Schedule client request answer) old.annals new → IsLegalSo old.annals.facts old.annals.first (rows_before old.annals) (Event.Schedule client request answer ∷ past old) → old.annals.loaded ≡ true
-    → HasRows told doubted keeper (rows old.annals.facts (rows_before old.annals) (Event.Schedule client request answer ∷ past old)) (doubt old.annals.facts (rows_before old.annals) (Event.Schedule client request answer ∷ past old))
-    → IsHouse told doubted (record old { annals = new; keeper = keeper })
+pub house-off : {K : Type 0} (told : K → List Row → Type 0) (doubted : K → Option Change) (client : ℕ) (request : Request) (answer : ClaimAnswer) (old : Housed K) (new : HouseLogView) (keeper : K) → IsHouse told doubted old → IsHouseLog old.house_log → IsHouseLog new
+    → Appended client (Event.Schedule client request answer) old.house_log new → IsLegalSo old.house_log.facts old.house_log.first (rows_before old.house_log) (Event.Schedule client request answer ∷ past old) → old.house_log.loaded ≡ true
+    → HasRows told doubted keeper (rows old.house_log.facts (rows_before old.house_log) (Event.Schedule client request answer ∷ past old)) (doubt old.house_log.facts (rows_before old.house_log) (Event.Schedule client request answer ∷ past old))
+    → IsHouse told doubted (record old { house_log = new; keeper = keeper })
 house-off told doubted client request answer old new keeper h o k a l loaded kept =
-    house-next told doubted client (Event.Schedule client request answer) old (record old { annals = new; keeper = keeper }) h a k
+    house-next told doubted client (Event.Schedule client request answer) old (record old { house_log = new; keeper = keeper }) h a k
     (record {
       count = refl;
       places = λ number place e.
-          place-same old.annals.facts old.annals.first (rows_before old.annals) (past old) (Event.Schedule client request answer ∷ past old) number place
-          (quiet-board old.annals.facts old.annals.first (rows_before old.annals) (past old) (Event.Schedule client request answer) o.stands.history l number refl refl refl refl refl refl) (h.places number place e);
+          place-same old.house_log.facts old.house_log.first (rows_before old.house_log) (past old) (Event.Schedule client request answer ∷ past old) number place
+          (quiet-board old.house_log.facts old.house_log.first (rows_before old.house_log) (past old) (Event.Schedule client request answer) o.stands.history l number refl refl refl refl refl refl) (h.places number place e);
       loaded = loaded;
-      kept = so-has old.annals.reopened told doubted keeper (rows old.annals.facts (rows_before old.annals) (Event.Schedule client request answer ∷ past old)) (doubt old.annals.facts (rows_before old.annals) (Event.Schedule client request answer ∷ past old)) kept;
+      kept = so-has old.house_log.reopened told doubted keeper (rows old.house_log.facts (rows_before old.house_log) (Event.Schedule client request answer ∷ past old)) (doubt old.house_log.facts (rows_before old.house_log) (Event.Schedule client request answer ∷ past old)) kept;
       capacity = refl;
       free = h.free;
     })
 
--- What there is over the annals.
-pub accept-over : (a b : Annalled) (client : ℕ) (request : Request) → a ≡ b → IsAccept (verdict b.facts (rows_before b) (past_in b) client request Stage.Schedule) → IsAccept (verdict a.facts (rows_before a) (past_in a) client request Stage.Schedule)
-accept-over a b client request e h = subst (λ (x : Annalled). IsAccept (verdict x.facts (rows_before x) (past_in x) client request Stage.Schedule)) (sym e) h
+-- What there is over the house log.
+pub accept-over : (a b : HouseLogView) (client : ℕ) (request : Request) → a ≡ b → IsAccept (verdict b.facts (rows_before b) (past_in b) client request Stage.Schedule) → IsAccept (verdict a.facts (rows_before a) (past_in a) client request Stage.Schedule)
+accept-over a b client request e h = subst (λ (x : HouseLogView). IsAccept (verdict x.facts (rows_before x) (past_in x) client request Stage.Schedule)) (sym e) h
 
-pub few-over : (a : Annalled) (client : ℕ) (request : Request) → IsAnnals a → IsAccept (verdict a.facts (rows_before a) (past_in a) client request Stage.Schedule) → length a.core.rows < 65536
+pub few-over : (a : HouseLogView) (client : ℕ) (request : Request) → IsHouseLog a → IsAccept (verdict a.facts (rows_before a) (past_in a) client request Stage.Schedule) → length a.core.rows < 65536
 few-over a client request k h =
     let f = (off-facts a.facts (rows_before a) (past_in a) client request h).1.few in
     let e = ap length k.stands.rows in
     omega (arith, f, e)
 
-pub suits-over : (a : Annalled) (client : ℕ) (request : Request) (row : Row) → IsAnnals a → IsAccept (verdict a.facts (rows_before a) (past_in a) client request Stage.Schedule)
+pub suits-over : (a : HouseLogView) (client : ℕ) (request : Request) (row : Row) → IsHouseLog a → IsAccept (verdict a.facts (rows_before a) (past_in a) client request Stage.Schedule)
     → addition_on a.facts (time_of (past_in a)) a.core.views a.core.rows client request RowState.Pending ≡ Some (Change.Add row) → Suits (Change.Add row) a.core.rows
 suits-over a client request row k h e =
     let o = off-facts a.facts (rows_before a) (past_in a) client request h in
@@ -155,28 +155,28 @@ suits-over a client request row k h e =
     subst (λ (x : List Row). Suits (Change.Add row) x) (sym k.stands.rows) (subst (λ (x : Row). Suits (Change.Add x) (rows a.facts (rows_before a) (past_in a))) r o.1.suits)
 
 -- In a boot that runs, the log is in no doubt, and the keeper has its rows.
-pub no-doubt : (a : Annalled) → IsAnnals a → off (past_in a) ≡ false → doubt a.facts (rows_before a) (past_in a) ≡ None
+pub no-doubt : (a : HouseLogView) → IsHouseLog a → off (past_in a) ≡ false → doubt a.facts (rows_before a) (past_in a) ≡ None
 no-doubt a k o = (kept-so a.facts a.first (rows_before a) (past_in a) k.stands.history k.legal).rows_kept.doubt_off o
 
-pub house-plain : {K : Type 0} (told : K → List Row → Type 0) (doubted : K → Option Change) (h : Housed K) (b : Annalled) → h.annals ≡ b → IsHouse told doubted h → IsAnnals h.annals → b.loaded ≡ true → off (past_in b) ≡ false → HasRows told doubted h.keeper h.annals.core.rows None
+pub house-plain : {K : Type 0} (told : K → List Row → Type 0) (doubted : K → Option Change) (h : Housed K) (b : HouseLogView) → h.house_log ≡ b → IsHouse told doubted h → IsHouseLog h.house_log → b.loaded ≡ true → off (past_in b) ≡ false → HasRows told doubted h.keeper h.house_log.core.rows None
 house-plain told doubted h b e w k l o =
-    let l' : h.annals.loaded ≡ true = ap (λ (x : Annalled). x.loaded) e ∙ l in
-    let o' : off (past h) ≡ false = ap (λ (x : Annalled). off (past_in x)) e ∙ o in
-    so-clear h.annals.reopened told doubted h.keeper h.annals.core.rows
-    (subst (λ (x : Option Change). KeepsSo h.annals.reopened told doubted h.keeper h.annals.core.rows x) (k.stands.doubt ∙ no-doubt h.annals k o') (w.kept l'))
+    let l' : h.house_log.loaded ≡ true = ap (λ (x : HouseLogView). x.loaded) e ∙ l in
+    let o' : off (past h) ≡ false = ap (λ (x : HouseLogView). off (past_in x)) e ∙ o in
+    so-clear h.house_log.reopened told doubted h.keeper h.house_log.core.rows
+    (subst (λ (x : Option Change). KeepsSo h.house_log.reopened told doubted h.keeper h.house_log.core.rows x) (k.stands.doubt ∙ no-doubt h.house_log k o') (w.kept l'))
 
 -- What was answered may come.
-pub off-legal : (a b : Annalled) (client : ℕ) (request : Request) (answer : ClaimAnswer) → a ≡ b → IsAnnals a → Runs b → 0 < boots (past_in b) → IsFree (past_in b) client → IsAccept (verdict b.facts (rows_before b) (past_in b) client request Stage.Schedule)
+pub off-legal : (a b : HouseLogView) (client : ℕ) (request : Request) (answer : ClaimAnswer) → a ≡ b → IsHouseLog a → Runs b → 0 < boots (past_in b) → IsFree (past_in b) client → IsAccept (verdict b.facts (rows_before b) (past_in b) client request Stage.Schedule)
     → (answer ≡ ClaimAnswer.Entry (length a.core.rows + 1)) ⊎ (answer ≡ ClaimAnswer.Refused Refusal.KeeperFault) → IsLegalSo a.facts a.first (rows_before a) (Event.Schedule client request answer ∷ past_in a)
 off-legal a b client request answer e k r n f h w =
     let h' = accept-over a b client request e h in
     let r' : Runs a = subst Runs (sym e) r in
     let next : length a.core.rows ≡ length (rows a.facts (rows_before a) (past_in a)) = ap length k.stands.rows in
     legal-next a.facts a.first (rows_before a) (past_in a) (Event.Schedule client request answer) k.legal
-    (record { booted = λ _. subst (λ (x : Annalled). 0 < boots (past_in x)) (sym e) n; on = λ _. r'.on; below = λ _. r'.below })
+    (record { booted = λ _. subst (λ (x : HouseLogView). 0 < boots (past_in x)) (sym e) n; on = λ _. r'.on; below = λ _. r'.below })
     (off-allowed a.facts a.first (rows_before a) (past_in a) client request answer
     (record {
-      free = subst (λ (x : Annalled). IsFree (past_in x) client) (sym e) f;
+      free = subst (λ (x : HouseLogView). IsFree (past_in x) client) (sym e) f;
       answer_is = subst (λ (d : Decision). ScheduleAnswered (next_entry a.facts (rows_before a) (past_in a)) d answer) (sym h'.3) (at w next);
     }))
   where
@@ -185,7 +185,7 @@ off-legal a b client request answer e k r n f h w =
     at (inr x) next = inr x
 
 -- The keeper after the row was stored, and after that failed.
-pub kept-made : {K : Type 0} (told : K → List Row → Type 0) (doubted : K → Option Change) (a : Annalled) (client : ℕ) (request : Request) (entry : ℕ) (row : Row) (keeper : K) → IsAnnals a → off (past_in a) ≡ false
+pub kept-made : {K : Type 0} (told : K → List Row → Type 0) (doubted : K → Option Change) (a : HouseLogView) (client : ℕ) (request : Request) (entry : ℕ) (row : Row) (keeper : K) → IsHouseLog a → off (past_in a) ≡ false
     → addition a.facts (time_of (past_in a)) (live (past_in a)) (known a.facts (rows_before a) (past_in a)) client request RowState.Pending ≡ Some (Change.Add row) → HasRows told doubted keeper (changed (Change.Add row) a.core.rows) None
     → HasRows told doubted keeper (rows a.facts (rows_before a) (Event.Schedule client request (ClaimAnswer.Entry entry) ∷ past_in a)) (doubt a.facts (rows_before a) (Event.Schedule client request (ClaimAnswer.Entry entry) ∷ past_in a))
 kept-made told doubted a client request entry row keeper k o e h =
@@ -194,7 +194,7 @@ kept-made told doubted a client request entry row keeper k o e h =
     ap (λ (x : List Row). changed (Change.Add row) x) k.stands.rows ∙ sym (ap (λ (x : Option Change). rows_by Fate.Made x all) e) in
     record { rows_are = subst (λ (x : List Row). (y : List Row) → told keeper y → y ≡ x) r h.rows_are; doubt_is = h.doubt_is ∙ sym (no-doubt a k o) }
 
-pub kept-doubted : {K : Type 0} (told : K → List Row → Type 0) (doubted : K → Option Change) (a : Annalled) (client : ℕ) (request : Request) (row : Row) (keeper : K) → IsAnnals a
+pub kept-doubted : {K : Type 0} (told : K → List Row → Type 0) (doubted : K → Option Change) (a : HouseLogView) (client : ℕ) (request : Request) (row : Row) (keeper : K) → IsHouseLog a
     → addition a.facts (time_of (past_in a)) (live (past_in a)) (known a.facts (rows_before a) (past_in a)) client request RowState.Pending ≡ Some (Change.Add row) → HasRows told doubted keeper a.core.rows (Some (Change.Add row))
     → HasRows told doubted keeper (rows a.facts (rows_before a) (Event.Schedule client request (ClaimAnswer.Refused Refusal.KeeperFault) ∷ past_in a)) (doubt a.facts (rows_before a) (Event.Schedule client request (ClaimAnswer.Refused Refusal.KeeperFault) ∷ past_in a))
 kept-doubted told doubted a client request row keeper k e h =
@@ -211,5 +211,5 @@ pub owed-faulted : (past : List Event) (client : ℕ) (request : Request) → ow
 owed-faulted past client request = owed-cut past
 
 -- An event that met no fault.
-pub quiet-faults : (client : ℕ) (event : Event) (a b : Annalled) → Appended client event a b → meets_fault event ≡ false → keeper_faults (past_in b) ≡ keeper_faults (past_in a)
+pub quiet-faults : (client : ℕ) (event : Event) (a b : HouseLogView) → Appended client event a b → meets_fault event ≡ false → keeper_faults (past_in b) ≡ keeper_faults (past_in a)
 quiet-faults client event a b p m = ap keeper_faults (appended-past client event a b p) ∙ rw m refl

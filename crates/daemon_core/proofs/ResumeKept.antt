@@ -22,17 +22,17 @@ use Rattle.update_log.specs.declared.refusal.FetchNote.{FetchNote}
 use Rattle.update_log.specs.declared.refusal.Refusal.{Refusal}
 use Rattle.daemon_core.specs.declared.fetched.Fetched.{Fetched}
 use Rattle.daemon_core.specs.declared.hold.Ticket.{Ticket}
-use Rattle.daemon_core.specs.Annals.{Appended, IsAllowedSo, IsAnnals, IsLegalSo}
+use Rattle.daemon_core.specs.HouseLog.{Appended, IsAllowedSo, IsHouseLog, IsLegalSo}
 use Rattle.daemon_core.specs.Claims.{places_without}
 use Rattle.daemon_core.specs.Commits.{StoredAs}
 use Rattle.daemon_core.specs.Fetches.{block_count}
 use Rattle.daemon_core.specs.Holds.{held_by}
 use Rattle.daemon_core.specs.House.{IsHouse}
-use Rattle.daemon_core.specs.Housed.{Annalled, Housed, past, past_in, rows_before}
+use Rattle.daemon_core.specs.Housed.{HouseLogView, Housed, past, past_in, rows_before}
 use Rattle.daemon_core.specs.Keeping.{HasRows}
 use Rattle.daemon_core.specs.Resumes.{HoldIs, MayResume, blocks_in}
 use Rattle.daemon_core.specs.Returns.{place_at}
-use Rattle.daemon_core.proofs.AnnalsKept.{legal-next}
+use Rattle.daemon_core.proofs.HouseLogKept.{legal-next}
 use Rattle.daemon_core.proofs.BoardsQuiet.{quiet-board}
 use Rattle.daemon_core.proofs.ClaimEnds.{length-set}
 use Rattle.daemon_core.proofs.ClaimHouse.{IsReady, runs-takes}
@@ -86,21 +86,21 @@ resumed-many fate time entry (ResumeAnswer.Refused refusal) all =
 -- ---- what may be put behind the log
 
 -- What the log says of the answer.
-pub record Answers (a : Annalled) (entry : ℕ) (said : Option FetchNote) (answer : ResumeAnswer) (stored : Stored) : Type 0 where
+pub record Answers (a : HouseLogView) (entry : ℕ) (said : Option FetchNote) (answer : ResumeAnswer) (stored : Stored) : Type 0 where
   pub fetched : ResumeFetched a.facts (rows_before a) (past_in a) entry said answer
   pub stored_is : ResumeStored answer stored
 
-pub resume-allowed : (a : Annalled) (entry : ℕ) (said : Option FetchNote) (answer : ResumeAnswer) (stored : Stored) → IsAnnals a → MayResume a entry → Answers a entry said answer stored → IsAllowedSo a.facts a.first (rows_before a) (past_in a) (resumes entry said answer stored)
+pub resume-allowed : (a : HouseLogView) (entry : ℕ) (said : Option FetchNote) (answer : ResumeAnswer) (stored : Stored) → IsHouseLog a → MayResume a entry → Answers a entry said answer stored → IsAllowedSo a.facts a.first (rows_before a) (past_in a) (resumes entry said answer stored)
 resume-allowed a entry said answer stored k m w =
     let row : Row = m.put_off.row in
     let r : ResumeAllowed a.facts (rows_before a) (past_in a) 0 entry said answer stored row =
     record { client_is = refl; row_is = subst (λ (x : List Row). row_of x entry ≡ Some row) k.stands.rows m.put_off.row_is; pending = m.put_off.pending; fetched_is = w.fetched; stored_is = w.stored_is } in
     λ c f i. (row, subst (λ (x : Facts). ResumeAllowed x (rows_before a) (past_in a) 0 entry said answer stored row) (sym f) r)
 
-pub resume-takes : (a : Annalled) (entry : ℕ) (said : Option FetchNote) (answer : ResumeAnswer) (stored : Stored) → MayResume a entry → BootTakes (past_in a) (resumes entry said answer stored)
+pub resume-takes : (a : HouseLogView) (entry : ℕ) (said : Option FetchNote) (answer : ResumeAnswer) (stored : Stored) → MayResume a entry → BootTakes (past_in a) (resumes entry said answer stored)
 resume-takes a entry said answer stored m = runs-takes a (resumes entry said answer stored) m.runs m.booted refl
 
-pub resume-legal : (a : Annalled) (entry : ℕ) (said : Option FetchNote) (answer : ResumeAnswer) (stored : Stored) → IsAnnals a → MayResume a entry → Answers a entry said answer stored → IsLegalSo a.facts a.first (rows_before a) (resumes entry said answer stored ∷ past_in a)
+pub resume-legal : (a : HouseLogView) (entry : ℕ) (said : Option FetchNote) (answer : ResumeAnswer) (stored : Stored) → IsHouseLog a → MayResume a entry → Answers a entry said answer stored → IsLegalSo a.facts a.first (rows_before a) (resumes entry said answer stored ∷ past_in a)
 resume-legal a entry said answer stored k m w =
     legal-next a.facts a.first (rows_before a) (past_in a) (resumes entry said answer stored) k.legal (resume-takes a entry said answer stored m) (resume-allowed a entry said answer stored k m w)
 
@@ -108,7 +108,7 @@ adds-few : (entry : ℕ) (said : Option FetchNote) (answer : ResumeAnswer) (stor
 adds-few entry said ResumeAnswer.Begun stored = omega arith
 adds-few entry said (ResumeAnswer.Refused refusal) stored = omega arith
 
-pub resume-ready : (a : Annalled) (entry : ℕ) (said : Option FetchNote) (answer : ResumeAnswer) (stored : Stored) → IsAnnals a → MayResume a entry → Answers a entry said answer stored → IsReady a (resumes entry said answer stored)
+pub resume-ready : (a : HouseLogView) (entry : ℕ) (said : Option FetchNote) (answer : ResumeAnswer) (stored : Stored) → IsHouseLog a → MayResume a entry → Answers a entry said answer stored → IsReady a (resumes entry said answer stored)
 resume-ready a entry said answer stored k m w =
     let l = resume-legal a entry said answer stored k m w in
     let more = adds-legal l.0 (rows_before a) (past_in a) (resumes entry said answer stored) l.3 refl in
@@ -127,83 +127,83 @@ resume-ready a entry said answer stored k m w =
 -- ---- the keeper
 
 -- What the change is.
-abbrev pub change_of : Annalled → ℕ → ResumeAnswer → Change
+abbrev pub change_of : HouseLogView → ℕ → ResumeAnswer → Change
 change_of a entry answer = resumption_on (time_of (past_in a)) a.core.rows entry answer
 
-pub resume-keeps : {K : Type 0} (told : K → List Row → Type 0) (doubted : K → Option Change) (entry : ℕ) (said : Option FetchNote) (answer : ResumeAnswer) (stored : Stored) (h : Housed K) (keeper : K) → IsHouse told doubted h → IsAnnals h.annals → MayResume h.annals entry → StoredAs (change_of h.annals entry answer) stored (told h.keeper) (told keeper) (doubted keeper)
-    → HasRows told doubted keeper (rows h.annals.facts (rows_before h.annals) (resumes entry said answer stored ∷ past h)) (doubt h.annals.facts (rows_before h.annals) (resumes entry said answer stored ∷ past h))
+pub resume-keeps : {K : Type 0} (told : K → List Row → Type 0) (doubted : K → Option Change) (entry : ℕ) (said : Option FetchNote) (answer : ResumeAnswer) (stored : Stored) (h : Housed K) (keeper : K) → IsHouse told doubted h → IsHouseLog h.house_log → MayResume h.house_log entry → StoredAs (change_of h.house_log entry answer) stored (told h.keeper) (told keeper) (doubted keeper)
+    → HasRows told doubted keeper (rows h.house_log.facts (rows_before h.house_log) (resumes entry said answer stored ∷ past h)) (doubt h.house_log.facts (rows_before h.house_log) (resumes entry said answer stored ∷ past h))
 resume-keeps told doubted entry said answer stored h keeper w k m s =
-    let f : Facts = h.annals.facts in
-    let b : List Row = rows_before h.annals in
+    let f : Facts = h.house_log.facts in
+    let b : List Row = rows_before h.house_log in
     let clear = house-clear told doubted h w k m.loaded m.runs.on in
-    let kept = stored-keeps told doubted h.keeper keeper h.annals.core.rows (change_of h.annals entry answer) stored clear s in
-    let r : rows_by (fate_stored stored) (Some (change_of h.annals entry answer)) h.annals.core.rows ≡ rows f b (resumes entry said answer stored ∷ past h) =
+    let kept = stored-keeps told doubted h.keeper keeper h.house_log.core.rows (change_of h.house_log entry answer) stored clear s in
+    let r : rows_by (fate_stored stored) (Some (change_of h.house_log entry answer)) h.house_log.core.rows ≡ rows f b (resumes entry said answer stored ∷ past h) =
     ap (λ (x : List Row). rows_by (fate_stored stored) (Some (resumption_on (time_of (past h)) x entry answer)) x) k.stands.rows ∙ sym (resumed-rows f b (past h) entry said answer stored) in
-    let d : doubt_by (fate_stored stored) (Some (change_of h.annals entry answer)) None ≡ doubt f b (resumes entry said answer stored ∷ past h) =
+    let d : doubt_by (fate_stored stored) (Some (change_of h.house_log entry answer)) None ≡ doubt f b (resumes entry said answer stored ∷ past h) =
     ap (λ (x : List Row). doubt_by (fate_stored stored) (Some (resumption_on (time_of (past h)) x entry answer)) None) k.stands.rows
-    ∙ ap (λ (x : Option Change). doubt_by (fate_stored stored) (Some (resumption_on (time_of (past h)) (rows f b (past h)) entry answer)) x) (sym (no-doubt h.annals k m.runs.on))
+    ∙ ap (λ (x : Option Change). doubt_by (fate_stored stored) (Some (resumption_on (time_of (past h)) (rows f b (past h)) entry answer)) x) (sym (no-doubt h.house_log k m.runs.on))
     ∙ sym (resumed-doubt f b (past h) entry said answer stored) in
     subst (λ (x : List Row). HasRows told doubted keeper x (doubt f b (resumes entry said answer stored ∷ past h))) r
-    (subst (λ (x : Option Change). HasRows told doubted keeper (rows_by (fate_stored stored) (Some (change_of h.annals entry answer)) h.annals.core.rows) x) d kept)
+    (subst (λ (x : Option Change). HasRows told doubted keeper (rows_by (fate_stored stored) (Some (change_of h.house_log entry answer)) h.house_log.core.rows) x) d kept)
 
 -- The keeper may be asked for it.
-pub resume-suits : {K : Type 0} (told : K → List Row → Type 0) (doubted : K → Option Change) (entry : ℕ) (answer : ResumeAnswer) (h : Housed K) → IsHouse told doubted h → IsAnnals h.annals → MayResume h.annals entry → (all : List Row) → told h.keeper all → Suits (change_of h.annals entry answer) all
+pub resume-suits : {K : Type 0} (told : K → List Row → Type 0) (doubted : K → Option Change) (entry : ℕ) (answer : ResumeAnswer) (h : Housed K) → IsHouse told doubted h → IsHouseLog h.house_log → MayResume h.house_log entry → (all : List Row) → told h.keeper all → Suits (change_of h.house_log entry answer) all
 resume-suits told doubted entry answer h w k m =
     let clear = house-clear told doubted h w k m.loaded m.runs.on in
-    suits-told (told h.keeper) h.annals.core.rows (change_of h.annals entry answer) clear.rows_are
-    (resumed-suits h.annals.core.rows (time_of (past h)) entry answer m.put_off.row m.put_off.row_is)
+    suits-told (told h.keeper) h.house_log.core.rows (change_of h.house_log entry answer) clear.rows_are
+    (resumed-suits h.house_log.core.rows (time_of (past h)) entry answer m.put_off.row m.put_off.row_is)
 
 -- ---- a resumption that was refused
 
 -- The blocks that came in aren't held any more.
-pub refused-held : (a : Annalled) (entry : ℕ) (held' : Option (Ticket × Fetched)) (said : Option FetchNote) (refusal : Refusal) (stored : Stored) → IsAnnals a → HoldIs a held' → held (resumes entry said (ResumeAnswer.Refused refusal) stored ∷ past_in a) + blocks_in held' ≡ held (past_in a)
+pub refused-held : (a : HouseLogView) (entry : ℕ) (held' : Option (Ticket × Fetched)) (said : Option FetchNote) (refusal : Refusal) (stored : Stored) → IsHouseLog a → HoldIs a held' → held (resumes entry said (ResumeAnswer.Refused refusal) stored ∷ past_in a) + blocks_in held' ≡ held (past_in a)
 refused-held a entry None said refusal stored k h = let e = held-repeated (past_in a) 0 entry said refusal stored h in omega (arith, e)
 refused-held a entry (Some x) said refusal stored k h =
     let w = k.legal in
     held-not_resumed (past_in a) 0 entry said refusal stored (held_by x.0 (block_count x.1)) (out-once w.0 (rows_before a) (past_in a) k.stands.history w.3) h
 
 -- They fit into the pool.
-pub refused-fits : {K : Type 0} (told : K → List Row → Type 0) (doubted : K → Option Change) (held' : Option (Ticket × Fetched)) (h : Housed K) → IsHouse told doubted h → IsAnnals h.annals → HoldIs h.annals held' → h.pool.free + blocks_in held' ≤ h.pool.capacity
+pub refused-fits : {K : Type 0} (told : K → List Row → Type 0) (doubted : K → Option Change) (held' : Option (Ticket × Fetched)) (h : Housed K) → IsHouse told doubted h → IsHouseLog h.house_log → HoldIs h.house_log held' → h.pool.free + blocks_in held' ≤ h.pool.capacity
 refused-fits told doubted held' h w k m =
-    let e = refused-held h.annals 0 held' None Refusal.KeeperFault Stored.Fault k m in
+    let e = refused-held h.house_log 0 held' None Refusal.KeeperFault Stored.Fault k m in
     let f = w.free in let c = w.capacity in omega (arith, e, f, c)
 
-pub house-refused : {K : Type 0} (told : K → List Row → Type 0) (doubted : K → Option Change) (entry : ℕ) (held' : Option (Ticket × Fetched)) (said : Option FetchNote) (refusal : Refusal) (stored : Stored) (old : Housed K) (new : Annalled) (pool : PoolCounts) (keeper : K) → IsHouse told doubted old → IsAnnals old.annals → IsAnnals new
-    → Appended 0 (resumes entry said (ResumeAnswer.Refused refusal) stored) old.annals new → MayResume old.annals entry → HoldIs old.annals held' → StoredAs (change_of old.annals entry (ResumeAnswer.Refused refusal)) stored (told old.keeper) (told keeper) (doubted keeper)
-    → pool.capacity ≡ old.pool.capacity → pool.free ≡ old.pool.free + blocks_in held' → IsHouse told doubted (record { annals = new; places = old.places; pool = pool; keeper = keeper })
+pub house-refused : {K : Type 0} (told : K → List Row → Type 0) (doubted : K → Option Change) (entry : ℕ) (held' : Option (Ticket × Fetched)) (said : Option FetchNote) (refusal : Refusal) (stored : Stored) (old : Housed K) (new : HouseLogView) (pool : PoolCounts) (keeper : K) → IsHouse told doubted old → IsHouseLog old.house_log → IsHouseLog new
+    → Appended 0 (resumes entry said (ResumeAnswer.Refused refusal) stored) old.house_log new → MayResume old.house_log entry → HoldIs old.house_log held' → StoredAs (change_of old.house_log entry (ResumeAnswer.Refused refusal)) stored (told old.keeper) (told keeper) (doubted keeper)
+    → pool.capacity ≡ old.pool.capacity → pool.free ≡ old.pool.free + blocks_in held' → IsHouse told doubted (record { house_log = new; places = old.places; pool = pool; keeper = keeper })
 house-refused told doubted entry held' said refusal stored old new pool keeper h o k a m hold s cap free =
     let event : Event = resumes entry said (ResumeAnswer.Refused refusal) stored in
-    let legal = legal-after 0 event old.annals new a k in
-    let out = refused-held old.annals entry held' said refusal stored o hold in
+    let legal = legal-after 0 event old.house_log new a k in
+    let out = refused-held old.house_log entry held' said refusal stored o hold in
     let was = h.free in
-    house-next told doubted 0 event old (record { annals = new; places = old.places; pool = pool; keeper = keeper }) h a k
+    house-next told doubted 0 event old (record { house_log = new; places = old.places; pool = pool; keeper = keeper }) h a k
     (record {
       count = refl;
       places = λ number place e.
-          place-same old.annals.facts old.annals.first (rows_before old.annals) (past old) (event ∷ past old) number place
-          (quiet-board old.annals.facts old.annals.first (rows_before old.annals) (past old) event o.stands.history legal number refl refl refl refl refl refl) (h.places number place e);
+          place-same old.house_log.facts old.house_log.first (rows_before old.house_log) (past old) (event ∷ past old) number place
+          (quiet-board old.house_log.facts old.house_log.first (rows_before old.house_log) (past old) event o.stands.history legal number refl refl refl refl refl refl) (h.places number place e);
       loaded = m.loaded;
-      kept = so-has old.annals.reopened told doubted keeper _ _ (resume-keeps told doubted entry said (ResumeAnswer.Refused refusal) stored old keeper h o m s);
+      kept = so-has old.house_log.reopened told doubted keeper _ _ (resume-keeps told doubted entry said (ResumeAnswer.Refused refusal) stored old keeper h o m s);
       capacity = cap;
       free = omega (arith, out, was, free);
     })
 
 -- ---- a resumption that took its entry
 
-pub house-begun : {K : Type 0} (told : K → List Row → Type 0) (doubted : K → Option Change) (entry number : ℕ) (said : Option FetchNote) (old : Housed K) (new : Annalled) (keeper : K) → IsHouse told doubted old → IsAnnals old.annals → IsAnnals new
-    → Appended 0 (resumes entry said ResumeAnswer.Begun Stored.Yes) old.annals new → MayResume old.annals entry → StoredAs (change_of old.annals entry ResumeAnswer.Begun) Stored.Yes (told old.keeper) (told keeper) (doubted keeper)
-    → Takes old.annals.facts (rows_before old.annals) (past old) (resumes entry said ResumeAnswer.Begun Stored.Yes) entry number → number < length old.places → held (resumes entry said ResumeAnswer.Begun Stored.Yes ∷ past old) ≡ held (past old)
-    → IsHouse told doubted (record { annals = new; places = places_without old.places number; pool = old.pool; keeper = keeper })
+pub house-begun : {K : Type 0} (told : K → List Row → Type 0) (doubted : K → Option Change) (entry number : ℕ) (said : Option FetchNote) (old : Housed K) (new : HouseLogView) (keeper : K) → IsHouse told doubted old → IsHouseLog old.house_log → IsHouseLog new
+    → Appended 0 (resumes entry said ResumeAnswer.Begun Stored.Yes) old.house_log new → MayResume old.house_log entry → StoredAs (change_of old.house_log entry ResumeAnswer.Begun) Stored.Yes (told old.keeper) (told keeper) (doubted keeper)
+    → Takes old.house_log.facts (rows_before old.house_log) (past old) (resumes entry said ResumeAnswer.Begun Stored.Yes) entry number → number < length old.places → held (resumes entry said ResumeAnswer.Begun Stored.Yes ∷ past old) ≡ held (past old)
+    → IsHouse told doubted (record { house_log = new; places = places_without old.places number; pool = old.pool; keeper = keeper })
 house-begun told doubted entry number said old new keeper h o k a m s t within same =
     let event : Event = resumes entry said ResumeAnswer.Begun Stored.Yes in
-    let legal = legal-after 0 event old.annals new a k in
+    let legal = legal-after 0 event old.house_log new a k in
     let was = h.free in
-    house-next told doubted 0 event old (record { annals = new; places = places_without old.places number; pool = old.pool; keeper = keeper }) h a k
+    house-next told doubted 0 event old (record { house_log = new; places = places_without old.places number; pool = old.pool; keeper = keeper }) h a k
     (record {
       count = length-set old.places number (record (place_at old.places number) { board = None });
-      places = takes-places old.annals.facts old.annals.first (rows_before old.annals) (past old) event o.stands.history legal entry number t old.places within h.places;
+      places = takes-places old.house_log.facts old.house_log.first (rows_before old.house_log) (past old) event o.stands.history legal entry number t old.places within h.places;
       loaded = m.loaded;
-      kept = so-has old.annals.reopened told doubted keeper _ _ (resume-keeps told doubted entry said ResumeAnswer.Begun Stored.Yes old keeper h o m s);
+      kept = so-has old.house_log.reopened told doubted keeper _ _ (resume-keeps told doubted entry said ResumeAnswer.Begun Stored.Yes old keeper h o m s);
       capacity = refl;
       free = omega (arith, same, was);
     })

@@ -32,17 +32,17 @@ use Rattle.update_log.specs.declared.trace.Trace.{Trace}
 use Rattle.daemon_core.specs.declared.claimed.Taken.{Taken}
 use Rattle.daemon_core.specs.declared.fetched.Fetched.{Fetched}
 use Rattle.daemon_core.specs.declared.hold.Ticket.{Ticket}
-use Rattle.daemon_core.specs.Annals.{Appended, IsAnnals}
+use Rattle.daemon_core.specs.HouseLog.{Appended, IsHouseLog}
 use Rattle.daemon_core.specs.Boards.{BoardStands}
 use Rattle.daemon_core.specs.Claims.{DeviceHome, IsTaken, place_given, plugin_at}
 use Rattle.daemon_core.specs.Fetches.{IsPayloadOf, is_payload, note_of, whole_note}
 use Rattle.daemon_core.specs.Holds.{held_by}
 use Rattle.daemon_core.specs.House.{IsHouse}
-use Rattle.daemon_core.specs.Housed.{Annalled, Housed, past, past_in, rows_before}
+use Rattle.daemon_core.specs.Housed.{HouseLogView, Housed, past, past_in, rows_before}
 use Rattle.daemon_core.specs.PutOff.{IsAccept}
 use Rattle.daemon_core.specs.Resumes.{IsOpenHold, IsToResume, MayResume, resume_verdict}
 use Rattle.daemon_core.specs.Returns.{ComesHome, place_at}
-use Rattle.daemon_core.proofs.AnnalsKept.{appended-before, appended-past}
+use Rattle.daemon_core.proofs.HouseLogKept.{appended-before, appended-past}
 use Rattle.daemon_core.proofs.Asking.{release-same}
 use Rattle.daemon_core.proofs.BoardsQuiet.{goes-so, kept-so}
 use Rattle.daemon_core.proofs.ClaimAlone.{on-board}
@@ -61,19 +61,19 @@ use Rattle.daemon_core.proofs.ResumeKept.{Answers, resume-legal, resumes}
 
 -- ---- what may be answered
 
-fetched-so : (a : Annalled) (entry : ℕ) (ticket : Ticket) (note : FetchNote) (answer : ResumeAnswer) (blocks : ℕ) → hold (past_in a) 0 ≡ Some (held_by ticket blocks) → ticket.pending ≡ Some entry
+fetched-so : (a : HouseLogView) (entry : ℕ) (ticket : Ticket) (note : FetchNote) (answer : ResumeAnswer) (blocks : ℕ) → hold (past_in a) 0 ≡ Some (held_by ticket blocks) → ticket.pending ≡ Some entry
     → ResumeAnswered note (target a.facts (views a.facts (rows_before a) (past_in a)) ticket.request) (resume_verdict a entry ticket) answer → ResumeFetched a.facts (rows_before a) (past_in a) entry (Some note) answer
 fetched-so a entry ticket note answer blocks h p w = (held_by ticket blocks, h, p, w)
 
 -- One that isn't accepted is answered what was decided.
-pub resume-refused : (a : Annalled) (entry : ℕ) (ticket : Ticket) (note : FetchNote) (refusal : Refusal) (blocks : ℕ) → hold (past_in a) 0 ≡ Some (held_by ticket blocks) → ticket.pending ≡ Some entry → resume_verdict a entry ticket ≡ Decision.Refused refusal
+pub resume-refused : (a : HouseLogView) (entry : ℕ) (ticket : Ticket) (note : FetchNote) (refusal : Refusal) (blocks : ℕ) → hold (past_in a) 0 ≡ Some (held_by ticket blocks) → ticket.pending ≡ Some entry → resume_verdict a entry ticket ≡ Decision.Refused refusal
     → ResumeFetched a.facts (rows_before a) (past_in a) entry (Some note) (ResumeAnswer.Refused refusal)
 resume-refused a entry ticket note refusal blocks h p e =
     fetched-so a entry ticket note (ResumeAnswer.Refused refusal) blocks h p
     (subst (λ (d : Decision). ResumeAnswered note (target a.facts (views a.facts (rows_before a) (past_in a)) ticket.request) d (ResumeAnswer.Refused refusal)) (sym e) refl)
 
 -- One whose payload isn't whole is answered that.
-pub resume-broken : (a : Annalled) (entry : ℕ) (ticket : Ticket) (fetched : Fetched) (blocks : ℕ) → hold (past_in a) 0 ≡ Some (held_by ticket blocks) → ticket.pending ≡ Some entry → IsAccept (resume_verdict a entry ticket) → is_payload fetched ≡ false
+pub resume-broken : (a : HouseLogView) (entry : ℕ) (ticket : Ticket) (fetched : Fetched) (blocks : ℕ) → hold (past_in a) 0 ≡ Some (held_by ticket blocks) → ticket.pending ≡ Some entry → IsAccept (resume_verdict a entry ticket) → is_payload fetched ≡ false
     → ResumeFetched a.facts (rows_before a) (past_in a) entry (Some (note_of fetched)) (ResumeAnswer.Refused (Refusal.Payload (note_of fetched)))
 resume-broken a entry ticket fetched blocks h p w b =
     let f = broken-fetched fetched (target a.facts (views a.facts (rows_before a) (past_in a)) ticket.request) b in
@@ -81,7 +81,7 @@ resume-broken a entry ticket fetched blocks h p w b =
     (subst (λ (d : Decision). ResumeAnswered (note_of fetched) (target a.facts (views a.facts (rows_before a) (past_in a)) ticket.request) d (ResumeAnswer.Refused (Refusal.Payload (note_of fetched)))) (sym w.3) (rw f refl))
 
 -- One whose payload is, is begun, or the keeper failed.
-pub resume-whole : (a : Annalled) (entry : ℕ) (ticket : Ticket) (payload : SealedBytes) (answer : ResumeAnswer) → IsOpenHold a entry ticket (Fetched.Whole payload) → IsAccept (resume_verdict a entry ticket)
+pub resume-whole : (a : HouseLogView) (entry : ℕ) (ticket : Ticket) (payload : SealedBytes) (answer : ResumeAnswer) → IsOpenHold a entry ticket (Fetched.Whole payload) → IsAccept (resume_verdict a entry ticket)
     → (answer ≡ ResumeAnswer.Begun) ⊎ (answer ≡ ResumeAnswer.Refused Refusal.KeeperFault) → ResumeFetched a.facts (rows_before a) (past_in a) entry (Some (whole_note payload)) answer
 resume-whole a entry ticket payload answer o w e =
     let k = resumable a.facts (rows_before a) (past_in a) entry ticket.request ticket.release w in
@@ -92,7 +92,7 @@ resume-whole a entry ticket payload answer o w e =
 -- ---- the board
 
 -- The device of the row's hold is home.
-pub to-resume : (a : Annalled) (entry : ℕ) (ticket : Ticket) (payload : SealedBytes) (number : ℕ) (m : MayResume a entry) → IsAnnals a → IsOpenHold a entry ticket (Fetched.Whole payload) → IsAccept (resume_verdict a entry ticket) → number ≡ unwrap_or (board_of a.facts a.core.rows entry) 0 → IsToResume a entry ticket payload number
+pub to-resume : (a : HouseLogView) (entry : ℕ) (ticket : Ticket) (payload : SealedBytes) (number : ℕ) (m : MayResume a entry) → IsHouseLog a → IsOpenHold a entry ticket (Fetched.Whole payload) → IsAccept (resume_verdict a entry ticket) → number ≡ unwrap_or (board_of a.facts a.core.rows entry) 0 → IsToResume a entry ticket payload number
 to-resume a entry ticket payload number m k o w n =
     let row : Row = m.put_off.row in
     let found : row_of (rows a.facts (rows_before a) (past_in a)) entry ≡ Some row = subst (λ (x : List Row). row_of x entry ≡ Some row) k.stands.rows m.put_off.row_is in
@@ -104,24 +104,24 @@ to-resume a entry ticket payload number m k o w n =
     record { may = m; hold_is = o; accepted = w; board = subst (λ (x : ℕ). DeviceHome a.facts (rows_before a) (past_in a) row.device x) num h.1 }
 
 -- Its number is a place.
-pub resume-sheet : (a : Annalled) (entry : ℕ) (ticket : Ticket) (payload : SealedBytes) (number : ℕ) → IsToResume a entry ticket payload number → number < length a.facts.sheets
+pub resume-sheet : (a : HouseLogView) (entry : ℕ) (ticket : Ticket) (payload : SealedBytes) (number : ℕ) → IsToResume a entry ticket payload number → number < length a.facts.sheets
 resume-sheet a entry ticket payload number s =
     let on = on-board a.facts s.may.put_off.row.device number s.board.board_is in
     slice_get_within a.facts.sheets number on.board.sheet on.sheet
 
-pub resume-within : {K : Type 0} (told : K → List Row → Type 0) (doubted : K → Option Change) (entry : ℕ) (ticket : Ticket) (payload : SealedBytes) (number : ℕ) (h : Housed K) → IsHouse told doubted h → IsToResume h.annals entry ticket payload number → number < length h.places
+pub resume-within : {K : Type 0} (told : K → List Row → Type 0) (doubted : K → Option Change) (entry : ℕ) (ticket : Ticket) (payload : SealedBytes) (number : ℕ) (h : Housed K) → IsHouse told doubted h → IsToResume h.house_log entry ticket payload number → number < length h.places
 resume-within told doubted entry ticket payload number h w s =
-    let within = resume-sheet h.annals entry ticket payload number s in
+    let within = resume-sheet h.house_log entry ticket payload number s in
     let c = w.count in omega (arith, within, c)
 
 -- It is home, and stands with no untold mark.
-pub resume-board : {K : Type 0} (told : K → List Row → Type 0) (doubted : K → Option Change) (entry : ℕ) (ticket : Ticket) (payload : SealedBytes) (number : ℕ) (h : Housed K) → IsHouse told doubted h → IsAnnals h.annals → IsToResume h.annals entry ticket payload number
-    → (b : BoardState) × ((place_at h.places number).board ≡ Some b) × BoardStands h.annals.facts h.annals.first (rows_before h.annals) (past h) number b []
+pub resume-board : {K : Type 0} (told : K → List Row → Type 0) (doubted : K → Option Change) (entry : ℕ) (ticket : Ticket) (payload : SealedBytes) (number : ℕ) (h : Housed K) → IsHouse told doubted h → IsHouseLog h.house_log → IsToResume h.house_log entry ticket payload number
+    → (b : BoardState) × ((place_at h.places number).board ≡ Some b) × BoardStands h.house_log.facts h.house_log.first (rows_before h.house_log) (past h) number b []
 resume-board told doubted entry ticket payload number h w k s =
     let within = resume-within told doubted entry ticket payload number h w s in
     let p = w.places number (place_at h.places number) (place-found h.places number within) in
-    let b = home-board h.annals.facts h.annals.first (rows_before h.annals) (past h) number (place_at h.places number).board s.board.home p.home in
-    (b.0, b.1, home-tail h.annals.facts h.annals.first (rows_before h.annals) (past h) number b.0 b.2.0 k.legal s.may.runs.on s.board.home b.2.1)
+    let b = home-board h.house_log.facts h.house_log.first (rows_before h.house_log) (past h) number (place_at h.places number).board s.board.home p.home in
+    (b.0, b.1, home-tail h.house_log.facts h.house_log.first (rows_before h.house_log) (past h) number b.0 b.2.0 k.legal s.may.runs.on s.board.home b.2.1)
 
 -- ---- the entry that is taken
 
@@ -129,7 +129,7 @@ abbrev pub begins : ℕ → SealedBytes → Event
 begins entry payload = resumes entry (Some (whole_note payload)) ResumeAnswer.Begun Stored.Yes
 
 -- A row that is put off isn't live.
-pub not-live : (a : Annalled) (entry : ℕ) → IsAnnals a → MayResume a entry → live_entry (past_in a) entry ≡ None
+pub not-live : (a : HouseLogView) (entry : ℕ) → IsHouseLog a → MayResume a entry → live_entry (past_in a) entry ≡ None
 not-live a entry k m =
     let w = kept-so a.facts a.first (rows_before a) (past_in a) k.stands.history k.legal in
     let row : Row = m.put_off.row in
@@ -141,7 +141,7 @@ not-live a entry k m =
     (λ l h. eqb-other l.entry entry (λ e. let t : (entry == l.entry) ≡ true = subst (λ (x : ℕ). (x == l.entry) ≡ true) e (eqb-self l.entry) in let bad : true ≡ false = sym t ∙ h in cc)))
 
 -- So none of its steps is open.
-pub none-open : (a : Annalled) (entry : ℕ) → IsAnnals a → MayResume a entry → step_open (past_in a) entry ≡ None
+pub none-open : (a : HouseLogView) (entry : ℕ) → IsHouseLog a → MayResume a entry → step_open (past_in a) entry ≡ None
 none-open a entry k m = at (step_open (past_in a) entry) refl
   where
     at : (o : Option OpenStep) → step_open (past_in a) entry ≡ o → o ≡ None
@@ -153,13 +153,13 @@ none-open a entry k m = at (step_open (past_in a) entry) refl
         let f = found-live (live (past_in a)) entry (subst (λ (n : ℕ). is_live (live (past_in a)) n ≡ true) same l) in
         let bad : Some f.0 ≡ None = sym f.1 ∙ not-live a entry k m in cc
 
-pub resume-answers : (a : Annalled) (entry : ℕ) (ticket : Ticket) (payload : SealedBytes) (number : ℕ) → IsToResume a entry ticket payload number → Answers a entry (Some (whole_note payload)) ResumeAnswer.Begun Stored.Yes
+pub resume-answers : (a : HouseLogView) (entry : ℕ) (ticket : Ticket) (payload : SealedBytes) (number : ℕ) → IsToResume a entry ticket payload number → Answers a entry (Some (whole_note payload)) ResumeAnswer.Begun Stored.Yes
 resume-answers a entry ticket payload number s = record { fetched = resume-whole a entry ticket payload ResumeAnswer.Begun s.hold_is s.accepted (inl refl); stored_is = refl }
 
-pub doubt-answers : (a : Annalled) (entry : ℕ) (ticket : Ticket) (payload : SealedBytes) (number : ℕ) → IsToResume a entry ticket payload number → Answers a entry (Some (whole_note payload)) (ResumeAnswer.Refused Refusal.KeeperFault) Stored.Fault
+pub doubt-answers : (a : HouseLogView) (entry : ℕ) (ticket : Ticket) (payload : SealedBytes) (number : ℕ) → IsToResume a entry ticket payload number → Answers a entry (Some (whole_note payload)) (ResumeAnswer.Refused Refusal.KeeperFault) Stored.Fault
 doubt-answers a entry ticket payload number s = record { fetched = resume-whole a entry ticket payload (ResumeAnswer.Refused Refusal.KeeperFault) s.hold_is s.accepted (inr refl); stored_is = refl }
 
-pub resume-takes_entry : (a : Annalled) (entry : ℕ) (ticket : Ticket) (payload : SealedBytes) (number : ℕ) → IsAnnals a → IsToResume a entry ticket payload number → Takes a.facts (rows_before a) (past_in a) (begins entry payload) entry number
+pub resume-takes_entry : (a : HouseLogView) (entry : ℕ) (ticket : Ticket) (payload : SealedBytes) (number : ℕ) → IsHouseLog a → IsToResume a entry ticket payload number → Takes a.facts (rows_before a) (past_in a) (begins entry payload) entry number
 resume-takes_entry a entry ticket payload number k s =
     let legal = resume-legal a entry (Some (whole_note payload)) ResumeAnswer.Begun Stored.Yes k s.may (resume-answers a entry ticket payload number s) in
     let w = kept-so a.facts a.first (rows_before a) (past_in a) k.stands.history k.legal in
@@ -183,14 +183,14 @@ resume-takes_entry a entry ticket payload number k s =
     }
 
 -- The blocks of the payload are those of the hold.
-pub resume-blocks : (a : Annalled) (entry : ℕ) (ticket : Ticket) (payload : SealedBytes) → IsAnnals a → IsOpenHold a entry ticket (Fetched.Whole payload) → payload.count ≡ blocks_of (length payload.bytes)
+pub resume-blocks : (a : HouseLogView) (entry : ℕ) (ticket : Ticket) (payload : SealedBytes) → IsHouseLog a → IsOpenHold a entry ticket (Fetched.Whole payload) → payload.count ≡ blocks_of (length payload.bytes)
 resume-blocks a entry ticket payload k o =
     let s = hold-sized a.facts a.first (rows_before a) (past_in a) 0 (held_by ticket payload.count) k.legal o.held_is in
     let p : IsPayloadOf a.facts ticket.release payload = o.whole in
     let same : s.0 ≡ p.release = release-same a.facts.catalogue ticket.release s.0 p.release s.1 p.there in
     s.2 ∙ ap (λ (r : Release). blocks_of r.size) same ∙ sym (ap blocks_of p.size_is)
 
-pub resume-same_held : (a : Annalled) (entry : ℕ) (ticket : Ticket) (payload : SealedBytes) → IsAnnals a → IsOpenHold a entry ticket (Fetched.Whole payload) → held (begins entry payload ∷ past_in a) ≡ held (past_in a)
+pub resume-same_held : (a : HouseLogView) (entry : ℕ) (ticket : Ticket) (payload : SealedBytes) → IsHouseLog a → IsOpenHold a entry ticket (Fetched.Whole payload) → held (begins entry payload ∷ past_in a) ≡ held (past_in a)
 resume-same_held a entry ticket payload k o =
     let l = k.legal in
     let t = held-resumed (past_in a) 0 entry (Some (whole_note payload)) Stored.Yes (held_by ticket payload.count) (out-once l.0 (rows_before a) (past_in a) k.stands.history l.3) o.held_is in
@@ -200,12 +200,12 @@ resume-same_held a entry ticket payload k o =
 -- ---- what was taken
 
 -- the live entry
-pub resume-live : (a : Annalled) (entry : ℕ) (payload : SealedBytes) → IsAnnals a → MayResume a entry → live_entry (begins entry payload ∷ past_in a) entry ≡ Some (record { client = 0; entry = entry; blocks = blocks_of (length payload.bytes) })
+pub resume-live : (a : HouseLogView) (entry : ℕ) (payload : SealedBytes) → IsHouseLog a → MayResume a entry → live_entry (begins entry payload ∷ past_in a) entry ≡ Some (record { client = 0; entry = entry; blocks = blocks_of (length payload.bytes) })
 resume-live a entry payload k m =
     find-push_new (λ (l : LiveEntry). l.entry == entry) (live (past_in a)) (record { client = 0; entry = entry; blocks = blocks_of (length payload.bytes) }) (not-live a entry k m) (eqb-self entry)
 
 -- its trace, which has no step
-resume-traced : (a : Annalled) (entry : ℕ) (ticket : Ticket) (payload : SealedBytes) (number : ℕ) (t : Trace) → IsToResume a entry ticket payload number → trace a.facts (rows_before a) entry (begins entry payload ∷ past_in a) ≡ Some t → t.steps ≡ []
+resume-traced : (a : HouseLogView) (entry : ℕ) (ticket : Ticket) (payload : SealedBytes) (number : ℕ) (t : Trace) → IsToResume a entry ticket payload number → trace a.facts (rows_before a) entry (begins entry payload ∷ past_in a) ≡ Some t → t.steps ≡ []
 resume-traced a entry ticket payload number t s e =
     let k = resumable a.facts (rows_before a) (past_in a) entry ticket.request ticket.release s.accepted in
     let h : hold (past_in a) 0 ≡ Some (held_by ticket payload.count) = s.hold_is.held_is in
@@ -215,7 +215,7 @@ resume-traced a entry ticket payload number t s e =
     ap (λ (x : Trace). x.steps) (sym same)
 
 -- What the taken entry is made of.
-pub record IsMadeOf (a : Annalled) (entry : ℕ) (payload : SealedBytes) (number : ℕ) (taken : Taken) : Type 0 where
+pub record IsMadeOf (a : HouseLogView) (entry : ℕ) (payload : SealedBytes) (number : ℕ) (taken : Taken) : Type 0 where
   pub room : 8 ≤ taken.board.room
   pub entry_is : taken.entry ≡ entry
   pub payload_is : taken.payload ≡ payload
@@ -223,7 +223,7 @@ pub record IsMadeOf (a : Annalled) (entry : ℕ) (payload : SealedBytes) (number
   pub traced : trace a.facts (rows_before a) entry (begins entry payload ∷ past_in a) ≡ Some taken.trace
 
 -- over the log with the resumption
-taken-there : (a : Annalled) (entry : ℕ) (ticket : Ticket) (payload : SealedBytes) (number : ℕ) (taken : Taken) → IsAnnals a → IsToResume a entry ticket payload number → BoardStands a.facts a.first (rows_before a) (past_in a) number taken.board [] → IsMadeOf a entry payload number taken
+taken-there : (a : HouseLogView) (entry : ℕ) (ticket : Ticket) (payload : SealedBytes) (number : ℕ) (taken : Taken) → IsHouseLog a → IsToResume a entry ticket payload number → BoardStands a.facts a.first (rows_before a) (past_in a) number taken.board [] → IsMadeOf a entry payload number taken
     → IsTaken a.facts a.first (rows_before a) (begins entry payload ∷ past_in a) 0 taken number
 taken-there a entry ticket payload number taken k s b q =
     let z = resume-takes_entry a entry ticket payload number k s in
@@ -243,8 +243,8 @@ taken-there a entry ticket payload number taken k s b q =
       served = claim-served a.facts s.may.put_off.row.device number taken.plugin s.board.board_is q.plugin_is;
     }
 
--- over the annals with it
-pub resume-taken : (a new : Annalled) (entry : ℕ) (ticket : Ticket) (payload : SealedBytes) (number : ℕ) (taken : Taken) → IsAnnals a → IsToResume a entry ticket payload number → Appended 0 (begins entry payload) a new
+-- over the house log with it
+pub resume-taken : (a new : HouseLogView) (entry : ℕ) (ticket : Ticket) (payload : SealedBytes) (number : ℕ) (taken : Taken) → IsHouseLog a → IsToResume a entry ticket payload number → Appended 0 (begins entry payload) a new
     → BoardStands a.facts a.first (rows_before a) (past_in a) number taken.board [] → 8 ≤ taken.board.room → taken.entry ≡ entry → taken.payload ≡ payload → taken.plugin ≡ place_given (unwrap_or (plugin_at new.facts number) 0)
     → trace new.facts (rows_before new) entry (past_in new) ≡ Some taken.trace → IsTaken new.facts new.first (rows_before new) (past_in new) 0 taken number
 resume-taken a new entry ticket payload number taken k s p b r e q g t =

@@ -32,8 +32,8 @@ use Rattle.update_log.specs.declared.event.Event.{Event}
 use Rattle.update_log.specs.declared.event.Query.{Query}
 use Rattle.update_log.specs.declared.facts.Facts.{Facts}
 use Rattle.update_log.specs.declared.live.LiveEntry.{LiveEntry}
-use Rattle.daemon_core.specs.Annals.{IsAllowedSo, IsAnnals}
-use Rattle.daemon_core.specs.Housed.{Annalled, past_in, rows_before}
+use Rattle.daemon_core.specs.HouseLog.{IsAllowedSo, IsHouseLog}
+use Rattle.daemon_core.specs.Housed.{HouseLogView, past_in, rows_before}
 use Rattle.daemon_core.specs.Judging.{judged_by, judged_on, must_wait, standing, standing_of}
 use Rattle.daemon_core.specs.Settling.{device_row, row_found, row_on, row_to_settle, waiting_row}
 use Rattle.daemon_core.specs.declared.judged.DeviceRow.{DeviceRow}
@@ -118,12 +118,12 @@ open-so row view true false o u v h = rw v (at view.sheet view.seen h)
     at sheet Seen.Stranger h = cc
 
 -- What is known of a row that waits.
-pub record SettleRow (a : Annalled) (selector : Selector) (entry : ℕ) : Type 0 where
+pub record SettleRow (a : HouseLogView) (selector : Selector) (entry : ℕ) : Type 0 where
   pub waiting : IsWaiting a.core.views a.core.rows selector entry
   pub row_is : row_of a.core.rows entry ≡ Some waiting.row
   pub opens : is_open (standing (past_in a) a.core.views entry waiting.row) ≡ true
 
-pub settle-row : (a : Annalled) (selector : Selector) (entry : ℕ) → IsAnnals a → row_to_settle a selector ≡ DeviceRow.Waiting entry → SettleRow a selector entry
+pub settle-row : (a : HouseLogView) (selector : Selector) (entry : ℕ) → IsHouseLog a → row_to_settle a selector ≡ DeviceRow.Waiting entry → SettleRow a selector entry
 settle-row a selector entry k h =
     let w = is-waiting a.core.views a.core.rows selector entry h in
     let passes = and_parts (bytes_eq w.row.device w.view.sheet.device) (is_unsettled w.row.state)
@@ -145,11 +145,11 @@ settle-row a selector entry k h =
     }
 
 -- The entry has a row.
-pub settle-some : (a : Annalled) (selector : Selector) (entry : ℕ) → SettleRow a selector entry → IsSome (row_of a.core.rows entry)
+pub settle-some : (a : HouseLogView) (selector : Selector) (entry : ℕ) → SettleRow a selector entry → IsSome (row_of a.core.rows entry)
 settle-some a selector entry s = rw s.row_is refl
 
 -- It isn't settled, nor is its device away.
-pub settle-open : (a : Annalled) (selector : Selector) (entry : ℕ) (found : Standing) → SettleRow a selector entry → standing_of a entry ≡ Some found → is_open found ≡ true
+pub settle-open : (a : HouseLogView) (selector : Selector) (entry : ℕ) (found : Standing) → SettleRow a selector entry → standing_of a entry ≡ Some found → is_open found ≡ true
 settle-open a selector entry found s h =
     let e : Some (standing (past_in a) a.core.views entry s.waiting.row) ≡ Some found = rw s.row_is at h in
     subst (λ (x : Standing). is_open x ≡ true) (same_Some (standing (past_in a) a.core.views entry s.waiting.row) found e) s.opens
@@ -233,7 +233,7 @@ live-begun rows (x ∷ xs) entry a h =
     (λ f. live-begun rows xs entry a.1 (rw f at h))
 
 -- The question, over what stands for the log.
-over-core : (a : Annalled) (client : ℕ) (selector : Selector) → IsAnnals a → IfSome (found_view a.core.views selector) (λ view. list_any (can_judge (past_in a) view) a.core.rows ≡ false) → IsAllowedSo a.facts a.first (rows_before a) (past_in a) (Event.Query client (Query.Settle selector))
+over-core : (a : HouseLogView) (client : ℕ) (selector : Selector) → IsHouseLog a → IfSome (found_view a.core.views selector) (λ view. list_any (can_judge (past_in a) view) a.core.rows ≡ false) → IsAllowedSo a.facts a.first (rows_before a) (past_in a) (Event.Query client (Query.Settle selector))
 over-core a client selector k h =
     λ c f i.
     subst (λ (x : Facts). QueryAllowed x (rows_before a) (past_in a) (Query.Settle selector)) (sym f)
@@ -265,14 +265,14 @@ found-nothing past rows (Some view) h = at (is_home view.seen) h
     at false h = cc
 
 -- The question of a device that isn't there, or of which each row is settled, may be asked.
-pub none-allowed : (a : Annalled) (client : ℕ) (selector : Selector) → IsAnnals a → row_to_settle a selector ≡ DeviceRow.NoDevice → IsAllowedSo a.facts a.first (rows_before a) (past_in a) (Event.Query client (Query.Settle selector))
+pub none-allowed : (a : HouseLogView) (client : ℕ) (selector : Selector) → IsHouseLog a → row_to_settle a selector ≡ DeviceRow.NoDevice → IsAllowedSo a.facts a.first (rows_before a) (past_in a) (Event.Query client (Query.Settle selector))
 none-allowed a client selector k h = over-core a client selector k (found-none (past_in a) a.core.rows (found_view a.core.views selector) h)
 
-pub nothing-allowed : (a : Annalled) (client : ℕ) (selector : Selector) → IsAnnals a → row_to_settle a selector ≡ DeviceRow.Nothing → IsAllowedSo a.facts a.first (rows_before a) (past_in a) (Event.Query client (Query.Settle selector))
+pub nothing-allowed : (a : HouseLogView) (client : ℕ) (selector : Selector) → IsHouseLog a → row_to_settle a selector ≡ DeviceRow.Nothing → IsAllowedSo a.facts a.first (rows_before a) (past_in a) (Event.Query client (Query.Settle selector))
 nothing-allowed a client selector k h = over-core a client selector k (found-nothing (past_in a) a.core.rows (found_view a.core.views selector) h)
 
 -- So may that of a device whose row must wait.
-pub waits-allowed : (a : Annalled) (client : ℕ) (selector : Selector) (entry : ℕ) → IsAnnals a → SettleRow a selector entry → standing_of a entry ≡ Some Standing.Waits → IsAllowedSo a.facts a.first (rows_before a) (past_in a) (Event.Query client (Query.Settle selector))
+pub waits-allowed : (a : HouseLogView) (client : ℕ) (selector : Selector) (entry : ℕ) → IsHouseLog a → SettleRow a selector entry → standing_of a entry ≡ Some Standing.Waits → IsAllowedSo a.facts a.first (rows_before a) (past_in a) (Event.Query client (Query.Settle selector))
 waits-allowed a client selector entry k s h =
     let w = s.waiting in
     let e : Some (standing (past_in a) a.core.views entry w.row) ≡ Some Standing.Waits = rw s.row_is at h in
@@ -293,22 +293,22 @@ waits-allowed a client selector entry k s h =
     over-core a client selector k
     (rw w.view_is (one-waits (past_in a) w.view a.core.rows w.row (λ i j d l m. differ i j d l m) w.row_is may))
 
--- The same over values that are equal to those of the annals.
-pub row-over : (a b : Annalled) (selector : Selector) (entry : ℕ) → a ≡ b → IsAnnals a → row_to_settle b selector ≡ DeviceRow.Waiting entry → SettleRow a selector entry
-row-over a b selector entry e k h = settle-row a selector entry k (subst (λ (x : Annalled). row_to_settle x selector ≡ DeviceRow.Waiting entry) (sym e) h)
+-- The same over values that are equal to those of the house log.
+pub row-over : (a b : HouseLogView) (selector : Selector) (entry : ℕ) → a ≡ b → IsHouseLog a → row_to_settle b selector ≡ DeviceRow.Waiting entry → SettleRow a selector entry
+row-over a b selector entry e k h = settle-row a selector entry k (subst (λ (x : HouseLogView). row_to_settle x selector ≡ DeviceRow.Waiting entry) (sym e) h)
 
-pub some-over : (a : Annalled) (core : Core) (selector : Selector) (entry : ℕ) → core ≡ a.core → SettleRow a selector entry → IsSome (row_of core.rows entry)
+pub some-over : (a : HouseLogView) (core : Core) (selector : Selector) (entry : ℕ) → core ≡ a.core → SettleRow a selector entry → IsSome (row_of core.rows entry)
 some-over a core selector entry e s = subst (λ (x : Core). IsSome (row_of x.rows entry)) (sym e) (settle-some a selector entry s)
 
-pub standing-over : (a : Annalled) (core : Core) (entry : ℕ) (found : Standing) → core ≡ a.core → option_map (standing (past_of core.log) core.views entry) (row_of core.rows entry) ≡ Some found → standing_of a entry ≡ Some found
+pub standing-over : (a : HouseLogView) (core : Core) (entry : ℕ) (found : Standing) → core ≡ a.core → option_map (standing (past_of core.log) core.views entry) (row_of core.rows entry) ≡ Some found → standing_of a entry ≡ Some found
 standing-over a core entry found e h = subst (λ (x : Core). option_map (standing (past_of x.log) x.views entry) (row_of x.rows entry) ≡ Some found) e h
 
-pub event-over : (a b : Annalled) (client : ℕ) (selector : Selector) (event : Event) → a ≡ b → event ≡ Event.Query client (Query.Settle selector) → IsAllowedSo a.facts a.first (rows_before a) (past_in a) (Event.Query client (Query.Settle selector)) → IsAllowedSo b.facts b.first (rows_before b) (past_in b) event
+pub event-over : (a b : HouseLogView) (client : ℕ) (selector : Selector) (event : Event) → a ≡ b → event ≡ Event.Query client (Query.Settle selector) → IsAllowedSo a.facts a.first (rows_before a) (past_in a) (Event.Query client (Query.Settle selector)) → IsAllowedSo b.facts b.first (rows_before b) (past_in b) event
 event-over a b client selector event e q h =
-    subst (λ (x : Annalled). IsAllowedSo x.facts x.first (rows_before x) (past_in x) event) e
+    subst (λ (x : HouseLogView). IsAllowedSo x.facts x.first (rows_before x) (past_in x) event) e
     (subst (λ (x : Event). IsAllowedSo a.facts a.first (rows_before a) (past_in a) x) (sym q) h)
 
-pub found-over : (a : Annalled) (core : Core) (selector : Selector) (found : DeviceRow) → core ≡ a.core → found ≡ device_row core.views core.rows selector → row_to_settle a selector ≡ found
+pub found-over : (a : HouseLogView) (core : Core) (selector : Selector) (found : DeviceRow) → core ≡ a.core → found ≡ device_row core.views core.rows selector → row_to_settle a selector ≡ found
 found-over a core selector found e h = sym (h ∙ ap (λ (x : Core). device_row x.views x.rows selector) e)
 
 -- No row that waits stands otherwise.

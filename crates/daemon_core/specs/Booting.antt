@@ -11,9 +11,9 @@ use Rattle.update_log.specs.declared.facts.BootPlan.{BootPlan}
 use Rattle.update_log.specs.Legal.{BoardListed, is_absent}
 use Rattle.update_log.specs.Crashes.{next_boot}
 use Rattle.update_log.specs.declared.event.Found.{Found}
-use Rattle.daemon_core.specs.Annals.{Appended}
+use Rattle.daemon_core.specs.HouseLog.{Appended}
 use Rattle.daemon_core.specs.Boards.{PlaceStands}
-use Rattle.daemon_core.specs.Housed.{Annalled, Place, past_in, rows_before}
+use Rattle.daemon_core.specs.Housed.{HouseLogView, Place, past_in, rows_before}
 use Rattle.daemon_core.specs.Keeping.{still_reopened}
 
 -- The board of a place can be started: it is at home, and at most two marks of its journal weren't told.
@@ -61,18 +61,18 @@ pub record AllListed (facts : Facts) (first : List Seen) (opening : List Row) (p
   pub count : length boards ≡ length facts.sheets
   pub each : (number : ℕ) (b : BoardSeen) → slice_get boards number ≡ Some b → BoardListed facts first opening past plan number b
 
--- The annals over these rows.
-abbrev pub opened : List Row → ℕ → Annalled → Annalled
+-- The house log over these rows.
+abbrev pub opened : List Row → ℕ → HouseLogView → HouseLogView
 opened rows row_room a = record a { opening = rows; loaded = true; core = record a.core { rows = rows; row_room = row_room } }
 
 -- Each board stands to the log.
-pub record PlacesStand (a : Annalled) (places : List Place) : Type 0 where
+pub record PlacesStand (a : HouseLogView) (places : List Place) : Type 0 where
   pub count : length places ≡ length a.facts.sheets
   pub each : (number : ℕ) (place : Place) → slice_get places number ≡ Some place → PlaceStands a.facts a.first (rows_before a) (past_in a) number place
 
 -- Each board was started, and the boot put behind the log. One that read the history says what became of
 -- the change in doubt.
-pub record BoardsStarted (plan : BootPlan) (found : Found) (old new : Annalled) (places after : List Place) : Type 0 where
+pub record BoardsStarted (plan : BootPlan) (found : Found) (old new : HouseLogView) (places after : List Place) : Type 0 where
   pub listed : List BoardSeen
   pub started : AllStarted plan places after listed
   pub appended : Appended 0 (next_boot (past_in old) plan found listed) old (record new { reopened = old.reopened })

@@ -18,26 +18,26 @@ use Rattle.daemon_core.specs.Reading.{AreOthers, AreTold, CanBoot, WasShown, pla
 
 -- The facts, the first images and the pool are as before.
 pub record SameGrounds {K : Type 0} (old new : Housed K) : Type 0 where
-  pub facts : new.annals.facts ≡ old.annals.facts
-  pub first : new.annals.first ≡ old.annals.first
+  pub facts : new.house_log.facts ≡ old.house_log.facts
+  pub first : new.house_log.first ≡ old.house_log.first
   pub pool : new.pool ≡ old.pool
 
 -- The next boot was put behind the log, and each board was started.
 pub record BootNoted {K : Type 0} (plan : BootPlan) (found : Found) (listed : List BoardSeen) (old new : Housed K) : Type 0 where
   pub grounds : SameGrounds old new
-  pub log : new.annals.core.log ≡ old.annals.core.log ++ next_boot (past old) plan found listed ∷ []
-  pub makers : new.annals.makers ≡ old.annals.makers ++ 0 ∷ []
+  pub log : new.house_log.core.log ≡ old.house_log.core.log ++ next_boot (past old) plan found listed ∷ []
+  pub makers : new.house_log.makers ≡ old.house_log.makers ++ 0 ∷ []
   pub started : AllStarted plan old.places new.places listed
 
 -- Nothing was put behind the log, and no board was started. While no boot took the rows, the keeper tells
 -- those that it told.
 pub record NoBoot {K : Type 0} (told : K → List Row → Type 0) (old new : Housed K) : Type 0 where
   pub grounds : SameGrounds old new
-  pub log : new.annals.core.log ≡ old.annals.core.log
-  pub makers : new.annals.makers ≡ old.annals.makers
-  pub loaded : new.annals.loaded ≡ old.annals.loaded
+  pub log : new.house_log.core.log ≡ old.house_log.core.log
+  pub makers : new.house_log.makers ≡ old.house_log.makers
+  pub loaded : new.house_log.loaded ≡ old.house_log.loaded
   pub places : new.places ≡ old.places
-  pub stays : old.annals.loaded ≡ false → StillTold (told old.keeper) (told new.keeper)
+  pub stays : old.house_log.loaded ≡ false → StillTold (told old.keeper) (told new.keeper)
 
 -- A boot that went well. The first one took the rows that the keeper told for those before the log, and the
 -- keeper has the rows of the log, without a doubt: a later one says what became of a change in doubt, as the
@@ -45,18 +45,18 @@ pub record NoBoot {K : Type 0} (told : K → List Row → Type 0) (old new : Hou
 pub record WentWell {K : Type 0} (told : K → List Row → Type 0) (doubted : K → Option Change) (settled : K → K → Type 0) (plan : BootPlan) (found : Found) (listed : List BoardSeen) (old new : Housed K) : Type 0 where
   pub noted : BootNoted plan found listed old new
   pub read : is_found_fault found ≡ false
-  pub loaded : new.annals.loaded ≡ true
-  pub reopened : new.annals.reopened ≡ false
-  pub opening : MatchBool old.annals.loaded (new.annals.opening ≡ old.annals.opening) (IsHistory new.annals.opening × AreTold (told old.keeper) (told new.keeper) new.annals.opening)
-  pub shown : old.annals.loaded ≡ true → WasShown told settled new.annals.core.rows old.keeper new.keeper
-  pub keeps : HasRows told doubted new.keeper new.annals.core.rows None
+  pub loaded : new.house_log.loaded ≡ true
+  pub reopened : new.house_log.reopened ≡ false
+  pub opening : MatchBool old.house_log.loaded (new.house_log.opening ≡ old.house_log.opening) (IsHistory new.house_log.opening × AreTold (told old.keeper) (told new.keeper) new.house_log.opening)
+  pub shown : old.house_log.loaded ≡ true → WasShown told settled new.house_log.core.rows old.keeper new.keeper
+  pub keeps : HasRows told doubted new.keeper new.house_log.core.rows None
 
 -- A boot that couldn't read the history. While no boot took the rows, the keeper tells those that it told.
 pub record CouldntRead {K : Type 0} (told : K → List Row → Type 0) (plan : BootPlan) (listed : List BoardSeen) (old new : Housed K) : Type 0 where
   pub noted : BootNoted plan Found.Fault listed old new
-  pub loaded : new.annals.loaded ≡ old.annals.loaded
-  pub opening : new.annals.opening ≡ old.annals.opening
-  pub stays : old.annals.loaded ≡ false → StillTold (told old.keeper) (told new.keeper)
+  pub loaded : new.house_log.loaded ≡ old.house_log.loaded
+  pub opening : new.house_log.opening ≡ old.house_log.opening
+  pub stays : old.house_log.loaded ≡ false → StillTold (told old.keeper) (told new.keeper)
 
 -- The first row that breaks a rule has that place.
 pub record BreaksAt (entry : ℕ) (rows : List Row) : Type 0 where
@@ -68,16 +68,16 @@ pub record BreaksAt (entry : ℕ) (rows : List Row) : Type 0 where
 -- keeper tells none, since its store isn't to be trusted.
 pub record ReadOthers {K : Type 0} (told : K → List Row → Type 0) (entry : ℕ) (old new : Housed K) : Type 0 where
   pub none : NoBoot told old new
-  pub first : old.annals.loaded ≡ false → BreaksAt entry new.annals.opening × AreTold (told old.keeper) (told new.keeper) new.annals.opening
-  pub later : old.annals.loaded ≡ true → (new.annals.opening ≡ old.annals.opening) × ((all : List Row) → told new.keeper all → ⊥)
-      × ((loaded : List Row) × AreOthers entry loaded old.annals.core.rows old.annals.core.doubt)
+  pub first : old.house_log.loaded ≡ false → BreaksAt entry new.house_log.opening × AreTold (told old.keeper) (told new.keeper) new.house_log.opening
+  pub later : old.house_log.loaded ≡ true → (new.house_log.opening ≡ old.house_log.opening) × ((all : List Row) → told new.keeper all → ⊥)
+      × ((loaded : List Row) × AreOthers entry loaded old.house_log.core.rows old.house_log.core.doubt)
 
 -- What a boot did, by its answer.
 abbrev pub BootTurned : {A K : Type 0} → (K → List Row → Type 0) → (K → Option Change) → (K → K → Type 0) → BootPlan → Result A BootStop → Housed K → Housed K → Type 0
 BootTurned told doubted settled plan (Ok _) old new = (found : Found) × (listed : List BoardSeen) × WentWell told doubted settled plan found listed old new
 BootTurned told doubted settled plan (Err BootStop.KeeperFault) old new = (listed : List BoardSeen) × CouldntRead told plan listed old new
 BootTurned told doubted settled plan (Err (BootStop.BadHistory entry)) old new = ReadOthers told entry old new
-BootTurned told doubted settled plan (Err BootStop.NoMemory) old new = NoBoot told old new × (new.annals.opening ≡ old.annals.opening)
+BootTurned told doubted settled plan (Err BootStop.NoMemory) old new = NoBoot told old new × (new.house_log.opening ≡ old.house_log.opening)
 
 -- A boot that found this can be put behind the log: no client has anything out, there is room for it and
 -- for its boards, and its time and number fit.
@@ -87,6 +87,6 @@ pub record IsReady {K : Type 0} (told : K → List Row → Type 0) (doubted : K 
   pub can : CanBoot told doubted found h
   pub empty : listed ≡ []
   pub enough : length h.places ≤ capacity
-  pub room : 2 ≤ h.annals.room
+  pub room : 2 ≤ h.house_log.room
   pub few : boots (past h) + 1 < 2 ^ 32
   pub timely : plan.time ≤ 2 ^ 63 - 1

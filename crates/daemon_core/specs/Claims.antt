@@ -28,11 +28,11 @@ use Rattle.daemon_core.specs.declared.claimed.Taken.{Taken}
 use Rattle.daemon_core.specs.declared.fetched.Fetched.{Fetched}
 use Rattle.daemon_core.specs.declared.hold.Ticket.{Ticket}
 use Rattle.daemon_core.specs.declared.stop.Stop.{Stop}
-use Rattle.daemon_core.specs.Annals.{Runs}
+use Rattle.daemon_core.specs.HouseLog.{Runs}
 use Rattle.daemon_core.specs.Boards.{is_out}
 use Rattle.daemon_core.specs.Fetches.{block_count, note_of}
 use Rattle.daemon_core.specs.Holds.{held_by}
-use Rattle.daemon_core.specs.Housed.{Annalled, Housed, Place, past_in, rows_before}
+use Rattle.daemon_core.specs.Housed.{HouseLogView, Housed, Place, past_in, rows_before}
 use Rattle.daemon_core.specs.Owed.{owed}
 use Rattle.daemon_core.specs.PutOff.{IsAccept}
 use Rattle.daemon_core.specs.Returns.{ComesHome, place_at}
@@ -101,9 +101,9 @@ pub record IsTaken (facts : Facts) (first : List Seen) (opening : List Row) (pas
   pub marks : 8 ≤ taken.board.room
   pub served : IsServedBy facts number taken.plugin
 
--- The entry was taken in these annals, and its board went out: it is that of its place, which may have
+-- The entry was taken in this house log, and its board went out: it is that of its place, which may have
 -- got more room.
-abbrev pub TakenFrom : ℕ → Taken → List Place → Annalled → List Place → Type 0
+abbrev pub TakenFrom : ℕ → Taken → List Place → HouseLogView → List Place → Type 0
 TakenFrom client taken places a after =
     (number : ℕ) × IsTaken a.facts a.first (rows_before a) (past_in a) client taken number
     × RoomierPlaces (places_without places number) after × RoomierBoard (place_at places number).board (Some taken.board)
@@ -112,7 +112,7 @@ TakenFrom client taken places a after =
 -- that took no entry go to the pool, or come back where it was stopped.
 abbrev pub ClaimGave : {K : Type 0} → ℕ → Ticket → Fetched → Result Claimed ClaimStop → Housed K → Housed K → Type 0
 ClaimGave client ticket fetched (Ok (Claimed.Taken taken)) old new =
-    (fetched ≡ Fetched.Whole taken.payload) × (new.pool ≡ old.pool) × TakenFrom client taken old.places new.annals new.places
+    (fetched ≡ Fetched.Whole taken.payload) × (new.pool ≡ old.pool) × TakenFrom client taken old.places new.house_log new.places
 ClaimGave client ticket fetched (Ok (Claimed.Kept entry state)) old new =
     (new.pool.free ≡ old.pool.free + block_count fetched) × RoomierPlaces old.places new.places
 ClaimGave client ticket fetched (Ok (Claimed.Refused refusal)) old new =
@@ -122,7 +122,7 @@ ClaimGave client ticket fetched (Err stopped) old new =
 
 -- A client may claim with a ticket: the boot runs, the ticket is of the client's open hold of so many
 -- blocks, and there is room for what follows.
-pub record MayClaim (a : Annalled) (client : ℕ) (ticket : Ticket) (blocks : ℕ) : Type 0 where
+pub record MayClaim (a : HouseLogView) (client : ℕ) (ticket : Ticket) (blocks : ℕ) : Type 0 where
   pub loaded : a.loaded ≡ true
   pub runs : Runs a
   pub booted : 0 < boots (past_in a)
@@ -132,10 +132,10 @@ pub record MayClaim (a : Annalled) (client : ℕ) (ticket : Ticket) (blocks : �
   pub row_room : 1 ≤ a.core.row_room
 
 -- What is decided of its request then, and an answer that it may get.
-abbrev pub claim_verdict : Annalled → ℕ → Ticket → Decision
+abbrev pub claim_verdict : HouseLogView → ℕ → Ticket → Decision
 claim_verdict a client ticket = verdict a.facts (rows_before a) (past_in a) client ticket.request (Stage.Claim ticket.release)
 
-abbrev pub MayAnswer : Annalled → ℕ → Ticket → FetchNote → ClaimAnswer → Type 0
+abbrev pub MayAnswer : HouseLogView → ℕ → Ticket → FetchNote → ClaimAnswer → Type 0
 MayAnswer a client ticket note answer =
     ClaimAnswered note (target a.facts (views a.facts (rows_before a) (past_in a)) ticket.request) (next_entry a.facts (rows_before a) (past_in a)) (claim_verdict a client ticket) answer
 
@@ -145,7 +145,7 @@ pub record DeviceHome (facts : Facts) (opening : List Row) (past : List Event) (
   pub home : is_out facts opening past number ≡ false
 
 -- The row of a request that was accepted, which is to be stored, and its board.
-pub record IsToStore (a : Annalled) (client : ℕ) (ticket : Ticket) (row : Row) (number : ℕ) : Type 0 where
+pub record IsToStore (a : HouseLogView) (client : ℕ) (ticket : Ticket) (row : Row) (number : ℕ) : Type 0 where
   pub accepted : IsAccept (claim_verdict a client ticket)
   pub added : addition a.facts (time_of (past_in a)) (live (past_in a)) (known a.facts (rows_before a) (past_in a)) client ticket.request RowState.Begun ≡ Some (Change.Add row)
   pub entry_is : row.entry ≡ length a.core.rows + 1

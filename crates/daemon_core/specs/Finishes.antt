@@ -12,7 +12,7 @@ use Rattle.update_log.specs.Holding.{step_open}
 use Rattle.update_log.specs.Steps.{closing, next_op}
 use Rattle.daemon_core.specs.declared.finished.Finished.{Finished}
 use Rattle.daemon_core.specs.declared.finished.FinishStop.{FinishStop}
-use Rattle.daemon_core.specs.Annals.{Appended, Runs}
+use Rattle.daemon_core.specs.HouseLog.{Appended, Runs}
 use Rattle.daemon_core.specs.Commits.{StoredAs}
 use Rattle.daemon_core.specs.Housed.{Housed}
 use Rattle.daemon_core.specs.House.{SameElsewhere}
@@ -41,9 +41,9 @@ ClosedAs told doubted RowState.NeedsReboot change stored old new = StoredAs chan
 -- one that was stopped hands both back.
 abbrev pub FinishedSo : {K : Type 0} → ℕ → ℕ → ℕ → BoardState → SealedBytes → Result Finished FinishStop → Housed K → Housed K → Type 0
 FinishedSo client entry number board payload (Ok finished) old new =
-    Runs old.annals
-    × Appended client (Event.Finish client entry finished.state finished.stored) old.annals new.annals
+    Runs old.house_log
+    × Appended client (Event.Finish client entry finished.state finished.stored) old.house_log new.house_log
     × (new.places ≡ places_with old.places number board)
     × (new.pool.free ≡ old.pool.free + payload.count)
 FinishedSo client entry number board payload (Err stop) old new =
-    WentOff client old.annals new.annals × SameElsewhere old new × (stop.board ≡ board) × (stop.payload ≡ payload)
+    WentOff client old.house_log new.house_log × SameElsewhere old new × (stop.board ≡ board) × (stop.payload ≡ payload)

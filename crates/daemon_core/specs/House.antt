@@ -9,21 +9,21 @@ use Rattle.history_keeper.specs.declared.row.Row.{Row}
 use Rattle.history_keeper.specs.declared.change.Change.{Change}
 use Rattle.update_log.specs.declared.facts.Facts.{Facts}
 use Rattle.update_log.specs.Holding.{held}
-use Rattle.daemon_core.specs.Annals.{IsBlank}
+use Rattle.daemon_core.specs.HouseLog.{IsBlank}
 use Rattle.daemon_core.specs.Housed.{Housed, Place, past, rows_before}
 use Rattle.daemon_core.specs.Boards.{PlaceStands}
 use Rattle.daemon_core.specs.Keeping.{KeepsSo}
 
--- What the type of a house keeps beside its annals: the boards at home fit the log; the keeper has its
--- rows, once a boot took those that it loaded, or was opened again where the annals say so, and is in no
+-- What the type of a house keeps beside its house log: the boards at home fit the log; the keeper has its
+-- rows, once a boot took those that it loaded, or was opened again where the house log says so, and is in no
 -- doubt before; and the free blocks are those that nobody holds.
 pub record IsHouse {K : Type 0} (told : K → List Row → Type 0) (doubted : K → Option Change) (h : Housed K) : Type 0 where
-  pub count : length h.places ≡ length h.annals.facts.sheets
-  pub places : (number : ℕ) (place : Place) → slice_get h.places number ≡ Some place → PlaceStands h.annals.facts h.annals.first (rows_before h.annals) (past h) number place
-  pub unloaded : h.annals.loaded ≡ false → doubted h.keeper ≡ None
-  pub kept : h.annals.loaded ≡ true → KeepsSo h.annals.reopened told doubted h.keeper h.annals.core.rows h.annals.core.doubt
-  pub capacity : h.pool.capacity ≡ h.annals.facts.pool
-  pub free : h.pool.free + held (past h) ≡ h.annals.facts.pool
+  pub count : length h.places ≡ length h.house_log.facts.sheets
+  pub places : (number : ℕ) (place : Place) → slice_get h.places number ≡ Some place → PlaceStands h.house_log.facts h.house_log.first (rows_before h.house_log) (past h) number place
+  pub unloaded : h.house_log.loaded ≡ false → doubted h.keeper ≡ None
+  pub kept : h.house_log.loaded ≡ true → KeepsSo h.house_log.reopened told doubted h.keeper h.house_log.core.rows h.house_log.core.doubt
+  pub capacity : h.pool.capacity ≡ h.house_log.facts.pool
+  pub free : h.pool.free + held (past h) ≡ h.house_log.facts.pool
 
 -- The boards, the pool and the keeper are as before.
 pub record SameElsewhere {K : Type 0} (old new : Housed K) : Type 0 where
@@ -48,7 +48,7 @@ place_of b = record { board = Some b; told = 0 }
 
 -- A house as it is made of these facts and boards.
 pub record IsNewHouse {K : Type 0} (facts : Facts) (boards : List BoardState) (pool : PoolCounts) (keeper : K) (h : Housed K) : Type 0 where
-  pub blank : IsBlank facts (map shown_by boards) h.annals
+  pub blank : IsBlank facts (map shown_by boards) h.house_log
   pub places : h.places ≡ map place_of boards
   pub pool_is : h.pool ≡ pool
   pub keeper_is : h.keeper ≡ keeper

@@ -13,7 +13,7 @@ use Rattle.update_log.specs.Pasts.{past_of}
 -- the rows before the log, whether the keeper was opened again and no boot behind the log says yet what
 -- became of the change in doubt, what stands for the log, who made each of its events, and for how many
 -- events more there is room.
-pub record Annalled : Type 0 where
+pub record HouseLogView : Type 0 where
   pub facts : Facts
   pub first : List Seen
   pub opening : List Row
@@ -28,11 +28,11 @@ abbrev pub rows_taken : Bool → List Row → List Row
 rows_taken true opening = opening
 rows_taken false opening = []
 
-abbrev pub rows_before : Annalled → List Row
+abbrev pub rows_before : HouseLogView → List Row
 rows_before a = rows_taken a.loaded a.opening
 
 -- The log read backwards.
-abbrev pub past_in : Annalled → List Event
+abbrev pub past_in : HouseLogView → List Event
 past_in a = past_of a.core.log
 
 -- Where a board belongs: the board, while it is at home, and how many marks of its journal were told.
@@ -40,13 +40,13 @@ pub record Place : Type 0 where
   pub board : Option BoardState
   pub told : ℕ
 
--- The annals, the place of each board, the pool and the keeper.
+-- The house log, the place of each board, the pool and the keeper.
 pub record Housed (K : Type 0) : Type 0 where
-  pub annals : Annalled
+  pub house_log : HouseLogView
   pub places : List Place
   pub pool : PoolCounts
   pub keeper : K
 
 -- The log of a house, read backwards.
 abbrev pub past : {K : Type 0} → Housed K → List Event
-past h = past_in h.annals
+past h = past_in h.house_log

@@ -10,8 +10,8 @@ use Rattle.update_log.specs.Holding.{is_live, live}
 use Rattle.update_log.specs.Known.{row_of}
 use Rattle.update_log.specs.Pasts.{finished, off}
 use Rattle.update_log.specs.Steps.{judge, view_of_row}
-use Rattle.daemon_core.specs.Annals.{Appended, Runs, Unchanged}
-use Rattle.daemon_core.specs.Housed.{Annalled, past_in}
+use Rattle.daemon_core.specs.HouseLog.{Appended, Runs, Unchanged}
+use Rattle.daemon_core.specs.Housed.{HouseLogView, past_in}
 use Rattle.daemon_core.specs.Turns.{WentOff}
 use Rattle.daemon_core.specs.declared.judged.Judged.{Judged}
 use Rattle.daemon_core.specs.declared.judged.Standing.{Standing}
@@ -43,14 +43,14 @@ standing past views entry row =
     then (if must_wait past entry row.state then Standing.Waits else judged_on row (view_of_row views row))
     else Standing.Settled
 
--- The same over the log of some annals, where the entry has a row.
-abbrev pub standing_of : Annalled → ℕ → Option Standing
+-- The same over the log of a house log, where the entry has a row.
+abbrev pub standing_of : HouseLogView → ℕ → Option Standing
 standing_of a entry = option_map (standing (past_in a) a.core.views entry) (row_of a.core.rows entry)
 
 -- What a client that judges an entry's row is answered: how the row stood. Only a judgement that was
 -- done is put behind the log, and only one that is to be done takes a turn: where there is nothing to
 -- judge, a boot whose limit is reached is not cut.
-abbrev pub JudgeTurned : ℕ → ℕ → Result Judged Stop → Annalled → Annalled → Type 0
+abbrev pub JudgeTurned : ℕ → ℕ → Result Judged Stop → HouseLogView → HouseLogView → Type 0
 JudgeTurned client entry (Ok (Judged.Done state stored)) old new =
     Runs old
     × ((version : List ℕ) × (standing_of old entry ≡ Some (Standing.Judged version state)) × Appended client (Event.Judge client entry version state stored) old new)

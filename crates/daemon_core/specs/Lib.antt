@@ -1,6 +1,6 @@
 pub mod Housed
 pub mod Owed
-pub mod Annals
+pub mod HouseLog
 pub mod Boards
 pub mod Booting
 pub mod Comparing

@@ -25,10 +25,10 @@ pub record IsBoardOf {K : Type 0} (h : Housed K) (number : ℕ) (board : BoardSt
   pub place_is : slice_get h.places number ≡ Some place
   pub board_is : place.board ≡ Some board
   pub tail : List Mark
-  pub stands : BoardStands h.annals.facts h.annals.first (rows_before h.annals) (past h) number board tail
+  pub stands : BoardStands h.house_log.facts h.house_log.first (rows_before h.house_log) (past h) number board tail
 
 -- Each of these boards is that of its place, and stands to the log of the house; there is one for each
 -- sheet.
 pub record BoardsOf {K : Type 0} (h : Housed K) (boards : List BoardState) : Type 0 where
-  pub count : length boards ≡ length h.annals.facts.sheets
+  pub count : length boards ≡ length h.house_log.facts.sheets
   pub each : (number : ℕ) (board : BoardState) → slice_get boards number ≡ Some board → IsBoardOf h number board

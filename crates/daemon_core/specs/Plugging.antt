@@ -7,7 +7,7 @@ use Rattle.emulated_boards.specs.declared.condition.Condition.{Condition}
 use Rattle.fw_facts.specs.declared.seen.Seen.{Seen}
 use Rattle.update_log.specs.declared.answer.PlugAnswer.{PlugAnswer}
 use Rattle.update_log.specs.CoreSteps.{board_on}
-use Rattle.daemon_core.specs.Housed.{Annalled, Place}
+use Rattle.daemon_core.specs.Housed.{HouseLogView, Place}
 use Rattle.daemon_core.specs.Quiet.{moves_none}
 use Rattle.daemon_core.specs.declared.stop.Stop.{Stop}
 
@@ -28,11 +28,11 @@ abbrev pub MovedShowing : (Condition → Condition) → Place → Place → Seen
 MovedShowing move old new shown = (b : BoardState) × (after : BoardState) × WasMoved move old new b after × (shown ≡ view_of after.condition)
 
 -- The number of the board whose device a selector finds.
-abbrev pub number_found : Annalled → Selector → Option ℕ
+abbrev pub number_found : HouseLogView → Selector → Option ℕ
 number_found a device = board_on a.core.boards a.core.views device
 
 -- The board of the device was moved, and all others are as before.
-pub record BoardMoved (move : Condition → Condition) (a : Annalled) (device : Selector) (old new : List Place) : Type 0 where
+pub record BoardMoved (move : Condition → Condition) (a : HouseLogView) (device : Selector) (old new : List Place) : Type 0 where
   pub number : ℕ
   pub before : Place
   pub after : Place
@@ -42,6 +42,6 @@ pub record BoardMoved (move : Condition → Condition) (a : Annalled) (device : 
   pub places : new ≡ slice_set old number after
 
 -- Where the answer is that nothing was moved, or there is none, all boards are as before.
-abbrev pub MovedAs : (Condition → Condition) → Annalled → Selector → Result PlugAnswer Stop → List Place → List Place → Type 0
+abbrev pub MovedAs : (Condition → Condition) → HouseLogView → Selector → Result PlugAnswer Stop → List Place → List Place → Type 0
 MovedAs move a device (Ok answer) old new = MatchBool (moves_none answer) (new ≡ old) (BoardMoved move a device old new)
 MovedAs move a device (Err stop) old new = new ≡ old

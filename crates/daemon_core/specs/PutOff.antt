@@ -5,8 +5,8 @@ use Rattle.update_log.specs.declared.answer.ClaimAnswer.{ClaimAnswer}
 use Rattle.update_log.specs.declared.decision.Decision.{Decision}
 use Rattle.update_log.specs.declared.event.Event.{Event}
 use Rattle.update_log.specs.declared.request.Request.{Request}
-use Rattle.daemon_core.specs.Annals.{Appended}
-use Rattle.daemon_core.specs.Housed.{Annalled}
+use Rattle.daemon_core.specs.HouseLog.{Appended}
+use Rattle.daemon_core.specs.Housed.{HouseLogView}
 use Rattle.daemon_core.specs.declared.stop.Stop.{Stop}
 
 -- It was decided to accept.
@@ -15,7 +15,7 @@ IsAccept d = (device : ℕ) × (release : ReleaseRef) × (blocks : ℕ) × (d �
 
 -- What became of a request that was accepted: the answer stands in the log, or the row couldn't be stored for
 -- want of memory, and nothing changed.
-abbrev pub PutOff : ℕ → Request → Result ClaimAnswer Stop → Annalled → Annalled → Type 0
+abbrev pub PutOff : ℕ → Request → Result ClaimAnswer Stop → HouseLogView → HouseLogView → Type 0
 PutOff client request (Ok answer) old new = Appended client (Event.Schedule client request answer) old new
 PutOff client request (Err Stop.Off) old new = ⊥
 PutOff client request (Err Stop.NoMemory) old new = new ≡ old

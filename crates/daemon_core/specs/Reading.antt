@@ -13,7 +13,7 @@ use Rattle.update_log.specs.Pasts.{is_found_fault}
 use Rattle.daemon_core.specs.declared.reading.Loaded.{Loaded}
 use Rattle.daemon_core.specs.Booting.{opened}
 use Rattle.daemon_core.specs.Comparing.{DifferFirstAt}
-use Rattle.daemon_core.specs.Housed.{Annalled, Housed}
+use Rattle.daemon_core.specs.Housed.{HouseLogView, Housed}
 use Rattle.daemon_core.specs.Keeping.{HasRows, Keeps, KeepsSo, still_reopened}
 use Rattle.daemon_core.specs.Turns.{ToldBefore}
 
@@ -61,7 +61,7 @@ pub record WasRead {K : Type 0} (told : K → List Row → Type 0) (settled : K 
   pub told_before : ToldBefore told before after
 
 -- The rows before the log were taken: they are a valid history, and the keeper's.
-pub record FirstTaken {K : Type 0} (told : K → List Row → Type 0) (doubted : K → Option Change) (found : Found) (old new : Annalled) (before after : K) : Type 0 where
+pub record FirstTaken {K : Type 0} (told : K → List Row → Type 0) (doubted : K → Option Change) (found : Found) (old new : HouseLogView) (before after : K) : Type 0 where
   pub found_is : found ≡ Found.Plain
   pub history : IsHistory new.opening
   pub opened_so : new ≡ opened new.opening new.core.row_room old
@@ -69,7 +69,7 @@ pub record FirstTaken {K : Type 0} (told : K → List Row → Type 0) (doubted :
   pub keeps : HasRows told doubted after new.opening None
 
 -- They were refused: they are no valid history.
-pub record FirstRefused {K : Type 0} (told : K → List Row → Type 0) (doubted : K → Option Change) (entry : ℕ) (old new : Annalled) (before after : K) : Type 0 where
+pub record FirstRefused {K : Type 0} (told : K → List Row → Type 0) (doubted : K → Option Change) (entry : ℕ) (old new : HouseLogView) (before after : K) : Type 0 where
   pub at : ℕ
   pub faulty : IsFirstFaulty new.opening at
   pub entry_is : entry ≡ place_told at
@@ -79,14 +79,14 @@ pub record FirstRefused {K : Type 0} (told : K → List Row → Type 0) (doubted
   pub no_doubt : doubted after ≡ None
 
 -- They couldn't be read: all is as before, and the keeper tells the rows that it told.
-pub record NothingRead {K : Type 0} (told : K → List Row → Type 0) (doubted : K → Option Change) (old new : Annalled) (before after : K) : Type 0 where
+pub record NothingRead {K : Type 0} (told : K → List Row → Type 0) (doubted : K → Option Change) (old new : HouseLogView) (before after : K) : Type 0 where
   pub same : new ≡ old
   pub told_stay : StillTold (told before) (told after)
   pub no_doubt : doubted after ≡ None
 
 -- The rows before the log were read. A fault of the keeper is told as one, and nothing else is: under every other
 -- answer its count is as it was.
-abbrev pub FirstRead : {K : Type 0} → (K → List Row → Type 0) → (K → Option Change) → (K → ℕ) → Result Loaded NoMemory → Annalled → Annalled → K → K → Type 0
+abbrev pub FirstRead : {K : Type 0} → (K → List Row → Type 0) → (K → Option Change) → (K → ℕ) → Result Loaded NoMemory → HouseLogView → HouseLogView → K → K → Type 0
 FirstRead told doubted faults (Ok (Loaded.Found found)) old new before after = FirstTaken told doubted found old new before after × (faults after ≡ faults before)
 FirstRead told doubted faults (Ok (Loaded.Bad entry)) old new before after = FirstRefused told doubted entry old new before after × (faults after ≡ faults before)
 FirstRead told doubted faults (Ok Loaded.Fault) old new before after = NothingRead told doubted old new before after × Rose (faults before) (faults after)
@@ -123,10 +123,10 @@ LaterRead told doubted faults settled (Err refused) rows doubt before after = Ke
 -- A boot that found this may be put behind the log: there is room for a row that it adds, and the keeper
 -- has the rows that the log has then; or it was opened again, and the boot couldn't read the history.
 pub record CanBoot {K : Type 0} (told : K → List Row → Type 0) (doubted : K → Option Change) (found : Found) (h : Housed K) : Type 0 where
-  pub allowed : FoundAllowed found h.annals.core.doubt
-  pub unloaded : h.annals.loaded ≡ false → is_found_fault found ≡ true
-  pub keeps : h.annals.loaded ≡ true → KeepsSo (still_reopened found h.annals.reopened) told doubted h.keeper (rows_found found h.annals.core.doubt h.annals.core.rows) (doubt_found found h.annals.core.doubt)
-  pub row : length (rows_found found h.annals.core.doubt h.annals.core.rows) ≤ length h.annals.core.rows + h.annals.core.row_room
+  pub allowed : FoundAllowed found h.house_log.core.doubt
+  pub unloaded : h.house_log.loaded ≡ false → is_found_fault found ≡ true
+  pub keeps : h.house_log.loaded ≡ true → KeepsSo (still_reopened found h.house_log.reopened) told doubted h.keeper (rows_found found h.house_log.core.doubt h.house_log.core.rows) (doubt_found found h.house_log.core.doubt)
+  pub row : length (rows_found found h.house_log.core.doubt h.house_log.core.rows) ≤ length h.house_log.core.rows + h.house_log.core.row_room
 
 -- So may one that read the history, or couldn't.
 abbrev pub CanBootAfter : {K : Type 0} → (K → List Row → Type 0) → (K → Option Change) → Result Loaded NoMemory → Housed K → Type 0

@@ -10,8 +10,8 @@ use Rattle.update_log.specs.declared.event.Event.{Event}
 use Rattle.update_log.specs.declared.event.Query.{Query}
 use Rattle.update_log.specs.Legal.{found_view}
 use Rattle.update_log.specs.Pasts.{off}
-use Rattle.daemon_core.specs.Annals.{Appended, Runs, Unchanged}
-use Rattle.daemon_core.specs.Housed.{Annalled, past_in}
+use Rattle.daemon_core.specs.HouseLog.{Appended, Runs, Unchanged}
+use Rattle.daemon_core.specs.Housed.{HouseLogView, past_in}
 use Rattle.daemon_core.specs.Judging.{standing_of}
 use Rattle.daemon_core.specs.Turns.{WentOff}
 use Rattle.daemon_core.specs.declared.judged.DeviceRow.{DeviceRow}
@@ -36,13 +36,13 @@ row_on rows (Some view) = if is_home view.seen then row_found (waiting_row rows 
 abbrev pub device_row : List DeviceView → List Row → Selector → DeviceRow
 device_row views rows selector = row_on rows (found_view views selector)
 
--- The same over the log of some annals.
-abbrev pub row_to_settle : Annalled → Selector → DeviceRow
+-- The same over the log of a house log.
+abbrev pub row_to_settle : HouseLogView → Selector → DeviceRow
 row_to_settle a selector = device_row a.core.views a.core.rows selector
 
 -- A client that settles a device is answered what was found of it. Where its row was judged, that is put
 -- behind the log, and else the question.
-abbrev pub SettleTurned : ℕ → Selector → Result Settling Stop → Annalled → Annalled → Type 0
+abbrev pub SettleTurned : ℕ → Selector → Result Settling Stop → HouseLogView → HouseLogView → Type 0
 SettleTurned client device (Ok (Settling.Judged entry state stored)) old new =
     Runs old × (row_to_settle old device ≡ DeviceRow.Waiting entry)
     × ((version : List ℕ) × (standing_of old entry ≡ Some (Standing.Judged version state)) × Appended client (Event.Judge client entry version state stored) old new)

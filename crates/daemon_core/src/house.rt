@@ -25,8 +25,8 @@ mod scheduling;
 mod settling;
 mod steps;
 
-use crate::annals::Annals;
 use crate::hold::{Asked, Hold, Ticket};
+use crate::house_log::HouseLog;
 use crate::making::{RefusedHouse, empty_places, fill_places, shown_by};
 use crate::pending::request_of_row;
 use crate::place::BoardPlace;
@@ -42,7 +42,7 @@ use update_log::{AskAnswer, Decision, Event, Facts, Query, Refusal, Request, Sta
 /// The plain state of the daemon: the facts and what stands for the log, the boards at home, the pool and
 /// the keeper.
 pub struct House<K: Keeper> {
-    annals: Annals,
+    house_log: HouseLog,
     places: Vec<BoardPlace>,
     pool: Pool,
     keeper: K,
@@ -54,13 +54,13 @@ impl<K: Keeper> Model for House<K> {
 
     ghost Value = { Housed K };
 
-    ghost view = { λ h. record { annals = h.annals; places = h.places.items; pool = h.pool; keeper = h.keeper } };
+    ghost view = { λ h. record { house_log = h.house_log; places = h.places.items; pool = h.pool; keeper = h.keeper } };
 
-    ghost invariant = { λ h. IsHouse K.tells K.doubt (record { annals = h.annals; places = h.places.items; pool = h.pool; keeper = h.keeper }) };
+    ghost invariant = { λ h. IsHouse K.tells K.doubt (record { house_log = h.house_log; places = h.places.items; pool = h.pool; keeper = h.keeper }) };
 }
 
 impl<K: Keeper> House<K> {
-    ghost use Rattle.daemon_core.specs.Annals.{Appended, Entered, IsAllowedSo, IsAnnals, IsMadeBy, Runs};
+    ghost use Rattle.daemon_core.specs.HouseLog.{Appended, Entered, IsAllowedSo, IsHouseLog, IsMadeBy, Runs};
     ghost use Rattle.daemon_core.specs.Holds.{HoldsFor, IsHoldFor, answer_of};
     ghost use Rattle.daemon_core.specs.House.{IsNewBoard, IsNewHouse, SameElsewhere};
     ghost use Rattle.daemon_core.specs.Housed.{past, rows_before};
@@ -93,12 +93,12 @@ impl<K: Keeper> House<K> {
         let Ok(mut places) = empty_places(alloc, boards.len()) else {
             return Err(RefusedHouse { boards, keeper });
         };
-        let Ok(annals) = Annals::new(alloc, facts, first) else {
+        let Ok(house_log) = HouseLog::new(alloc, facts, first) else {
             return Err(RefusedHouse { boards, keeper });
         };
         fill_places(&mut places, boards);
         Ok(House {
-            annals,
+            house_log,
             places,
             pool,
             keeper,
@@ -107,31 +107,31 @@ impl<K: Keeper> House<K> {
 
     /// The facts.
     pub fn facts(&self) -> &Facts
-        ensures { result.now ≡ self.now.annals.facts }
+        ensures { result.now ≡ self.now.house_log.facts }
     {
-        self.annals.facts()
+        self.house_log.facts()
     }
 
     /// The rows that the first boot loaded which took them for the rows before the log, before it those
     /// that the last boot loaded which refused them, and else none.
     pub fn opening(&self) -> &[Row]
-        ensures { result.now ≡ self.now.annals.opening }
+        ensures { result.now ≡ self.now.house_log.opening }
     {
-        self.annals.opening()
+        self.house_log.opening()
     }
 
     /// The rows of the log.
     pub fn rows(&self) -> &[Row]
-        ensures { result.now ≡ self.now.annals.core.rows }
+        ensures { result.now ≡ self.now.house_log.core.rows }
     {
-        self.annals.core().rows()
+        self.house_log.core().rows()
     }
 
     /// Whether the boot that runs is off: its power was cut, or the history couldn't be read or written.
     pub fn is_off(&self) -> bool
         ensures { result ≡ off (past self.now) }
     {
-        self.annals.core().off()
+        self.house_log.core().off()
     }
 
     // Enters a turn of a client, with room for so many events beside what is owed. Where the boot's limit
@@ -139,34 +139,34 @@ impl<K: Keeper> House<K> {
     pub(crate) fn enter(&mut self, client: u32, events: usize) -> Result<(), Stop>
         requires booted { 0 < boots (past self.old) }
         requires some { 1 ≤ events }
-        ensures entered { Entered client events result self.old.annals self.new.annals }
-        ensures known { IsAnnals self.new.annals }
+        ensures entered { Entered client events result self.old.house_log self.new.house_log }
+        ensures known { IsHouseLog self.new.house_log }
         ensures elsewhere { SameElsewhere self.old self.new }
     {
-        self.annals.enter(client, events)
+        self.house_log.enter(client, events)
     }
 
     // Puts an event behind the log that changes nothing else.
     pub(crate) fn note(&mut self, client: u32, event: Event)
         requires quiet { is_quiet event ≡ true }
-        requires loaded { self.old.annals.loaded ≡ true }
+        requires loaded { self.old.house_log.loaded ≡ true }
         requires takes { BootTakes (past self.old) event }
-        requires allowed { IsAllowedSo self.old.annals.facts self.old.annals.first (rows_before self.old.annals) (past self.old) event }
+        requires allowed { IsAllowedSo self.old.house_log.facts self.old.house_log.first (rows_before self.old.house_log) (past self.old) event }
         requires made { IsMadeBy event client }
-        requires room { owed (past self.old) + 1 ≤ self.old.annals.room }
-        ensures appended { Appended client event self.old.annals self.new.annals }
-        ensures known { IsAnnals self.new.annals }
+        requires room { owed (past self.old) + 1 ≤ self.old.house_log.room }
+        ensures appended { Appended client event self.old.house_log self.new.house_log }
+        ensures known { IsHouseLog self.new.house_log }
         ensures elsewhere { SameElsewhere self.old self.new }
     {
-        self.annals.known();
-        self.annals.note(client, event);
+        self.house_log.known();
+        self.house_log.note(client, event);
     }
 
     /// Answers a question.
     pub fn query(&mut self, client: u32, query: &Query) -> Result<(), Stop>
         requires booted { 0 < boots (past self.old) }
-        requires allowed { QueryAllowed self.old.annals.facts (rows_before self.old.annals) (past self.old) query.now }
-        ensures turn { Turned client (λ _. Event.Query client query.now) result self.old.annals self.new.annals }
+        requires allowed { QueryAllowed self.old.house_log.facts (rows_before self.old.house_log) (past self.old) query.now }
+        ensures turn { Turned client (λ _. Event.Query client query.now) result self.old.house_log self.new.house_log }
         ensures elsewhere { SameElsewhere self.old self.new }
     {
         self.enter(client, 1)?;
@@ -190,25 +190,25 @@ impl<K: Keeper> House<K> {
         blocks: u32,
     ) -> Hold
         requires booted { 0 < boots (past self.old) }
-        requires runs { Runs self.old.annals }
-        requires loaded { self.old.annals.loaded ≡ true }
+        requires runs { Runs self.old.house_log }
+        requires loaded { self.old.house_log.loaded ≡ true }
         requires free { IsFree (past self.old) client }
-        requires pending { IfSome pending (λ entry. (row : Row) × PendingAllowed self.old.annals.facts (rows_before self.old.annals) (past self.old) client request.now entry row) }
-        requires accepted { (device : ℕ) × (verdict self.old.annals.facts (rows_before self.old.annals) (past self.old) client request.now (ask_stage pending) ≡ Decision.Accept device release blocks) }
-        requires room { owed (past self.old) + 3 ≤ self.old.annals.room }
-        ensures appended { Appended client (Event.Ask client request.now pending (AskAnswer.Hold result.blocks.count result.ticket.release)) self.old.annals self.new.annals }
-        ensures holds { IsHoldFor self.old.annals.facts client request.now pending result }
+        requires pending { IfSome pending (λ entry. (row : Row) × PendingAllowed self.old.house_log.facts (rows_before self.old.house_log) (past self.old) client request.now entry row) }
+        requires accepted { (device : ℕ) × (verdict self.old.house_log.facts (rows_before self.old.house_log) (past self.old) client request.now (ask_stage pending) ≡ Decision.Accept device release blocks) }
+        requires room { owed (past self.old) + 3 ≤ self.old.house_log.room }
+        ensures appended { Appended client (Event.Ask client request.now pending (AskAnswer.Hold result.blocks.count result.ticket.release)) self.old.house_log self.new.house_log }
+        ensures holds { IsHoldFor self.old.house_log.facts client request.now pending result }
         ensures places { self.new.places ≡ self.old.places }
         ensures keeper { self.new.keeper ≡ self.old.keeper }
     {
-        self.annals.known();
+        self.house_log.known();
         let held = match self.pool.take(blocks) {
             Ok(held) => held,
             Err(_) => unreachable!(),
         };
-        let found = *self.annals.release(release);
+        let found = *self.house_log.release(release);
         let digest = found.digest;
-        self.annals.note(
+        self.house_log.note(
             client,
             Event::Ask {
                 client,
@@ -239,14 +239,14 @@ impl<K: Keeper> House<K> {
     ) -> Result<Asked, Stop>
         requires booted { 0 < boots (past self.old) }
         requires free { IsFree (past self.old) client }
-        requires pending { IfSome pending (λ entry. (row : Row) × PendingAllowed self.old.annals.facts (rows_before self.old.annals) (past self.old) client request.now entry row) }
-        ensures turn { Turned client (λ asked. Event.Ask client request.now pending (answer_of asked)) result self.old.annals self.new.annals }
-        ensures holds { IfOk result (HoldsFor self.old.annals.facts client request.now pending) }
+        requires pending { IfSome pending (λ entry. (row : Row) × PendingAllowed self.old.house_log.facts (rows_before self.old.house_log) (past self.old) client request.now entry row) }
+        ensures turn { Turned client (λ asked. Event.Ask client request.now pending (answer_of asked)) result self.old.house_log self.new.house_log }
+        ensures holds { IfOk result (HoldsFor self.old.house_log.facts client request.now pending) }
         ensures places { self.new.places ≡ self.old.places }
         ensures keeper { self.new.keeper ≡ self.old.keeper }
     {
         self.enter(client, 3)?;
-        let decision = self.annals.decided(client, request, ask_stage(pending));
+        let decision = self.house_log.decided(client, request, ask_stage(pending));
         match decision {
             Decision::Accept {
                 device: _,
@@ -280,8 +280,8 @@ impl<K: Keeper> House<K> {
     pub fn ask(&mut self, client: u32, request: &Request) -> Result<Asked, Stop>
         requires booted { 0 < boots (past self.old) }
         requires free { IsFree (past self.old) client }
-        ensures turn { Turned client (λ asked. Event.Ask client request.now None (answer_of asked)) result self.old.annals self.new.annals }
-        ensures holds { IfOk result (HoldsFor self.old.annals.facts client request.now None) }
+        ensures turn { Turned client (λ asked. Event.Ask client request.now None (answer_of asked)) result self.old.house_log self.new.house_log }
+        ensures holds { IfOk result (HoldsFor self.old.house_log.facts client request.now None) }
         ensures places { self.new.places ≡ self.old.places }
         ensures keeper { self.new.keeper ≡ self.old.keeper }
     {
@@ -293,14 +293,14 @@ impl<K: Keeper> House<K> {
     pub fn ask_pending(&mut self, entry: u32) -> Result<Asked, Stop>
         requires booted { 0 < boots (past self.old) }
         requires free { IsFree (past self.old) 0 }
-        requires pending { (row : Row) × (row_of self.old.annals.core.rows entry ≡ Some row) × (row.state ≡ RowState.Pending) }
-        ensures turn { (row : Row) → row_of self.old.annals.core.rows entry ≡ Some row → Turned 0 (λ asked. Event.Ask 0 (request_of_row row) (Some entry) (answer_of asked)) result self.old.annals self.new.annals }
-        ensures holds { (row : Row) → row_of self.old.annals.core.rows entry ≡ Some row → IfOk result (HoldsFor self.old.annals.facts 0 (request_of_row row) (Some entry)) }
+        requires pending { (row : Row) × (row_of self.old.house_log.core.rows entry ≡ Some row) × (row.state ≡ RowState.Pending) }
+        ensures turn { (row : Row) → row_of self.old.house_log.core.rows entry ≡ Some row → Turned 0 (λ asked. Event.Ask 0 (request_of_row row) (Some entry) (answer_of asked)) result self.old.house_log self.new.house_log }
+        ensures holds { (row : Row) → row_of self.old.house_log.core.rows entry ≡ Some row → IfOk result (HoldsFor self.old.house_log.facts 0 (request_of_row row) (Some entry)) }
         ensures places { self.new.places ≡ self.old.places }
         ensures keeper { self.new.keeper ≡ self.old.keeper }
     {
-        self.annals.known();
-        let request = match self.annals.core().row(entry) {
+        self.house_log.known();
+        let request = match self.house_log.core().row(entry) {
             Some(row) => request_of_row(row),
             None => unreachable!(),
         };

@@ -6,7 +6,6 @@
 //! go round exactly these calls.
 #![tactic(auto)]
 
-mod annals;
 pub mod booting;
 pub mod claimed;
 mod comparing;
@@ -14,6 +13,7 @@ pub mod fetched;
 pub mod finished;
 pub mod hold;
 pub mod house;
+mod house_log;
 pub mod judged;
 pub mod making;
 pub mod off;

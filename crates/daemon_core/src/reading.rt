@@ -3,8 +3,8 @@ ghost use Rattle.std.specs.Prelude.{◌≡◌, ◌≤◌, false, true, None, IfO
 ghost use Rattle.daemon_core.specs.Keeping.{Keeps};
 ghost use Rattle.daemon_core.specs.Reading.{Became, FirstRead, LaterRead, WasRead, found_unchanged, place_told};
 
-use crate::annals::Annals;
 use crate::comparing::{first_difference, with_change};
+use crate::house_log::HouseLog;
 use fw_base::NoMemory;
 use history_keeper::{Change, Keeper, KeeperRefusal, Row, first_faulty};
 use std::alloc::Global;
@@ -25,33 +25,33 @@ pub(crate) enum Loaded {
 /// in doubt.
 pub(crate) fn read_history<K: Keeper>(
     alloc: Global,
-    annals: &mut Annals,
+    house_log: &mut HouseLog,
     keeper: &mut K,
 ) -> Result<Loaded, NoMemory>
-    requires fresh { annals.old.loaded ≡ false → K.doubt keeper.old ≡ None }
-    requires kept { annals.old.loaded ≡ true → Keeps K.tells K.doubt keeper.old annals.old.core.rows annals.old.core.doubt }
-    ensures first { annals.old.loaded ≡ false → FirstRead K.tells K.doubt K.faults result annals.old annals.new keeper.old keeper.new }
-    ensures later { annals.old.loaded ≡ true → (annals.new ≡ record annals.old { reopened = true }) × LaterRead K.tells K.doubt K.faults K.settled result annals.old.core.rows annals.old.core.doubt keeper.old keeper.new }
+    requires fresh { house_log.old.loaded ≡ false → K.doubt keeper.old ≡ None }
+    requires kept { house_log.old.loaded ≡ true → Keeps K.tells K.doubt keeper.old house_log.old.core.rows house_log.old.core.doubt }
+    ensures first { house_log.old.loaded ≡ false → FirstRead K.tells K.doubt K.faults result house_log.old house_log.new keeper.old keeper.new }
+    ensures later { house_log.old.loaded ≡ true → (house_log.new ≡ record house_log.old { reopened = true }) × LaterRead K.tells K.doubt K.faults K.settled result house_log.old.core.rows house_log.old.core.doubt keeper.old keeper.new }
     ensures was_read { WasRead K.tells K.settled keeper.old keeper.new }
     ensures counts { K.faults keeper.old ≤ K.faults keeper.new }
 {
-    if annals.is_loaded() {
-        annals.note_reopened();
-        later_history(alloc, annals.core(), keeper)
+    if house_log.is_loaded() {
+        house_log.note_reopened();
+        later_history(alloc, house_log.core(), keeper)
     } else {
-        first_history(alloc, annals, keeper)
+        first_history(alloc, house_log, keeper)
     }
 }
 
 // Reads the rows before the log, while no boot has taken any.
 fn first_history<K: Keeper>(
     alloc: Global,
-    annals: &mut Annals,
+    house_log: &mut HouseLog,
     keeper: &mut K,
 ) -> Result<Loaded, NoMemory>
-    requires unloaded { annals.old.loaded ≡ false }
+    requires unloaded { house_log.old.loaded ≡ false }
     requires no_doubt { K.doubt keeper.old ≡ None }
-    ensures read { FirstRead K.tells K.doubt K.faults result annals.old annals.new keeper.old keeper.new }
+    ensures read { FirstRead K.tells K.doubt K.faults result house_log.old house_log.new keeper.old keeper.new }
     ensures was_read { WasRead K.tells K.settled keeper.old keeper.new }
     ensures counts { K.faults keeper.old ≤ K.faults keeper.new }
 {
@@ -63,11 +63,11 @@ fn first_history<K: Keeper>(
     let opening = Vec::from_slice(alloc, &rows)?;
     match first_faulty(alloc, &rows)? {
         Some(at) => {
-            annals.refuse_opening(opening);
+            house_log.refuse_opening(opening);
             Ok(Loaded::Bad(place_told(at)))
         }
         None => {
-            annals.take_opening(opening, rows);
+            house_log.take_opening(opening, rows);
             Ok(Loaded::Found(Found::Plain))
         }
     }

@@ -20,13 +20,13 @@ use Rattle.update_log.specs.Known.{Known, known, row_of, view_of, views, views_i
 use Rattle.update_log.specs.Legal.{may_judge}
 use Rattle.update_log.specs.Pasts.{finished}
 use Rattle.update_log.specs.Steps.{view_of_row}
-use Rattle.daemon_core.proofs.AnnalsKept.{appended-past}
+use Rattle.daemon_core.proofs.HouseLogKept.{appended-past}
 use Rattle.daemon_core.proofs.JudgeKept.{IsJudged, is-judged}
 use Rattle.daemon_core.specs.declared.judged.Judged.{Judged}
 use Rattle.daemon_core.specs.declared.judged.Standing.{Standing}
 use Rattle.daemon_core.specs.declared.stop.Stop.{Stop}
-use Rattle.daemon_core.specs.Annals.{Appended, IsAnnals, SameFacts, Unchanged}
-use Rattle.daemon_core.specs.Housed.{Annalled, Housed, past, past_in, rows_before}
+use Rattle.daemon_core.specs.HouseLog.{Appended, IsHouseLog, SameFacts, Unchanged}
+use Rattle.daemon_core.specs.Housed.{HouseLogView, Housed, past, past_in, rows_before}
 use Rattle.daemon_core.specs.Judging.{JudgeTurned, judged_by, judged_on, must_wait, standing, standing_of}
 use Rattle.daemon_core.specs.Turns.{KeeperFared, Signs}
 use Rattle.daemon_core.specs.Planned.{KeepsPlans}
@@ -91,7 +91,7 @@ unjudged-not past views entry row s e l h n =
     by true false eu ew g = and_right (may_judge past row.state row.entry) _ (absent-not row (view_of_row views row) s g n)
 
 -- The rows and views of the log, as they are kept.
-standing-row : (a : Annalled) (entry : ℕ) (row : Row) → IsAnnals a → row_of (rows_at a) entry ≡ Some row → standing_of a entry ≡ Some (standing (past_in a) (views a.facts (rows_before a) (past_in a)) entry row)
+standing-row : (a : HouseLogView) (entry : ℕ) (row : Row) → IsHouseLog a → row_of (rows_at a) entry ≡ Some row → standing_of a entry ≡ Some (standing (past_in a) (views a.facts (rows_before a) (past_in a)) entry row)
 standing-row a entry row k r =
     ap (λ (v : List DeviceView). option_map (standing (past_in a) v entry) (row_of a.core.rows entry)) k.stands.views
     ∙ ap (λ (all : List Row). option_map (standing (past_in a) (views a.facts (rows_before a) (past_in a)) entry) (row_of all entry)) k.stands.rows
@@ -100,7 +100,7 @@ standing-row a entry row k r =
 own-entry : (all : List Row) (entry : ℕ) (row : Row) → row_of all entry ≡ Some row → row.entry ≡ entry
 own-entry all entry row r = eqb-true row.entry entry (find-passes (λ x. x.entry == entry) all row r)
 
-can-not : (a : Annalled) (entry : ℕ) (row : Row) (s : Standing) → IsAnnals a → live (past_in a) ≡ [] → row_of (rows_at a) entry ≡ Some row → standing_of a entry ≡ Some s → IsUnjudged s → can_judge a.facts (rows_before a) (past_in a) entry ≡ false
+can-not : (a : HouseLogView) (entry : ℕ) (row : Row) (s : Standing) → IsHouseLog a → live (past_in a) ≡ [] → row_of (rows_at a) entry ≡ Some row → standing_of a entry ≡ Some s → IsUnjudged s → can_judge a.facts (rows_before a) (past_in a) entry ≡ false
 can-not a entry row s k l r h n =
     let V = views a.facts (rows_before a) (past_in a) in
     let is : standing (past_in a) V entry row ≡ s = same_Some (standing (past_in a) V entry row) s (sym (standing-row a entry row k r) ∙ h) in
@@ -118,7 +118,7 @@ judged-can past views all entry version state j =
     both : {a b : Bool} → a ≡ true → b ≡ true → (a && b) ≡ true
     both x y = rw (x, y) refl
 
-can-so : (a : Annalled) (entry : ℕ) (version : List ℕ) (state : RowState) → IsAnnals a → standing_of a entry ≡ Some (Standing.Judged version state) → can_judge a.facts (rows_before a) (past_in a) entry ≡ true
+can-so : (a : HouseLogView) (entry : ℕ) (version : List ℕ) (state : RowState) → IsHouseLog a → standing_of a entry ≡ Some (Standing.Judged version state) → can_judge a.facts (rows_before a) (past_in a) entry ≡ true
 can-so a entry version state k h =
     ap (λ (v : List DeviceView). unwrap_or (option_map (is_judgeable (past_in a) v) (row_of (rows_at a) entry)) false) (sym k.stands.views)
     ∙ ap (λ (all : List Row). unwrap_or (option_map (is_judgeable (past_in a) a.core.views) (row_of all entry)) false) (sym k.stands.rows)
@@ -142,19 +142,19 @@ all-nothing facts opening means [] = refl
 all-nothing facts opening means (t ∷ tasks) = record { first = []; rest = []; are = refl; first_is = inr (record { left = task-unplayed facts opening means 0 t; untaken = refl }); rest_is = all-nothing facts opening means tasks }
 
 module _ {K : Type 0} (signs : Signs K) (facts : Facts) (opening : List Row) (means : Means) (entry : ℕ) (row : Row) (wanting : Bool) (old new : Housed K)
-    (k : IsAnnals old.annals) (i : IsIdle (past old)) (r : row_of (rows_at old.annals) entry ≡ Some row)
+    (k : IsHouseLog old.house_log) (i : IsIdle (past old)) (r : row_of (rows_at old.house_log) entry ≡ Some row)
     (counted : KeeperFared signs old new) (counts : signs.faults old.keeper ≤ signs.faults new.keeper) (keeps : KeepsPlans old.places new.places) where
   tasks : List Task
-  tasks = to_judge_in old.annals (entry ∷ [])
+  tasks = to_judge_in old.house_log (entry ∷ [])
 
-  quiet : (stop : Stop) (told : Option Bool) → Halted stop old.annals new.annals → Tried facts opening means told wanting (to_judge_in old.annals (entry ∷ [])) (past new) [] → HouseTried signs facts opening means told wanting (to_judge_in old.annals (entry ∷ [])) old new
+  quiet : (stop : Stop) (told : Option Bool) → Halted stop old.house_log new.house_log → Tried facts opening means told wanting (to_judge_in old.house_log (entry ∷ [])) (past new) [] → HouseTried signs facts opening means told wanting (to_judge_in old.house_log (entry ∷ [])) old new
   quiet stop told h m =
       record {
         moments = [];
-        did = halted-did 0 stop old.annals new.annals h;
+        did = halted-did 0 stop old.house_log new.house_log h;
         more = m;
         rest = record {
-          idle = record { no_hold = halted-holds stop old.annals new.annals h ∙ i.no_hold; no_live = halted-live stop old.annals new.annals h ∙ i.no_live };
+          idle = record { no_hold = halted-holds stop old.house_log new.house_log h ∙ i.no_hold; no_live = halted-live stop old.house_log new.house_log h ∙ i.no_live };
           same = h.same;
           counted = counted;
           counts = counts;
@@ -162,26 +162,26 @@ module _ {K : Type 0} (signs : Signs K) (facts : Facts) (opening : List Row) (me
         };
       }
 
-  unjudged : (s : Standing) → standing_of old.annals entry ≡ Some s → IsUnjudged s → Unchanged old.annals new.annals → HouseTried signs facts opening means (Some wanting) wanting (to_judge_in old.annals (entry ∷ [])) old new
+  unjudged : (s : Standing) → standing_of old.house_log entry ≡ Some s → IsUnjudged s → Unchanged old.house_log new.house_log → HouseTried signs facts opening means (Some wanting) wanting (to_judge_in old.house_log (entry ∷ [])) old new
   unjudged s h n u =
-      let none = one-not old.annals.facts (rows_before old.annals) (past old) entry (can-not old.annals entry row s k i.no_live r h n) in
-      quiet Stop.NoMemory (Some wanting) (halted-memory old.annals new.annals u)
+      let none = one-not old.house_log.facts (rows_before old.house_log) (past old) entry (can-not old.house_log entry row s k i.no_live r h n) in
+      quiet Stop.NoMemory (Some wanting) (halted-memory old.house_log new.house_log u)
       (inr refl, subst (λ (ts : List Task). PlaysAll wanting 0 (TaskPlays facts opening means) ts []) (sym none) refl)
 
-  judged : (version : List ℕ) (state : RowState) (stored : Stored) → standing_of old.annals entry ≡ Some (Standing.Judged version state) → Appended 0 (Event.Judge 0 entry version state stored) old.annals new.annals → HouseTried signs facts opening means (Some wanting) wanting (to_judge_in old.annals (entry ∷ [])) old new
+  judged : (version : List ℕ) (state : RowState) (stored : Stored) → standing_of old.house_log entry ≡ Some (Standing.Judged version state) → Appended 0 (Event.Judge 0 entry version state stored) old.house_log new.house_log → HouseTried signs facts opening means (Some wanting) wanting (to_judge_in old.house_log (entry ∷ [])) old new
   judged version state stored h a =
       let event = Event.Judge 0 entry version state stored in
-      let one = one-can old.annals.facts (rows_before old.annals) (past old) entry (can-so old.annals entry version state k h) in
+      let one = one-can old.house_log.facts (rows_before old.house_log) (past old) entry (can-so old.house_log entry version state k h) in
       record {
         moments = at (past old) event ∷ [];
-        did = did-appended 0 event old.annals new.annals (record { no_boot = refl; own = refl }) a;
+        did = did-appended 0 event old.house_log new.house_log (record { no_boot = refl; own = refl }) a;
         more = (
           inr refl,
           subst (λ (ts : List Task). PlaysAll wanting 0 (TaskPlays facts opening means) ts (at (past old) event ∷ [])) (sym one)
               (one-plays wanting 0 (TaskPlays facts opening means) (ToJudge entry) (at (past old) event ∷ []) (version, state, stored, refl)),
         );
         rest = record {
-          idle = subst IsIdle (sym (appended-past 0 event old.annals new.annals a)) (record { no_hold = i.no_hold; no_live = i.no_live });
+          idle = subst IsIdle (sym (appended-past 0 event old.house_log new.house_log a)) (record { no_hold = i.no_hold; no_live = i.no_live });
           same = a.same;
           counted = counted;
           counts = counts;
@@ -189,19 +189,19 @@ module _ {K : Type 0} (signs : Signs K) (facts : Facts) (opening : List Row) (me
         };
       }
 
-  pub tried : (outcome : Result Judged Stop) → JudgeTurned 0 entry outcome old.annals new.annals → HouseTried signs facts opening means (told_by outcome wanting) wanting (to_judge_in old.annals (entry ∷ [])) old new
+  pub tried : (outcome : Result Judged Stop) → JudgeTurned 0 entry outcome old.house_log new.house_log → HouseTried signs facts opening means (told_by outcome wanting) wanting (to_judge_in old.house_log (entry ∷ [])) old new
   tried (Ok (Judged.Done state stored)) t = judged t.1.0 state stored t.1.1 t.1.2
   tried (Ok Judged.Absent) t = unjudged Standing.Absent t.1 tt t.2
   tried (Ok Judged.Waits) t = unjudged Standing.Waits t.1 tt t.2
   tried (Ok Judged.Settled) t = unjudged Standing.Settled t.1 tt t.2
   tried (Err Stop.NoMemory) t =
-      quiet Stop.NoMemory (Some true) (halted-memory old.annals new.annals t.1) (inl refl, all-nothing facts opening means (to_judge_in old.annals (entry ∷ [])))
+      quiet Stop.NoMemory (Some true) (halted-memory old.house_log new.house_log t.1) (inl refl, all-nothing facts opening means (to_judge_in old.house_log (entry ∷ [])))
   tried (Err Stop.Off) t =
-      let h = halted-off 0 old.annals new.annals t in quiet Stop.Off None h (refl, h.is_off refl)
+      let h = halted-off 0 old.house_log new.house_log t in quiet Stop.Off None h (refl, h.is_off refl)
 
 -- ---- what stays
 
-views-over : (old new : Annalled) (p : List Event) → SameFacts old new → past_in new ≡ p → views new.facts (rows_before new) (past_in new) ≡ views old.facts (rows_before old) p
+views-over : (old new : HouseLogView) (p : List Event) → SameFacts old new → past_in new ≡ p → views new.facts (rows_before new) (past_in new) ≡ views old.facts (rows_before old) p
 views-over old new p s e =
     ap (λ (f : Facts). views f (rows_before new) (past_in new)) s.facts
     ∙ ap (λ (o : List Row). views old.facts o (past_in new)) (before-same old new s)
@@ -232,7 +232,7 @@ or-first : (a b : Bool) → (a || b) ≡ false → a ≡ false
 or-first true b h = cc
 or-first false b h = refl
 
-stays-judged : (entry : ℕ) (version : List ℕ) (state : RowState) (stored : Stored) (old new : Annalled) → live (past_in old) ≡ [] → Appended 0 (Event.Judge 0 entry version state stored) old new → JudgeStays (entry ∷ []) old new
+stays-judged : (entry : ℕ) (version : List ℕ) (state : RowState) (stored : Stored) (old new : HouseLogView) → live (past_in old) ≡ [] → Appended 0 (Event.Judge 0 entry version state stored) old new → JudgeStays (entry ∷ []) old new
 stays-judged entry version state stored old new l a =
     let event = Event.Judge 0 entry version state stored in
     let e = appended-past 0 event old new a in
@@ -242,7 +242,7 @@ stays-judged entry version state stored old new l a =
       finished = λ n. ap (finished n) e;
     }
 
-stays-halted : (entry : ℕ) (stop : Stop) (old new : Annalled) → live (past_in old) ≡ [] → Halted stop old new → JudgeStays (entry ∷ []) old new
+stays-halted : (entry : ℕ) (stop : Stop) (old new : HouseLogView) → live (past_in old) ≡ [] → Halted stop old new → JudgeStays (entry ∷ []) old new
 stays-halted entry stop old new l h =
     record {
       rows = λ other n. rows-halted stop old new h other;
@@ -250,7 +250,7 @@ stays-halted entry stop old new l h =
       finished = λ n. ap (finished n) h.past_is ∙ cut-finished n h.cut (past_in old);
     }
 
-pub tried-stays : (entry : ℕ) (outcome : Result Judged Stop) (old new : Annalled) → live (past_in old) ≡ [] → JudgeTurned 0 entry outcome old new → JudgeStays (entry ∷ []) old new
+pub tried-stays : (entry : ℕ) (outcome : Result Judged Stop) (old new : HouseLogView) → live (past_in old) ≡ [] → JudgeTurned 0 entry outcome old new → JudgeStays (entry ∷ []) old new
 tried-stays entry (Ok (Judged.Done state stored)) old new l t = stays-judged entry t.1.0 state stored old new l t.1.2
 tried-stays entry (Ok Judged.Absent) old new l t = stays-halted entry Stop.NoMemory old new l (halted-memory old new t.2)
 tried-stays entry (Ok Judged.Waits) old new l t = stays-halted entry Stop.NoMemory old new l (halted-memory old new t.2)

@@ -16,14 +16,14 @@ use Rattle.update_log.specs.declared.live.LiveEntry.{LiveEntry}
 use Rattle.update_log.specs.declared.request.Request.{Request}
 use Rattle.update_log.specs.Holding.{hold, holds, live, without_client}
 use Rattle.update_log.specs.Legal.{IsFree}
-use Rattle.daemon_core.proofs.AnnalsKept.{appended-past}
+use Rattle.daemon_core.proofs.HouseLogKept.{appended-past}
 use Rattle.daemon_core.specs.declared.hold.Hold.{Hold}
 use Rattle.daemon_core.specs.declared.hold.Ticket.{Ticket}
 use Rattle.daemon_core.specs.declared.stop.Stop.{Stop}
-use Rattle.daemon_core.specs.Annals.{Appended}
+use Rattle.daemon_core.specs.HouseLog.{Appended}
 use Rattle.daemon_core.specs.Claims.{IsServedBy}
 use Rattle.daemon_core.specs.Holds.{IsHoldFor, back_of, held_by}
-use Rattle.daemon_core.specs.Housed.{Annalled, past, past_in}
+use Rattle.daemon_core.specs.Housed.{HouseLogView, past, past_in}
 use Rattle.client_plays.specs.Endings.{IsIdle}
 use Rattle.daemon_tasks.specs.Stays.{HoldsAlone}
 use Rattle.daemon_tasks.proofs.Turns.{Halted, halted-holds, halted-live}
@@ -56,7 +56,7 @@ idle-back client ticket blocks None request past h = record { no_hold = no-hold 
 idle-back client ticket blocks (Some entry) request past h = record { no_hold = no-hold client ticket blocks past h; no_live = h.no_live }
 
 -- A call that was stopped leaves the hold out.
-pub held-halted : (client : ℕ) (ticket : Ticket) (blocks : ℕ) (stop : Stop) (old new : Annalled) → Halted stop old new → HoldsAlone client ticket blocks (past_in old) → HoldsAlone client ticket blocks (past_in new)
+pub held-halted : (client : ℕ) (ticket : Ticket) (blocks : ℕ) (stop : Stop) (old new : HouseLogView) → Halted stop old new → HoldsAlone client ticket blocks (past_in old) → HoldsAlone client ticket blocks (past_in new)
 held-halted client ticket blocks stop old new h k =
     record {
       holds_are = halted-holds stop old new h ∙ k.holds_are;
@@ -94,7 +94,7 @@ same-held : (a b : ℕ) (r s : Request) (p q : Option ℕ) (n : ℕ) (place : Re
 same-held a b r s p q n place x y z = cc
 
 -- What is out behind an ask that was answered with a hold.
-pub ask-holds : (facts : Facts) (client : ℕ) (request : Request) (pending : Option ℕ) (given : Hold) (old new : Annalled) → IsHoldFor facts client request pending given → IsIdle (past_in old)
+pub ask-holds : (facts : Facts) (client : ℕ) (request : Request) (pending : Option ℕ) (given : Hold) (old new : HouseLogView) → IsHoldFor facts client request pending given → IsIdle (past_in old)
     → Appended client (Event.Ask client request pending (AskAnswer.Hold given.blocks.count given.ticket.release)) old new → HoldsAlone client given.ticket given.blocks.count (past_in new)
 ask-holds facts client request pending given old new h i a =
     let e = appended-past client (Event.Ask client request pending (AskAnswer.Hold given.blocks.count given.ticket.release)) old new a in

@@ -6,8 +6,8 @@ use Rattle.std.specs.Prelude.{Option, Some, None}
 use Rattle.plugin_trait.specs.Steps.{PluginSteps}
 use Rattle.history_keeper.specs.declared.row.Row.{Row}
 use Rattle.update_log.specs.declared.facts.Facts.{Facts}
-use Rattle.daemon_core.specs.Annals.{SameFacts}
-use Rattle.daemon_core.specs.Housed.{Annalled, Housed, rows_before}
+use Rattle.daemon_core.specs.HouseLog.{SameFacts}
+use Rattle.daemon_core.specs.Housed.{HouseLogView, Housed, rows_before}
 use Rattle.daemon_core.specs.Turns.{Signs}
 use Rattle.client_plays.specs.Endings.{HouseMore, HouseOnceMore, SoFar}
 use Rattle.client_plays.specs.Moments.{Moment}
@@ -23,7 +23,7 @@ use Rattle.daemon_tasks.proofs.TaskLists.{all-wait_others}
 next-of : (entries : List ℕ) (i : ℕ) → i < length entries → drop i entries ≡ get_or entries i 0 ∷ drop (suc i) entries
 next-of entries i lt = drop-cons entries i 0 lt
 
-pub waits-next : (a : Annalled) (entries : List ℕ) (i : ℕ) → i < length entries → AllWait a (drop i entries) → WaitsIn a (get_or entries i 0)
+pub waits-next : (a : HouseLogView) (entries : List ℕ) (i : ℕ) → i < length entries → AllWait a (drop i entries) → WaitsIn a (get_or entries i 0)
 waits-next a entries i lt w = let all : AllWait a (get_or entries i 0 ∷ drop (suc i) entries) = subst (AllWait a) (next-of entries i lt) w in all.0
 
 apart-next : (entries : List ℕ) (i : ℕ) → i < length entries → AreApart (drop i entries) → AreApart (get_or entries i 0 ∷ drop (suc i) entries)
@@ -32,7 +32,7 @@ apart-next entries i lt a = subst AreApart (next-of entries i lt) a
 pub apart-later : (entries : List ℕ) (i : ℕ) → i < length entries → AreApart (drop i entries) → AreApart (drop (i + 1) entries)
 apart-later entries i lt a = rw add-one ((apart-next entries i lt a).1)
 
-pub waits-later : (old new : Annalled) (entries : List ℕ) (i : ℕ) → i < length entries → AreApart (drop i entries) → AllWait old (drop i entries) → OthersStay (get_or entries i 0) old new → AllWait new (drop (i + 1) entries)
+pub waits-later : (old new : HouseLogView) (entries : List ℕ) (i : ℕ) → i < length entries → AreApart (drop i entries) → AllWait old (drop i entries) → OthersStay (get_or entries i 0) old new → AllWait new (drop (i + 1) entries)
 waits-later old new entries i lt a w o =
     let all : AllWait old (get_or entries i 0 ∷ drop (suc i) entries) = subst (AllWait old) (next-of entries i lt) w in
     rw add-one (all-wait_others (get_or entries i 0) old new (drop (suc i) entries) o (apart-next entries i lt a).0 all.1)
@@ -44,7 +44,7 @@ resumed-here : (entries : List ℕ) (i : ℕ) → i < length entries → map ToR
 resumed-here entries i lt = sym (map-append ToResume (take i entries) (get_or entries i 0 ∷ drop (suc i) entries)) ∙ ap (map ToResume) (taken-here entries i 0 lt)
 
 -- Facts and rows are the same all along, and so are the files of the daemon's shelf.
-pub same-task : {K : Type 0} (signs : Signs K) (told : Option Bool) (wanting : Bool) (task : Task) (plugins : ℕ → PluginSteps) (a later : Annalled) (files now : Files) (old new : Housed K) → SameFacts a later → now ≡ files → HouseOnceMore signs told wanting 0 (TaskPlays later.facts (rows_before later) (means_of now plugins) task) old new
+pub same-task : {K : Type 0} (signs : Signs K) (told : Option Bool) (wanting : Bool) (task : Task) (plugins : ℕ → PluginSteps) (a later : HouseLogView) (files now : Files) (old new : Housed K) → SameFacts a later → now ≡ files → HouseOnceMore signs told wanting 0 (TaskPlays later.facts (rows_before later) (means_of now plugins) task) old new
     → HouseOnceMore signs told wanting 0 (TaskPlays a.facts (rows_before a) (means_of files plugins) task) old new
 same-task signs told wanting task plugins a later files now old new f s m =
     subst (λ (x : Files). HouseOnceMore signs told wanting 0 (TaskPlays a.facts (rows_before a) (means_of x plugins) task) old new) s

@@ -14,9 +14,9 @@ use Rattle.update_log.specs.declared.event.Op.{Op}
 use Rattle.update_log.specs.declared.facts.Facts.{Facts}
 use Rattle.update_log.specs.Known.{Fate, Known, fate_stored, known, resumption, row_of, rows, rows_by}
 use Rattle.update_log.specs.Pasts.{is_keeper_fault, time_of}
-use Rattle.daemon_core.proofs.AnnalsKept.{appended-past}
-use Rattle.daemon_core.specs.Annals.{Appended, SameFacts}
-use Rattle.daemon_core.specs.Housed.{Annalled, past_in, rows_before}
+use Rattle.daemon_core.proofs.HouseLogKept.{appended-past}
+use Rattle.daemon_core.specs.HouseLog.{Appended, SameFacts}
+use Rattle.daemon_core.specs.Housed.{HouseLogView, past_in, rows_before}
 use Rattle.daemon_core.specs.declared.stop.Stop.{Stop}
 use Rattle.client_plays.proofs.RestLaws.{before-same}
 use Rattle.plugin_trait.specs.Steps.{PluginSteps}
@@ -93,19 +93,19 @@ rows-spared facts opening past entry [] other s h = refl
 rows-spared facts opening past entry (event ∷ events) other s h =
     rows-spared facts opening (event ∷ past) entry events other s.1 h ∙ row-spared facts opening past entry event other s.0 h
 
--- ---- over annals
+-- ---- over a house log
 
--- The rows of annals with the same facts, where this is their past.
-pub rows-over : (old new : Annalled) (p : List Event) → SameFacts old new → past_in new ≡ p → rows_at new ≡ rows old.facts (rows_before old) p
+-- The rows of a house log with the same facts, where this is their past.
+pub rows-over : (old new : HouseLogView) (p : List Event) → SameFacts old new → past_in new ≡ p → rows_at new ≡ rows old.facts (rows_before old) p
 rows-over old new p s e =
     ap (λ (f : Facts). rows f (rows_before new) (past_in new)) s.facts
     ∙ ap (λ (o : List Row). rows old.facts o (past_in new)) (before-same old new s)
     ∙ ap (λ (w : List Event). rows old.facts (rows_before old) w) e
 
-pub others-both : (entry : ℕ) (a b c : Annalled) → OthersStay entry a b → OthersStay entry b c → OthersStay entry a c
+pub others-both : (entry : ℕ) (a b c : HouseLogView) → OthersStay entry a b → OthersStay entry b c → OthersStay entry a c
 others-both entry a b c x y = λ other h. y other h ∙ x other h
 
-pub others-appended : (client entry : ℕ) (event : Event) (old new : Annalled) → SparesOthers entry event → Appended client event old new → OthersStay entry old new
+pub others-appended : (client entry : ℕ) (event : Event) (old new : HouseLogView) → SparesOthers entry event → Appended client event old new → OthersStay entry old new
 others-appended client entry event old new s a =
     λ other h.
     ap (λ (r : List Row). row_of r other) (rows-over old new (event ∷ past_in old) a.same (appended-past client event old new a))
@@ -116,15 +116,15 @@ cut-row facts opening true past other = refl
 cut-row facts opening false past other = refl
 
 -- Every row stays where a call was stopped.
-pub rows-halted : (stop : Stop) (old new : Annalled) → Halted stop old new → (other : ℕ) → row_of (rows_at new) other ≡ row_of (rows_at old) other
+pub rows-halted : (stop : Stop) (old new : HouseLogView) → Halted stop old new → (other : ℕ) → row_of (rows_at new) other ≡ row_of (rows_at old) other
 rows-halted stop old new h other =
     ap (λ (r : List Row). row_of r other) (rows-over old new (cut_past h.cut (past_in old)) h.same h.past_is)
     ∙ cut-row old.facts (rows_before old) h.cut (past_in old) other
 
-pub others-halted : (entry : ℕ) (stop : Stop) (old new : Annalled) → Halted stop old new → OthersStay entry old new
+pub others-halted : (entry : ℕ) (stop : Stop) (old new : HouseLogView) → Halted stop old new → OthersStay entry old new
 others-halted entry stop old new h = λ other n. rows-halted stop old new h other
 
-others-gained : (entry : ℕ) (events : List Event) (old new : Annalled) → AllSpare entry events → Gained events old new → OthersStay entry old new
+others-gained : (entry : ℕ) (events : List Event) (old new : HouseLogView) → AllSpare entry events → Gained events old new → OthersStay entry old new
 others-gained entry events old new s g =
     λ other h.
     ap (λ (r : List Row). row_of r other) (rows-over old new (grown (past_in old) events) g.same (past-gained events old new g))
@@ -143,7 +143,7 @@ spare-back client entry true = (tt, (tt, tt))
 spare-back client entry false = (tt, tt)
 
 -- The run of an entry.
-pub others-ran : (by : PluginSteps) (client entry : ℕ) (was : Parts) (outcome : Outcome) (old new : Annalled) → Ran by client entry was outcome old new → OthersStay entry old new
+pub others-ran : (by : PluginSteps) (client entry : ℕ) (was : Parts) (outcome : Outcome) (old new : HouseLogView) → Ran by client entry was outcome old new → OthersStay entry old new
 others-ran by client entry was (Outcome.Finished finished) old new k =
     let steps = step_events client entry k.steps in
     let last = Event.Finish client entry finished.state finished.stored ∷ [] in

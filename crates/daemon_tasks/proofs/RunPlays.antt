@@ -15,9 +15,9 @@ use Rattle.update_log.specs.declared.event.Stored.{Stored}
 use Rattle.update_log.specs.declared.live.LiveEntry.{LiveEntry}
 use Rattle.update_log.specs.Holding.{live, without_entry}
 use Rattle.update_log.specs.Pasts.{client_of, is_boot, off}
-use Rattle.daemon_core.specs.Annals.{SameFacts}
+use Rattle.daemon_core.specs.HouseLog.{SameFacts}
 use Rattle.daemon_core.specs.declared.claimed.Taken.{Taken}
-use Rattle.daemon_core.specs.Housed.{Annalled, Housed, past, past_in, rows_before}
+use Rattle.daemon_core.specs.Housed.{HouseLogView, Housed, past, past_in, rows_before}
 use Rattle.daemon_core.specs.Turns.{KeeperFared, Signs}
 use Rattle.client_plays.specs.declared.played.Played.{Played}
 use Rattle.client_plays.specs.Moments.{Did, Moment, at}
@@ -193,7 +193,7 @@ module _ (by : PluginSteps) (client entry : ℕ) (was : Parts) where
   behind-cut past true last = refl
   behind-cut past false last = refl
 
-  given-back : (old new : Annalled) → RunsAlone entry (past_in old) → GaveBack by client entry was old new → RunPlayed Played.Off client (StepsPlay by client entry was.payload was.board) (past_in old) (past_in new)
+  given-back : (old new : HouseLogView) → RunsAlone entry (past_in old) → GaveBack by client entry was old new → RunPlayed Played.Off client (StepsPlay by client entry was.payload was.board) (past_in old) (past_in new)
   given-back old new r k =
       let steps = step_events client entry k.steps in
       let start = start_events client entry k.started in
@@ -207,14 +207,14 @@ module _ (by : PluginSteps) (client entry : ℕ) (was : Parts) where
       in
       left-run (past_in old) k.steps k.started k.cut k.last r k.made k.begun (past_in new) e k.is_off
 
-  pub ran-so : (outcome : Outcome) (old new : Annalled) → RunsAlone entry (past_in old) → Ran by client entry was outcome old new → RunPlayed (ended_by outcome) client (StepsPlay by client entry was.payload was.board) (past_in old) (past_in new)
+  pub ran-so : (outcome : Outcome) (old new : HouseLogView) → RunsAlone entry (past_in old) → Ran by client entry was outcome old new → RunPlayed (ended_by outcome) client (StepsPlay by client entry was.payload was.board) (past_in old) (past_in new)
   ran-so (Outcome.Finished finished) old new r k =
       let last = Event.Finish client entry finished.state finished.stored in
       subst (RunPlayed Played.Done client (StepsPlay by client entry was.payload was.board) (past_in old)) (sym (past-gained (step_events client entry k.steps ++ last ∷ []) old new k.gained))
       (finished-run (past_in old) k.steps k.last finished.state finished.stored r k.made)
   ran-so Outcome.Off old new r k = given-back old new r k
 
-  pub ran-same : (outcome : Outcome) (old new : Annalled) → Ran by client entry was outcome old new → SameFacts old new
+  pub ran-same : (outcome : Outcome) (old new : HouseLogView) → Ran by client entry was outcome old new → SameFacts old new
   ran-same (Outcome.Finished finished) old new k = k.gained.same
   ran-same Outcome.Off old new k = k.gained.same
 
@@ -224,12 +224,12 @@ with-room (Outcome.Finished finished) = λ e. cc
 with-room Outcome.Off = λ e. cc
 
 -- An entry that was taken runs: what its run did, where the plugin of its board made the steps.
-pub run-played : {K : Type 0} (signs : Signs K) (plugins : ℕ → PluginSteps) (client : ℕ) (taken : Taken) (outcome : Outcome) (told : Played) (old new : Housed K) → RunsIn old.annals client (parts_taken taken) None
-    → IsOwnPlugin old.annals.facts (rows_before old.annals) (past old) taken.entry taken.plugin → told ≡ ended_by outcome → RunsAlone taken.entry (past old) → Ran (plugins taken.plugin) client taken.entry (parts_taken taken) outcome old.annals new.annals
+pub run-played : {K : Type 0} (signs : Signs K) (plugins : ℕ → PluginSteps) (client : ℕ) (taken : Taken) (outcome : Outcome) (told : Played) (old new : Housed K) → RunsIn old.house_log client (parts_taken taken) None
+    → IsOwnPlugin old.house_log.facts (rows_before old.house_log) (past old) taken.entry taken.plugin → told ≡ ended_by outcome → RunsAlone taken.entry (past old) → Ran (plugins taken.plugin) client taken.entry (parts_taken taken) outcome old.house_log new.house_log
     → KeeperFared signs old new → signs.faults old.keeper ≤ signs.faults new.keeper → BroughtHome taken.entry taken.board old new → TakenPlayed signs plugins told client taken.entry taken.board old new
 run-played signs plugins client taken outcome told old new runs own e r ran counted counts home =
-    let a = old.annals in
-    let p = ran-so (plugins taken.plugin) client taken.entry (parts_taken taken) outcome a new.annals r ran in
+    let a = old.house_log in
+    let p = ran-so (plugins taken.plugin) client taken.entry (parts_taken taken) outcome a new.house_log r ran in
     subst (λ (x : Played). TakenPlayed signs plugins x client taken.entry taken.board old new) (sym e)
     (record {
       ended = record {
@@ -240,7 +240,7 @@ run-played signs plugins client taken outcome told old new runs own e r ran coun
             p.moments p.ends;
       };
       idle = p.idle;
-      same = ran-same (plugins taken.plugin) client taken.entry (parts_taken taken) outcome a new.annals ran;
+      same = ran-same (plugins taken.plugin) client taken.entry (parts_taken taken) outcome a new.house_log ran;
       counted = counted;
       counts = counts;
       home = home;

@@ -13,8 +13,8 @@ use Rattle.update_log.specs.Known.{row_of, rows, views}
 use Rattle.update_log.specs.Legal.{may_judge}
 use Rattle.update_log.specs.Pasts.{off}
 use Rattle.daemon_core.proofs.BoardsQuiet.{kept-so}
-use Rattle.daemon_core.specs.Annals.{IsAnnals}
-use Rattle.daemon_core.specs.Housed.{Annalled, Housed, past, past_in, rows_before}
+use Rattle.daemon_core.specs.HouseLog.{IsHouseLog}
+use Rattle.daemon_core.specs.Housed.{HouseLogView, Housed, past, past_in, rows_before}
 use Rattle.daemon_core.specs.Turns.{Signs}
 use Rattle.offline_updates.specs.Waiting.{entries_where, is_pending, is_to_judge}
 use Rattle.client_plays.specs.Endings.{HouseMore, HouseWent, IsFresh, IsIdle, SoFar}
@@ -98,7 +98,7 @@ judged-excludes _ h = refl
 
 -- ---- each has its row
 
-where-known : (a : Annalled) (fits : RowState → Bool) (all : List Row) → AllByRecursion (λ r. row_of (rows_at a) r.entry ≡ Some r) all → AllKnown a (entries_where fits all)
+where-known : (a : HouseLogView) (fits : RowState → Bool) (all : List Row) → AllByRecursion (λ r. row_of (rows_at a) r.entry ≡ Some r) all → AllKnown a (entries_where fits all)
 where-known a fits [] f = tt
 where-known a fits (r ∷ all) f =
     let rest : AllKnown a (entries_where fits all) = where-known a fits all f.1 in
@@ -108,7 +108,7 @@ pending-is : (state : RowState) → is_pending state ≡ true → state ≡ RowS
 pending-is RowState.Pending h = refl
 pending-is _ h = cc
 
-where-waits : (a : Annalled) (all : List Row) → AllByRecursion (λ r. row_of (rows_at a) r.entry ≡ Some r) all → AllWait a (entries_where is_pending all)
+where-waits : (a : HouseLogView) (all : List Row) → AllByRecursion (λ r. row_of (rows_at a) r.entry ≡ Some r) all → AllWait a (entries_where is_pending all)
 where-waits a [] f = tt
 where-waits a (r ∷ all) f =
     let rest : AllWait a (entries_where is_pending all) = where-waits a all f.1 in
@@ -146,11 +146,11 @@ module _ (facts : Facts) (opening : List Row) (p : List Event) where
 
 -- ---- the lists of a boot that has just begun
 
--- The rows of annals count from 1, and each is that of its entry.
-rows-from : (a : Annalled) → IsAnnals a → EntriesFrom 1 (rows_at a)
+-- The rows of a house log count from 1, and each is that of its entry.
+rows-from : (a : HouseLogView) → IsHouseLog a → EntriesFrom 1 (rows_at a)
 rows-from a k = (kept-so a.facts a.first (rows_before a) (past_in a) k.stands.history k.legal).rows_kept.valid.entries
 
-module _ (a : Annalled) (k : IsAnnals a) where
+module _ (a : HouseLogView) (k : IsHouseLog a) where
   own-rows : AllByRecursion (λ r. row_of (rows_at a) r.entry ≡ Some r) (rows_at a)
   own-rows = found-own 1 (rows_at a) (rows-from a k)
 
@@ -189,14 +189,14 @@ module _ (a : Annalled) (k : IsAnnals a) where
 
 -- ---- rows that still wait
 
-waits-later : (old new : Annalled) (entry : ℕ) → row_of (rows_at new) entry ≡ row_of (rows_at old) entry → WaitsIn old entry → WaitsIn new entry
+waits-later : (old new : HouseLogView) (entry : ℕ) → row_of (rows_at new) entry ≡ row_of (rows_at old) entry → WaitsIn old entry → WaitsIn new entry
 waits-later old new entry e w = record { row = w.row; row_is = e ∙ w.row_is; pending = w.pending }
 
-pub all-wait_still : (entries : List ℕ) (old new : Annalled) (waiting : List ℕ) → RowsStay entries old new → NoneIn entries waiting → AllWait old waiting → AllWait new waiting
+pub all-wait_still : (entries : List ℕ) (old new : HouseLogView) (waiting : List ℕ) → RowsStay entries old new → NoneIn entries waiting → AllWait old waiting → AllWait new waiting
 all-wait_still entries old new [] s n w = tt
 all-wait_still entries old new (entry ∷ waiting) s n w = (waits-later old new entry (s entry n.0) w.0, all-wait_still entries old new waiting s n.1 w.1)
 
-pub all-wait_others : (entry : ℕ) (old new : Annalled) (waiting : List ℕ) → OthersStay entry old new → list_any (λ e. e == entry) waiting ≡ false → AllWait old waiting → AllWait new waiting
+pub all-wait_others : (entry : ℕ) (old new : HouseLogView) (waiting : List ℕ) → OthersStay entry old new → list_any (λ e. e == entry) waiting ≡ false → AllWait old waiting → AllWait new waiting
 all-wait_others entry old new [] s n w = tt
 all-wait_others entry old new (other ∷ waiting) s n w =
     let far = or-none (other == entry) (list_any (λ e. e == entry) waiting) n in

@@ -3,7 +3,7 @@ use Rattle.std.specs.Prelude.{◌≢◌, ◌≤◌, ℕ}
 use Rattle.emulated_boards.specs.Boards.{BoardState}
 use Rattle.plugin_trait.specs.Steps.{PluginSteps}
 use Rattle.daemon_core.specs.declared.stop.Stop.{Stop}
-use Rattle.daemon_core.specs.Annals.{SameFacts}
+use Rattle.daemon_core.specs.HouseLog.{SameFacts}
 use Rattle.daemon_core.specs.Housed.{Housed, past, rows_before}
 use Rattle.daemon_core.specs.Turns.{KeeperFared, Signs}
 use Rattle.client_plays.specs.declared.played.Played.{Played}
@@ -27,9 +27,9 @@ stopped_by Stop.NoMemory = Played.NoMemory
 -- changes is as before, and each fault of the keeper that the log tells was counted; and the board came home,
 -- with the faults planned that its number has. There was room for all of it: no memory was wanting.
 pub record TakenPlayed {K : Type 0} (signs : Signs K) (plugins : ℕ → PluginSteps) (played : Played) (client entry : ℕ) (board : BoardState) (old new : Housed K) : Type 0 where
-  pub ended : Ended played client (UpdatePlays old.annals.facts (rows_before old.annals) plugins client entry (past old)) (past old) (past new)
+  pub ended : Ended played client (UpdatePlays old.house_log.facts (rows_before old.house_log) plugins client entry (past old)) (past old) (past new)
   pub idle : IsIdle (past new)
-  pub same : SameFacts old.annals new.annals
+  pub same : SameFacts old.house_log new.house_log
   pub counted : KeeperFared signs old new
   pub counts : signs.faults old.keeper ≤ signs.faults new.keeper
   pub home : BroughtHome entry board old new

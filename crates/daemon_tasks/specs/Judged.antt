@@ -8,7 +8,7 @@ use Rattle.update_log.specs.Known.{row_of, rows, views}
 use Rattle.update_log.specs.Pasts.{finished, off}
 use Rattle.daemon_core.specs.declared.judged.Judged.{Judged}
 use Rattle.daemon_core.specs.declared.stop.Stop.{Stop}
-use Rattle.daemon_core.specs.Housed.{Annalled, Housed, past, past_in, rows_before}
+use Rattle.daemon_core.specs.Housed.{HouseLogView, Housed, past, past_in, rows_before}
 use Rattle.daemon_core.specs.Turns.{Signs}
 use Rattle.client_plays.specs.Endings.{AtRest, HouseWent, SoFar}
 use Rattle.client_plays.specs.Moments.{Did, Moment}
@@ -27,11 +27,11 @@ can_judge facts opening past entry =
 abbrev pub to_judge : Facts → List Row → List Event → List ℕ → List Task
 to_judge facts opening past entries = map ToJudge (filter (can_judge facts opening past) entries)
 
-abbrev pub to_judge_in : Annalled → List ℕ → List Task
+abbrev pub to_judge_in : HouseLogView → List ℕ → List Task
 to_judge_in a entries = to_judge a.facts (rows_before a) (past_in a) entries
 
 -- Rows were judged, and no others changed; each device shows what it showed, and nothing was finished.
-pub record JudgeStays (entries : List ℕ) (old new : Annalled) : Type 0 where
+pub record JudgeStays (entries : List ℕ) (old new : HouseLogView) : Type 0 where
   pub rows : RowsStay entries old new
   pub views : views new.facts (rows_before new) (past_in new) ≡ views old.facts (rows_before old) (past_in old)
   pub finished : (entry : ℕ) → finished entry (past_in new) ≡ finished entry (past_in old)
@@ -43,7 +43,7 @@ told_by (Err Stop.NoMemory) wanting = Some true
 told_by (Err Stop.Off) wanting = None
 
 -- Each of these entries has a row.
-abbrev pub AllKnown : Annalled → List ℕ → Type 0
+abbrev pub AllKnown : HouseLogView → List ℕ → Type 0
 AllKnown a [] = Unit {0}
 AllKnown a (entry ∷ entries) = ((row : Row) × (row_of (rows_at a) entry ≡ Some row)) × AllKnown a entries
 
@@ -63,17 +63,17 @@ pub record HouseTried {K : Type 0} (signs : Signs K) (facts : Facts) (opening : 
 -- played as far as they came.
 abbrev pub JudgedAll : {K : Type 0} → Signs K → Facts → List Row → Means → Went → List ℕ → Housed K → Housed K → Type 0
 JudgedAll signs facts opening means (Went.Through wanting) entries old new =
-    SoFar signs wanting 0 (TaskPlays facts opening means) (to_judge_in old.annals entries) old new × RowsStay entries old.annals new.annals
+    SoFar signs wanting 0 (TaskPlays facts opening means) (to_judge_in old.house_log entries) old new × RowsStay entries old.house_log new.house_log
 JudgedAll signs facts opening means (Went.Off wanting) entries old new =
-    (more : List Task) → HouseWent signs wanting 0 (TaskPlays facts opening means) (to_judge_in old.annals entries ++ more) old new
+    (more : List Task) → HouseWent signs wanting 0 (TaskPlays facts opening means) (to_judge_in old.house_log entries ++ more) old new
 
 -- The entry's row is put off.
-pub record WaitsIn (a : Annalled) (entry : ℕ) : Type 0 where
+pub record WaitsIn (a : HouseLogView) (entry : ℕ) : Type 0 where
   pub row : Row
   pub row_is : row_of (rows_at a) entry ≡ Some row
   pub pending : row.state ≡ RowState.Pending
 
 -- So is the row of each of these.
-abbrev pub AllWait : Annalled → List ℕ → Type 0
+abbrev pub AllWait : HouseLogView → List ℕ → Type 0
 AllWait a [] = Unit {0}
 AllWait a (entry ∷ entries) = WaitsIn a entry × AllWait a entries

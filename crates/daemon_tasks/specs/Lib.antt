@@ -7,7 +7,7 @@ pub use Rattle.update_log.specs.Holding
 pub use Rattle.update_log.specs.Known
 pub use Rattle.update_log.specs.Pasts
 pub use Rattle.offline_updates.specs.Waiting
-pub use Rattle.daemon_core.specs.Annals
+pub use Rattle.daemon_core.specs.HouseLog
 pub use Rattle.daemon_core.specs.Fetches
 pub use Rattle.daemon_core.specs.Holds
 pub use Rattle.daemon_core.specs.Housed

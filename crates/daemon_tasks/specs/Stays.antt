@@ -7,7 +7,7 @@ use Rattle.update_log.specs.declared.live.LiveEntry.{LiveEntry}
 use Rattle.update_log.specs.Holding.{holds, live}
 use Rattle.update_log.specs.Known.{row_of, rows}
 use Rattle.daemon_core.specs.Holds.{held_by}
-use Rattle.daemon_core.specs.Housed.{Annalled, past_in, rows_before}
+use Rattle.daemon_core.specs.Housed.{HouseLogView, past_in, rows_before}
 use Rattle.daemon_core.specs.declared.hold.Ticket.{Ticket}
 
 -- This hold of a client is out, and nothing else.
@@ -24,15 +24,15 @@ pub record RunsAlone (entry : ℕ) (past : List Event) : Type 0 where
   pub entry_is : l.entry ≡ entry
 
 -- The rows, as the log says them.
-abbrev pub rows_at : Annalled → List Row
+abbrev pub rows_at : HouseLogView → List Row
 rows_at a = rows a.facts (rows_before a) (past_in a)
 
 -- The row of every other entry stays.
-abbrev pub OthersStay : ℕ → Annalled → Annalled → Type 0
+abbrev pub OthersStay : ℕ → HouseLogView → HouseLogView → Type 0
 OthersStay entry old new = (other : ℕ) → (entry == other) ≡ false → row_of (rows_at new) other ≡ row_of (rows_at old) other
 
 -- The row of every entry stays that isn't one of these.
-abbrev pub RowsStay : List ℕ → Annalled → Annalled → Type 0
+abbrev pub RowsStay : List ℕ → HouseLogView → HouseLogView → Type 0
 RowsStay entries old new =
     (other : ℕ) → list_any (λ e. e == other) entries ≡ false → row_of (rows_at new) other ≡ row_of (rows_at old) other
 

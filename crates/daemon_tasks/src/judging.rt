@@ -38,9 +38,9 @@ fn told(outcome: Result<Judged, Stop>, wanting: bool) -> Option<bool>
 fn judge_next<K: Keeper>(house: &mut House<K>, entry: u32, wanting: bool) -> Option<bool>
     requires booted { 0 < boots (past house.old) }
     requires idle { IsIdle (past house.old) }
-    requires row { (row : Row) × (row_of (rows_at house.old.annals) entry ≡ Some row) }
-    ensures more { (facts : Facts) (opening : List Row) (files : Files) → HouseTried (signs_of K.tells K.faults) facts opening (files_alone files) result wanting (to_judge_in house.old.annals (entry ∷ [])) house.old house.new }
-    ensures stays { JudgeStays (entry ∷ []) house.old.annals house.new.annals }
+    requires row { (row : Row) × (row_of (rows_at house.old.house_log) entry ≡ Some row) }
+    ensures more { (facts : Facts) (opening : List Row) (files : Files) → HouseTried (signs_of K.tells K.faults) facts opening (files_alone files) result wanting (to_judge_in house.old.house_log (entry ∷ [])) house.old house.new }
+    ensures stays { JudgeStays (entry ∷ []) house.old.house_log house.new.house_log }
 {
     house.known();
     let outcome = house.judge(0, entry);
@@ -51,7 +51,7 @@ fn judge_next<K: Keeper>(house: &mut House<K>, entry: u32, wanting: bool) -> Opt
 pub(crate) fn judge_all<K: Keeper>(house: &mut House<K>, entries: &[u32]) -> Went
     requires booted { 0 < boots (past house.old) }
     requires idle { IsIdle (past house.old) }
-    requires rows { AllKnown house.old.annals entries.now }
+    requires rows { AllKnown house.old.house_log entries.now }
     requires apart { AreApart entries.now }
     ensures { (facts : Facts) (opening : List Row) (files : Files) → JudgedAll (signs_of K.tells K.faults) facts opening (files_alone files) result entries.now house.old house.new }
 {

@@ -32,7 +32,7 @@ fn give_up<K: Keeper>(house: &mut House<K>, stopped: ResumeStop) -> Played
     requires booted { 0 < boots (past house.old) }
     requires out { IsOut stopped.held (past house.old) }
     ensures told { result ≡ stopped_by stopped.stop }
-    ensures given { WasGivenUp stopped.held house.old.annals house.new.annals }
+    ensures given { WasGivenUp stopped.held house.old.house_log house.new.house_log }
     ensures places { house.new.places ≡ house.old.places }
     ensures keeper { house.new.keeper ≡ house.old.keeper }
 {
@@ -53,12 +53,12 @@ fn resume_with<K: Keeper>(
     plugins: &[Box<dyn Plugin>],
 ) -> Played
     requires booted { 0 < boots (past house.old) }
-    requires put_off { IsPutOff house.old.annals entry }
-    requires comes { ComesIn house.old.annals entry held }
+    requires put_off { IsPutOff house.old.house_log entry }
+    requires comes { ComesIn house.old.house_log entry held }
     requires out { IsOut held (past house.old) }
-    requires served { length house.old.annals.facts.vetoes ≤ length plugins.now }
-    ensures played { (files : Files) (asked : AskAnswer) → ResumeFetches house.old.annals.facts files asked (note_in held) → HousePlayed (signs_of K.tells K.faults) result 0 (ResumePlays house.old.annals.facts (rows_before house.old.annals) (means_of files (steps_at (λ p. steps p) plugins.now)) entry asked) house.old house.new }
-    ensures others { OthersStay entry house.old.annals house.new.annals }
+    requires served { length house.old.house_log.facts.vetoes ≤ length plugins.now }
+    ensures played { (files : Files) (asked : AskAnswer) → ResumeFetches house.old.house_log.facts files asked (note_in held) → HousePlayed (signs_of K.tells K.faults) result 0 (ResumePlays house.old.house_log.facts (rows_before house.old.house_log) (means_of files (steps_at (λ p. steps p) plugins.now)) entry asked) house.old house.new }
+    ensures others { OthersStay entry house.old.house_log house.new.house_log }
     ensures told { faults_in (mine 0 (past house.new)) ≤ faults_in (mine 0 (past house.old)) + faults_noted (note_in held) }
 {
     match house.resume(entry, held) {
@@ -81,12 +81,12 @@ fn resume_held<K: Keeper, P: Shelf>(
     plugins: &[Box<dyn Plugin>],
 ) -> Played
     requires booted { 0 < boots (past house.old) }
-    requires put_off { IsPutOff house.old.annals entry }
+    requires put_off { IsPutOff house.old.house_log entry }
     requires held { HoldsAlone 0 hold.ticket hold.blocks.count (past house.old) }
-    requires hold { (request : Request) × IsHoldFor house.old.annals.facts 0 request (Some entry) hold }
-    requires served { length house.old.annals.facts.vetoes ≤ length plugins.now }
-    ensures played { HousePlayed (signs_of K.tells K.faults) result 0 (ResumePlays house.old.annals.facts (rows_before house.old.annals) (means_of (P.files shelf.old) (steps_at (λ p. steps p) plugins.now)) entry (AskAnswer.Hold hold.blocks.count hold.ticket.release)) house.old house.new }
-    ensures others { OthersStay entry house.old.annals house.new.annals }
+    requires hold { (request : Request) × IsHoldFor house.old.house_log.facts 0 request (Some entry) hold }
+    requires served { length house.old.house_log.facts.vetoes ≤ length plugins.now }
+    ensures played { HousePlayed (signs_of K.tells K.faults) result 0 (ResumePlays house.old.house_log.facts (rows_before house.old.house_log) (means_of (P.files shelf.old) (steps_at (λ p. steps p) plugins.now)) entry (AskAnswer.Hold hold.blocks.count hold.ticket.release)) house.old house.new }
+    ensures others { OthersStay entry house.old.house_log house.new.house_log }
     ensures files { P.files shelf.new ≡ P.files shelf.old }
     ensures counts { P.faults shelf.old ≤ P.faults shelf.new }
     ensures told { FaultsTold (mine 0 (past house.old)) (mine 0 (past house.new)) (P.faults shelf.old) (P.faults shelf.new) }
@@ -104,10 +104,10 @@ fn resume_entry<K: Keeper, P: Shelf>(
 ) -> Played
     requires booted { 0 < boots (past house.old) }
     requires idle { IsIdle (past house.old) }
-    requires waits { WaitsIn house.old.annals entry }
-    requires served { length house.old.annals.facts.vetoes ≤ length plugins.now }
-    ensures played { HousePlayed (signs_of K.tells K.faults) result 0 (TaskPlays house.old.annals.facts (rows_before house.old.annals) (means_of (P.files shelf.old) (steps_at (λ p. steps p) plugins.now)) (ToResume entry)) house.old house.new }
-    ensures others { OthersStay entry house.old.annals house.new.annals }
+    requires waits { WaitsIn house.old.house_log entry }
+    requires served { length house.old.house_log.facts.vetoes ≤ length plugins.now }
+    ensures played { HousePlayed (signs_of K.tells K.faults) result 0 (TaskPlays house.old.house_log.facts (rows_before house.old.house_log) (means_of (P.files shelf.old) (steps_at (λ p. steps p) plugins.now)) (ToResume entry)) house.old house.new }
+    ensures others { OthersStay entry house.old.house_log house.new.house_log }
     ensures files { P.files shelf.new ≡ P.files shelf.old }
     ensures counts { P.faults shelf.old ≤ P.faults shelf.new }
     ensures told { FaultsTold (mine 0 (past house.old)) (mine 0 (past house.new)) (P.faults shelf.old) (P.faults shelf.new) }
@@ -140,10 +140,10 @@ fn resume_next<K: Keeper, P: Shelf>(
 ) -> Option<bool>
     requires booted { 0 < boots (past house.old) }
     requires idle { IsIdle (past house.old) }
-    requires waits { WaitsIn house.old.annals entry }
-    requires served { length house.old.annals.facts.vetoes ≤ length plugins.now }
-    ensures more { HouseOnceMore (signs_of K.tells K.faults) result wanting 0 (TaskPlays house.old.annals.facts (rows_before house.old.annals) (means_of (P.files shelf.old) (steps_at (λ p. steps p) plugins.now)) (ToResume entry)) house.old house.new }
-    ensures others { OthersStay entry house.old.annals house.new.annals }
+    requires waits { WaitsIn house.old.house_log entry }
+    requires served { length house.old.house_log.facts.vetoes ≤ length plugins.now }
+    ensures more { HouseOnceMore (signs_of K.tells K.faults) result wanting 0 (TaskPlays house.old.house_log.facts (rows_before house.old.house_log) (means_of (P.files shelf.old) (steps_at (λ p. steps p) plugins.now)) (ToResume entry)) house.old house.new }
+    ensures others { OthersStay entry house.old.house_log house.new.house_log }
     ensures files { P.files shelf.new ≡ P.files shelf.old }
     ensures counts { P.faults shelf.old ≤ P.faults shelf.new }
     ensures told { FaultsTold (mine 0 (past house.old)) (mine 0 (past house.new)) (P.faults shelf.old) (P.faults shelf.new) }
@@ -166,10 +166,10 @@ pub(crate) fn resume_all<K: Keeper, P: Shelf>(
 ) -> bool
     requires booted { 0 < boots (past house.old) }
     requires idle { IsIdle (past house.old) }
-    requires waits { AllWait house.old.annals entries.now }
+    requires waits { AllWait house.old.house_log entries.now }
     requires apart { AreApart entries.now }
-    requires served { length house.old.annals.facts.vetoes ≤ length plugins.now }
-    ensures more { HouseMore (signs_of K.tells K.faults) result before 0 (TaskPlays house.old.annals.facts (rows_before house.old.annals) (means_of (P.files shelf.old) (steps_at (λ p. steps p) plugins.now))) (map ToResume entries.now) house.old house.new }
+    requires served { length house.old.house_log.facts.vetoes ≤ length plugins.now }
+    ensures more { HouseMore (signs_of K.tells K.faults) result before 0 (TaskPlays house.old.house_log.facts (rows_before house.old.house_log) (means_of (P.files shelf.old) (steps_at (λ p. steps p) plugins.now))) (map ToResume entries.now) house.old house.new }
     ensures files { P.files shelf.new ≡ P.files shelf.old }
     ensures counts { P.faults shelf.old ≤ P.faults shelf.new }
     ensures told { FaultsTold (mine 0 (past house.old)) (mine 0 (past house.new)) (P.faults shelf.old) (P.faults shelf.new) }

@@ -21,14 +21,14 @@ pub(crate) fn run_taken<K: Keeper>(
     taken: Taken,
     plugins: &[Box<dyn Plugin>],
 ) -> Played
-    requires runs { RunsIn house.old.annals client (parts_taken taken) None }
+    requires runs { RunsIn house.old.house_log client (parts_taken taken) None }
     requires no_steps { taken.trace.steps ≡ [] }
     requires marks { 8 ≤ taken.board.room }
     requires served { taken.plugin < length plugins.now }
-    requires own { IsOwnPlugin house.old.annals.facts (rows_before house.old.annals) (past house.old) taken.entry taken.plugin }
+    requires own { IsOwnPlugin house.old.house_log.facts (rows_before house.old.house_log) (past house.old) taken.entry taken.plugin }
     requires alone { RunsAlone taken.entry (past house.old) }
     ensures played { TakenPlayed (signs_of K.tells K.faults) (steps_at (λ p. steps p) plugins.now) result client taken.entry taken.board house.old house.new }
-    ensures others { OthersStay taken.entry house.old.annals house.new.annals }
+    ensures others { OthersStay taken.entry house.old.house_log house.new.house_log }
 {
     let outcome = run_claim(house, client, taken, plugins);
     ended_by(outcome)

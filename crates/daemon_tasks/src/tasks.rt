@@ -33,10 +33,10 @@ fn go_through<K: Keeper, P: Shelf>(
     requires booted { 0 < boots (past house.old) }
     requires idle { IsIdle (past house.old) }
     requires fresh { IsFresh (past house.old) }
-    requires judged { judged.now ≡ entries_where is_to_judge house.old.annals.core.rows }
-    requires waiting { waiting.now ≡ entries_where is_pending house.old.annals.core.rows }
-    requires served { length house.old.annals.facts.vetoes ≤ length plugins.now }
-    ensures went { HouseWent (signs_of K.tells K.faults) result 0 (TaskPlays house.old.annals.facts (rows_before house.old.annals) (means_of (P.files shelf.old) (steps_at (λ p. steps p) plugins.now))) (tasks house.old.annals.facts (rows_before house.old.annals) (began (past house.old))) house.old house.new }
+    requires judged { judged.now ≡ entries_where is_to_judge house.old.house_log.core.rows }
+    requires waiting { waiting.now ≡ entries_where is_pending house.old.house_log.core.rows }
+    requires served { length house.old.house_log.facts.vetoes ≤ length plugins.now }
+    ensures went { HouseWent (signs_of K.tells K.faults) result 0 (TaskPlays house.old.house_log.facts (rows_before house.old.house_log) (means_of (P.files shelf.old) (steps_at (λ p. steps p) plugins.now))) (tasks house.old.house_log.facts (rows_before house.old.house_log) (began (past house.old))) house.old house.new }
     ensures files { P.files shelf.new ≡ P.files shelf.old }
     ensures counts { P.faults shelf.old ≤ P.faults shelf.new }
     ensures told { FaultsTold (mine 0 (past house.old)) (mine 0 (past house.new)) (P.faults shelf.old) (P.faults shelf.new) }
@@ -58,8 +58,8 @@ pub fn do_tasks<K: Keeper, P: Shelf>(
     requires booted { 0 < boots (past house.old) }
     requires idle { IsIdle (past house.old) }
     requires fresh { IsFresh (past house.old) }
-    requires served { length house.old.annals.facts.vetoes ≤ length plugins.now }
-    ensures went { HouseWent (signs_of K.tells K.faults) result 0 (TaskPlays house.old.annals.facts (rows_before house.old.annals) (means_of (P.files shelf.old) (steps_at (λ p. steps p) plugins.now))) (tasks house.old.annals.facts (rows_before house.old.annals) (began (past house.old))) house.old house.new }
+    requires served { length house.old.house_log.facts.vetoes ≤ length plugins.now }
+    ensures went { HouseWent (signs_of K.tells K.faults) result 0 (TaskPlays house.old.house_log.facts (rows_before house.old.house_log) (means_of (P.files shelf.old) (steps_at (λ p. steps p) plugins.now))) (tasks house.old.house_log.facts (rows_before house.old.house_log) (began (past house.old))) house.old house.new }
     ensures files { P.files shelf.new ≡ P.files shelf.old }
     ensures counts { P.faults shelf.old ≤ P.faults shelf.new }
     ensures told { FaultsTold (mine 0 (past house.old)) (mine 0 (past house.new)) (P.faults shelf.old) (P.faults shelf.new) }

@@ -20,11 +20,11 @@ use Rattle.update_log.specs.Once as once
 use Rattle.update_log.specs.Once.{Fits}
 use Rattle.update_log.specs.Pasts.{boots, past_of}
 use Rattle.update_log.specs.Shows.{Campaign}
-use Rattle.daemon_core.specs.Annals.{IsAnnals}
+use Rattle.daemon_core.specs.HouseLog.{IsHouseLog}
 use Rattle.daemon_core.specs.Boards.{BoardIsHome, BoardStands, PlaceStands, journal_and_view}
 use Rattle.daemon_core.specs.Boots.{NoBoot, ReadOthers}
 use Rattle.daemon_core.specs.House.{IsHouse}
-use Rattle.daemon_core.specs.Housed.{Annalled, Housed, Place, past, rows_before, rows_taken}
+use Rattle.daemon_core.specs.Housed.{HouseLogView, Housed, Place, past, rows_before, rows_taken}
 use Rattle.daemon_core.specs.Keeping.{HasRows, KeepsSo, WasReopened, keeper_faults, last_faulted}
 use Rattle.daemon_core.specs.Parts.{BoardsOf, IsBoardOf}
 use Rattle.daemon_core.specs.Reading.{AreOthers, AreTold}
@@ -43,34 +43,34 @@ use Rattle.client_threads.proofs.LegalLaws.{legal-in}
 use Rattle.fwupd_service.specs.Campaigns.{EndsAt, IsBadHistory, IsOpening, IsTrueLog, IsUnread, IsUntouched, KeeperStands, WasPlayed}
 
 -- The rows that a boot took are the opening.
-before-is : (a : Annalled) → a.loaded ≡ true → rows_before a ≡ a.opening
+before-is : (a : HouseLogView) → a.loaded ≡ true → rows_before a ≡ a.opening
 before-is a t = ap (λ (b : Bool). rows_taken b a.opening) t
 
 -- What holds over the rows before the log holds over the opening, if it does so of boots that read nothing.
-lift : (a : Annalled) (P : List Row → Type 0) → (a.loaded ≡ false → P a.opening) → P (rows_before a) → P a.opening
+lift : (a : HouseLogView) (P : List Row → Type 0) → (a.loaded ≡ false → P a.opening) → P (rows_before a) → P a.opening
 lift a P unread p = by_test a.loaded (P a.opening) (λ t. subst P (before-is a t) p) unread
 
 -- The rows before the log, by what the keeper that came told.
-opening-told : {K : Type 0} (told : K → List Row → Type 0) (came : List Row → Type 0) (h : Housed K) → (h.annals.loaded ≡ false → AllFaults (past h)) → OpeningTold told came h → IsOpening came (told h.keeper) h.annals.opening h.annals.core.log
+opening-told : {K : Type 0} (told : K → List Row → Type 0) (came : List Row → Type 0) (h : Housed K) → (h.house_log.loaded ≡ false → AllFaults (past h)) → OpeningTold told came h → IsOpening came (told h.keeper) h.house_log.opening h.house_log.core.log
 opening-told told came h none o =
-    by_test h.annals.loaded (IsOpening came (told h.keeper) opening h.annals.core.log)
+    by_test h.house_log.loaded (IsOpening came (told h.keeper) opening h.house_log.core.log)
     (λ t. inl (subst O t o))
     (λ f. let s = subst O f o in untaken s.0 (none f) s.1)
   where
     opening : List Row
-    opening = h.annals.opening
+    opening = h.house_log.opening
 
     O : Bool → Type 0
     O b = MatchBool b (AreTold came (told h.keeper) opening) (StillTold came (told h.keeper) × ((opening ≡ []) ⊎ AreTold came (told h.keeper) opening))
 
-    untaken : StillTold came (told h.keeper) → AllFaults (past h) → (opening ≡ []) ⊎ AreTold came (told h.keeper) opening → IsOpening came (told h.keeper) opening h.annals.core.log
+    untaken : StillTold came (told h.keeper) → AllFaults (past h) → (opening ≡ []) ⊎ AreTold came (told h.keeper) opening → IsOpening came (told h.keeper) opening h.house_log.core.log
     untaken still all (inl e) = inr (e, still, all)
     untaken still all (inr a) = inl a
 
 -- While no boot took them the keeper told before what it tells.
-still-told : {K : Type 0} (told : K → List Row → Type 0) (came : List Row → Type 0) (h : Housed K) → h.annals.loaded ≡ false → OpeningTold told came h → StillTold came (told h.keeper)
+still-told : {K : Type 0} (told : K → List Row → Type 0) (came : List Row → Type 0) (h : Housed K) → h.house_log.loaded ≡ false → OpeningTold told came h → StillTold came (told h.keeper)
 still-told told came h f o =
-    let O = λ (b : Bool). MatchBool b (AreTold came (told h.keeper) h.annals.opening) (StillTold came (told h.keeper) × ((h.annals.opening ≡ []) ⊎ AreTold came (told h.keeper) h.annals.opening)) in
+    let O = λ (b : Bool). MatchBool b (AreTold came (told h.keeper) h.house_log.opening) (StillTold came (told h.keeper) × ((h.house_log.opening ≡ []) ⊎ AreTold came (told h.keeper) h.house_log.opening)) in
     (subst O f o).0
 
 -- The element of a list that was mapped.
@@ -86,40 +86,40 @@ map-get f (x ∷ xs) (suc n) y e = let m = map-get f xs n y e in record { x = m.
 
 module _ {K : Type 0} (told : K → List Row → Type 0) (doubted : K → Option Change) (faults : K → ℕ) (means : ℕ → Means) (ran : Ran) (plans : List BootPlan) (scripts : List (List (List Item))) (old h : Housed K)
     (r : CampaignRan (signs_of told faults) ran.ending ran.wanting means plans scripts old h)
-    (a : IsAnnals h.annals) (k : IsHouse told doubted h) where
+    (a : IsHouseLog h.house_log) (k : IsHouse told doubted h) where
   abbrev facts : Facts
-  facts = h.annals.facts
+  facts = h.house_log.facts
 
   abbrev first : List Seen
-  first = h.annals.first
+  first = h.house_log.first
 
   abbrev opening : List Row
-  opening = h.annals.opening
+  opening = h.house_log.opening
 
   abbrev c : Campaign
   c = with_plans facts first plans
 
-  all-faults : h.annals.loaded ≡ false → AllFaults (past h)
+  all-faults : h.house_log.loaded ≡ false → AllFaults (past h)
   all-faults f = a.unloaded f
 
   legal-opening : IsLegal c opening (past h)
   legal-opening =
-      lift h.annals (λ (o : List Row). IsLegal c o (past h))
-      (λ f. legal-in facts first plans opening (past h) r.ran.planned (legal-over facts first (rows_before h.annals) opening (past h) (all-faults f) a.legal))
-      (legal-in facts first plans (rows_before h.annals) (past h) r.ran.planned a.legal)
+      lift h.house_log (λ (o : List Row). IsLegal c o (past h))
+      (λ f. legal-in facts first plans opening (past h) r.ran.planned (legal-over facts first (rows_before h.house_log) opening (past h) (all-faults f) a.legal))
+      (legal-in facts first plans (rows_before h.house_log) (past h) r.ran.planned a.legal)
 
   history-opening : IsHistory opening ⊎ AllFaults (past h)
   history-opening =
-      by_test h.annals.loaded (IsHistory opening ⊎ AllFaults (past h))
-      (λ t. inl (subst IsHistory (before-is h.annals t) a.stands.history))
+      by_test h.house_log.loaded (IsHistory opening ⊎ AllFaults (past h))
+      (λ t. inl (subst IsHistory (before-is h.house_log t) a.stands.history))
       (λ f. inr (all-faults f))
 
   -- ---- boards
 
   place-opening : (number : ℕ) (place : Place) → slice_get h.places number ≡ Some place → PlaceStands facts first opening (past h) number place
   place-opening number place e =
-      lift h.annals (λ (o : List Row). PlaceStands facts first o (past h) number place)
-      (λ f. place-over facts first (rows_before h.annals) opening (past h) number (said-over facts first (rows_before h.annals) opening (past h) number (all-faults f)) place (k.places number place e))
+      lift h.house_log (λ (o : List Row). PlaceStands facts first o (past h) number place)
+      (λ f. place-over facts first (rows_before h.house_log) opening (past h) number (said-over facts first (rows_before h.house_log) opening (past h) number (all-faults f)) place (k.places number place e))
       (k.places number place e)
 
   home-stands : (number : ℕ) (o : Option BoardState) (b : BoardState) → o ≡ Some b → BoardIsHome facts first opening (past h) number o → (tail : List _) × BoardStands facts first opening (past h) number b tail
@@ -130,7 +130,7 @@ module _ {K : Type 0} (told : K → List Row → Type 0) (doubted : K → Option
       let i : IsBoardOf h number b = of.each number b e in
       home-stands number i.place.board b i.board_is (place-opening number i.place i.place_is).home
 
-  fits-opening : (boards : List BoardState) → BoardsOf h boards → Fits c opening h.annals.core.log (map journal_and_view boards)
+  fits-opening : (boards : List BoardState) → BoardsOf h boards → Fits c opening h.house_log.core.log (map journal_and_view boards)
   fits-opening boards of = record {
     count = rw length-map of.count;
     each = λ number s e.
@@ -139,45 +139,45 @@ module _ {K : Type 0} (told : K → List Row → Type 0) (doubted : K → Option
         (stands.0, subst (λ (v : once.JournalAndView). once.BoardFits facts first opening (past h) number v stands.0) m.is stands.1.fits);
   }
 
-  true-log : AtMostOnce → TakenOnce → HistoryStays → (boards : List BoardState) → BoardsOf h boards → IsTrueLog c opening h.annals.core.log boards
+  true-log : AtMostOnce → TakenOnce → HistoryStays → (boards : List BoardState) → BoardsOf h boards → IsTrueLog c opening h.house_log.core.log boards
   true-log law_once law_taken law_stays boards of = record {
     legal = legal-opening;
     fits = fits-opening boards of;
     history = history-opening;
-    once = λ valid. law_once c opening h.annals.core.log (map journal_and_view boards) valid legal-opening (fits-opening boards of);
-    taken = λ valid. law_taken c opening h.annals.core.log valid legal-opening;
-    stays = λ valid. law_stays c opening h.annals.core.log valid legal-opening;
+    once = λ valid. law_once c opening h.house_log.core.log (map journal_and_view boards) valid legal-opening (fits-opening boards of);
+    taken = λ valid. law_taken c opening h.house_log.core.log valid legal-opening;
+    stays = λ valid. law_stays c opening h.house_log.core.log valid legal-opening;
     board_faults = λ number b e. (board-stands boards of number b e).1.faults;
   }
 
   -- ---- the keeper
 
   -- where all boots were run and the last one read the history, it wasn't opened again since
-  ended-unread : (ending : Ending) → EndedSo told ending plans r.count h → h.annals.reopened ≡ true → IsUnread c h.annals.core.log
+  ended-unread : (ending : Ending) → EndedSo told ending plans r.count h → h.house_log.reopened ≡ true → IsUnread c h.house_log.core.log
   ended-unread Ending.Whole e o = by_test (last_faulted (past h)) _ (λ t. inl t) (λ f. let bad : true ≡ false = sym o ∙ e.1 f in cc)
   ended-unread (Ending.BadHistory entry) e o = inr (omega (arith, r.ran.count_is, e.0))
   ended-unread Ending.NoMemory e o = inr (omega (arith, r.ran.count_is, e))
 
-  keeps-so : (b : Bool) (keeper : K) (all : List Row) (change : Option Change) → h.annals.reopened ≡ b → KeepsSo b told doubted keeper all change → HasRows told doubted keeper all change ⊎ (IsUnread c h.annals.core.log × WasReopened told doubted keeper all change)
+  keeps-so : (b : Bool) (keeper : K) (all : List Row) (change : Option Change) → h.house_log.reopened ≡ b → KeepsSo b told doubted keeper all change → HasRows told doubted keeper all change ⊎ (IsUnread c h.house_log.core.log × WasReopened told doubted keeper all change)
   keeps-so true keeper all change o (inl k) = inl k
   keeps-so true keeper all change o (inr k) = inr (ended-unread ran.ending r.ended o, k)
   keeps-so false keeper all change o k = inl k
 
-  keeps-opening : IsUntouched told doubted h.annals.core.log old.keeper h.keeper ⊎ (HasRows told doubted h.keeper (rows facts opening (past h)) (doubt facts opening (past h))
-      ⊎ (IsUnread c h.annals.core.log × WasReopened told doubted h.keeper (rows facts opening (past h)) (doubt facts opening (past h))))
+  keeps-opening : IsUntouched told doubted h.house_log.core.log old.keeper h.keeper ⊎ (HasRows told doubted h.keeper (rows facts opening (past h)) (doubt facts opening (past h))
+      ⊎ (IsUnread c h.house_log.core.log × WasReopened told doubted h.keeper (rows facts opening (past h)) (doubt facts opening (past h))))
   keeps-opening =
-      by_test h.annals.loaded _
+      by_test h.house_log.loaded _
       (λ t.
-      let o = before-is h.annals t in
-      let so = h.annals.reopened in
+      let o = before-is h.house_log t in
+      let so = h.house_log.reopened in
       inr (keeps-so so h.keeper (rows facts opening (past h)) (doubt facts opening (past h)) refl
       (subst (λ (x : List Row). KeepsSo so told doubted h.keeper (rows facts x (past h)) (doubt facts x (past h))) o
-      (subst (λ (x : List Row). KeepsSo so told doubted h.keeper x (doubt facts (rows_before h.annals) (past h))) a.stands.rows
-      (subst (λ (x : Option Change). KeepsSo so told doubted h.keeper h.annals.core.rows x) a.stands.doubt (k.kept t))))))
+      (subst (λ (x : List Row). KeepsSo so told doubted h.keeper x (doubt facts (rows_before h.house_log) (past h))) a.stands.rows
+      (subst (λ (x : Option Change). KeepsSo so told doubted h.keeper h.house_log.core.rows x) a.stands.doubt (k.kept t))))))
       (λ f. inl (record { none = all-faults f; told_are = still-told told (told old.keeper) h f r.ran.opening; no_doubt = k.unloaded f }))
 
   -- the log was empty at first
-  module _ (n : old.annals.core.log ≡ []) where
+  module _ (n : old.house_log.core.log ≡ []) where
     none-before : keeper_faults (past old) ≡ 0
     none-before = ap (λ (log : List Event). keeper_faults (past_of log)) n
 
@@ -185,7 +185,7 @@ module _ {K : Type 0} (told : K → List Row → Type 0) (doubted : K → Option
     counted-from (inl l) = let z = none-before in inl (omega (arith, z, l))
     counted-from (inr l) = inr l
 
-    keeper-stands : KeeperStands told doubted faults c opening h.annals.core.log old.keeper h.keeper
+    keeper-stands : KeeperStands told doubted faults c opening h.house_log.core.log old.keeper h.keeper
     keeper-stands = record {
       keeps = keeps-opening;
       opening_is = opening-told told (told old.keeper) h all-faults r.ran.opening;
@@ -196,46 +196,46 @@ module _ {K : Type 0} (told : K → List Row → Type 0) (doubted : K → Option
 
   -- ---- what was played
 
-  played-opening : PlayedBoots ran.wanting c opening means scripts r.count h.annals.core.log
+  played-opening : PlayedBoots ran.wanting c opening means scripts r.count h.house_log.core.log
   played-opening = record {
     boots_are = r.ran.count_is;
     played =
         let B = λ (o : List Row). BootPlayed ran.wanting facts o means (scripts_in scripts (boots (past h))) (past h) in (
-          lift h.annals B (λ f. faults-played ran.wanting facts opening means scripts (past h) (all-faults f))
-              (subst (λ (n : ℕ). BootPlayed ran.wanting facts (rows_before h.annals) means (scripts_in scripts n) (past h)) (sym r.ran.count_is) r.ran.played),
-          lift h.annals (λ (o : List Row). EarlierPlayed ran.wanting facts o means scripts (past h)) (λ f. faults-earlier ran.wanting facts opening means scripts (past h) (all-faults f)) r.ran.earlier,
+          lift h.house_log B (λ f. faults-played ran.wanting facts opening means scripts (past h) (all-faults f))
+              (subst (λ (n : ℕ). BootPlayed ran.wanting facts (rows_before h.house_log) means (scripts_in scripts n) (past h)) (sym r.ran.count_is) r.ran.played),
+          lift h.house_log (λ (o : List Row). EarlierPlayed ran.wanting facts o means scripts (past h)) (λ f. faults-earlier ran.wanting facts opening means scripts (past h) (all-faults f)) r.ran.earlier,
         );
   }
 
   -- the rows and the change in doubt before the boot that read others
-  others-opening : (entry : ℕ) (loaded : List Row) (mid : Housed K) → IsAnnals mid.annals → NoBoot told mid h → h.annals.loaded ≡ true → h.annals.opening ≡ mid.annals.opening → AreOthers entry loaded mid.annals.core.rows mid.annals.core.doubt
+  others-opening : (entry : ℕ) (loaded : List Row) (mid : Housed K) → IsHouseLog mid.house_log → NoBoot told mid h → h.house_log.loaded ≡ true → h.house_log.opening ≡ mid.house_log.opening → AreOthers entry loaded mid.house_log.core.rows mid.house_log.core.doubt
       → AreOthers entry loaded (rows facts opening (past h)) (doubt facts opening (past h))
   others-opening entry loaded mid m n t o others =
-      let before : rows_before mid.annals ≡ opening = before-is mid.annals (sym n.loaded ∙ t) ∙ sym o in
+      let before : rows_before mid.house_log ≡ opening = before-is mid.house_log (sym n.loaded ∙ t) ∙ sym o in
       let p : past mid ≡ past h = ap past_of (sym n.log) in
-      let f : mid.annals.facts ≡ facts = sym n.grounds.facts in
+      let f : mid.house_log.facts ≡ facts = sym n.grounds.facts in
       let R = λ (x : Facts) (y : List Row) (z : List Event). AreOthers entry loaded (rows x y z) (doubt x y z) in
       subst (λ (x : Facts). R x opening (past h)) f
-      (subst (λ (y : List Row). R mid.annals.facts y (past h)) before
-      (subst (λ (z : List Event). R mid.annals.facts (rows_before mid.annals) z) p
-      (subst (λ (x : Option Change). AreOthers entry loaded (rows mid.annals.facts (rows_before mid.annals) (past mid)) x) m.stands.doubt
-      (subst (λ (x : List Row). AreOthers entry loaded x mid.annals.core.doubt) m.stands.rows others))))
+      (subst (λ (y : List Row). R mid.house_log.facts y (past h)) before
+      (subst (λ (z : List Event). R mid.house_log.facts (rows_before mid.house_log) z) p
+      (subst (λ (x : Option Change). AreOthers entry loaded (rows mid.house_log.facts (rows_before mid.house_log) (past mid)) x) m.stands.doubt
+      (subst (λ (x : List Row). AreOthers entry loaded x mid.house_log.core.doubt) m.stands.rows others))))
 
-  bad-history : (entry : ℕ) (mid : Housed K) → IsAnnals mid.annals → ReadOthers told entry mid h → IsBadHistory told entry facts opening h.annals.core.log h.keeper
+  bad-history : (entry : ℕ) (mid : Housed K) → IsHouseLog mid.house_log → ReadOthers told entry mid h → IsBadHistory told entry facts opening h.house_log.core.log h.keeper
   bad-history entry mid m o =
-      by_test h.annals.loaded _
+      by_test h.house_log.loaded _
       (λ t.
       let l = o.later (sym o.none.loaded ∙ t) in
-      inr (subst IsHistory (before-is h.annals t) a.stands.history, l.1, (l.2.0, others-opening entry l.2.0 mid m o.none t l.0 l.2.1)))
+      inr (subst IsHistory (before-is h.house_log t) a.stands.history, l.1, (l.2.0, others-opening entry l.2.0 mid m o.none t l.0 l.2.1)))
       (λ f. inl (all-faults f, (o.first (sym o.none.loaded ∙ f)).0))
 
-  ends-so : (ending : Ending) → EndedSo told ending plans r.count h → EndsAt told ending c opening h.annals.core.log h.keeper r.count
+  ends-so : (ending : Ending) → EndedSo told ending plans r.count h → EndsAt told ending c opening h.house_log.core.log h.keeper r.count
   ends-so Ending.Whole e = e.0
   ends-so (Ending.BadHistory entry) e = (e.0, bad-history entry e.1.0 e.1.1 e.1.2)
   ends-so Ending.NoMemory e = e
 
-  played-here : AtMostOnce → TakenOnce → HistoryStays → old.annals.core.log ≡ [] → (boards : List BoardState) → BoardsOf h boards
-      → WasPlayed told doubted faults means ran c scripts opening h.annals.core.log boards old.keeper h.keeper
+  played-here : AtMostOnce → TakenOnce → HistoryStays → old.house_log.core.log ≡ [] → (boards : List BoardState) → BoardsOf h boards
+      → WasPlayed told doubted faults means ran c scripts opening h.house_log.core.log boards old.keeper h.keeper
   played-here law_once law_taken law_stays n boards of = record {
     true_log = true-log law_once law_taken law_stays boards of;
     keeper = keeper-stands n;
@@ -244,10 +244,10 @@ module _ {K : Type 0} (told : K → List Row → Type 0) (doubted : K → Option
     ends = ends-so ran.ending r.ended;
   }
 
-  pub was-played : AtMostOnce → TakenOnce → HistoryStays → old.annals.core.log ≡ [] → (boards : List BoardState) → BoardsOf h boards
-      → WasPlayed told doubted faults means ran (with_plans old.annals.facts old.annals.first plans) scripts opening h.annals.core.log boards old.keeper h.keeper
+  pub was-played : AtMostOnce → TakenOnce → HistoryStays → old.house_log.core.log ≡ [] → (boards : List BoardState) → BoardsOf h boards
+      → WasPlayed told doubted faults means ran (with_plans old.house_log.facts old.house_log.first plans) scripts opening h.house_log.core.log boards old.keeper h.keeper
   was-played law_once law_taken law_stays n boards of =
-      let W = λ (x : Campaign). WasPlayed told doubted faults means ran x scripts opening h.annals.core.log boards old.keeper h.keeper in
-      let e : with_plans h.annals.facts h.annals.first plans ≡ with_plans old.annals.facts old.annals.first plans =
-      ap (λ (x : Facts). with_plans x h.annals.first plans) r.ran.facts ∙ ap (λ (x : List Seen). with_plans old.annals.facts x plans) r.ran.first in
+      let W = λ (x : Campaign). WasPlayed told doubted faults means ran x scripts opening h.house_log.core.log boards old.keeper h.keeper in
+      let e : with_plans h.house_log.facts h.house_log.first plans ≡ with_plans old.house_log.facts old.house_log.first plans =
+      ap (λ (x : Facts). with_plans x h.house_log.first plans) r.ran.facts ∙ ap (λ (x : List Seen). with_plans old.house_log.facts x plans) r.ran.first in
       subst W e (played-here law_once law_taken law_stays n boards of)

@@ -38,7 +38,7 @@ abbrev place-by : Option Place → Place
 place-by o = unwrap_or o (record { board = None; told = 0 })
 
 -- Those of a house that kept its plans.
-pub boards-planned : {K : Type 0} (told : K → List Row → Type 0) (doubted : K → Option Change) (old new : Housed K) (boards : List BoardState) → IsHouse told doubted old → new.annals.facts ≡ old.annals.facts → KeepsPlans old.places new.places → BoardsOf new boards → map (λ (b : BoardState). b.plan) boards ≡ plans_in old.places
+pub boards-planned : {K : Type 0} (told : K → List Row → Type 0) (doubted : K → Option Change) (old new : Housed K) (boards : List BoardState) → IsHouse told doubted old → new.house_log.facts ≡ old.house_log.facts → KeepsPlans old.places new.places → BoardsOf new boards → map (λ (b : BoardState). b.plan) boards ≡ plans_in old.places
 boards-planned told doubted old new boards k f keeps of =
     plans-each boards (plans_in old.places) (of.count ∙ ap (λ (x : Facts). length x.sheets) f ∙ sym k.count ∙ sym (length-map old.places (λ (place : Place). plan_of place.board)))
     (λ n b e.

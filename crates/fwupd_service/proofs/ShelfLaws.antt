@@ -13,7 +13,7 @@ rose-by most before told was is z (inl l) = omega arith
 rose-by most before told was is z (inr l) = omega arith
 
 -- The house was new, so the log tells what was counted since.
-pub shelves-stand : {K : Type 0} (old new : Housed K) (was now : List ShelfTold) → old.annals.core.log ≡ [] → ShelvesStay was now → ShelvesCount (past old) (past new) was now → ShelvesStand new.annals.core.log was now
+pub shelves-stand : {K : Type 0} (old new : Housed K) (was now : List ShelfTold) → old.house_log.core.log ≡ [] → ShelvesStay was now → ShelvesCount (past old) (past new) was now → ShelvesStand new.house_log.core.log was now
 shelves-stand old new was now n s c =
     record {
       stay = s;

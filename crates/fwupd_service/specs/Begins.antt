@@ -26,10 +26,10 @@ pub record IsReadyFor (shelves plugins : ℕ) (campaign : Campaign) : Type 0 whe
 
 -- A house of these facts and boards, before its first boot, with this keeper: no boot read any rows.
 pub record IsBegun {K : Type 0} (facts : Facts) (boards : List BoardState) (keeper : K) (h : Housed K) : Type 0 where
-  pub facts_are : h.annals.facts ≡ facts
-  pub first_are : h.annals.first ≡ map shown_by boards
+  pub facts_are : h.house_log.facts ≡ facts
+  pub first_are : h.house_log.first ≡ map shown_by boards
   pub places_are : h.places ≡ map place_of boards
-  pub log : h.annals.core.log ≡ []
-  pub loaded : h.annals.loaded ≡ false
-  pub opening : h.annals.opening ≡ []
+  pub log : h.house_log.core.log ≡ []
+  pub loaded : h.house_log.loaded ≡ false
+  pub opening : h.house_log.opening ≡ []
   pub keeper_is : h.keeper ≡ keeper

@@ -50,19 +50,19 @@ fn play_house<R: Threads + Wait + Sync, P: Shelf + Send, K: Keeper + Send, G: Ga
     plans: &[BootPlan],
     scripts: &[Listed<Listed<Item>>],
 ) -> (Played<K>, Vec<P>)
-    requires new { house.annals.core.log ≡ [] }
-    requires unread { house.annals.loaded ≡ false }
-    requires blank { house.annals.opening ≡ [] }
-    requires serves { Serves (tools_of P.files P.faults (length plugins.items) shelves.items) house.annals.facts 0 }
+    requires new { house.house_log.core.log ≡ [] }
+    requires unread { house.house_log.loaded ≡ false }
+    requires blank { house.house_log.opening ≡ [] }
+    requires serves { Serves (tools_of P.files P.faults (length plugins.items) shelves.items) house.house_log.facts 0 }
     requires few { length plans.now < 2 ^ 32 - 1 }
     requires timely { All (λ plan. plan.time ≤ 2 ^ 63 - 1) plans.now }
     requires proper { All (All (All IsScriptItem)) scripts.now }
     requires clients { All (λ of_boot. length of_boot ≤ 16) scripts.now }
     requires shelves { All (λ of_boot. length of_boot ≤ length (shelves_told P.files P.faults shelves.items)) scripts.now }
-    ensures played { WasPlayed K.tells K.doubt K.faults (means_for (steps_at (λ p. steps p) plugins.items) (shelves_told P.files P.faults shelves.items)) result.0.ran (with_plans house.annals.facts house.annals.first plans.now)
+    ensures played { WasPlayed K.tells K.doubt K.faults (means_for (steps_at (λ p. steps p) plugins.items) (shelves_told P.files P.faults shelves.items)) result.0.ran (with_plans house.house_log.facts house.house_log.first plans.now)
         scripts.now result.0.opening result.0.log result.0.boards house.keeper result.0.keeper }
     ensures plans { map (λ b. b.plan) result.0.boards ≡ plans_in house.places }
-    ensures facts { result.0.facts ≡ house.annals.facts }
+    ensures facts { result.0.facts ≡ house.house_log.facts }
     ensures few { length result.0.facts.sheets ≤ 256 }
     ensures stand { ShelvesStand result.0.log (shelves_told P.files P.faults shelves.items) (shelves_told P.files P.faults result.1.items) }
 {

@@ -14,7 +14,7 @@ use Rattle.update_log.specs.Known.{board_of, row_of, rows}
 use Rattle.update_log.specs.Steps.{trace}
 use Rattle.daemon_core.proofs.ClaimEnds.{own-board}
 use Rattle.daemon_core.proofs.PlacesKept.{SameOfBoard}
-use Rattle.daemon_core.specs.Annals.{IsLegalSo}
+use Rattle.daemon_core.specs.HouseLog.{IsLegalSo}
 use Rattle.daemon_core.specs.Fetches.{raw_number}
 use Rattle.device_claims.specs.declared.claim.Parts.{Parts}
 use Rattle.install_engine.specs.Runs.{ClaimRuns}

@@ -33,7 +33,7 @@ use Rattle.daemon_core.proofs.BoardsQuiet.{kept-so}
 use Rattle.daemon_core.proofs.ClaimAlone.{alone-on}
 use Rattle.daemon_core.proofs.ClaimEnds.{own-board}
 use Rattle.daemon_core.proofs.ClaimOpen.{open-live, live-found}
-use Rattle.daemon_core.specs.Annals.{IsLegalSo}
+use Rattle.daemon_core.specs.HouseLog.{IsLegalSo}
 use Rattle.daemon_core.specs.Claims.{IsTaken}
 use Rattle.daemon_core.specs.Fetches.{raw_number, whole_note}
 use Rattle.daemon_core.specs.declared.claimed.Taken.{Taken}

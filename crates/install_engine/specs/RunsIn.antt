@@ -5,21 +5,21 @@ use Rattle.emulated_boards.specs.declared.mark.Mark.{Mark}
 use Rattle.update_log.specs.declared.event.Op.{Op}
 use Rattle.update_log.specs.declared.live.LiveEntry.{LiveEntry}
 use Rattle.update_log.specs.Pasts.{boots}
-use Rattle.daemon_core.specs.Housed.{Annalled, past_in, rows_before}
+use Rattle.daemon_core.specs.Housed.{HouseLogView, past_in, rows_before}
 use Rattle.daemon_core.specs.Returns.{ComesHome}
 use Rattle.daemon_core.specs.declared.claimed.Taken.{Taken}
 use Rattle.device_claims.specs.declared.claim.Parts.{Parts}
 use Rattle.install_engine.specs.Runs.{ClaimRuns}
 
--- A claim runs, by what the annals hold; that step of it is open, or none.
-pub record RunsIn (a : Annalled) (client : ℕ) (parts : Parts) (running : Option Op) : Type 0 where
+-- A claim runs, by what the house log holds; that step of it is open, or none.
+pub record RunsIn (a : HouseLogView) (client : ℕ) (parts : Parts) (running : Option Op) : Type 0 where
   pub number : ℕ
   pub l : LiveEntry
   pub booted : 0 < boots (past_in a)
   pub runs : ClaimRuns a.facts a.first (rows_before a) (past_in a) client parts number l running
 
 -- The board of a live entry of the client may come home, with so many blocks.
-abbrev pub HomeIn : Annalled → ℕ → ℕ → BoardState → ℕ → Type 0
+abbrev pub HomeIn : HouseLogView → ℕ → ℕ → BoardState → ℕ → Type 0
 HomeIn a client entry b blocks =
     (number : ℕ) × (l : LiveEntry) × (tail : List Mark) × ComesHome a.facts a.first (rows_before a) (past_in a) client entry number l tail b blocks
 

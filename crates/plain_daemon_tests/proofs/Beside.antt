@@ -15,11 +15,11 @@ use Rattle.update_log.specs.declared.request.Request.{Request}
 use Rattle.update_log.specs.Legal.{IsFree}
 use Rattle.update_log.specs.Holding.{live_entry}
 use Rattle.update_log.proofs.Lists.{eqb-self}
-use Rattle.daemon_core.proofs.AnnalsKept.{appended-past}
+use Rattle.daemon_core.proofs.HouseLogKept.{appended-past}
 use Rattle.daemon_core.proofs.Asking.{ask-board}
 use Rattle.daemon_core.specs.declared.hold.Ticket.{Ticket}
-use Rattle.daemon_core.specs.Annals.{Appended, IsAnnals, IsLegalSo}
-use Rattle.daemon_core.specs.Housed.{Annalled, past_in, rows_before}
+use Rattle.daemon_core.specs.HouseLog.{Appended, IsHouseLog, IsLegalSo}
+use Rattle.daemon_core.specs.Housed.{HouseLogView, past_in, rows_before}
 use Rattle.device_claims.specs.declared.claim.Parts.{Parts}
 use Rattle.install_engine.specs.Runs.{ClaimRuns}
 use Rattle.install_engine.specs.RunsIn.{RunsIn}
@@ -47,13 +47,13 @@ free-beside_claim holder client entry past d r is =
     }
 
 -- A refusal leaves out what is out.
-pub held-beside : (client holder : ℕ) (request : Request) (refusal : Refusal) (ticket : Ticket) (blocks : ℕ) (old new : Annalled) → Appended client (Event.Ask client request None (AskAnswer.Refused refusal)) old new
+pub held-beside : (client holder : ℕ) (request : Request) (refusal : Refusal) (ticket : Ticket) (blocks : ℕ) (old new : HouseLogView) → Appended client (Event.Ask client request None (AskAnswer.Refused refusal)) old new
     → HoldsAlone holder ticket blocks (past_in old) → HoldsAlone holder ticket blocks (past_in new)
 held-beside client holder request refusal ticket blocks old new a h =
     subst (HoldsAlone holder ticket blocks) (sym (appended-past client (Event.Ask client request None (AskAnswer.Refused refusal)) old new a))
     (record { holds_are = h.holds_are; no_live = h.no_live; client_is = h.client_is })
 
-pub alone-beside : (client entry : ℕ) (request : Request) (refusal : Refusal) (old new : Annalled) → Appended client (Event.Ask client request None (AskAnswer.Refused refusal)) old new → RunsAlone entry (past_in old) → RunsAlone entry (past_in new)
+pub alone-beside : (client entry : ℕ) (request : Request) (refusal : Refusal) (old new : HouseLogView) → Appended client (Event.Ask client request None (AskAnswer.Refused refusal)) old new → RunsAlone entry (past_in old) → RunsAlone entry (past_in new)
 alone-beside client entry request refusal old new a r =
     subst (RunsAlone entry) (sym (appended-past client (Event.Ask client request None (AskAnswer.Refused refusal)) old new a))
     (record { no_hold = r.no_hold; l = r.l; live_is = r.live_is; entry_is = r.entry_is })
@@ -74,7 +74,7 @@ runs-asked facts first opening past client holder request answer parts number l 
     r
 
 -- So the claim goes on to run.
-pub runs-beside : (client holder : ℕ) (request : Request) (answer : AskAnswer) (parts : Parts) (old new : Annalled) → IsAnnals new → Appended client (Event.Ask client request None answer) old new → RunsIn old holder parts None → RunsIn new holder parts None
+pub runs-beside : (client holder : ℕ) (request : Request) (answer : AskAnswer) (parts : Parts) (old new : HouseLogView) → IsHouseLog new → Appended client (Event.Ask client request None answer) old new → RunsIn old holder parts None → RunsIn new holder parts None
 runs-beside client holder request answer parts old new k a r =
     let event = Event.Ask client request None answer in
     let e : past_in new ≡ event ∷ past_in old = appended-past client event old new a in

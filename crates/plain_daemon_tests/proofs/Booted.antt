@@ -20,7 +20,7 @@ module _ {K : Type 0} (plan : BootPlan) (found : Found) (listed : List BoardSeen
 
   noted : past new ≡ event ∷ past old
   unfolding event
-  noted = ap past_of n.log ∙ past-push old.annals.core.log event
+  noted = ap past_of n.log ∙ past-push old.house_log.core.log event
 
   pub boot-idle : IsIdle (past new)
   unfolding event

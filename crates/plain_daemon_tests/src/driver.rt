@@ -128,7 +128,7 @@ fn go_on<R: Abort, K: Keeper, P: Shelf>(
 ) -> Told
     requires booted { 0 < boots (past house.old) }
     requires held { HoldsAlone client hold.ticket hold.blocks.count (past house.old) }
-    requires hold { IsHoldFor house.old.annals.facts client request.now None hold }
+    requires hold { IsHoldFor house.old.house_log.facts client request.now None hold }
     ensures idle { IsIdle (past house.new) }
     ensures boots { boots (past house.new) ≡ boots (past house.old) }
 {
@@ -176,7 +176,7 @@ pub fn run<R: Abort, K: Keeper>(
     taken: Taken,
     plugins: &[Box<dyn Plugin>],
 ) -> Told
-    requires runs { RunsIn house.old.annals client (parts_taken taken) None }
+    requires runs { RunsIn house.old.house_log client (parts_taken taken) None }
     requires no_steps { taken.trace.steps ≡ [] }
     requires marks { 8 ≤ taken.board.room }
     requires alone { RunsAlone taken.entry (past house.old) }
@@ -263,7 +263,7 @@ pub fn ask_held<R: Abort, K: Keeper>(
     requires idle { IsIdle (past house.old) }
     ensures booted { 0 < boots (past house.new) }
     ensures held { HoldsAlone client result.ticket result.blocks.count (past house.new) }
-    ensures hold { IsHoldFor house.new.annals.facts client request.now None result }
+    ensures hold { IsHoldFor house.new.house_log.facts client request.now None result }
 {
     match house.ask(client, request) {
         Ok(Asked::Held(hold)) => hold,
@@ -300,8 +300,8 @@ pub fn claim_taken<R: Abort, K: Keeper, P: Shelf>(
 ) -> Taken
     requires booted { 0 < boots (past house.old) }
     requires held { HoldsAlone client hold.ticket hold.blocks.count (past house.old) }
-    requires hold { IsHoldFor house.old.annals.facts client request.now None hold }
-    ensures runs { RunsIn house.new.annals client (parts_taken result) None }
+    requires hold { IsHoldFor house.old.house_log.facts client request.now None hold }
+    ensures runs { RunsIn house.new.house_log client (parts_taken result) None }
     ensures no_steps { result.trace.steps ≡ [] }
     ensures marks { 8 ≤ result.board.room }
     ensures alone { RunsAlone result.entry (past house.new) }
@@ -350,10 +350,10 @@ pub fn refused_beside_claim<R: Abort, K: Keeper>(
     taken: &Taken,
     holder: u32,
 ) -> Why
-    requires runs { RunsIn house.old.annals holder (parts_taken taken.now) None }
+    requires runs { RunsIn house.old.house_log holder (parts_taken taken.now) None }
     requires alone { RunsAlone taken.now.entry (past house.old) }
     requires another { (holder == client) ≡ false }
-    ensures runs { RunsIn house.new.annals holder (parts_taken taken.now) None }
+    ensures runs { RunsIn house.new.house_log holder (parts_taken taken.now) None }
     ensures alone { RunsAlone taken.now.entry (past house.new) }
 {
     match house.ask(client, request) {

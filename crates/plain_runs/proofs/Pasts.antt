@@ -7,7 +7,7 @@ use Rattle.update_log.specs.declared.event.Back.{Back}
 use Rattle.update_log.specs.declared.event.Event.{Event}
 use Rattle.update_log.specs.declared.event.Op.{Op}
 use Rattle.update_log.specs.Pasts.{meets_fault, past_of}
-use Rattle.daemon_core.specs.Housed.{Annalled, Housed, past, past_in}
+use Rattle.daemon_core.specs.Housed.{HouseLogView, Housed, past, past_in}
 use Rattle.daemon_core.specs.Keeping.{keeper_faults}
 use Rattle.daemon_core.specs.Turns.{KeeperFared, Signs}
 use Rattle.device_claims.specs.declared.claim.Parts.{Parts}
@@ -32,7 +32,7 @@ past-of_grown log (event ∷ events) =
     ∙ ap (λ (p : List Event). grown p events) (past-push log event)
 
 -- The log gained these events, so its past did.
-pub past-gained : (events : List Event) (old new : Annalled) → Gained events old new → past_in new ≡ grown (past_in old) events
+pub past-gained : (events : List Event) (old new : HouseLogView) → Gained events old new → past_in new ≡ grown (past_in old) events
 past-gained events old new g = ap past_of g.log ∙ past-of_grown old.core.log events
 
 -- None of these events met a fault of the keeper.
@@ -60,18 +60,18 @@ none-back : (client entry : ℕ) (cut : Bool) → MetNone (cut_events cut ++ Eve
 none-back client entry true = (refl, (refl, tt))
 none-back client entry false = (refl, tt)
 
-faults-same : (events : List Event) (old new : Annalled) → MetNone events → Gained events old new → keeper_faults (past_in new) ≡ keeper_faults (past_in old)
+faults-same : (events : List Event) (old new : HouseLogView) → MetNone events → Gained events old new → keeper_faults (past_in new) ≡ keeper_faults (past_in old)
 faults-same events old new m g = ap keeper_faults (past-gained events old new g) ∙ met-none (past_in old) events m
 
-made-faults : (by : PluginSteps) (client entry : ℕ) (was is : Parts) (old new : Annalled) → MadeSteps by client entry was is old new → keeper_faults (past_in new) ≡ keeper_faults (past_in old)
+made-faults : (by : PluginSteps) (client entry : ℕ) (was is : Parts) (old new : HouseLogView) → MadeSteps by client entry was is old new → keeper_faults (past_in new) ≡ keeper_faults (past_in old)
 made-faults by client entry was is old new m = faults-same (step_events client entry m.steps) old new (none-steps client entry m.steps) m.gained
 
 -- What is given back met none either, also without any step.
-came-faults : (client entry : ℕ) (old new : Annalled) → CameBack client entry old new → keeper_faults (past_in new) ≡ keeper_faults (past_in old)
+came-faults : (client entry : ℕ) (old new : HouseLogView) → CameBack client entry old new → keeper_faults (past_in new) ≡ keeper_faults (past_in old)
 came-faults client entry old new k =
     faults-same (cut_events k.cut ++ Event.GiveBack client (Back.Entry entry) ∷ []) old new (none-back client entry k.cut) k.gained
 
-back-faults : (by : PluginSteps) (client entry : ℕ) (was : Parts) (old new : Annalled) → GaveBack by client entry was old new → keeper_faults (past_in new) ≡ keeper_faults (past_in old)
+back-faults : (by : PluginSteps) (client entry : ℕ) (was : Parts) (old new : HouseLogView) → GaveBack by client entry was old new → keeper_faults (past_in new) ≡ keeper_faults (past_in old)
 back-faults by client entry was old new k =
     let last = cut_events k.cut ++ Event.GiveBack client (Back.Entry entry) ∷ [] in
     faults-same (step_events client entry k.steps ++ (start_events client entry k.started ++ last)) old new
@@ -85,16 +85,16 @@ pub counts-same : {K : Type 0} (signs : Signs K) (old new : Housed K) → new.ke
 counts-same signs old new k = let same : signs.faults new.keeper ≡ signs.faults old.keeper = ap signs.faults k in omega arith
 
 -- A claim that was given back.
-pub came-counted : {K : Type 0} (signs : Signs K) (client entry : ℕ) (old new : Housed K) → CameBack client entry old.annals new.annals → new.keeper ≡ old.keeper → KeeperFared signs old new
-came-counted signs client entry old new g k = fared-same signs old new (came-faults client entry old.annals new.annals g) k
+pub came-counted : {K : Type 0} (signs : Signs K) (client entry : ℕ) (old new : Housed K) → CameBack client entry old.house_log new.house_log → new.keeper ≡ old.keeper → KeeperFared signs old new
+came-counted signs client entry old new g k = fared-same signs old new (came-faults client entry old.house_log new.house_log g) k
 
-pub back-counted : {K : Type 0} (signs : Signs K) (by : PluginSteps) (client entry : ℕ) (was : Parts) (old new : Housed K) → GaveBack by client entry was old.annals new.annals → new.keeper ≡ old.keeper → KeeperFared signs old new
-back-counted signs by client entry was old new g k = fared-same signs old new (back-faults by client entry was old.annals new.annals g) k
+pub back-counted : {K : Type 0} (signs : Signs K) (by : PluginSteps) (client entry : ℕ) (was : Parts) (old new : Housed K) → GaveBack by client entry was old.house_log new.house_log → new.keeper ≡ old.keeper → KeeperFared signs old new
+back-counted signs by client entry was old new g k = fared-same signs old new (back-faults by client entry was old.house_log new.house_log g) k
 
 -- A finish behind steps.
-pub ran-counted : {K : Type 0} (signs : Signs K) (by : PluginSteps) (client entry : ℕ) (was is : Parts) (old mid new : Housed K) → MadeSteps by client entry was is old.annals mid.annals → mid.keeper ≡ old.keeper → KeeperFared signs mid new → signs.faults mid.keeper ≤ signs.faults new.keeper → KeeperFared signs old new
+pub ran-counted : {K : Type 0} (signs : Signs K) (by : PluginSteps) (client entry : ℕ) (was is : Parts) (old mid new : Housed K) → MadeSteps by client entry was is old.house_log mid.house_log → mid.keeper ≡ old.keeper → KeeperFared signs mid new → signs.faults mid.keeper ≤ signs.faults new.keeper → KeeperFared signs old new
 ran-counted signs by client entry was is old mid new m k c l =
-    fared-both signs old mid new (fared-same signs old mid (made-faults by client entry was is old.annals mid.annals m) k) c l
+    fared-both signs old mid new (fared-same signs old mid (made-faults by client entry was is old.house_log mid.house_log m) k) c l
 
 pub ran-counts : {K : Type 0} (signs : Signs K) (old mid new : Housed K) → mid.keeper ≡ old.keeper → signs.faults mid.keeper ≤ signs.faults new.keeper → signs.faults old.keeper ≤ signs.faults new.keeper
 ran-counts signs old mid new k l = let same : signs.faults mid.keeper ≡ signs.faults old.keeper = ap signs.faults k in omega arith

@@ -4,7 +4,7 @@ pub use Rattle.emulated_boards.specs.Conditions
 pub use Rattle.emulated_boards.specs.Images
 pub use Rattle.update_log.specs.Pasts
 pub use Rattle.update_log.specs.Steps
-pub use Rattle.daemon_core.specs.Annals
+pub use Rattle.daemon_core.specs.HouseLog
 pub use Rattle.daemon_core.specs.Housed
 pub use Rattle.daemon_core.specs.Planned
 pub use Rattle.daemon_core.specs.Returns

@@ -13,8 +13,8 @@ use Rattle.update_log.specs.declared.event.Back.{Back}
 use Rattle.update_log.specs.declared.event.Event.{Event}
 use Rattle.update_log.specs.declared.event.Op.{Op}
 use Rattle.update_log.specs.Pasts.{off}
-use Rattle.daemon_core.specs.Annals.{SameFacts}
-use Rattle.daemon_core.specs.Housed.{Annalled, Housed, past, past_in, rows_before}
+use Rattle.daemon_core.specs.HouseLog.{SameFacts}
+use Rattle.daemon_core.specs.Housed.{HouseLogView, Housed, past, past_in, rows_before}
 use Rattle.daemon_core.specs.Returns.{number_of}
 use Rattle.daemon_core.specs.declared.finished.Finished.{Finished}
 use Rattle.device_claims.specs.Claims.{Noted, StepGives}
@@ -61,7 +61,7 @@ IsBegun by entry payload board (Some op) = (answer : Result ⊤ BoardFault) × (
 
 -- A step of the entry is open, and the plugin made it of the claim as it was before: this is its answer,
 -- and the claim as it is now.
-pub record StepToEnd (a : Annalled) (client entry : ℕ) (op : Op) (answer : Result ⊤ BoardFault) (now : Parts) : Type 0 where
+pub record StepToEnd (a : HouseLogView) (client entry : ℕ) (op : Op) (answer : Result ⊤ BoardFault) (now : Parts) : Type 0 where
   pub before : Parts
   pub entry_is : before.entry ≡ entry
   pub runs : RunsIn a client before (Some op)
@@ -69,25 +69,25 @@ pub record StepToEnd (a : Annalled) (client entry : ℕ) (op : Op) (answer : Res
   pub noted : Noted op before answer now
 
 -- The log gained these events, and what no event but a boot changes is as before.
-pub record Gained (more : List Event) (old new : Annalled) : Type 0 where
+pub record Gained (more : List Event) (old new : HouseLogView) : Type 0 where
   pub same : SameFacts old new
   pub log : new.core.log ≡ old.core.log ++ more
 
 -- The client made steps of the entry, and nothing else: the plugin took the claim from what it was to what it is.
-pub record MadeSteps (by : PluginSteps) (client entry : ℕ) (was is : Parts) (old new : Annalled) : Type 0 where
+pub record MadeSteps (by : PluginSteps) (client entry : ℕ) (was is : Parts) (old new : HouseLogView) : Type 0 where
   pub steps : List StepMade
   pub gained : Gained (step_events client entry steps) old new
   pub payload : is.payload ≡ was.payload
   pub made : AreMade by entry was.payload was.board steps is.board
 
 -- The boot is off, and the entry was given back.
-pub record CameBack (client entry : ℕ) (old new : Annalled) : Type 0 where
+pub record CameBack (client entry : ℕ) (old new : HouseLogView) : Type 0 where
   pub is_off : off (past_in new) ≡ true
   pub cut : Bool
   pub gained : Gained (cut_events cut ++ Event.GiveBack client (Back.Entry entry) ∷ []) old new
 
 -- The boot is off: behind such steps, and the start of one more perhaps, the entry was given back.
-pub record GaveBack (by : PluginSteps) (client entry : ℕ) (was : Parts) (old new : Annalled) : Type 0 where
+pub record GaveBack (by : PluginSteps) (client entry : ℕ) (was : Parts) (old new : HouseLogView) : Type 0 where
   pub is_off : off (past_in new) ≡ true
   pub steps : List StepMade
   pub started : Option Op
@@ -98,18 +98,18 @@ pub record GaveBack (by : PluginSteps) (client entry : ℕ) (was : Parts) (old n
   pub begun : IsBegun by entry was.payload last started
 
 -- Behind such steps the entry was finished, in that state.
-pub record Finishes (by : PluginSteps) (client entry : ℕ) (was : Parts) (finished : Finished) (old new : Annalled) : Type 0 where
+pub record Finishes (by : PluginSteps) (client entry : ℕ) (was : Parts) (finished : Finished) (old new : HouseLogView) : Type 0 where
   pub steps : List StepMade
   pub gained : Gained (step_events client entry steps ++ Event.Finish client entry finished.state finished.stored ∷ []) old new
   pub last : BoardState
   pub made : AreMade by entry was.payload was.board steps last
 
-abbrev pub Ran : PluginSteps → ℕ → ℕ → Parts → Outcome → Annalled → Annalled → Type 0
+abbrev pub Ran : PluginSteps → ℕ → ℕ → Parts → Outcome → HouseLogView → HouseLogView → Type 0
 Ran by client entry was (Outcome.Finished finished) old new = Finishes by client entry was finished old new
 Ran by client entry was Outcome.Off old new = GaveBack by client entry was old new
 
 -- The entry was finished, or given back, and nothing else happened.
-abbrev pub Closes : ℕ → ℕ → Outcome → Annalled → Annalled → Type 0
+abbrev pub Closes : ℕ → ℕ → Outcome → HouseLogView → HouseLogView → Type 0
 Closes client entry (Outcome.Finished finished) old new = Gained (Event.Finish client entry finished.state finished.stored ∷ []) old new
 Closes client entry Outcome.Off old new = CameBack client entry old new
 
@@ -117,7 +117,7 @@ Closes client entry Outcome.Off old new = CameBack client entry old new
 -- which is out.
 pub record PlannedOut {K : Type 0} (plans : List (List PlannedFault)) (entry : ℕ) (board : BoardState) (h : Housed K) : Type 0 where
   pub home : HavePlans plans h.places
-  pub own : HasPlan plans (number_of h.annals.facts (rows_before h.annals) (past h) entry) board
+  pub own : HasPlan plans (number_of h.house_log.facts (rows_before h.house_log) (past h) entry) board
 
 -- Whatever faults were planned for the boards, they are planned still, and the entry's is out.
 abbrev pub KeepsOut : {K : Type 0} → ℕ → BoardState → BoardState → Housed K → Housed K → Type 0

@@ -24,11 +24,11 @@ fn loosen<K: Keeper>(
     plugin: &dyn Plugin,
 ) -> Result<Loose, Off>
     requires entry { claim.entry ≡ entry }
-    requires runs { RunsIn house.old.annals client claim None }
+    requires runs { RunsIn house.old.house_log client claim None }
     ensures entry { IfOk result (λ next. next.entry ≡ entry) }
-    ensures runs { IfOk result (λ next. RunsIn house.new.annals client next None) }
-    ensures made { IfOk result (λ next. MadeSteps (steps plugin.now) client entry claim next house.old.annals house.new.annals) }
-    ensures gone { OnErr result (GaveBack (steps plugin.now) client entry claim house.old.annals house.new.annals) }
+    ensures runs { IfOk result (λ next. RunsIn house.new.house_log client next None) }
+    ensures made { IfOk result (λ next. MadeSteps (steps plugin.now) client entry claim next house.old.house_log house.new.house_log) }
+    ensures gone { OnErr result (GaveBack (steps plugin.now) client entry claim house.old.house_log house.new.house_log) }
     ensures planned { IfOk result (λ next. KeepsOut entry claim.board next.board house.old house.new) }
     ensures home { OnErr result (BroughtHome entry claim.board house.old house.new) }
     ensures keeper { house.new.keeper ≡ house.old.keeper }
@@ -49,11 +49,11 @@ fn flash<K: Keeper>(
     plugin: &dyn Plugin,
 ) -> Result<Flashed, Off>
     requires entry { claim.entry ≡ entry }
-    requires runs { RunsIn house.old.annals client claim None }
+    requires runs { RunsIn house.old.house_log client claim None }
     ensures entry { IfOk result (λ next. next.entry ≡ entry) }
-    ensures runs { IfOk result (λ next. RunsIn house.new.annals client next None) }
-    ensures made { IfOk result (λ next. MadeSteps (steps plugin.now) client entry claim next house.old.annals house.new.annals) }
-    ensures gone { OnErr result (GaveBack (steps plugin.now) client entry claim house.old.annals house.new.annals) }
+    ensures runs { IfOk result (λ next. RunsIn house.new.house_log client next None) }
+    ensures made { IfOk result (λ next. MadeSteps (steps plugin.now) client entry claim next house.old.house_log house.new.house_log) }
+    ensures gone { OnErr result (GaveBack (steps plugin.now) client entry claim house.old.house_log house.new.house_log) }
     ensures planned { IfOk result (λ next. KeepsOut entry claim.board next.board house.old house.new) }
     ensures home { OnErr result (BroughtHome entry claim.board house.old house.new) }
     ensures keeper { house.new.keeper ≡ house.old.keeper }
@@ -74,12 +74,12 @@ fn join<K: Keeper>(
     plugin: &dyn Plugin,
 ) -> Result<Joined, Off>
     requires entry { claim.entry ≡ entry }
-    requires runs { RunsIn house.old.annals client claim None }
+    requires runs { RunsIn house.old.house_log client claim None }
     ensures entry { IfOk result (λ next. next.entry ≡ entry) }
-    ensures runs { IfOk result (λ next. RunsIn house.new.annals client next None) }
+    ensures runs { IfOk result (λ next. RunsIn house.new.house_log client next None) }
     ensures next { IfOk result (λ next. IsNext Op.Reload next.trace) }
-    ensures made { IfOk result (λ next. MadeSteps (steps plugin.now) client entry claim next house.old.annals house.new.annals) }
-    ensures gone { OnErr result (GaveBack (steps plugin.now) client entry claim house.old.annals house.new.annals) }
+    ensures made { IfOk result (λ next. MadeSteps (steps plugin.now) client entry claim next house.old.house_log house.new.house_log) }
+    ensures gone { OnErr result (GaveBack (steps plugin.now) client entry claim house.old.house_log house.new.house_log) }
     ensures planned { IfOk result (λ next. KeepsOut entry claim.board next.board house.old house.new) }
     ensures home { OnErr result (BroughtHome entry claim.board house.old house.new) }
     ensures keeper { house.new.keeper ≡ house.old.keeper }
@@ -100,12 +100,12 @@ fn make_ready<K: Keeper>(
     plugin: &dyn Plugin,
 ) -> Result<Loose, Off>
     requires entry { claim.entry ≡ entry }
-    requires runs { RunsIn house.old.annals client claim None }
+    requires runs { RunsIn house.old.house_log client claim None }
     requires next { IsNext Op.Prepare claim.trace }
     ensures entry { IfOk result (λ next. next.entry ≡ entry) }
-    ensures runs { IfOk result (λ next. RunsIn house.new.annals client next None) }
-    ensures made { IfOk result (λ next. MadeSteps (steps plugin.now) client entry claim next house.old.annals house.new.annals) }
-    ensures gone { OnErr result (GaveBack (steps plugin.now) client entry claim house.old.annals house.new.annals) }
+    ensures runs { IfOk result (λ next. RunsIn house.new.house_log client next None) }
+    ensures made { IfOk result (λ next. MadeSteps (steps plugin.now) client entry claim next house.old.house_log house.new.house_log) }
+    ensures gone { OnErr result (GaveBack (steps plugin.now) client entry claim house.old.house_log house.new.house_log) }
     ensures planned { IfOk result (λ next. KeepsOut entry claim.board next.board house.old house.new) }
     ensures home { OnErr result (BroughtHome entry claim.board house.old house.new) }
     ensures keeper { house.new.keeper ≡ house.old.keeper }
@@ -123,12 +123,12 @@ fn update<K: Keeper>(
     plugin: &dyn Plugin,
 ) -> Result<Joined, Off>
     requires entry { claim.entry ≡ entry }
-    requires runs { RunsIn house.old.annals client claim None }
+    requires runs { RunsIn house.old.house_log client claim None }
     ensures entry { IfOk result (λ next. next.entry ≡ entry) }
-    ensures runs { IfOk result (λ next. RunsIn house.new.annals client next None) }
+    ensures runs { IfOk result (λ next. RunsIn house.new.house_log client next None) }
     ensures next { IfOk result (λ next. IsNext Op.Reload next.trace) }
-    ensures made { IfOk result (λ next. MadeSteps (steps plugin.now) client entry claim next house.old.annals house.new.annals) }
-    ensures gone { OnErr result (GaveBack (steps plugin.now) client entry claim house.old.annals house.new.annals) }
+    ensures made { IfOk result (λ next. MadeSteps (steps plugin.now) client entry claim next house.old.house_log house.new.house_log) }
+    ensures gone { OnErr result (GaveBack (steps plugin.now) client entry claim house.old.house_log house.new.house_log) }
     ensures planned { IfOk result (λ next. KeepsOut entry claim.board next.board house.old house.new) }
     ensures home { OnErr result (BroughtHome entry claim.board house.old house.new) }
     ensures keeper { house.new.keeper ≡ house.old.keeper }
@@ -146,13 +146,13 @@ fn look_and_end<K: Keeper>(
     plugin: &dyn Plugin,
 ) -> Result<Closed, Off>
     requires entry { claim.entry ≡ entry }
-    requires runs { RunsIn house.old.annals client claim None }
+    requires runs { RunsIn house.old.house_log client claim None }
     requires next { IsNext Op.Reload claim.trace }
     ensures entry { IfOk result (λ next. next.entry ≡ entry) }
-    ensures runs { IfOk result (λ next. RunsIn house.new.annals client next None) }
+    ensures runs { IfOk result (λ next. RunsIn house.new.house_log client next None) }
     ensures done { IfOk result (λ next. next_step next.trace ≡ None) }
-    ensures made { IfOk result (λ next. MadeSteps (steps plugin.now) client entry claim next house.old.annals house.new.annals) }
-    ensures gone { OnErr result (GaveBack (steps plugin.now) client entry claim house.old.annals house.new.annals) }
+    ensures made { IfOk result (λ next. MadeSteps (steps plugin.now) client entry claim next house.old.house_log house.new.house_log) }
+    ensures gone { OnErr result (GaveBack (steps plugin.now) client entry claim house.old.house_log house.new.house_log) }
     ensures planned { IfOk result (λ next. KeepsOut entry claim.board next.board house.old house.new) }
     ensures home { OnErr result (BroughtHome entry claim.board house.old house.new) }
     ensures keeper { house.new.keeper ≡ house.old.keeper }
@@ -170,13 +170,13 @@ fn advance<K: Keeper>(
     plugin: &dyn Plugin,
 ) -> Result<Joined, Off>
     requires entry { claim.entry ≡ entry }
-    requires runs { RunsIn house.old.annals client claim None }
+    requires runs { RunsIn house.old.house_log client claim None }
     requires next { IsNext Op.Prepare claim.trace }
     ensures entry { IfOk result (λ next. next.entry ≡ entry) }
-    ensures runs { IfOk result (λ next. RunsIn house.new.annals client next None) }
+    ensures runs { IfOk result (λ next. RunsIn house.new.house_log client next None) }
     ensures next { IfOk result (λ next. IsNext Op.Reload next.trace) }
-    ensures made { IfOk result (λ next. MadeSteps (steps plugin.now) client entry claim next house.old.annals house.new.annals) }
-    ensures gone { OnErr result (GaveBack (steps plugin.now) client entry claim house.old.annals house.new.annals) }
+    ensures made { IfOk result (λ next. MadeSteps (steps plugin.now) client entry claim next house.old.house_log house.new.house_log) }
+    ensures gone { OnErr result (GaveBack (steps plugin.now) client entry claim house.old.house_log house.new.house_log) }
     ensures planned { IfOk result (λ next. KeepsOut entry claim.board next.board house.old house.new) }
     ensures home { OnErr result (BroughtHome entry claim.board house.old house.new) }
     ensures keeper { house.new.keeper ≡ house.old.keeper }
@@ -194,13 +194,13 @@ fn make_steps<K: Keeper>(
     plugin: &dyn Plugin,
 ) -> Result<Closed, Off>
     requires entry { claim.entry ≡ entry }
-    requires runs { RunsIn house.old.annals client claim None }
+    requires runs { RunsIn house.old.house_log client claim None }
     requires next { IsNext Op.Prepare claim.trace }
     ensures entry { IfOk result (λ next. next.entry ≡ entry) }
-    ensures runs { IfOk result (λ next. RunsIn house.new.annals client next None) }
+    ensures runs { IfOk result (λ next. RunsIn house.new.house_log client next None) }
     ensures done { IfOk result (λ next. next_step next.trace ≡ None) }
-    ensures made { IfOk result (λ next. MadeSteps (steps plugin.now) client entry claim next house.old.annals house.new.annals) }
-    ensures gone { OnErr result (GaveBack (steps plugin.now) client entry claim house.old.annals house.new.annals) }
+    ensures made { IfOk result (λ next. MadeSteps (steps plugin.now) client entry claim next house.old.house_log house.new.house_log) }
+    ensures gone { OnErr result (GaveBack (steps plugin.now) client entry claim house.old.house_log house.new.house_log) }
     ensures planned { IfOk result (λ next. KeepsOut entry claim.board next.board house.old house.new) }
     ensures home { OnErr result (BroughtHome entry claim.board house.old house.new) }
     ensures keeper { house.new.keeper ≡ house.old.keeper }
@@ -212,9 +212,9 @@ fn make_steps<K: Keeper>(
 /// Finishes a claim whose steps are done.
 fn finish<K: Keeper>(house: &mut House<K>, client: u32, entry: u32, claim: Closed) -> Outcome
     requires entry { claim.entry ≡ entry }
-    requires runs { RunsIn house.old.annals client claim None }
+    requires runs { RunsIn house.old.house_log client claim None }
     requires done { next_step claim.trace ≡ None }
-    ensures closed { Closes client entry result house.old.annals house.new.annals }
+    ensures closed { Closes client entry result house.old.house_log house.new.house_log }
     ensures home { BroughtHome entry claim.board house.old house.new }
     ensures fared { KeeperFared (signs_of K.tells K.faults) house.old house.new }
     ensures counts { K.faults house.old.keeper ≤ K.faults house.new.keeper }
@@ -239,11 +239,11 @@ pub fn run_claim<K: Keeper>(
     taken: Taken,
     plugins: &[Box<dyn Plugin>],
 ) -> Outcome
-    requires runs { RunsIn house.old.annals client (parts_taken taken) None }
+    requires runs { RunsIn house.old.house_log client (parts_taken taken) None }
     requires no_steps { taken.trace.steps ≡ [] }
     requires marks { 8 ≤ taken.board.room }
     requires served { taken.plugin < length plugins.now }
-    ensures ran { Ran (steps_at (λ p. steps p) plugins.now taken.plugin) client taken.entry (parts_taken taken) result house.old.annals house.new.annals }
+    ensures ran { Ran (steps_at (λ p. steps p) plugins.now taken.plugin) client taken.entry (parts_taken taken) result house.old.house_log house.new.house_log }
     ensures home { BroughtHome taken.entry taken.board house.old house.new }
     ensures fared { KeeperFared (signs_of K.tells K.faults) house.old house.new }
     ensures counts { K.faults house.old.keeper ≤ K.faults house.new.keeper }

@@ -6,7 +6,7 @@ ghost use Rattle.update_log.specs.declared.event.Back.{Back};
 ghost use Rattle.update_log.specs.declared.event.Event.{Event};
 ghost use Rattle.update_log.specs.Pasts.{boots, off};
 ghost use Rattle.update_log.specs.Steps.{next_step};
-ghost use Rattle.daemon_core.specs.Annals.{Appended};
+ghost use Rattle.daemon_core.specs.HouseLog.{Appended};
 ghost use Rattle.daemon_core.specs.Housed.{past_in};
 ghost use Rattle.device_claims.specs.States.{IsNext};
 ghost use Rattle.install_engine.specs.RunsIn.{HomeIn, RunsIn};
@@ -26,10 +26,10 @@ fn give_back<K: Keeper, S: State>(
     entry: u32,
     claim: Claim<S>,
 ) -> Off
-    requires booted { 0 < boots (past_in house.old.annals) }
-    requires off { off (past_in house.old.annals) ≡ true }
-    requires home { HomeIn house.old.annals client entry claim.board claim.payload.count }
-    ensures appended { Appended client (Event.GiveBack client (Back.Entry entry)) house.old.annals house.new.annals }
+    requires booted { 0 < boots (past_in house.old.house_log) }
+    requires off { off (past_in house.old.house_log) ≡ true }
+    requires home { HomeIn house.old.house_log client entry claim.board claim.payload.count }
+    ensures appended { Appended client (Event.GiveBack client (Back.Entry entry)) house.old.house_log house.new.house_log }
     ensures home { BroughtHome entry claim.board house.old house.new }
     ensures keeper { house.new.keeper ≡ house.old.keeper }
 {
@@ -47,12 +47,12 @@ fn begin<K: Keeper, S: State>(
     claim: Claim<S>,
 ) -> Result<Claim<S>, Off>
     requires entry { claim.entry ≡ entry }
-    requires runs { RunsIn house.old.annals client claim None }
+    requires runs { RunsIn house.old.house_log client claim None }
     requires next { IsNext op claim.trace }
     ensures same { IfOk result (λ next. next ≡ claim) }
-    ensures runs { IfOk result (λ next. RunsIn house.new.annals client next (Some op)) }
-    ensures gained { OnOk result (Gained (Event.Start client entry op ∷ []) house.old.annals house.new.annals) }
-    ensures gone { OnErr result (CameBack client entry house.old.annals house.new.annals) }
+    ensures runs { IfOk result (λ next. RunsIn house.new.house_log client next (Some op)) }
+    ensures gained { OnOk result (Gained (Event.Start client entry op ∷ []) house.old.house_log house.new.house_log) }
+    ensures gone { OnErr result (CameBack client entry house.old.house_log house.new.house_log) }
     ensures planned { IfOk result (λ next. KeepsOut entry claim.board next.board house.old house.new) }
     ensures home { OnErr result (BroughtHome entry claim.board house.old house.new) }
     ensures keeper { house.new.keeper ≡ house.old.keeper }
@@ -72,11 +72,11 @@ fn end<K: Keeper, S: State>(
     answer: Result<(), BoardFault>,
     claim: Claim<S>,
 ) -> Result<Claim<S>, Off>
-    requires { StepToEnd house.old.annals client entry op answer claim }
+    requires { StepToEnd house.old.house_log client entry op answer claim }
     ensures same { IfOk result (λ next. next ≡ claim) }
-    ensures runs { IfOk result (λ next. RunsIn house.new.annals client next None) }
-    ensures gained { OnOk result ((told : List Mark) × Gained (Event.End client entry op answer told (view_of claim.board.condition) ∷ []) house.old.annals house.new.annals) }
-    ensures gone { OnErr result (CameBack client entry house.old.annals house.new.annals) }
+    ensures runs { IfOk result (λ next. RunsIn house.new.house_log client next None) }
+    ensures gained { OnOk result ((told : List Mark) × Gained (Event.End client entry op answer told (view_of claim.board.condition) ∷ []) house.old.house_log house.new.house_log) }
+    ensures gone { OnErr result (CameBack client entry house.old.house_log house.new.house_log) }
     ensures planned { IfOk result (λ next. KeepsOut entry claim.board next.board house.old house.new) }
     ensures home { OnErr result (BroughtHome entry claim.board house.old house.new) }
     ensures keeper { house.new.keeper ≡ house.old.keeper }
@@ -96,12 +96,12 @@ pub(crate) fn prepare<K: Keeper>(
     plugin: &dyn Plugin,
 ) -> Result<Ready, Off>
     requires entry { claim.entry ≡ entry }
-    requires runs { RunsIn house.old.annals client claim None }
+    requires runs { RunsIn house.old.house_log client claim None }
     requires next { IsNext Op.Prepare claim.trace }
     ensures entry { IfOk result (λ next. next.entry ≡ entry) }
-    ensures runs { IfOk result (λ next. RunsIn house.new.annals client next None) }
-    ensures made { IfOk result (λ next. MadeSteps (steps plugin.now) client entry claim next house.old.annals house.new.annals) }
-    ensures gone { OnErr result (GaveBack (steps plugin.now) client entry claim house.old.annals house.new.annals) }
+    ensures runs { IfOk result (λ next. RunsIn house.new.house_log client next None) }
+    ensures made { IfOk result (λ next. MadeSteps (steps plugin.now) client entry claim next house.old.house_log house.new.house_log) }
+    ensures gone { OnErr result (GaveBack (steps plugin.now) client entry claim house.old.house_log house.new.house_log) }
     ensures planned { IfOk result (λ next. KeepsOut entry claim.board next.board house.old house.new) }
     ensures home { OnErr result (BroughtHome entry claim.board house.old house.new) }
     ensures keeper { house.new.keeper ≡ house.old.keeper }
@@ -120,12 +120,12 @@ pub(crate) fn detach<K: Keeper>(
     plugin: &dyn Plugin,
 ) -> Result<Loose, Off>
     requires entry { claim.entry ≡ entry }
-    requires runs { RunsIn house.old.annals client claim None }
+    requires runs { RunsIn house.old.house_log client claim None }
     requires next { IsNext Op.Detach claim.trace }
     ensures entry { IfOk result (λ next. next.entry ≡ entry) }
-    ensures runs { IfOk result (λ next. RunsIn house.new.annals client next None) }
-    ensures made { IfOk result (λ next. MadeSteps (steps plugin.now) client entry claim next house.old.annals house.new.annals) }
-    ensures gone { OnErr result (GaveBack (steps plugin.now) client entry claim house.old.annals house.new.annals) }
+    ensures runs { IfOk result (λ next. RunsIn house.new.house_log client next None) }
+    ensures made { IfOk result (λ next. MadeSteps (steps plugin.now) client entry claim next house.old.house_log house.new.house_log) }
+    ensures gone { OnErr result (GaveBack (steps plugin.now) client entry claim house.old.house_log house.new.house_log) }
     ensures planned { IfOk result (λ next. KeepsOut entry claim.board next.board house.old house.new) }
     ensures home { OnErr result (BroughtHome entry claim.board house.old house.new) }
     ensures keeper { house.new.keeper ≡ house.old.keeper }
@@ -144,12 +144,12 @@ pub(crate) fn write<K: Keeper>(
     plugin: &dyn Plugin,
 ) -> Result<Flashed, Off>
     requires entry { claim.entry ≡ entry }
-    requires runs { RunsIn house.old.annals client claim None }
+    requires runs { RunsIn house.old.house_log client claim None }
     requires next { IsNext Op.Write claim.trace }
     ensures entry { IfOk result (λ next. next.entry ≡ entry) }
-    ensures runs { IfOk result (λ next. RunsIn house.new.annals client next None) }
-    ensures made { IfOk result (λ next. MadeSteps (steps plugin.now) client entry claim next house.old.annals house.new.annals) }
-    ensures gone { OnErr result (GaveBack (steps plugin.now) client entry claim house.old.annals house.new.annals) }
+    ensures runs { IfOk result (λ next. RunsIn house.new.house_log client next None) }
+    ensures made { IfOk result (λ next. MadeSteps (steps plugin.now) client entry claim next house.old.house_log house.new.house_log) }
+    ensures gone { OnErr result (GaveBack (steps plugin.now) client entry claim house.old.house_log house.new.house_log) }
     ensures planned { IfOk result (λ next. KeepsOut entry claim.board next.board house.old house.new) }
     ensures home { OnErr result (BroughtHome entry claim.board house.old house.new) }
     ensures keeper { house.new.keeper ≡ house.old.keeper }
@@ -168,13 +168,13 @@ pub(crate) fn attach<K: Keeper>(
     plugin: &dyn Plugin,
 ) -> Result<Joined, Off>
     requires entry { claim.entry ≡ entry }
-    requires runs { RunsIn house.old.annals client claim None }
+    requires runs { RunsIn house.old.house_log client claim None }
     requires next { IsNext Op.Attach claim.trace }
     ensures entry { IfOk result (λ next. next.entry ≡ entry) }
-    ensures runs { IfOk result (λ next. RunsIn house.new.annals client next None) }
+    ensures runs { IfOk result (λ next. RunsIn house.new.house_log client next None) }
     ensures next { IfOk result (λ next. IsNext Op.Reload next.trace) }
-    ensures made { IfOk result (λ next. MadeSteps (steps plugin.now) client entry claim next house.old.annals house.new.annals) }
-    ensures gone { OnErr result (GaveBack (steps plugin.now) client entry claim house.old.annals house.new.annals) }
+    ensures made { IfOk result (λ next. MadeSteps (steps plugin.now) client entry claim next house.old.house_log house.new.house_log) }
+    ensures gone { OnErr result (GaveBack (steps plugin.now) client entry claim house.old.house_log house.new.house_log) }
     ensures planned { IfOk result (λ next. KeepsOut entry claim.board next.board house.old house.new) }
     ensures home { OnErr result (BroughtHome entry claim.board house.old house.new) }
     ensures keeper { house.new.keeper ≡ house.old.keeper }
@@ -193,13 +193,13 @@ pub(crate) fn reload<K: Keeper>(
     plugin: &dyn Plugin,
 ) -> Result<Reloaded, Off>
     requires entry { claim.entry ≡ entry }
-    requires runs { RunsIn house.old.annals client claim None }
+    requires runs { RunsIn house.old.house_log client claim None }
     requires next { IsNext Op.Reload claim.trace }
     ensures entry { IfOk result (λ next. next.entry ≡ entry) }
-    ensures runs { IfOk result (λ next. RunsIn house.new.annals client next None) }
+    ensures runs { IfOk result (λ next. RunsIn house.new.house_log client next None) }
     ensures next { IfOk result (λ next. IsNext Op.Cleanup next.trace) }
-    ensures made { IfOk result (λ next. MadeSteps (steps plugin.now) client entry claim next house.old.annals house.new.annals) }
-    ensures gone { OnErr result (GaveBack (steps plugin.now) client entry claim house.old.annals house.new.annals) }
+    ensures made { IfOk result (λ next. MadeSteps (steps plugin.now) client entry claim next house.old.house_log house.new.house_log) }
+    ensures gone { OnErr result (GaveBack (steps plugin.now) client entry claim house.old.house_log house.new.house_log) }
     ensures planned { IfOk result (λ next. KeepsOut entry claim.board next.board house.old house.new) }
     ensures home { OnErr result (BroughtHome entry claim.board house.old house.new) }
     ensures keeper { house.new.keeper ≡ house.old.keeper }
@@ -218,13 +218,13 @@ pub(crate) fn cleanup<K: Keeper>(
     plugin: &dyn Plugin,
 ) -> Result<Closed, Off>
     requires entry { claim.entry ≡ entry }
-    requires runs { RunsIn house.old.annals client claim None }
+    requires runs { RunsIn house.old.house_log client claim None }
     requires next { IsNext Op.Cleanup claim.trace }
     ensures entry { IfOk result (λ next. next.entry ≡ entry) }
-    ensures runs { IfOk result (λ next. RunsIn house.new.annals client next None) }
+    ensures runs { IfOk result (λ next. RunsIn house.new.house_log client next None) }
     ensures next { IfOk result (λ next. next_step next.trace ≡ None) }
-    ensures made { IfOk result (λ next. MadeSteps (steps plugin.now) client entry claim next house.old.annals house.new.annals) }
-    ensures gone { OnErr result (GaveBack (steps plugin.now) client entry claim house.old.annals house.new.annals) }
+    ensures made { IfOk result (λ next. MadeSteps (steps plugin.now) client entry claim next house.old.house_log house.new.house_log) }
+    ensures gone { OnErr result (GaveBack (steps plugin.now) client entry claim house.old.house_log house.new.house_log) }
     ensures planned { IfOk result (λ next. KeepsOut entry claim.board next.board house.old house.new) }
     ensures home { OnErr result (BroughtHome entry claim.board house.old house.new) }
     ensures keeper { house.new.keeper ≡ house.old.keeper }

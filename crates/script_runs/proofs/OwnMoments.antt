@@ -4,7 +4,7 @@ use Rattle.std.proofs.lemmas.List.{reverse-append, append_cancel_left}
 use Rattle.std.proofs.lemmas.List.Elements.{filter-append}
 use Rattle.std.specs.Prelude.{Option, Some, None, IfSome, ◌==◌, option_map, unwrap_or}
 use Rattle.std.specs.List.{AllByRecursion}
-use Rattle.daemon_core.proofs.AnnalsKept.{boots-same}
+use Rattle.daemon_core.proofs.HouseLogKept.{boots-same}
 use Rattle.daemon_core.proofs.OwedLists.{filter-yes, filter-no}
 use Rattle.shared_daemon.proofs.Others.{some-boots}
 use Rattle.update_log.proofs.Lists.{by_test}

@@ -15,9 +15,9 @@ use Rattle.daemon_core.specs.declared.finished.FinishStop.{FinishStop}
 use Rattle.daemon_core.specs.declared.judged.Judged.{Judged}
 use Rattle.daemon_core.specs.declared.judged.Settling.{Settling}
 use Rattle.daemon_core.specs.declared.stop.Stop.{Stop}
-use Rattle.daemon_core.specs.Annals.{Appended, IsAnnals, Runs, Unchanged}
+use Rattle.daemon_core.specs.HouseLog.{Appended, IsHouseLog, Runs, Unchanged}
 use Rattle.daemon_core.specs.Finishes.{FinishedSo}
-use Rattle.daemon_core.specs.Housed.{Annalled, Housed, past, past_in, rows_before}
+use Rattle.daemon_core.specs.Housed.{HouseLogView, Housed, past, past_in, rows_before}
 use Rattle.daemon_core.specs.Judging.{JudgeTurned, standing, standing_of}
 use Rattle.daemon_core.specs.Settling.{SettleTurned, device_row, row_to_settle}
 use Rattle.daemon_core.specs.Turns.{Signs}
@@ -32,20 +32,20 @@ use Rattle.shared_daemon.proofs.Seeing.{to-name}
 use Rattle.shared_daemon.proofs.Turning.{adds-none, adds-off, adds-on, found-off, off-in}
 
 -- What was put behind the log, in its list.
-on-in : (client : ℕ) (event : Event) (old new : Annalled) → IsAnnals old → Runs old → Appended client event old new → AddsOn client event (entries_in old) (entries_in new)
+on-in : (client : ℕ) (event : Event) (old new : HouseLogView) → IsHouseLog old → Runs old → Appended client event old new → AddsOn client event (entries_in old) (entries_in new)
 on-in client event old new k r a = (off-in old false k r.on, entries-appended client event old new k a)
 
-none-in : (old new : Annalled) → IsAnnals old → off (past_in old) ≡ false → Unchanged old new → AddsNone (entries_in old) (entries_in new)
+none-in : (old new : HouseLogView) → IsHouseLog old → off (past_in old) ≡ false → Unchanged old new → AddsNone (entries_in old) (entries_in new)
 none-in old new k e u = (off-in old false k e, entries-same old new u)
 
 -- Finishes.
-pub finished-in : {K : Type 0} (client entry number : ℕ) (board : BoardState) (payload : SealedBytes) (result : Result Finished FinishStop) (old new : Housed K) → IsAnnals old.annals → FinishedSo client entry number board payload result old new → FinishedIn client entry board payload result (chronicle old) (chronicle new)
-finished-in client entry number board payload (Ok finished) old new k f = on-in client (Event.Finish client entry finished.state finished.stored) old.annals new.annals k f.0 f.1
-finished-in client entry number board payload (Err stop) old new k f = (found-off client old.annals new.annals k f.0, f.2, f.3)
+pub finished-in : {K : Type 0} (client entry number : ℕ) (board : BoardState) (payload : SealedBytes) (result : Result Finished FinishStop) (old new : Housed K) → IsHouseLog old.house_log → FinishedSo client entry number board payload result old new → FinishedIn client entry board payload result (chronicle old) (chronicle new)
+finished-in client entry number board payload (Ok finished) old new k f = on-in client (Event.Finish client entry finished.state finished.stored) old.house_log new.house_log k f.0 f.1
+finished-in client entry number board payload (Err stop) old new k f = (found-off client old.house_log new.house_log k f.0, f.2, f.3)
 
-pub finished-grew : {K : Type 0} (client entry number : ℕ) (board : BoardState) (payload : SealedBytes) (result : Result Finished FinishStop) (old new : Housed K) → FinishedSo client entry number board payload result old new → Grew client old.annals new.annals
+pub finished-grew : {K : Type 0} (client entry number : ℕ) (board : BoardState) (payload : SealedBytes) (result : Result Finished FinishStop) (old new : Housed K) → FinishedSo client entry number board payload result old new → Grew client old.house_log new.house_log
 finished-grew client entry number board payload (Ok finished) old new f = inr (Event.Finish client entry finished.state finished.stored, refl, f.1)
-finished-grew client entry number board payload (Err stop) old new f = calm-grew client old.annals new.annals (off-calm client old.annals new.annals f.0)
+finished-grew client entry number board payload (Err stop) old new f = calm-grew client old.house_log new.house_log (off-calm client old.house_log new.house_log f.0)
 
 pub finished-adds : (client entry : ℕ) (board : BoardState) (payload : SealedBytes) (result : Result Finished FinishStop) (met log : List Entry) → FinishedIn client entry board payload result met log → AddsAtMostOne maker_of client met log
 finished-adds client entry board payload (Ok finished) met log f = adds-on client (Event.Finish client entry finished.state finished.stored) met log f
@@ -53,32 +53,32 @@ finished-adds client entry board payload (Err stop) met log f = adds-off client 
 
 -- Judgements.
 module _ {K : Type 0} (signs : Signs K) (name : Name) (h : Housed K) where
-  pub standing-met : (entry : ℕ) → KeepsName signs name h → IsAnnals h.annals → standing_of h.annals entry ≡ standing_in name (chronicle h) entry
+  pub standing-met : (entry : ℕ) → KeepsName signs name h → IsHouseLog h.house_log → standing_of h.house_log entry ≡ standing_in name (chronicle h) entry
   standing-met entry n k =
-      to-name signs name h n k (λ f s o p. standing_of h.annals entry ≡ option_map (standing p (views f o p) entry) (row_of (rows f o p) entry))
-      (ap (λ (v : List DeviceView). option_map (standing (past h) v entry) (row_of h.annals.core.rows entry)) k.stands.views
-      ∙ ap (λ (r : List Row). option_map (standing (past h) (views h.annals.facts (rows_before h.annals) (past h)) entry) (row_of r entry)) k.stands.rows)
+      to-name signs name h n k (λ f s o p. standing_of h.house_log entry ≡ option_map (standing p (views f o p) entry) (row_of (rows f o p) entry))
+      (ap (λ (v : List DeviceView). option_map (standing (past h) v entry) (row_of h.house_log.core.rows entry)) k.stands.views
+      ∙ ap (λ (r : List Row). option_map (standing (past h) (views h.house_log.facts (rows_before h.house_log) (past h)) entry) (row_of r entry)) k.stands.rows)
 
-  pub device-met : (device : Selector) → KeepsName signs name h → IsAnnals h.annals → row_to_settle h.annals device ≡ device_in name (chronicle h) device
+  pub device-met : (device : Selector) → KeepsName signs name h → IsHouseLog h.house_log → row_to_settle h.house_log device ≡ device_in name (chronicle h) device
   device-met device n k =
-      to-name signs name h n k (λ f s o p. row_to_settle h.annals device ≡ device_row (views f o p) (rows f o p) device)
-      (ap (λ (v : List DeviceView). device_row v h.annals.core.rows device) k.stands.views
-      ∙ ap (λ (r : List Row). device_row (views h.annals.facts (rows_before h.annals) (past h)) r device) k.stands.rows)
+      to-name signs name h n k (λ f s o p. row_to_settle h.house_log device ≡ device_row (views f o p) (rows f o p) device)
+      (ap (λ (v : List DeviceView). device_row v h.house_log.core.rows device) k.stands.views
+      ∙ ap (λ (r : List Row). device_row (views h.house_log.facts (rows_before h.house_log) (past h)) r device) k.stands.rows)
 
-pub judged-in : {K : Type 0} (signs : Signs K) (name : Name) (client entry : ℕ) (result : Result Judged Stop) (old new : Housed K) → KeepsName signs name old → IsAnnals old.annals → JudgeTurned client entry result old.annals new.annals
+pub judged-in : {K : Type 0} (signs : Signs K) (name : Name) (client entry : ℕ) (result : Result Judged Stop) (old new : Housed K) → KeepsName signs name old → IsHouseLog old.house_log → JudgeTurned client entry result old.house_log new.house_log
     → JudgedIn name client entry result (chronicle old) (chronicle new)
 judged-in signs name client entry (Ok (Judged.Done state stored)) old new n k j = (
   j.1.0,
   sym (standing-met signs name old entry n k) ∙ j.1.1,
-  on-in client (Event.Judge client entry j.1.0 state stored) old.annals new.annals k j.0 j.1.2,
+  on-in client (Event.Judge client entry j.1.0 state stored) old.house_log new.house_log k j.0 j.1.2,
 )
-judged-in signs name client entry (Ok Judged.Absent) old new n k j = (sym (standing-met signs name old entry n k) ∙ j.1, none-in old.annals new.annals k j.0 j.2)
-judged-in signs name client entry (Ok Judged.Waits) old new n k j = (sym (standing-met signs name old entry n k) ∙ j.1, none-in old.annals new.annals k j.0 j.2)
-judged-in signs name client entry (Ok Judged.Settled) old new n k j = (sym (standing-met signs name old entry n k) ∙ j.1, none-in old.annals new.annals k j.0 j.2)
-judged-in signs name client entry (Err Stop.Off) old new n k j = found-off client old.annals new.annals k j
-judged-in signs name client entry (Err Stop.NoMemory) old new n k j = none-in old.annals new.annals k j.0 j.1
+judged-in signs name client entry (Ok Judged.Absent) old new n k j = (sym (standing-met signs name old entry n k) ∙ j.1, none-in old.house_log new.house_log k j.0 j.2)
+judged-in signs name client entry (Ok Judged.Waits) old new n k j = (sym (standing-met signs name old entry n k) ∙ j.1, none-in old.house_log new.house_log k j.0 j.2)
+judged-in signs name client entry (Ok Judged.Settled) old new n k j = (sym (standing-met signs name old entry n k) ∙ j.1, none-in old.house_log new.house_log k j.0 j.2)
+judged-in signs name client entry (Err Stop.Off) old new n k j = found-off client old.house_log new.house_log k j
+judged-in signs name client entry (Err Stop.NoMemory) old new n k j = none-in old.house_log new.house_log k j.0 j.1
 
-pub judged-grew : (client entry : ℕ) (result : Result Judged Stop) (old new : Annalled) → JudgeTurned client entry result old new → Grew client old new
+pub judged-grew : (client entry : ℕ) (result : Result Judged Stop) (old new : HouseLogView) → JudgeTurned client entry result old new → Grew client old new
 judged-grew client entry (Ok (Judged.Done state stored)) old new j = inr (Event.Judge client entry j.1.0 state stored, refl, j.1.2)
 judged-grew client entry (Err Stop.Off) old new j = calm-grew client old new (off-calm client old new j)
 judged-grew client entry (Err Stop.NoMemory) old new j = inl j.1
@@ -91,29 +91,29 @@ judged-adds name client entry (Err Stop.NoMemory) met log j = adds-none client m
 judged-adds name client entry _ met log j = adds-none client met log j.1
 
 -- Devices that are settled.
-pub settled-in : {K : Type 0} (signs : Signs K) (name : Name) (client : ℕ) (device : Selector) (result : Result Settling Stop) (old new : Housed K) → KeepsName signs name old → IsAnnals old.annals → SettleTurned client device result old.annals new.annals
+pub settled-in : {K : Type 0} (signs : Signs K) (name : Name) (client : ℕ) (device : Selector) (result : Result Settling Stop) (old new : Housed K) → KeepsName signs name old → IsHouseLog old.house_log → SettleTurned client device result old.house_log new.house_log
     → SettledIn name client device result (chronicle old) (chronicle new)
 settled-in signs name client device (Ok (Settling.Judged entry state stored)) old new n k j = (
   sym (device-met signs name old device n k) ∙ j.1,
-  (j.2.0, sym (standing-met signs name old entry n k) ∙ j.2.1, on-in client (Event.Judge client entry j.2.0 state stored) old.annals new.annals k j.0 j.2.2),
+  (j.2.0, sym (standing-met signs name old entry n k) ∙ j.2.1, on-in client (Event.Judge client entry j.2.0 state stored) old.house_log new.house_log k j.0 j.2.2),
 )
 settled-in signs name client device (Ok Settling.NoDevice) old new n k j = (
   sym (device-met signs name old device n k) ∙ j.1,
-  on-in client (Event.Query client (Query.Settle device)) old.annals new.annals k j.0 j.2,
+  on-in client (Event.Query client (Query.Settle device)) old.house_log new.house_log k j.0 j.2,
 )
 settled-in signs name client device (Ok (Settling.Waits entry)) old new n k j = (
   sym (device-met signs name old device n k) ∙ j.1,
   sym (standing-met signs name old entry n k) ∙ j.2,
-  on-in client (Event.Query client (Query.Settle device)) old.annals new.annals k j.0 j.3,
+  on-in client (Event.Query client (Query.Settle device)) old.house_log new.house_log k j.0 j.3,
 )
 settled-in signs name client device (Ok Settling.Nothing) old new n k j = (
   sym (device-met signs name old device n k) ∙ j.1,
-  on-in client (Event.Query client (Query.Settle device)) old.annals new.annals k j.0 j.2,
+  on-in client (Event.Query client (Query.Settle device)) old.house_log new.house_log k j.0 j.2,
 )
-settled-in signs name client device (Err Stop.Off) old new n k j = found-off client old.annals new.annals k j
-settled-in signs name client device (Err Stop.NoMemory) old new n k j = none-in old.annals new.annals k j.0 j.1
+settled-in signs name client device (Err Stop.Off) old new n k j = found-off client old.house_log new.house_log k j
+settled-in signs name client device (Err Stop.NoMemory) old new n k j = none-in old.house_log new.house_log k j.0 j.1
 
-pub settled-grew : (client : ℕ) (device : Selector) (result : Result Settling Stop) (old new : Annalled) → SettleTurned client device result old new → Grew client old new
+pub settled-grew : (client : ℕ) (device : Selector) (result : Result Settling Stop) (old new : HouseLogView) → SettleTurned client device result old new → Grew client old new
 settled-grew client device (Ok (Settling.Judged entry state stored)) old new j = inr (Event.Judge client entry j.2.0 state stored, refl, j.2.2)
 settled-grew client device (Ok Settling.NoDevice) old new j = inr (Event.Query client (Query.Settle device), refl, j.2)
 settled-grew client device (Ok (Settling.Waits entry)) old new j = inr (Event.Query client (Query.Settle device), refl, j.3)

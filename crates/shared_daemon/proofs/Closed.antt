@@ -11,7 +11,7 @@ use Rattle.history_keeper.specs.declared.change.Change.{Change}
 use Rattle.history_keeper.specs.declared.row.Row.{Row}
 use Rattle.update_log.specs.Holding.{blocks_out, held, hold_of, holds, live}
 use Rattle.update_log.specs.Legal.{IsFree}
-use Rattle.daemon_core.specs.Annals.{IsAnnals}
+use Rattle.daemon_core.specs.HouseLog.{IsHouseLog}
 use Rattle.daemon_core.specs.House.{IsHouse}
 use Rattle.daemon_core.specs.Housed.{Housed, past}
 use Rattle.daemon_core.specs.Parts.{AllHome}
@@ -30,7 +30,7 @@ use Rattle.shared_daemon.proofs.Others.{free-stays}
 use Rattle.shared_daemon.proofs.Seeing.{log-named, others-since, stays}
 
 -- A house whose log is that of its name as the daemon begins.
-pub start-named : {K : Type 0} (signs : Signs K) (name : Name) (h : Housed K) → KeepsName signs name h → IsAnnals h.annals → chronicle h ≡ name.start → IsLogOf name name.start
+pub start-named : {K : Type 0} (signs : Signs K) (name : Name) (h : Housed K) → KeepsName signs name h → IsHouseLog h.house_log → chronicle h ≡ name.start → IsLogOf name name.start
 start-named signs name h n k e =
     subst (λ (l : List Entry). IsLogOf name l) e
     (log-named signs name h n k ([], e ∙ sym (append-nil name.start)))
@@ -116,18 +116,18 @@ module _ (name : Name) (log : List Entry) where
       )
 
 -- Where nothing is out, all boards are at home and all blocks are free.
-pub home-left : {K : Type 0} (told : K → List Row → Type 0) (doubted : K → Option Change) (h : Housed K) → IsAnnals h.annals → IsHouse told doubted h → HasNothing (chronicle h) → AllHome h.places
+pub home-left : {K : Type 0} (told : K → List Row → Type 0) (doubted : K → Option Change) (h : Housed K) → IsHouseLog h.house_log → IsHouse told doubted h → HasNothing (chronicle h) → AllHome h.places
 home-left told doubted h k w n =
-    house-home told doubted h w (ap live (sym (past-entries h.annals k)) ∙ n.1)
+    house-home told doubted h w (ap live (sym (past-entries h.house_log k)) ∙ n.1)
 
-nothing-held : {K : Type 0} (h : Housed K) → IsAnnals h.annals → HasNothing (chronicle h) → held (past h) ≡ 0
+nothing-held : {K : Type 0} (h : Housed K) → IsHouseLog h.house_log → HasNothing (chronicle h) → held (past h) ≡ 0
 nothing-held h k n =
-    ap held (sym (past-entries h.annals k))
+    ap held (sym (past-entries h.house_log k))
     ∙ ap (λ (hs : List Held). blocks_out hs (live (past_seen (chronicle h)))) n.0
     ∙ ap (λ (ls : List LiveEntry). blocks_out [] ls) n.1
 
-pub free-left : {K : Type 0} (told : K → List Row → Type 0) (doubted : K → Option Change) (h : Housed K) → IsAnnals h.annals → IsHouse told doubted h → HasNothing (chronicle h) → h.pool.free ≡ h.annals.facts.pool
+pub free-left : {K : Type 0} (told : K → List Row → Type 0) (doubted : K → Option Change) (h : Housed K) → IsHouseLog h.house_log → IsHouse told doubted h → HasNothing (chronicle h) → h.pool.free ≡ h.house_log.facts.pool
 free-left told doubted h k w n =
     let none : held (past h) ≡ 0 = nothing-held h k n in
-    let all : h.pool.free + held (past h) ≡ h.annals.facts.pool = w.free in
+    let all : h.pool.free + held (past h) ≡ h.house_log.facts.pool = w.free in
     omega (arith, none, all)

@@ -4,8 +4,8 @@ use Rattle.std.specs.List.{AllByRecursion}
 use Rattle.std.proofs.lemmas.List.Elements.{filter-append}
 use Rattle.update_log.specs.declared.event.Event.{Event}
 use Rattle.update_log.specs.Pasts.{past_of}
-use Rattle.daemon_core.specs.Annals.{Appended, IsAnnals, MadeBy, Unchanged}
-use Rattle.daemon_core.specs.Housed.{Annalled, past_in}
+use Rattle.daemon_core.specs.HouseLog.{Appended, IsHouseLog, MadeBy, Unchanged}
+use Rattle.daemon_core.specs.Housed.{HouseLogView, past_in}
 use Rattle.turn_lock.specs.Lists.{BeginsWith, beyond, made_by}
 use Rattle.turn_lock.proofs.Counting.{beyond_append}
 use Rattle.shared_daemon.specs.declared.entry.Entry.{Entry}
@@ -28,17 +28,17 @@ entries-push [] (k ∷ makers) event maker m = absurd m
 entries-push (e ∷ log) [] event maker m = absurd m
 entries-push (e ∷ log) (k ∷ makers) event maker m = ap (λ (l : List Entry). entry_of k e ∷ l) (entries-push log makers event maker m.1)
 
--- The same of annals.
-pub past-entries : (a : Annalled) → IsAnnals a → past_seen (entries_in a) ≡ past_in a
+-- The same of a house log.
+pub past-entries : (a : HouseLogView) → IsHouseLog a → past_seen (entries_in a) ≡ past_in a
 past-entries a k = ap past_of (events-entries a.core.log a.makers k.makers)
 
-pub entries-appended : (client : ℕ) (event : Event) (old new : Annalled) → IsAnnals old → Appended client event old new → entries_in new ≡ entries_in old ++ entry_of client event ∷ []
+pub entries-appended : (client : ℕ) (event : Event) (old new : HouseLogView) → IsHouseLog old → Appended client event old new → entries_in new ≡ entries_in old ++ entry_of client event ∷ []
 entries-appended client event old new k a =
     ap (λ (l : List Event). entries_of l new.makers) a.log
     ∙ ap (λ (m : List ℕ). entries_of (old.core.log ++ event ∷ []) m) a.makers
     ∙ entries-push old.core.log old.makers event client k.makers
 
-pub entries-same : (old new : Annalled) → Unchanged old new → entries_in new ≡ entries_in old
+pub entries-same : (old new : HouseLogView) → Unchanged old new → entries_in new ≡ entries_in old
 entries-same old new u =
     ap (λ (l : List Event). entries_of l new.makers) u.log ∙ ap (λ (m : List ℕ). entries_of old.core.log m) u.makers
 

@@ -5,7 +5,7 @@ use Rattle.std.proofs.lemmas.List.{reverse-append}
 use Rattle.std.specs.Prelude.{Option, Some, None, Result, IfSome, IsSome, IsTrue, OnOk, ◌==◌, find, option_map, option_and_then, unwrap_or}
 use Rattle.std.specs.List.{AllByRecursion}
 use Rattle.std.specs.Str.{bytes_eq}
-use Rattle.daemon_core.proofs.AnnalsKept.{boots-same}
+use Rattle.daemon_core.proofs.HouseLogKept.{boots-same}
 use Rattle.emulated_boards.specs.Boards.{BoardState}
 use Rattle.emulated_boards.specs.Conditions.{view_of as shown_of}
 use Rattle.emulated_boards.specs.declared.fault.BoardFault.{BoardFault}
@@ -31,7 +31,7 @@ use Rattle.update_log.specs.declared.live.LiveEntry.{LiveEntry}
 use Rattle.update_log.specs.declared.trace.Trace.{Trace}
 use Rattle.daemon_core.proofs.BoardsQuiet.{goes-so}
 use Rattle.daemon_core.proofs.PlacesKept.{SameOfBoard, board-same, raw-same}
-use Rattle.daemon_core.specs.Annals.{IsLegalSo, MadeBy}
+use Rattle.daemon_core.specs.HouseLog.{IsLegalSo, MadeBy}
 use Rattle.daemon_core.specs.Boards.{BoardStands}
 use Rattle.daemon_core.specs.Finishes.{IsDone}
 use Rattle.daemon_core.specs.Returns.{ComesHome, StepEnds, new_marks, number_of}

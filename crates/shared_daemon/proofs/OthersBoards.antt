@@ -3,7 +3,7 @@ use Rattle.std.proofs.Common.{◌≡◌, ◌≢◌, ℕ, true, false, List, [], 
 use Rattle.std.proofs.lemmas.List.{append-nil}
 use Rattle.std.proofs.lemmas.Bool.{eq-eqb}
 use Rattle.std.specs.Prelude.{Option, Some, None, ◌==◌, if◌then◌else◌, option_map, unwrap_or}
-use Rattle.daemon_core.proofs.AnnalsKept.{boots-same}
+use Rattle.daemon_core.proofs.HouseLogKept.{boots-same}
 use Rattle.device_list.specs.declared.selector.Selector.{Selector}
 use Rattle.fw_facts.specs.Views.{is_home}
 use Rattle.fw_facts.specs.declared.seen.Seen.{Seen}
@@ -27,7 +27,7 @@ use Rattle.daemon_core.proofs.ClaimEnds.{any-found, own-board}
 use Rattle.daemon_core.proofs.ClaimOpen.{open-entry_live, live-found}
 use Rattle.daemon_core.proofs.Moves.{for-other, found-board, free-home}
 use Rattle.daemon_core.proofs.PlacesKept.{SameOfBoard}
-use Rattle.daemon_core.specs.Annals.{IsLegalSo}
+use Rattle.daemon_core.specs.HouseLog.{IsLegalSo}
 use Rattle.daemon_core.specs.Boards.{is_faulty_end, is_out}
 use Rattle.shared_daemon.proofs.OthersEntries.{concerns}
 

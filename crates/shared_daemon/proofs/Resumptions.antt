@@ -16,11 +16,11 @@ use Rattle.daemon_core.specs.declared.fetched.Fetched.{Fetched}
 use Rattle.daemon_core.specs.declared.hold.Ticket.{Ticket}
 use Rattle.daemon_core.specs.declared.resumed.ResumeStop.{ResumeStop}
 use Rattle.daemon_core.specs.declared.stop.Stop.{Stop}
-use Rattle.daemon_core.specs.Annals.{IsAnnals}
+use Rattle.daemon_core.specs.HouseLog.{IsHouseLog}
 use Rattle.daemon_core.specs.Claims.{IsTaken}
 use Rattle.daemon_core.specs.Fetches.{IsFetchOf, block_count}
 use Rattle.daemon_core.specs.Holds.{held_by}
-use Rattle.daemon_core.specs.Housed.{Annalled, Housed}
+use Rattle.daemon_core.specs.Housed.{HouseLogView, Housed}
 use Rattle.daemon_core.specs.Resumes.{ComesIn, IsPutOff, ResumeGave, ResumeTurned, StoppedBy}
 use Rattle.turn_lock.specs.Lists.{AddsAtMostOne}
 use Rattle.shared_daemon.specs.declared.entry.Entry.{Entry}
@@ -38,11 +38,11 @@ use Rattle.shared_daemon.proofs.Seeing.{from-name, stays, to-name}
 use Rattle.shared_daemon.proofs.Stayed.{pending-met, rows-met}
 use Rattle.shared_daemon.proofs.Turning.{adds-none, adds-off, adds-on, found-off, off-in}
 
-stopped-in : (stop : Stop) (old new : Annalled) → IsAnnals old → StoppedBy stop old new → StoppedIn stop (entries_in old) (entries_in new)
+stopped-in : (stop : Stop) (old new : HouseLogView) → IsHouseLog old → StoppedBy stop old new → StoppedIn stop (entries_in old) (entries_in new)
 stopped-in Stop.Off old new k s = found-off 0 old new k s
 stopped-in Stop.NoMemory old new k s = (off-in old false k s.0, entries-same old new s.1)
 
-stopped-grew : (stop : Stop) (old new : Annalled) → StoppedBy stop old new → Grew 0 old new
+stopped-grew : (stop : Stop) (old new : HouseLogView) → StoppedBy stop old new → Grew 0 old new
 stopped-grew Stop.Off old new s = calm-grew 0 old new (off-calm 0 old new s)
 stopped-grew Stop.NoMemory old new s = inl s.1
 
@@ -50,17 +50,17 @@ stopped-adds : (stop : Stop) (met log : List Entry) → StoppedIn stop met log �
 stopped-adds Stop.Off met log s = adds-off 0 met log s
 stopped-adds Stop.NoMemory met log s = adds-none 0 met log s
 
-pub resumed-in : (entry : ℕ) (fetched : Option FetchNote) (result : Result Claimed ResumeStop) (old new : Annalled) → IsAnnals old → ResumeTurned entry fetched result old new → ResumedIn entry fetched result (entries_in old) (entries_in new)
+pub resumed-in : (entry : ℕ) (fetched : Option FetchNote) (result : Result Claimed ResumeStop) (old new : HouseLogView) → IsHouseLog old → ResumeTurned entry fetched result old new → ResumedIn entry fetched result (entries_in old) (entries_in new)
 resumed-in entry fetched (Ok (Claimed.Taken taken)) old new k t = (off-in old false k t.0.on, entries-appended 0 (Event.Resume 0 entry fetched ResumeAnswer.Begun Stored.Yes) old new k t.1)
 resumed-in entry fetched (Ok (Claimed.Kept kept state)) old new k t = absurd t
 resumed-in entry fetched (Ok (Claimed.Refused refusal)) old new k t = (t.1.0, t.1.1, (off-in old false k t.0.on, entries-appended 0 (Event.Resume 0 entry fetched (ResumeAnswer.Refused refusal) t.1.0) old new k t.1.2))
 resumed-in entry fetched (Err stopped) old new k t = stopped-in stopped.stop old new k t
 
-pub resumed-named : {K : Type 0} (entry : ℕ) (fetched : Option FetchNote) (result : Result Claimed ResumeStop) (self inside new : Housed K) → inside ≡ self → IsAnnals inside.annals → ResumeTurned entry fetched result inside.annals new.annals → ResumedIn entry fetched result (chronicle self) (chronicle new)
+pub resumed-named : {K : Type 0} (entry : ℕ) (fetched : Option FetchNote) (result : Result Claimed ResumeStop) (self inside new : Housed K) → inside ≡ self → IsHouseLog inside.house_log → ResumeTurned entry fetched result inside.house_log new.house_log → ResumedIn entry fetched result (chronicle self) (chronicle new)
 resumed-named {K} entry fetched result self inside new e k t =
-    subst (λ (h : Housed K). ResumedIn entry fetched result (chronicle h) (chronicle new)) e (resumed-in entry fetched result inside.annals new.annals k t)
+    subst (λ (h : Housed K). ResumedIn entry fetched result (chronicle h) (chronicle new)) e (resumed-in entry fetched result inside.house_log new.house_log k t)
 
-pub resumed-grew : (entry : ℕ) (fetched : Option FetchNote) (result : Result Claimed ResumeStop) (old new : Annalled) → ResumeTurned entry fetched result old new → Grew 0 old new
+pub resumed-grew : (entry : ℕ) (fetched : Option FetchNote) (result : Result Claimed ResumeStop) (old new : HouseLogView) → ResumeTurned entry fetched result old new → Grew 0 old new
 resumed-grew entry fetched (Ok (Claimed.Taken taken)) old new t = inr (Event.Resume 0 entry fetched ResumeAnswer.Begun Stored.Yes, refl, t.1)
 resumed-grew entry fetched (Ok (Claimed.Kept kept state)) old new t = absurd t
 resumed-grew entry fetched (Ok (Claimed.Refused refusal)) old new t = inr (Event.Resume 0 entry fetched (ResumeAnswer.Refused refusal) t.1.0, refl, t.1.2)
@@ -72,7 +72,7 @@ resumed-adds entry fetched (Ok (Claimed.Kept kept state)) met log t = absurd t
 resumed-adds entry fetched (Ok (Claimed.Refused refusal)) met log t = adds-on 0 (Event.Resume 0 entry fetched (ResumeAnswer.Refused refusal) t.0) met log t.2
 resumed-adds entry fetched (Err stopped) met log t = stopped-adds stopped.stop met log t
 
-pub resumed-gave : {K : Type 0} (signs : Signs K) (name : Name) (entry : ℕ) (held : Option (Ticket × Fetched)) (result : Result Claimed ResumeStop) (old new : Housed K) → KeepsName signs name new → IsAnnals new.annals → HavePlans name.plans old.places → ResumeGave entry held result old new
+pub resumed-gave : {K : Type 0} (signs : Signs K) (name : Name) (entry : ℕ) (held : Option (Ticket × Fetched)) (result : Result Claimed ResumeStop) (old new : Housed K) → KeepsName signs name new → IsHouseLog new.house_log → HavePlans name.plans old.places → ResumeGave entry held result old new
     → ResumeGaveIn name entry held result (chronicle new)
 resumed-gave signs name entry held (Ok (Claimed.Taken taken)) old new n k p g = (
   g.0,
@@ -88,7 +88,7 @@ resumed-gave signs name entry held (Ok (Claimed.Refused refusal)) old new n k p 
 resumed-gave signs name entry held (Err stopped) old new n k p g = g.2
 
 module _ {K : Type 0} (signs : Signs K) (name : Name) (h : Housed K) (entry : ℕ) where
-  pub put_off-met : (held : Option (Ticket × Fetched)) → KeepsName signs name h → IsAnnals h.annals → WasSeen name 0 (MayResumeRow name entry held) (chronicle h) → IsPutOff h.annals entry
+  pub put_off-met : (held : Option (Ticket × Fetched)) → KeepsName signs name h → IsHouseLog h.house_log → WasSeen name 0 (MayResumeRow name entry held) (chronicle h) → IsPutOff h.house_log entry
   put_off-met held n k w =
       let m = w.holds in
       record {
@@ -97,7 +97,7 @@ module _ {K : Type 0} (signs : Signs K) (name : Name) (h : Housed K) (entry : �
         pending = m.pending;
       }
 
-  pub comes-in-met : (held : Option (Ticket × Fetched)) → KeepsName signs name h → IsAnnals h.annals → WasSeen name 0 (MayResumeRow name entry held) (chronicle h) → ComesIn h.annals entry held
+  pub comes-in-met : (held : Option (Ticket × Fetched)) → KeepsName signs name h → IsHouseLog h.house_log → WasSeen name 0 (MayResumeRow name entry held) (chronicle h) → ComesIn h.house_log entry held
   comes-in-met (Some held) n k w =
       let m = w.holds.has in
       record {

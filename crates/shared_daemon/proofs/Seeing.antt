@@ -6,7 +6,7 @@ use Rattle.history_keeper.specs.Histories.{IsHistory}
 use Rattle.update_log.specs.declared.event.Event.{Event}
 use Rattle.update_log.specs.declared.facts.Facts.{Facts}
 use Rattle.update_log.specs.Pasts.{boots, past_of}
-use Rattle.daemon_core.specs.Annals.{IsAnnals, IsLegalSo}
+use Rattle.daemon_core.specs.HouseLog.{IsHouseLog, IsLegalSo}
 use Rattle.daemon_core.specs.Housed.{Housed, past, rows_before, rows_taken}
 use Rattle.daemon_core.specs.Turns.{Signs}
 use Rattle.turn_lock.specs.Lists.{BeginsWith, beyond, made_by}
@@ -20,39 +20,39 @@ use Rattle.shared_daemon.proofs.Logs.{all-made, append-none, begins-all, beyond-
 
 module _ {K : Type 0} (signs : Signs K) (name : Name) (h : Housed K) where
   -- The rows before the log are those of the name.
-  pub before-named : KeepsName signs name h → rows_before h.annals ≡ name.opening
-  before-named n = ap (λ (b : Bool). rows_taken b h.annals.opening) n.loaded ∙ n.opening_is
+  pub before-named : KeepsName signs name h → rows_before h.house_log ≡ name.opening
+  before-named n = ap (λ (b : Bool). rows_taken b h.house_log.opening) n.loaded ∙ n.opening_is
 
   pub booted-named : KeepsName signs name h → 0 < boots (past h)
   booted-named n = let e = n.boots_are in let b = n.booted in omega (arith, e, b)
 
   -- What is said of a house's log may be said of its name's, and the other way round.
-  pub to-name : KeepsName signs name h → IsAnnals h.annals → (P : Facts → List Seen → List Row → List Event → Type 0) → P h.annals.facts h.annals.first (rows_before h.annals) (past h) → P name.facts name.first name.opening (past_seen (chronicle h))
+  pub to-name : KeepsName signs name h → IsHouseLog h.house_log → (P : Facts → List Seen → List Row → List Event → Type 0) → P h.house_log.facts h.house_log.first (rows_before h.house_log) (past h) → P name.facts name.first name.opening (past_seen (chronicle h))
   to-name n k P p =
-      subst (λ (es : List Event). P name.facts name.first name.opening es) (sym (past-entries h.annals k))
+      subst (λ (es : List Event). P name.facts name.first name.opening es) (sym (past-entries h.house_log k))
       (subst (λ (o : List Row). P name.facts name.first o (past h)) (before-named n)
-      (subst (λ (s : List Seen). P name.facts s (rows_before h.annals) (past h)) n.first_are
-      (subst (λ (f : Facts). P f h.annals.first (rows_before h.annals) (past h)) n.facts_are p)))
+      (subst (λ (s : List Seen). P name.facts s (rows_before h.house_log) (past h)) n.first_are
+      (subst (λ (f : Facts). P f h.house_log.first (rows_before h.house_log) (past h)) n.facts_are p)))
 
-  pub from-name : KeepsName signs name h → IsAnnals h.annals → (P : Facts → List Seen → List Row → List Event → Type 0) → P name.facts name.first name.opening (past_seen (chronicle h)) → P h.annals.facts h.annals.first (rows_before h.annals) (past h)
+  pub from-name : KeepsName signs name h → IsHouseLog h.house_log → (P : Facts → List Seen → List Row → List Event → Type 0) → P name.facts name.first name.opening (past_seen (chronicle h)) → P h.house_log.facts h.house_log.first (rows_before h.house_log) (past h)
   from-name n k P p =
-      subst (λ (f : Facts). P f h.annals.first (rows_before h.annals) (past h)) (sym n.facts_are)
-      (subst (λ (s : List Seen). P name.facts s (rows_before h.annals) (past h)) (sym n.first_are)
+      subst (λ (f : Facts). P f h.house_log.first (rows_before h.house_log) (past h)) (sym n.facts_are)
+      (subst (λ (s : List Seen). P name.facts s (rows_before h.house_log) (past h)) (sym n.first_are)
       (subst (λ (o : List Row). P name.facts name.first o (past h)) (sym (before-named n))
-      (subst (λ (es : List Event). P name.facts name.first name.opening es) (past-entries h.annals k) p)))
+      (subst (λ (es : List Event). P name.facts name.first name.opening es) (past-entries h.house_log k) p)))
 
-  pub history-named : KeepsName signs name h → IsAnnals h.annals → IsHistory name.opening
+  pub history-named : KeepsName signs name h → IsHouseLog h.house_log → IsHistory name.opening
   history-named n k = subst IsHistory (before-named n) k.stands.history
 
   -- Its log is one of the name, if it begins with the name's.
-  pub log-named : KeepsName signs name h → IsAnnals h.annals → BeginsWith (chronicle h) name.start → IsLogOf name (chronicle h)
+  pub log-named : KeepsName signs name h → IsHouseLog h.house_log → BeginsWith (chronicle h) name.start → IsLogOf name (chronicle h)
   log-named n k b =
       record {
         history = history-named n k;
         begins = b;
         legal = to-name n k IsLegalSo k.legal;
-        made = all-made h.annals.core.log h.annals.makers k.makers;
-        boots_are = ap boots (past-entries h.annals k) ∙ n.boots_are;
+        made = all-made h.house_log.core.log h.house_log.makers k.makers;
+        boots_are = ap boots (past-entries h.house_log k) ∙ n.boots_are;
       }
 
 -- What a pass saw begins what its turn meets, and others alone made the rest.

@@ -16,7 +16,7 @@ use Rattle.update_log.specs.Holding.{hold}
 use Rattle.update_log.specs.Known.{row_of, rows}
 use Rattle.update_log.specs.Legal.{IsFree, QueryAllowed, StartAllowed}
 use Rattle.update_log.specs.Pasts.{off}
-use Rattle.daemon_core.specs.Annals.{IsAnnals}
+use Rattle.daemon_core.specs.HouseLog.{IsHouseLog}
 use Rattle.daemon_core.specs.Finishes.{IsDone}
 use Rattle.daemon_core.specs.Housed.{Housed, past, rows_before}
 use Rattle.daemon_core.specs.Returns.{ComesHome, StepEnds, new_marks, number_of}
@@ -41,25 +41,25 @@ module _ {K : Type 0} (signs : Signs K) (name : Name) (client : ℕ) (h : Housed
   seen-stays : (Holds : List Entry → Type 0) → (w : WasSeen name client Holds (chronicle h)) → others.Stays name.facts name.first name.opening client (past_seen w.seen) (past_seen (chronicle h))
   seen-stays Holds w = stays name client w.seen (chronicle h) w.log w.meets
 
-  pub free-met : KeepsName signs name h → IsAnnals h.annals → WasSeen name client (λ seen. IsFree (past_seen seen) client) (chronicle h) → IsFree (past h) client
+  pub free-met : KeepsName signs name h → IsHouseLog h.house_log → WasSeen name client (λ seen. IsFree (past_seen seen) client) (chronicle h) → IsFree (past h) client
   free-met n k w =
       from-name signs name h n k (λ f s o p. IsFree p client)
       (others.free-stays name.facts name.first name.opening client (past_seen w.seen) (past_seen (chronicle h)) (seen-stays (λ seen. IsFree (past_seen seen) client) w) w.holds)
 
-  pub hold-met : (held : Held) → KeepsName signs name h → IsAnnals h.annals → WasSeen name client (λ seen. hold (past_seen seen) client ≡ Some held) (chronicle h) → hold (past h) client ≡ Some held
+  pub hold-met : (held : Held) → KeepsName signs name h → IsHouseLog h.house_log → WasSeen name client (λ seen. hold (past_seen seen) client ≡ Some held) (chronicle h) → hold (past h) client ≡ Some held
   hold-met held n k w =
       from-name signs name h n k (λ f s o p. hold p client ≡ Some held)
       (others.hold-stays name.facts name.first name.opening client (past_seen w.seen) (past_seen (chronicle h)) (seen-stays (λ seen. hold (past_seen seen) client ≡ Some held) w) ∙ w.holds)
 
-  pub start-met : (entry : ℕ) (op : Op) → KeepsName signs name h → IsAnnals h.annals → WasSeen name client (MayStart name client entry op) (chronicle h) → (l : LiveEntry) × StartAllowed h.annals.facts (rows_before h.annals) (past h) client entry op l
+  pub start-met : (entry : ℕ) (op : Op) → KeepsName signs name h → IsHouseLog h.house_log → WasSeen name client (MayStart name client entry op) (chronicle h) → (l : LiveEntry) × StartAllowed h.house_log.facts (rows_before h.house_log) (past h) client entry op l
   start-met entry op n k w = (
     w.holds.0,
     from-name signs name h n k (λ f s o p. StartAllowed f o p client entry op w.holds.0)
         (others.start-stays name.facts name.first name.opening client (past_seen w.seen) (past_seen (chronicle h)) entry op w.holds.0 (seen-stays (MayStart name client entry op) w) w.holds.1),
   )
 
-  pub ends-met : (entry : ℕ) (op : Op) (outcome : Result (Unit {0}) BoardFault) (b : BoardState) → KeepsName signs name h → IsAnnals h.annals → WasSeen name client (EndsOwn name client entry op outcome b) (chronicle h)
-      → (number : ℕ) × StepEnds h.annals.facts h.annals.first (rows_before h.annals) (past h) client entry op outcome number b
+  pub ends-met : (entry : ℕ) (op : Op) (outcome : Result (Unit {0}) BoardFault) (b : BoardState) → KeepsName signs name h → IsHouseLog h.house_log → WasSeen name client (EndsOwn name client entry op outcome b) (chronicle h)
+      → (number : ℕ) × StepEnds h.house_log.facts h.house_log.first (rows_before h.house_log) (past h) client entry op outcome number b
   ends-met entry op outcome b n k w =
       let e = w.holds in (
         e.number,
@@ -67,8 +67,8 @@ module _ {K : Type 0} (signs : Signs K) (name : Name) (client : ℕ) (h : Housed
             (others.ends-stay name.facts name.first name.opening client (past_seen w.seen) (past_seen (chronicle h)) entry e.number op outcome b e.l (seen-stays (EndsOwn name client entry op outcome b) w) e.own e.ends),
       )
 
-  pub comes-met : (entry : ℕ) (b : BoardState) (blocks : ℕ) → KeepsName signs name h → IsAnnals h.annals → WasSeen name client (MayFinish name client entry b blocks) (chronicle h)
-      → (number : ℕ) × (l : LiveEntry) × ComesHome h.annals.facts h.annals.first (rows_before h.annals) (past h) client entry number l [] b blocks
+  pub comes-met : (entry : ℕ) (b : BoardState) (blocks : ℕ) → KeepsName signs name h → IsHouseLog h.house_log → WasSeen name client (MayFinish name client entry b blocks) (chronicle h)
+      → (number : ℕ) × (l : LiveEntry) × ComesHome h.house_log.facts h.house_log.first (rows_before h.house_log) (past h) client entry number l [] b blocks
   comes-met entry b blocks n k w =
       let e = w.holds in (
         e.number,
@@ -77,7 +77,7 @@ module _ {K : Type 0} (signs : Signs K) (name : Name) (client : ℕ) (h : Housed
             (others.home-stays name.facts name.first name.opening client (past_seen w.seen) (past_seen (chronicle h)) entry e.number e.l [] b blocks (seen-stays (MayFinish name client entry b blocks) w) e.comes),
       )
 
-  pub done-met : (entry : ℕ) (b : BoardState) (blocks : ℕ) → KeepsName signs name h → IsAnnals h.annals → WasSeen name client (MayFinish name client entry b blocks) (chronicle h) → (closed : RowState) × IsDone h.annals.facts (rows_before h.annals) (past h) entry closed
+  pub done-met : (entry : ℕ) (b : BoardState) (blocks : ℕ) → KeepsName signs name h → IsHouseLog h.house_log → WasSeen name client (MayFinish name client entry b blocks) (chronicle h) → (closed : RowState) × IsDone h.house_log.facts (rows_before h.house_log) (past h) entry closed
   done-met entry b blocks n k w =
       let e = w.holds in
       let own : IsOwn (past_seen w.seen) client entry e.l = record { live = e.comes.live; client_is = e.comes.client_is } in (
@@ -86,8 +86,8 @@ module _ {K : Type 0} (signs : Signs K) (name : Name) (client : ℕ) (h : Housed
             (others.done-stays name.facts name.first name.opening client (past_seen w.seen) (past_seen (chronicle h)) entry e.number e.l e.closed (seen-stays (MayFinish name client entry b blocks) w) own e.comes.board e.done),
       )
 
-  pub back-met : (entry : ℕ) (b : BoardState) (blocks : ℕ) → KeepsName signs name h → IsAnnals h.annals → WasSeen name client (GoesHome name client entry b blocks) (chronicle h)
-      → (number : ℕ) × (l : LiveEntry) × (tail : List Mark) × ComesHome h.annals.facts h.annals.first (rows_before h.annals) (past h) client entry number l tail b blocks
+  pub back-met : (entry : ℕ) (b : BoardState) (blocks : ℕ) → KeepsName signs name h → IsHouseLog h.house_log → WasSeen name client (GoesHome name client entry b blocks) (chronicle h)
+      → (number : ℕ) × (l : LiveEntry) × (tail : List Mark) × ComesHome h.house_log.facts h.house_log.first (rows_before h.house_log) (past h) client entry number l tail b blocks
   back-met entry b blocks n k w =
       let e = w.holds in (
         e.number,
@@ -98,26 +98,26 @@ module _ {K : Type 0} (signs : Signs K) (name : Name) (client : ℕ) (h : Housed
       )
 
   -- The faults that are planned for the board are those of the place that it comes to.
-  pub finish-planned : (entry : ℕ) (b : BoardState) (blocks : ℕ) → KeepsName signs name h → IsAnnals h.annals → WasSeen name client (MayFinish name client entry b blocks) (chronicle h)
-      → HasPlan name.plans (number_of h.annals.facts (rows_before h.annals) (past h) entry) b
+  pub finish-planned : (entry : ℕ) (b : BoardState) (blocks : ℕ) → KeepsName signs name h → IsHouseLog h.house_log → WasSeen name client (MayFinish name client entry b blocks) (chronicle h)
+      → HasPlan name.plans (number_of h.house_log.facts (rows_before h.house_log) (past h) entry) b
   unfolding comes-met
   finish-planned entry b blocks n k w = subst (λ (i : ℕ). HasPlan name.plans i b) (sym (ap (λ (o : Option ℕ). unwrap_or o 0) (comes-met entry b blocks n k w).2.board)) w.holds.planned
 
-  pub back-planned : (entry : ℕ) (b : BoardState) (blocks : ℕ) → KeepsName signs name h → IsAnnals h.annals → WasSeen name client (GoesHome name client entry b blocks) (chronicle h)
-      → HasPlan name.plans (number_of h.annals.facts (rows_before h.annals) (past h) entry) b
+  pub back-planned : (entry : ℕ) (b : BoardState) (blocks : ℕ) → KeepsName signs name h → IsHouseLog h.house_log → WasSeen name client (GoesHome name client entry b blocks) (chronicle h)
+      → HasPlan name.plans (number_of h.house_log.facts (rows_before h.house_log) (past h) entry) b
   unfolding back-met
   back-planned entry b blocks n k w = subst (λ (i : ℕ). HasPlan name.plans i b) (sym (ap (λ (o : Option ℕ). unwrap_or o 0) (back-met entry b blocks n k w).3.board)) w.holds.planned
 
-  pub off-met : (entry : ℕ) (b : BoardState) (blocks : ℕ) → KeepsName signs name h → IsAnnals h.annals → WasSeen name client (GoesHome name client entry b blocks) (chronicle h) → off (past h) ≡ true
+  pub off-met : (entry : ℕ) (b : BoardState) (blocks : ℕ) → KeepsName signs name h → IsHouseLog h.house_log → WasSeen name client (GoesHome name client entry b blocks) (chronicle h) → off (past h) ≡ true
   off-met entry b blocks n k w =
       from-name signs name h n k (λ f s o p. off p ≡ true)
       (others.off-stays name.facts name.first name.opening client (past_seen w.seen) (past_seen (chronicle h)) (seen-stays (GoesHome name client entry b blocks) w) w.holds.off_is)
 
   -- The rows that the house has.
-  pub rows-met : KeepsName signs name h → IsAnnals h.annals → h.annals.core.rows ≡ rows name.facts name.opening (past_seen (chronicle h))
-  rows-met n k = to-name signs name h n k (λ f s o p. h.annals.core.rows ≡ rows f o p) k.stands.rows
+  pub rows-met : KeepsName signs name h → IsHouseLog h.house_log → h.house_log.core.rows ≡ rows name.facts name.opening (past_seen (chronicle h))
+  rows-met n k = to-name signs name h n k (λ f s o p. h.house_log.core.rows ≡ rows f o p) k.stands.rows
 
-  pub row-met : (entry : ℕ) → KeepsName signs name h → IsAnnals h.annals → WasSeen name client (λ seen. IsSome (row_of (rows name.facts name.opening (past_seen seen)) entry)) (chronicle h) → IsSome (row_of h.annals.core.rows entry)
+  pub row-met : (entry : ℕ) → KeepsName signs name h → IsHouseLog h.house_log → WasSeen name client (λ seen. IsSome (row_of (rows name.facts name.opening (past_seen seen)) entry)) (chronicle h) → IsSome (row_of h.house_log.core.rows entry)
   row-met entry n k w =
       subst (λ (all : List Row). IsSome (row_of all entry)) (sym (rows-met n k))
       (others.row-stays name.facts name.first name.opening client (past_seen w.seen) (past_seen (chronicle h)) entry (seen-stays (λ seen. IsSome (row_of (rows name.facts name.opening (past_seen seen)) entry)) w) w.holds)

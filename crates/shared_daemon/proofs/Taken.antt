@@ -5,7 +5,7 @@ use Rattle.daemon_core.specs.declared.claimed.Claimed.{Claimed}
 use Rattle.daemon_core.specs.declared.claimed.ClaimStop.{ClaimStop}
 use Rattle.daemon_core.specs.declared.fetched.Fetched.{Fetched}
 use Rattle.daemon_core.specs.declared.hold.Ticket.{Ticket}
-use Rattle.daemon_core.specs.Annals.{IsAnnals}
+use Rattle.daemon_core.specs.HouseLog.{IsHouseLog}
 use Rattle.daemon_core.specs.Claims.{ClaimGave, IsTaken}
 use Rattle.daemon_core.specs.Housed.{Housed}
 use Rattle.shared_daemon.specs.Entries.{chronicle}
@@ -16,7 +16,7 @@ use Rattle.shared_daemon.specs.Taking.{ClaimGaveIn}
 use Rattle.daemon_core.proofs.Planned.{taken-planned}
 use Rattle.shared_daemon.proofs.Seeing.{to-name}
 
-pub gave-named : {K : Type 0} (signs : Signs K) (name : Name) (client : ℕ) (ticket : Ticket) (fetched : Fetched) (result : Result Claimed ClaimStop) (old new : Housed K) → KeepsName signs name new → IsAnnals new.annals → HavePlans name.plans old.places → ClaimGave client ticket fetched result old new
+pub gave-named : {K : Type 0} (signs : Signs K) (name : Name) (client : ℕ) (ticket : Ticket) (fetched : Fetched) (result : Result Claimed ClaimStop) (old new : Housed K) → KeepsName signs name new → IsHouseLog new.house_log → HavePlans name.plans old.places → ClaimGave client ticket fetched result old new
     → ClaimGaveIn name client ticket fetched result (chronicle new)
 gave-named signs name client ticket fetched (Ok (Claimed.Taken taken)) old new n k p g = (
   g.0,

@@ -5,9 +5,9 @@ use Rattle.update_log.specs.declared.event.Event.{Event}
 use Rattle.update_log.specs.Pasts.{off}
 use Rattle.daemon_core.specs.declared.off.Off.{Off}
 use Rattle.daemon_core.specs.declared.stop.Stop.{Stop}
-use Rattle.daemon_core.specs.Annals.{Appended, IsAnnals, Unchanged}
+use Rattle.daemon_core.specs.HouseLog.{Appended, IsHouseLog, Unchanged}
 use Rattle.daemon_core.specs.Goes.{TurnedOrOff}
-use Rattle.daemon_core.specs.Housed.{Annalled, Housed, past_in}
+use Rattle.daemon_core.specs.Housed.{HouseLogView, Housed, past_in}
 use Rattle.daemon_core.specs.Turns.{Signs, Turned, WentOff}
 use Rattle.turn_lock.specs.Lists.{AddsAtMostOne, BeginsWith, beyond, made_by}
 use Rattle.turn_lock.specs.Shown.{LockId, PassView, TurnView, IsReady}
@@ -20,35 +20,35 @@ use Rattle.shared_daemon.proofs.Logs.{begins-all, begins-trans, beyond-longer, e
 use Rattle.shared_daemon.proofs.Seeing.{log-named, others-since}
 
 -- The log of a house after a call, with its makers.
-pub off-in : (a : Annalled) (b : Bool) → IsAnnals a → off (past_in a) ≡ b → off (past_seen (entries_in a)) ≡ b
+pub off-in : (a : HouseLogView) (b : Bool) → IsHouseLog a → off (past_in a) ≡ b → off (past_seen (entries_in a)) ≡ b
 off-in a b k e = ap off (past-entries a k) ∙ e
 
-pub found-off : (client : ℕ) (old new : Annalled) → IsAnnals old → WentOff client old new → FoundOff client (entries_in old) (entries_in new)
+pub found-off : (client : ℕ) (old new : HouseLogView) → IsHouseLog old → WentOff client old new → FoundOff client (entries_in old) (entries_in new)
 found-off client old new k w =
     ⊎_elim (λ (u : (off (past_in old) ≡ true) × Unchanged old new). inl (off-in old true k u.0, entries-same old new u.1))
     (λ (a : (off (past_in old) ≡ false) × Appended client Event.Cut old new). inr (off-in old false k a.0, entries-appended client Event.Cut old new k a.1)) w
 
-pub turned-in : {A : Type 0} (client : ℕ) (event : A → Event) (result : Result A Stop) (old new : Annalled) → IsAnnals old → Turned client event result old new → TurnedIn client event result (entries_in old) (entries_in new)
+pub turned-in : {A : Type 0} (client : ℕ) (event : A → Event) (result : Result A Stop) (old new : HouseLogView) → IsHouseLog old → Turned client event result old new → TurnedIn client event result (entries_in old) (entries_in new)
 turned-in client event (Ok a) old new k t = (off-in old false k t.0.on, entries-appended client (event a) old new k t.1)
 turned-in client event (Err Stop.Off) old new k t = found-off client old new k t
 turned-in client event (Err Stop.NoMemory) old new k t = (off-in old false k t.0, entries-same old new t.1)
 
-pub went-in : {A : Type 0} (client : ℕ) (event : A → Event) (result : Result A Off) (old new : Annalled) → IsAnnals old → TurnedOrOff client event result old new → TurnedOrOffIn client event result (entries_in old) (entries_in new)
+pub went-in : {A : Type 0} (client : ℕ) (event : A → Event) (result : Result A Off) (old new : HouseLogView) → IsHouseLog old → TurnedOrOff client event result old new → TurnedOrOffIn client event result (entries_in old) (entries_in new)
 went-in client event (Ok a) old new k t = (off-in old false k t.0.on, entries-appended client (event a) old new k t.1)
 went-in client event (Err stop) old new k t = found-off client old new k t
 
 -- The same of a house that is opened as these.
-pub turned-named : {A K : Type 0} (client : ℕ) (event : A → Event) (result : Result A Stop) (self inside new : Housed K) → inside ≡ self → IsAnnals inside.annals → Turned client event result inside.annals new.annals → TurnedIn client event result (chronicle self) (chronicle new)
+pub turned-named : {A K : Type 0} (client : ℕ) (event : A → Event) (result : Result A Stop) (self inside new : Housed K) → inside ≡ self → IsHouseLog inside.house_log → Turned client event result inside.house_log new.house_log → TurnedIn client event result (chronicle self) (chronicle new)
 turned-named {A} {K} client event result self inside new e k t =
-    subst (λ (h : Housed K). TurnedIn client event result (chronicle h) (chronicle new)) e (turned-in client event result inside.annals new.annals k t)
+    subst (λ (h : Housed K). TurnedIn client event result (chronicle h) (chronicle new)) e (turned-in client event result inside.house_log new.house_log k t)
 
-pub went-named : {A K : Type 0} (client : ℕ) (event : A → Event) (result : Result A Off) (self inside new : Housed K) → inside ≡ self → IsAnnals inside.annals → TurnedOrOff client event result inside.annals new.annals → TurnedOrOffIn client event result (chronicle self) (chronicle new)
+pub went-named : {A K : Type 0} (client : ℕ) (event : A → Event) (result : Result A Off) (self inside new : Housed K) → inside ≡ self → IsHouseLog inside.house_log → TurnedOrOff client event result inside.house_log new.house_log → TurnedOrOffIn client event result (chronicle self) (chronicle new)
 went-named {A} {K} client event result self inside new e k t =
-    subst (λ (h : Housed K). TurnedOrOffIn client event result (chronicle h) (chronicle new)) e (went-in client event result inside.annals new.annals k t)
+    subst (λ (h : Housed K). TurnedOrOffIn client event result (chronicle h) (chronicle new)) e (went-in client event result inside.house_log new.house_log k t)
 
-pub adds-named : {K : Type 0} (client : ℕ) (event : Event) (self inside new : Housed K) → inside ≡ self → IsAnnals inside.annals → Appended client event inside.annals new.annals → Adds client event (chronicle self) (chronicle new)
+pub adds-named : {K : Type 0} (client : ℕ) (event : Event) (self inside new : Housed K) → inside ≡ self → IsHouseLog inside.house_log → Appended client event inside.house_log new.house_log → Adds client event (chronicle self) (chronicle new)
 adds-named {K} client event self inside new e k a =
-    subst (λ (h : Housed K). Adds client event (chronicle h) (chronicle new)) e (entries-appended client event inside.annals new.annals k a)
+    subst (λ (h : Housed K). Adds client event (chronicle h) (chronicle new)) e (entries-appended client event inside.house_log new.house_log k a)
 
 -- Each adds at most one entry, of the client.
 pub adds-off : (client : ℕ) (met log : List Entry) → FoundOff client met log → AddsAtMostOne maker_of client met log
@@ -85,7 +85,7 @@ added-own n met log a =
 
 module _ {X : Type 0} (name : Name) (old : PassView Entry) (turn : TurnView X Entry) where
   -- As a turn begins.
-  pub begun : {K : Type 0} (signs : Signs K) (h : Housed K) (lock : LockId) → IsPass lock name old → KeepsName signs name h → IsAnnals h.annals → turn.number ≡ old.number → turn.base ≡ old.base → turn.mine ≡ old.mine → turn.seen ≡ chronicle h
+  pub begun : {K : Type 0} (signs : Signs K) (h : Housed K) (lock : LockId) → IsPass lock name old → KeepsName signs name h → IsHouseLog h.house_log → turn.number ≡ old.number → turn.base ≡ old.base → turn.mine ≡ old.mine → turn.seen ≡ chronicle h
       → BeginsWith turn.seen old.seen → turn.mine ≡ made_by maker_of turn.number (drop turn.base turn.seen) → Begins name old turn
   begun signs h lock p n k number base mine list begins own =
       let at : turn.base ≡ length name.start = base ∙ p.base in

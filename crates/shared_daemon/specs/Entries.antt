@@ -2,8 +2,8 @@
 use Rattle.std.specs.Prelude.{ℕ, List, [], ◌∷◌, map}
 use Rattle.update_log.specs.declared.event.Event.{Event}
 use Rattle.update_log.specs.Pasts.{past_of}
-use Rattle.daemon_core.specs.Annals.{IsMadeBy}
-use Rattle.daemon_core.specs.Housed.{Annalled, Housed}
+use Rattle.daemon_core.specs.HouseLog.{IsMadeBy}
+use Rattle.daemon_core.specs.Housed.{HouseLogView, Housed}
 use Rattle.shared_daemon.specs.declared.entry.Entry.{Entry}
 
 -- An event that this client made.
@@ -19,12 +19,12 @@ entries_of [] makers = []
 entries_of (event ∷ log) [] = []
 entries_of (event ∷ log) (maker ∷ makers) = entry_of maker event ∷ entries_of log makers
 
-abbrev pub entries_in : Annalled → List Entry
+abbrev pub entries_in : HouseLogView → List Entry
 entries_in a = entries_of a.core.log a.makers
 
 -- The log of a house, so read.
 abbrev pub chronicle : {K : Type 0} → Housed K → List Entry
-chronicle h = entries_in h.annals
+chronicle h = entries_in h.house_log
 
 -- The events alone, and their past.
 abbrev pub events : List Entry → List Event

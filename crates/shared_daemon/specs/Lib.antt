@@ -17,7 +17,7 @@ pub use Rattle.update_log.specs.Holding
 pub use Rattle.update_log.specs.Known
 pub use Rattle.update_log.specs.Legal
 pub use Rattle.update_log.specs.Pasts
-pub use Rattle.daemon_core.specs.Annals
+pub use Rattle.daemon_core.specs.HouseLog
 pub use Rattle.daemon_core.specs.Claims
 pub use Rattle.daemon_core.specs.Fetches
 pub use Rattle.daemon_core.specs.Finishes

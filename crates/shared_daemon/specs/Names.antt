@@ -7,7 +7,7 @@ use Rattle.history_keeper.specs.declared.row.Row.{Row}
 use Rattle.update_log.specs.declared.facts.Facts.{Facts}
 use Rattle.update_log.specs.Holding.{holds, live}
 use Rattle.update_log.specs.Pasts.{boots}
-use Rattle.daemon_core.specs.Annals.{IsLegalSo}
+use Rattle.daemon_core.specs.HouseLog.{IsLegalSo}
 use Rattle.daemon_core.specs.Housed.{Housed, past}
 use Rattle.daemon_core.specs.Keeping.{keeper_faults}
 use Rattle.daemon_core.specs.Planned.{HavePlans}
@@ -74,11 +74,11 @@ pub record IsLogOf (name : Name) (log : List Entry) : Type 0 where
 -- tells was counted by the keeper, or its count stands at its end; that count has not fallen since the daemon
 -- began, and is as it was then while the log tells no more faults; and if the keeper tells rows, it came so.
 pub record KeepsName {K : Type 0} (signs : Signs K) (name : Name) (h : Housed K) : Type 0 where
-  pub facts_are : h.annals.facts ≡ name.facts
-  pub first_are : h.annals.first ≡ name.first
-  pub opening_is : h.annals.opening ≡ name.opening
-  pub loaded : h.annals.loaded ≡ true
-  pub reopened : h.annals.reopened ≡ false
+  pub facts_are : h.house_log.facts ≡ name.facts
+  pub first_are : h.house_log.first ≡ name.first
+  pub opening_is : h.house_log.opening ≡ name.opening
+  pub loaded : h.house_log.loaded ≡ true
+  pub reopened : h.house_log.reopened ≡ false
   pub booted : 0 < name.boots
   pub boots_are : boots (past h) ≡ name.boots
   pub planned : HavePlans name.plans h.places

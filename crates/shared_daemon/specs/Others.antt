@@ -12,7 +12,7 @@ use Rattle.update_log.specs.declared.facts.Facts.{Facts}
 use Rattle.update_log.specs.declared.live.LiveEntry.{LiveEntry}
 use Rattle.update_log.specs.Holding.{live_entry}
 use Rattle.update_log.specs.Pasts.{boots, past_of}
-use Rattle.daemon_core.specs.Annals.{IsLegalSo, MadeBy}
+use Rattle.daemon_core.specs.HouseLog.{IsLegalSo, MadeBy}
 
 -- The log that a client saw, and behind it what others made: the whole is legal and has no boot more, and
 -- the client is none of the makers of what stands behind.

@@ -91,7 +91,7 @@ impl<K: Keeper, N: Naming> Daemon<K, N> {
         ensures makers { All (λ entry. maker_of entry < self.seats) (beyond N.name.start (chronicle result)) }
         ensures nothing { HasNothing (chronicle result) }
         ensures home { AllHome result.places }
-        ensures blocks { result.pool.free ≡ result.annals.facts.pool }
+        ensures blocks { result.pool.free ≡ result.house_log.facts.pool }
     {
         let Daemon { lock } = self;
         let named = lock.close(passes);

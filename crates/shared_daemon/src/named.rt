@@ -1,6 +1,6 @@
 //! A house under a name, which lies behind the lock.
 ghost use Rattle.std.specs.Prelude.{◌≡◌};
-ghost use Rattle.daemon_core.specs.Annals.{IsAnnals};
+ghost use Rattle.daemon_core.specs.HouseLog.{IsHouseLog};
 ghost use Rattle.daemon_core.specs.House.{IsHouse};
 ghost use Rattle.daemon_core.specs.Turns.{signs_of};
 ghost use Rattle.shared_daemon.specs.Entries.{chronicle, maker_of};
@@ -60,7 +60,7 @@ impl<K: Keeper, N: Naming> Named<K, N> {
 
     // What is always true of it.
     pub(crate) fn known(&self)
-        ensures annals { IsAnnals self.now.annals }
+        ensures house_log { IsHouseLog self.now.house_log }
         ensures name { KeepsName (signs_of K.tells K.faults) N.name self.now }
         ensures house { IsHouse K.tells K.doubt self.now }
     {

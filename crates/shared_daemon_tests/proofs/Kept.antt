@@ -12,7 +12,7 @@ use Rattle.update_log.specs.declared.answer.AskAnswer.{AskAnswer}
 use Rattle.update_log.specs.declared.event.Event.{Event}
 use Rattle.update_log.specs.declared.facts.Facts.{Facts}
 use Rattle.update_log.specs.declared.request.Request.{Request}
-use Rattle.daemon_core.specs.Annals.{IsAnnals, IsLegalSo}
+use Rattle.daemon_core.specs.HouseLog.{IsHouseLog, IsLegalSo}
 use Rattle.daemon_core.specs.Housed.{Housed}
 use Rattle.daemon_core.specs.Turns.{Signs}
 use Rattle.daemon_core.proofs.BoardsQuiet.{goes-so}
@@ -80,9 +80,9 @@ found-some : (o : Option Row) (state : RowState) → option_map (λ (r : Row). r
 found-some None state h = cc
 found-some (Some row) state h = refl
 
-module _ {K : Type 0} (signs : Signs K) (name : Name) (h : Housed K) (n : KeepsName signs name h) (k : IsAnnals h.annals) where
-  pub put-off-in : (entry : ℕ) → option_map (λ (r : Row). r.state) (row_of h.annals.core.rows entry) ≡ Some RowState.Pending → IsPutOff name entry (chronicle h)
-  put-off-in entry s = found-pending name (chronicle h) h.annals.core.rows entry (row_of h.annals.core.rows entry) (rows-met signs name 0 h n k) refl s
+module _ {K : Type 0} (signs : Signs K) (name : Name) (h : Housed K) (n : KeepsName signs name h) (k : IsHouseLog h.house_log) where
+  pub put-off-in : (entry : ℕ) → option_map (λ (r : Row). r.state) (row_of h.house_log.core.rows entry) ≡ Some RowState.Pending → IsPutOff name entry (chronicle h)
+  put-off-in entry s = found-pending name (chronicle h) h.house_log.core.rows entry (row_of h.house_log.core.rows entry) (rows-met signs name 0 h n k) refl s
 
-  pub row-in : (entry : ℕ) (state : RowState) → option_map (λ (r : Row). r.state) (row_of h.annals.core.rows entry) ≡ Some state → HasRow name entry (chronicle h)
-  row-in entry state s = subst (λ (x : List Row). IsSome (row_of x entry)) (rows-met signs name 0 h n k) (found-some (row_of h.annals.core.rows entry) state s)
+  pub row-in : (entry : ℕ) (state : RowState) → option_map (λ (r : Row). r.state) (row_of h.house_log.core.rows entry) ≡ Some state → HasRow name entry (chronicle h)
+  row-in entry state s = subst (λ (x : List Row). IsSome (row_of x entry)) (rows-met signs name 0 h n k) (found-some (row_of h.house_log.core.rows entry) state s)

@@ -16,7 +16,7 @@ use Rattle.daemon_core.specs.declared.fetched.Fetched.{Fetched}
 use Rattle.daemon_core.specs.declared.hold.Hold.{Hold}
 use Rattle.daemon_core.specs.declared.hold.Ticket.{Ticket}
 use Rattle.daemon_core.specs.declared.judged.Judged.{Judged}
-use Rattle.daemon_core.specs.Annals.{IsLegalSo}
+use Rattle.daemon_core.specs.HouseLog.{IsLegalSo}
 use Rattle.daemon_core.specs.Claims.{IsTaken}
 use Rattle.daemon_core.specs.Fetches.{IsFetchOf, block_count, whole_note}
 use Rattle.daemon_core.specs.Holds.{IsHoldFor, held_by}

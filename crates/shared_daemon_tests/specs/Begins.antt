@@ -13,8 +13,8 @@ use Rattle.shared_daemon.specs.Names.{Name}
 -- It was booted, its last boot read the history, and nobody opened the keeper again since; each fault of the
 -- keeper that its log tells was counted, and nobody has anything out.
 pub record CanBegin {K : Type 0} (signs : Signs K) (h : Housed K) : Type 0 where
-  pub loaded : h.annals.loaded ≡ true
-  pub reopened : h.annals.reopened ≡ false
+  pub loaded : h.house_log.loaded ≡ true
+  pub reopened : h.house_log.reopened ≡ false
   pub booted : 0 < boots (past h)
   pub counted : (keeper_faults (past h) ≤ signs.faults h.keeper) ⊎ (2 ^ 64 - 1 ≤ signs.faults h.keeper)
   pub no_holds : holds (past h) ≡ []
@@ -24,10 +24,10 @@ pub record CanBegin {K : Type 0} (signs : Signs K) (h : Housed K) : Type 0 where
 abbrev pub name_of : {K : Type 0} → Signs K → Housed K → Name
 name_of signs h =
     record {
-      facts = h.annals.facts;
-      first = h.annals.first;
+      facts = h.house_log.facts;
+      first = h.house_log.first;
       plans = plans_in h.places;
-      opening = h.annals.opening;
+      opening = h.house_log.opening;
       boots = boots (past h);
       start = chronicle h;
       start_faults = signs.faults h.keeper;

@@ -14,7 +14,7 @@ use std::alloc::Global;
 use update_log::{BoardSeen, BootPlan, Found};
 
 impl<K: Keeper> House<K> {
-    ghost use Rattle.daemon_core.specs.Annals.{roomier};
+    ghost use Rattle.daemon_core.specs.HouseLog.{roomier};
     ghost use Rattle.daemon_core.specs.Booting.{BoardsStarted};
     ghost use Rattle.daemon_core.specs.Boots.{BootTurned, IsReady};
     ghost use Rattle.daemon_core.specs.House.{SameElsewhere};
@@ -63,44 +63,44 @@ impl<K: Keeper> House<K> {
     fn make_room(&mut self, alloc: Global) -> Result<Vec<BoardSeen>, NoMemory>
         ensures empty { IfOk result (λ listed. listed.items ≡ []) }
         ensures capacity { IfOk result (λ listed. length self.old.places ≤ vec_capacity listed) }
-        ensures room { OnOk result (2 ≤ self.new.annals.room) }
-        ensures row_room { OnOk result (1 ≤ self.new.annals.core.row_room) }
-        ensures same { self.new.annals ≡ roomier self.old.annals self.new.annals }
+        ensures room { OnOk result (2 ≤ self.new.house_log.room) }
+        ensures row_room { OnOk result (1 ≤ self.new.house_log.core.row_room) }
+        ensures same { self.new.house_log ≡ roomier self.old.house_log self.new.house_log }
         ensures elsewhere { SameElsewhere self.old self.new }
     {
-        self.annals.known();
+        self.house_log.known();
         let listed = Vec::with_capacity(alloc, self.places.len())?;
-        self.annals.reserve(2)?;
+        self.house_log.reserve(2)?;
         Ok(listed)
     }
 
     // Reads the history.
     fn read(&mut self, alloc: Global) -> Result<Loaded, NoMemory>
-        requires { 1 ≤ self.old.annals.core.row_room }
+        requires { 1 ≤ self.old.house_log.core.row_room }
         ensures ready { CanBootAfter K.tells K.doubt result self.new }
-        ensures first { self.old.annals.loaded ≡ false → FirstRead K.tells K.doubt K.faults result self.old.annals self.new.annals self.old.keeper self.new.keeper }
-        ensures later { self.old.annals.loaded ≡ true → (self.new.annals ≡ record self.old.annals { reopened = true }) × LaterRead K.tells K.doubt K.faults K.settled result self.old.annals.core.rows self.old.annals.core.doubt self.old.keeper self.new.keeper }
+        ensures first { self.old.house_log.loaded ≡ false → FirstRead K.tells K.doubt K.faults result self.old.house_log self.new.house_log self.old.keeper self.new.keeper }
+        ensures later { self.old.house_log.loaded ≡ true → (self.new.house_log ≡ record self.old.house_log { reopened = true }) × LaterRead K.tells K.doubt K.faults K.settled result self.old.house_log.core.rows self.old.house_log.core.doubt self.old.keeper self.new.keeper }
         ensures was_read { WasRead K.tells K.settled self.old.keeper self.new.keeper }
         ensures places { self.new.places ≡ self.old.places }
         ensures pool { self.new.pool ≡ self.old.pool }
         ensures counts { K.faults self.old.keeper ≤ K.faults self.new.keeper }
     {
-        self.annals.known();
-        read_history(alloc, &mut self.annals, &mut self.keeper)
+        self.house_log.known();
+        read_history(alloc, &mut self.house_log, &mut self.keeper)
     }
 
     // Starts the boards, and puts the boot behind the log.
     fn start_boards(&mut self, plan: &BootPlan, found: Found, listed: Vec<BoardSeen>)
         requires { IsReady K.tells K.doubt plan.now found listed.items (vec_capacity listed) self.old }
-        ensures started { BoardsStarted plan.now found self.old.annals self.new.annals self.old.places self.new.places }
-        ensures rows { self.new.annals.core.rows ≡ rows_found found self.old.annals.core.doubt self.old.annals.core.rows }
+        ensures started { BoardsStarted plan.now found self.old.house_log self.new.house_log self.old.places self.new.places }
+        ensures rows { self.new.house_log.core.rows ≡ rows_found found self.old.house_log.core.doubt self.old.house_log.core.rows }
         ensures keeper { self.new.keeper ≡ self.old.keeper }
         ensures pool { self.new.pool ≡ self.old.pool }
     {
-        self.annals.known();
+        self.house_log.known();
         let mut boards = listed;
         start_all(&mut self.places, plan, &mut boards);
-        self.annals.note_boot(plan, found, boards);
-        self.annals.note_found(found);
+        self.house_log.note_boot(plan, found, boards);
+        self.house_log.note_found(found);
     }
 }

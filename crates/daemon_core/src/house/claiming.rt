@@ -16,10 +16,10 @@ ghost use Rattle.daemon_core.specs.Returns.{place_at};
 
 use super::House;
 use super::steps::put;
-use crate::annals::Annals;
 use crate::claimed::{ClaimStop, Claimed, Taken};
 use crate::fetched::{Fetched, whole_note};
 use crate::hold::Ticket;
+use crate::house_log::HouseLog;
 use crate::place::BoardPlace;
 use crate::stop::Stop;
 use block_pool::Payload;
@@ -29,7 +29,7 @@ use history_keeper::{Change, Keeper, KeeperRefusal, Row};
 use update_log::{ClaimAnswer, Decision, Event, FetchNote, Refusal, Stage};
 
 impl<K: Keeper> House<K> {
-    ghost use Rattle.daemon_core.specs.Annals.{Appended};
+    ghost use Rattle.daemon_core.specs.HouseLog.{Appended};
     ghost use Rattle.daemon_core.specs.Housed.{past};
     ghost use Rattle.daemon_core.specs.Turns.{KeeperFared, Turned, signs_of};
 
@@ -45,8 +45,8 @@ impl<K: Keeper> House<K> {
         requires booted { 0 < boots (past self.old) }
         requires held { hold (past self.old) client ≡ Some (held_by ticket (block_count fetched)) }
         requires asked { ticket.pending ≡ None }
-        requires whole { IsFetchOf self.old.annals.facts ticket.release fetched }
-        ensures turn { Turned client (claim_event client ticket.request fetched) (stopped_by result) self.old.annals self.new.annals }
+        requires whole { IsFetchOf self.old.house_log.facts ticket.release fetched }
+        ensures turn { Turned client (claim_event client ticket.request fetched) (stopped_by result) self.old.house_log self.new.house_log }
         ensures gave { ClaimGave client ticket fetched result self.old self.new }
         ensures fared { KeeperFared (signs_of K.tells K.faults) self.old self.new }
         ensures counts { K.faults self.old.keeper ≤ K.faults self.new.keeper }
@@ -68,9 +68,9 @@ impl<K: Keeper> House<K> {
         ticket: Ticket,
         fetched: Fetched,
     ) -> Result<Claimed, ClaimStop>
-        requires may { MayClaim self.old.annals client ticket (block_count fetched) }
-        requires whole { IsFetchOf self.old.annals.facts ticket.release fetched }
-        ensures turn { Turned client (claim_event client ticket.request fetched) (stopped_by result) self.old.annals self.new.annals }
+        requires may { MayClaim self.old.house_log client ticket (block_count fetched) }
+        requires whole { IsFetchOf self.old.house_log.facts ticket.release fetched }
+        ensures turn { Turned client (claim_event client ticket.request fetched) (stopped_by result) self.old.house_log self.new.house_log }
         ensures gave { ClaimGave client ticket fetched result self.old self.new }
         ensures fared { KeeperFared (signs_of K.tells K.faults) self.old self.new }
         ensures counts { K.faults self.old.keeper ≤ K.faults self.new.keeper }
@@ -92,12 +92,12 @@ impl<K: Keeper> House<K> {
 
     // What is decided of a claim with a ticket.
     fn decided_claim(&self, client: u32, ticket: &Ticket) -> Decision
-        ensures { result ≡ claim_verdict self.now.annals client ticket.now }
+        ensures { result ≡ claim_verdict self.now.house_log client ticket.now }
     {
         let stage = Stage::Claim {
             release: ticket.release,
         };
-        self.annals.decided(client, &ticket.request, stage)
+        self.house_log.decided(client, &ticket.request, stage)
     }
 
     // Goes on with a claim that is accepted, if its payload is whole.
@@ -107,10 +107,10 @@ impl<K: Keeper> House<K> {
         ticket: Ticket,
         fetched: Fetched,
     ) -> Result<Claimed, ClaimStop>
-        requires may { MayClaim self.old.annals client ticket (block_count fetched) }
-        requires accepted { IsAccept (claim_verdict self.old.annals client ticket) }
-        requires whole { IsFetchOf self.old.annals.facts ticket.release fetched }
-        ensures turn { Turned client (claim_event client ticket.request fetched) (stopped_by result) self.old.annals self.new.annals }
+        requires may { MayClaim self.old.house_log client ticket (block_count fetched) }
+        requires accepted { IsAccept (claim_verdict self.old.house_log client ticket) }
+        requires whole { IsFetchOf self.old.house_log.facts ticket.release fetched }
+        ensures turn { Turned client (claim_event client ticket.request fetched) (stopped_by result) self.old.house_log self.new.house_log }
         ensures gave { ClaimGave client ticket fetched result self.old self.new }
         ensures fared { KeeperFared (signs_of K.tells K.faults) self.old self.new }
         ensures counts { K.faults self.old.keeper ≤ K.faults self.new.keeper }
@@ -123,10 +123,10 @@ impl<K: Keeper> House<K> {
 
     // Refuses a claim whose payload isn't whole.
     fn refuse(&mut self, client: u32, ticket: Ticket, fetched: Fetched) -> Claimed
-        requires may { MayClaim self.old.annals client ticket (block_count fetched) }
-        requires accepted { IsAccept (claim_verdict self.old.annals client ticket) }
+        requires may { MayClaim self.old.house_log client ticket (block_count fetched) }
+        requires accepted { IsAccept (claim_verdict self.old.house_log client ticket) }
         requires broken { is_payload fetched ≡ false }
-        ensures appended { Appended client (claim_event client ticket.request fetched result) self.old.annals self.new.annals }
+        ensures appended { Appended client (claim_event client ticket.request fetched result) self.old.house_log self.new.house_log }
         ensures gave { ClaimGave client ticket fetched (Ok result) self.old self.new }
         ensures fared { KeeperFared (signs_of K.tells K.faults) self.old self.new }
         ensures counts { K.faults self.old.keeper ≤ K.faults self.new.keeper }
@@ -138,36 +138,36 @@ impl<K: Keeper> House<K> {
 
     // Puts a claim behind the log that took no entry.
     fn end_claim(&mut self, client: u32, ticket: Ticket, fetched: Fetched, answer: &ClaimAnswer)
-        requires may { MayClaim self.old.annals client ticket (block_count fetched) }
-        requires answered { MayAnswer self.old.annals client ticket (note_of fetched) answer.now }
+        requires may { MayClaim self.old.house_log client ticket (block_count fetched) }
+        requires answered { MayAnswer self.old.house_log client ticket (note_of fetched) answer.now }
         requires none { is_taken answer.now ≡ false }
-        ensures appended { Appended client (Event.Claim client ticket.request (note_of fetched) answer.now) self.old.annals self.new.annals }
+        ensures appended { Appended client (Event.Claim client ticket.request (note_of fetched) answer.now) self.old.house_log self.new.house_log }
         ensures places { self.new.places ≡ self.old.places }
         ensures pool { self.new.pool.free ≡ self.old.pool.free + block_count fetched }
         ensures keeper { self.new.keeper ≡ self.old.keeper }
     {
-        self.annals.known();
+        self.house_log.known();
         let note = fetched.note();
         self.pool.give(fetched.into_blocks());
-        self.annals
+        self.house_log
             .note(client, claimed(client, ticket, &note, answer));
     }
 
     // Takes an entry for a request that is accepted, whose payload is whole.
     fn take(&mut self, client: u32, ticket: Ticket, payload: Payload) -> Result<Claimed, ClaimStop>
-        requires may { MayClaim self.old.annals client ticket payload.count }
-        requires accepted { IsAccept (claim_verdict self.old.annals client ticket) }
-        requires whole { IsPayloadOf self.old.annals.facts ticket.release payload }
-        ensures turn { Turned client (claim_event client ticket.request (Fetched.Whole payload)) (stopped_by result) self.old.annals self.new.annals }
+        requires may { MayClaim self.old.house_log client ticket payload.count }
+        requires accepted { IsAccept (claim_verdict self.old.house_log client ticket) }
+        requires whole { IsPayloadOf self.old.house_log.facts ticket.release payload }
+        ensures turn { Turned client (claim_event client ticket.request (Fetched.Whole payload)) (stopped_by result) self.old.house_log self.new.house_log }
         ensures gave { ClaimGave client ticket (Fetched.Whole payload) result self.old self.new }
         ensures fared { KeeperFared (signs_of K.tells K.faults) self.old self.new }
         ensures counts { K.faults self.old.keeper ≤ K.faults self.new.keeper }
     {
-        self.annals.known();
+        self.house_log.known();
         let row = self
-            .annals
+            .house_log
             .row_begun(client, &ticket.request, ticket.release);
-        let number = self.annals.board_with(&row.device).unwrap_or(0) as usize;
+        let number = self.house_log.board_with(&row.device).unwrap_or(0) as usize;
         match self.reserve_marks(number) {
             Ok(()) => self.store_claim(client, ticket, payload, row, number),
             Err(NoMemory) => Err(ClaimStop {
@@ -182,7 +182,7 @@ impl<K: Keeper> House<K> {
     pub(crate) fn reserve_marks(&mut self, number: usize) -> Result<(), NoMemory>
         requires within { number < length self.old.places }
         requires home { IsSome (place_at self.old.places number).board }
-        ensures annals { self.new.annals ≡ self.old.annals }
+        ensures house_log { self.new.house_log ≡ self.old.house_log }
         ensures roomier { RoomierPlaces self.old.places self.new.places }
         ensures room { OnOk result (IfSome (place_at self.new.places number).board (λ b. 8 ≤ b.room)) }
         ensures pool { self.new.pool ≡ self.old.pool }
@@ -203,30 +203,30 @@ impl<K: Keeper> House<K> {
         row: Row,
         number: usize,
     ) -> Result<Claimed, ClaimStop>
-        requires may { MayClaim self.old.annals client ticket payload.count }
-        requires whole { IsPayloadOf self.old.annals.facts ticket.release payload }
-        requires store { IsToStore self.old.annals client ticket row number }
+        requires may { MayClaim self.old.house_log client ticket payload.count }
+        requires whole { IsPayloadOf self.old.house_log.facts ticket.release payload }
+        requires store { IsToStore self.old.house_log client ticket row number }
         requires marks { IfSome (place_at self.old.places number).board (λ b. 8 ≤ b.room) }
-        ensures turn { Turned client (claim_event client ticket.request (Fetched.Whole payload)) (stopped_by result) self.old.annals self.new.annals }
+        ensures turn { Turned client (claim_event client ticket.request (Fetched.Whole payload)) (stopped_by result) self.old.house_log self.new.house_log }
         ensures gave { ClaimGave client ticket (Fetched.Whole payload) result self.old self.new }
         ensures fared { KeeperFared (signs_of K.tells K.faults) self.old self.new }
         ensures counts { K.faults self.old.keeper ≤ K.faults self.new.keeper }
     {
-        self.annals.known();
+        self.house_log.known();
         let entry = row.entry;
         let note = whole_note(&payload);
         match self.keeper.commit(&Change::Add(row)) {
             Ok(()) => {
-                self.annals.note(
+                self.house_log.note(
                     client,
                     claimed(client, ticket, &note, &ClaimAnswer::Entry(entry)),
                 );
                 let board = take_out(&mut self.places, number);
-                Ok(Claimed::Taken(taken(&self.annals, entry, number, board, payload)))
+                Ok(Claimed::Taken(taken(&self.house_log, entry, number, board, payload)))
             }
             Err(KeeperRefusal::Fault) => {
                 let answer = ClaimAnswer::Refused(Refusal::KeeperFault);
-                self.annals
+                self.house_log
                     .note(client, claimed(client, ticket, &note, &answer));
                 self.pool.give(payload.into_blocks());
                 Ok(Claimed::Refused(Refusal::KeeperFault))
@@ -286,25 +286,25 @@ fn leave(place: &mut BoardPlace) -> Board
 
 // An entry that was taken.
 pub(crate) fn taken(
-    annals: &Annals,
+    house_log: &HouseLog,
     entry: u32,
     number: usize,
     board: Board,
     payload: Payload,
 ) -> Taken
-    requires live { IsSome (live_entry (past_in annals.now) entry) }
-    requires within { number < length annals.now.facts.sheets }
+    requires live { IsSome (live_entry (past_in house_log.now) entry) }
+    requires within { number < length house_log.now.facts.sheets }
     ensures entry { result.entry ≡ entry }
-    ensures plugin { result.plugin ≡ place_given (unwrap_or (plugin_at annals.now.facts number) 0) }
+    ensures plugin { result.plugin ≡ place_given (unwrap_or (plugin_at house_log.now.facts number) 0) }
     ensures board { result.board ≡ board }
     ensures payload { result.payload ≡ payload }
-    ensures traced { trace annals.now.facts (rows_before annals.now) entry (past_in annals.now) ≡ Some result.trace }
+    ensures traced { trace house_log.now.facts (rows_before house_log.now) entry (past_in house_log.now) ≡ Some result.trace }
 {
     Taken {
         entry,
-        plugin: annals.plugin(number),
+        plugin: house_log.plugin(number),
         board,
         payload,
-        trace: annals.trace(entry),
+        trace: house_log.trace(entry),
     }
 }

@@ -17,8 +17,8 @@ ghost use Rattle.daemon_core.specs.Returns.{ComesHome, number_of, places_with};
 use super::House;
 use super::keeping::commit;
 use super::steps::put;
-use crate::annals::Annals;
 use crate::finished::{FinishStop, Finished};
+use crate::house_log::HouseLog;
 use crate::off::Off;
 use block_pool::Payload;
 use emulated_boards::Board;
@@ -26,7 +26,7 @@ use history_keeper::{Keeper, RowState};
 use update_log::{Event, Stored};
 
 impl<K: Keeper> House<K> {
-    ghost use Rattle.daemon_core.specs.Annals.{Appended, Runs};
+    ghost use Rattle.daemon_core.specs.HouseLog.{Appended, Runs};
     ghost use Rattle.daemon_core.specs.Housed.{past, rows_before};
     ghost use Rattle.daemon_core.specs.Turns.{KeeperFared, signs_of};
 
@@ -41,9 +41,9 @@ impl<K: Keeper> House<K> {
         payload: Payload,
     ) -> Result<Finished, FinishStop>
         requires booted { 0 < boots (past self.old) }
-        requires comes { (number : ℕ) × (l : LiveEntry) × ComesHome self.old.annals.facts self.old.annals.first (rows_before self.old.annals) (past self.old) client entry number l [] board payload.count }
-        requires done { (closed : RowState) × IsDone self.old.annals.facts (rows_before self.old.annals) (past self.old) entry closed }
-        ensures turn { FinishedSo client entry (number_of self.old.annals.facts (rows_before self.old.annals) (past self.old) entry) board payload result self.old self.new }
+        requires comes { (number : ℕ) × (l : LiveEntry) × ComesHome self.old.house_log.facts self.old.house_log.first (rows_before self.old.house_log) (past self.old) client entry number l [] board payload.count }
+        requires done { (closed : RowState) × IsDone self.old.house_log.facts (rows_before self.old.house_log) (past self.old) entry closed }
+        ensures turn { FinishedSo client entry (number_of self.old.house_log.facts (rows_before self.old.house_log) (past self.old) entry) board payload result self.old self.new }
         ensures memory { AdvancesForFree K.takes_none → IfOk result (λ finished. finished.stored ≢ Stored.NoMemory) }
         ensures fared { KeeperFared (signs_of K.tells K.faults) self.old self.new }
         ensures counts { K.faults self.old.keeper ≤ K.faults self.new.keeper }
@@ -56,26 +56,26 @@ impl<K: Keeper> House<K> {
 
     // Puts the finish behind the log.
     fn close(&mut self, client: u32, entry: u32, board: Board, payload: Payload) -> Finished
-        requires loaded { self.old.annals.loaded ≡ true }
-        requires runs { Runs self.old.annals }
+        requires loaded { self.old.house_log.loaded ≡ true }
+        requires runs { Runs self.old.house_log }
         requires booted { 0 < boots (past self.old) }
-        requires comes { (number : ℕ) × (l : LiveEntry) × ComesHome self.old.annals.facts self.old.annals.first (rows_before self.old.annals) (past self.old) client entry number l [] board payload.count }
-        requires done { (closed : RowState) × IsDone self.old.annals.facts (rows_before self.old.annals) (past self.old) entry closed }
-        ensures appended { Appended client (Event.Finish client entry result.state result.stored) self.old.annals self.new.annals }
-        ensures places { self.new.places ≡ places_with self.old.places (number_of self.old.annals.facts (rows_before self.old.annals) (past self.old) entry) board }
+        requires comes { (number : ℕ) × (l : LiveEntry) × ComesHome self.old.house_log.facts self.old.house_log.first (rows_before self.old.house_log) (past self.old) client entry number l [] board payload.count }
+        requires done { (closed : RowState) × IsDone self.old.house_log.facts (rows_before self.old.house_log) (past self.old) entry closed }
+        ensures appended { Appended client (Event.Finish client entry result.state result.stored) self.old.house_log self.new.house_log }
+        ensures places { self.new.places ≡ places_with self.old.places (number_of self.old.house_log.facts (rows_before self.old.house_log) (past self.old) entry) board }
         ensures pool { self.new.pool.free ≡ self.old.pool.free + payload.count }
         ensures memory { AdvancesForFree K.takes_none → result.stored ≢ Stored.NoMemory }
         ensures fared { KeeperFared (signs_of K.tells K.faults) self.old self.new }
         ensures counts { K.faults self.old.keeper ≤ K.faults self.new.keeper }
     {
-        self.annals.known();
-        let number = self.annals.board_of(entry).unwrap_or(0) as usize;
-        let closed = self.annals.closing(entry).unwrap_or(RowState::Begun);
-        let stored = store(&self.annals, &mut self.keeper, entry, closed);
+        self.house_log.known();
+        let number = self.house_log.board_of(entry).unwrap_or(0) as usize;
+        let closed = self.house_log.closing(entry).unwrap_or(RowState::Begun);
+        let stored = store(&self.house_log, &mut self.keeper, entry, closed);
         let state = closing_stored(closed, stored);
         put(&mut self.places, number, board);
         self.pool.give(payload.into_blocks());
-        self.annals.note(
+        self.house_log.note(
             client,
             Event::Finish {
                 client,
@@ -89,11 +89,11 @@ impl<K: Keeper> House<K> {
 }
 
 // Stores in which state an entry ends. Nothing is stored where its row stays begun.
-fn store<K: Keeper>(annals: &Annals, keeper: &mut K, entry: u32, closed: RowState) -> Stored
+fn store<K: Keeper>(house_log: &HouseLog, keeper: &mut K, entry: u32, closed: RowState) -> Stored
     requires no_doubt { K.doubt keeper.old ≡ None }
     requires suits { (all : List Row) → K.tells keeper.old all → Any (λ row. row.entry ≡ entry) all }
-    requires timely { time_of (past_in annals.now) ≤ 2 ^ 63 - 1 }
-    ensures stored { ClosedAs K.tells K.doubt closed (Change.Advance entry closed (reason_of annals.now.core.rows entry) (time_of (past_in annals.now))) result keeper.old keeper.new }
+    requires timely { time_of (past_in house_log.now) ≤ 2 ^ 63 - 1 }
+    ensures stored { ClosedAs K.tells K.doubt closed (Change.Advance entry closed (reason_of house_log.now.core.rows entry) (time_of (past_in house_log.now))) result keeper.old keeper.new }
     ensures memory { AdvancesForFree K.takes_none → result ≢ Stored.NoMemory }
     ensures cause { result ≡ Stored.Fault → Rose (K.faults keeper.old) (K.faults keeper.new) }
     ensures quiet { (result ≡ Stored.Fault) ⊎ (K.faults keeper.new ≡ K.faults keeper.old) }
@@ -102,7 +102,7 @@ fn store<K: Keeper>(annals: &Annals, keeper: &mut K, entry: u32, closed: RowStat
     match closed {
         RowState::Begun => Stored::Unchanged,
         RowState::Pending | RowState::Success | RowState::Failed | RowState::NeedsReboot => {
-            commit(keeper, &annals.advance(entry, closed))
+            commit(keeper, &house_log.advance(entry, closed))
         }
     }
 }

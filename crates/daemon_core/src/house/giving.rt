@@ -12,7 +12,7 @@ use history_keeper::Keeper;
 use update_log::{Back, Event, Request};
 
 impl<K: Keeper> House<K> {
-    ghost use Rattle.daemon_core.specs.Annals.{Appended};
+    ghost use Rattle.daemon_core.specs.HouseLog.{Appended};
     ghost use Rattle.daemon_core.specs.Housed.{past};
 
     /// Gives a hold back: its ticket, and its blocks, as they are after a fetch. The hold is the
@@ -20,7 +20,7 @@ impl<K: Keeper> House<K> {
     pub fn give_up(&mut self, client: u32, ticket: Ticket, blocks: Blocks)
         requires booted { 0 < boots (past self.old) }
         requires held { hold (past self.old) client ≡ Some (held_by ticket blocks.count) }
-        ensures appended { Appended client (Event.GiveBack client (back_of ticket.pending ticket.request)) self.old.annals self.new.annals }
+        ensures appended { Appended client (Event.GiveBack client (back_of ticket.pending ticket.request)) self.old.house_log self.new.house_log }
         ensures places { self.new.places ≡ self.old.places }
         ensures keeper { self.new.keeper ≡ self.old.keeper }
     {
@@ -30,9 +30,9 @@ impl<K: Keeper> House<K> {
             release: _,
             pending,
         } = ticket;
-        self.annals.known();
+        self.house_log.known();
         self.pool.give(blocks);
-        self.annals.note(
+        self.house_log.note(
             client,
             Event::GiveBack {
                 client,

@@ -16,7 +16,7 @@ use version_formats::Version;
 
 impl<K: Keeper> House<K> {
     ghost use Rattle.daemon_core.specs.declared.judged.Standing.{Standing};
-    ghost use Rattle.daemon_core.specs.Annals.{Runs, roomier};
+    ghost use Rattle.daemon_core.specs.HouseLog.{Runs, roomier};
     ghost use Rattle.daemon_core.specs.House.{SameElsewhere};
     ghost use Rattle.daemon_core.specs.Housed.{past};
     ghost use Rattle.daemon_core.specs.Judging.{JudgeTurned, standing_of};
@@ -32,23 +32,23 @@ impl<K: Keeper> House<K> {
         state: RowState,
     ) -> Result<Stored, Stop>
         requires booted { 0 < boots (past self.old) }
-        requires runs { Runs self.old.annals }
-        requires loaded { self.old.annals.loaded ≡ true }
-        requires stands { standing_of self.old.annals entry ≡ Some (Standing.Judged version state) }
-        requires room { owed (past self.old) + 1 ≤ self.old.annals.room }
-        ensures turn { Turned client (λ stored. Event.Judge client entry version state stored) result self.old.annals self.new.annals }
+        requires runs { Runs self.old.house_log }
+        requires loaded { self.old.house_log.loaded ≡ true }
+        requires stands { standing_of self.old.house_log entry ≡ Some (Standing.Judged version state) }
+        requires room { owed (past self.old) + 1 ≤ self.old.house_log.room }
+        ensures turn { Turned client (λ stored. Event.Judge client entry version state stored) result self.old.house_log self.new.house_log }
         ensures places { self.new.places ≡ self.old.places }
         ensures pool { self.new.pool ≡ self.old.pool }
         ensures fared { KeeperFared (signs_of K.tells K.faults) self.old self.new }
         ensures counts { K.faults self.old.keeper ≤ K.faults self.new.keeper }
     {
-        self.annals.known();
-        let change = advance(self.annals.core(), entry, state);
+        self.house_log.known();
+        let change = advance(self.house_log.core(), entry, state);
         let stored = commit(&mut self.keeper, &change);
         if let Stored::NoMemory = stored {
             return Err(Stop::NoMemory);
         }
-        self.annals.note(
+        self.house_log.note(
             client,
             Event::Judge {
                 client,
@@ -70,8 +70,8 @@ impl<K: Keeper> House<K> {
         state: RowState,
     ) -> Result<Judged, Stop>
         requires booted { 0 < boots (past self.old) }
-        requires stands { standing_of self.old.annals entry ≡ Some (Standing.Judged version state) }
-        ensures turn { JudgeTurned client entry result self.old.annals self.new.annals }
+        requires stands { standing_of self.old.house_log entry ≡ Some (Standing.Judged version state) }
+        ensures turn { JudgeTurned client entry result self.old.house_log self.new.house_log }
         ensures places { self.new.places ≡ self.old.places }
         ensures pool { self.new.pool ≡ self.old.pool }
         ensures fared { KeeperFared (signs_of K.tells K.faults) self.old self.new }
@@ -85,24 +85,24 @@ impl<K: Keeper> House<K> {
     // Makes room for one event more. With it the rows get their index back, which they lose where a boot
     // takes them: else each row that is judged before a turn began would be sought among all.
     fn reserve(&mut self) -> Result<(), NoMemory>
-        ensures same { self.new.annals ≡ roomier self.old.annals self.new.annals }
+        ensures same { self.new.house_log ≡ roomier self.old.house_log self.new.house_log }
         ensures elsewhere { SameElsewhere self.old self.new }
     {
-        self.annals.reserve(1)
+        self.house_log.reserve(1)
     }
 
     // Judges the row of an entry as it stands.
     fn judge_standing(&mut self, client: u32, entry: u32) -> Result<Judged, Stop>
         requires on { off (past self.old) ≡ false }
         requires booted { 0 < boots (past self.old) }
-        requires row { IsSome (row_of self.old.annals.core.rows entry) }
-        ensures turn { JudgeTurned client entry result self.old.annals self.new.annals }
+        requires row { IsSome (row_of self.old.house_log.core.rows entry) }
+        ensures turn { JudgeTurned client entry result self.old.house_log self.new.house_log }
         ensures places { self.new.places ≡ self.old.places }
         ensures pool { self.new.pool ≡ self.old.pool }
         ensures fared { KeeperFared (signs_of K.tells K.faults) self.old self.new }
         ensures counts { K.faults self.old.keeper ≤ K.faults self.new.keeper }
     {
-        match standing_of(self.annals.core(), entry) {
+        match standing_of(self.house_log.core(), entry) {
             Standing::Settled => Ok(Judged::Settled),
             Standing::Waits => Ok(Judged::Waits),
             Standing::Absent => Ok(Judged::Absent),
@@ -115,8 +115,8 @@ impl<K: Keeper> House<K> {
     /// Room for it is made first, so that memory may be wanting whatever the row's state.
     pub fn judge(&mut self, client: u32, entry: u32) -> Result<Judged, Stop>
         requires booted { 0 < boots (past self.old) }
-        requires row { IsSome (row_of self.old.annals.core.rows entry) }
-        ensures turn { JudgeTurned client entry result self.old.annals self.new.annals }
+        requires row { IsSome (row_of self.old.house_log.core.rows entry) }
+        ensures turn { JudgeTurned client entry result self.old.house_log self.new.house_log }
         ensures places { self.new.places ≡ self.old.places }
         ensures pool { self.new.pool ≡ self.old.pool }
         ensures fared { KeeperFared (signs_of K.tells K.faults) self.old self.new }

@@ -14,21 +14,21 @@ impl<K: Keeper> House<K> {
     /// The parts of the house. No entry is live, so all boards are at home. It takes no memory.
     pub fn into_parts(self) -> HouseParts<K>
         requires { live (past self) ≡ [] }
-        ensures facts { result.facts ≡ self.annals.facts }
-        ensures log { result.log ≡ self.annals.core.log }
+        ensures facts { result.facts ≡ self.house_log.facts }
+        ensures log { result.log ≡ self.house_log.core.log }
         ensures boards { BoardsOf self result.boards }
         ensures keeper { result.keeper ≡ self.keeper }
-        ensures opening { result.opening ≡ self.annals.opening }
+        ensures opening { result.opening ≡ self.house_log.opening }
     {
         let House {
-            annals,
+            house_log,
             places,
             pool: _,
             keeper,
         } = self;
-        annals.known();
+        house_log.known();
         let boards = HomeBoards::of(places);
-        let (facts, log, opening) = annals.into_parts();
+        let (facts, log, opening) = house_log.into_parts();
         HouseParts {
             facts,
             log,

@@ -16,7 +16,7 @@ use history_keeper::Keeper;
 use update_log::{Event, PlugAnswer};
 
 impl<K: Keeper> House<K> {
-    ghost use Rattle.daemon_core.specs.Annals.{Appended, Runs};
+    ghost use Rattle.daemon_core.specs.HouseLog.{Appended, Runs};
     ghost use Rattle.daemon_core.specs.Housed.{past};
     ghost use Rattle.daemon_core.specs.Owed.{owed};
     ghost use Rattle.daemon_core.specs.Plugging.{BoardMoved, MovedAs};
@@ -26,14 +26,14 @@ impl<K: Keeper> House<K> {
     /// where it isn't there.
     pub fn unplug(&mut self, client: u32, device: &Selector) -> Result<PlugAnswer, Stop>
         requires booted { 0 < boots (past self.old) }
-        ensures turn { Turned client (λ answer. Event.Unplug client device.now answer) result self.old.annals self.new.annals }
-        ensures places { MovedAs unplugged self.old.annals device.now result self.old.places self.new.places }
+        ensures turn { Turned client (λ answer. Event.Unplug client device.now answer) result self.old.house_log self.new.house_log }
+        ensures places { MovedAs unplugged self.old.house_log device.now result self.old.places self.new.places }
         ensures pool { self.new.pool ≡ self.old.pool }
         ensures keeper { self.new.keeper ≡ self.old.keeper }
     {
         self.enter(client, 1)?;
-        self.annals.known();
-        match unplug_refused(self.annals.core(), device) {
+        self.house_log.known();
+        match unplug_refused(self.house_log.core(), device) {
             Some(refused) => {
                 self.note(client, unplug_refused_so(client, device, refused));
                 Ok(refused)
@@ -48,19 +48,19 @@ impl<K: Keeper> House<K> {
     // Takes a device out that isn't refused.
     fn take_out(&mut self, client: u32, device: &Selector)
         requires booted { 0 < boots (past self.old) }
-        requires runs { Runs self.old.annals }
-        requires loaded { self.old.annals.loaded ≡ true }
-        requires free { unplug_refused (found_view self.old.annals.core.views device.now) ≡ None }
-        requires room { owed (past self.old) + 1 ≤ self.old.annals.room }
-        ensures appended { Appended client (Event.Unplug client device.now (PlugAnswer.Done Seen.Gone)) self.old.annals self.new.annals }
-        ensures moved { BoardMoved unplugged self.old.annals device.now self.old.places self.new.places }
+        requires runs { Runs self.old.house_log }
+        requires loaded { self.old.house_log.loaded ≡ true }
+        requires free { unplug_refused (found_view self.old.house_log.core.views device.now) ≡ None }
+        requires room { owed (past self.old) + 1 ≤ self.old.house_log.room }
+        ensures appended { Appended client (Event.Unplug client device.now (PlugAnswer.Done Seen.Gone)) self.old.house_log self.new.house_log }
+        ensures moved { BoardMoved unplugged self.old.house_log device.now self.old.places self.new.places }
         ensures pool { self.new.pool ≡ self.old.pool }
         ensures keeper { self.new.keeper ≡ self.old.keeper }
     {
-        self.annals.known();
-        let number = self.annals.board_found(device).unwrap_or(0) as usize;
+        self.house_log.known();
+        let number = self.house_log.board_found(device).unwrap_or(0) as usize;
         move_out(&mut self.places, number);
-        self.annals.note(
+        self.house_log.note(
             client,
             Event::Unplug {
                 client,
@@ -74,14 +74,14 @@ impl<K: Keeper> House<K> {
     /// found, where it is being updated, and where it is there already.
     pub fn plug(&mut self, client: u32, device: &Selector) -> Result<PlugAnswer, Stop>
         requires booted { 0 < boots (past self.old) }
-        ensures turn { Turned client (λ answer. Event.Plug client device.now answer) result self.old.annals self.new.annals }
-        ensures places { MovedAs plugged self.old.annals device.now result self.old.places self.new.places }
+        ensures turn { Turned client (λ answer. Event.Plug client device.now answer) result self.old.house_log self.new.house_log }
+        ensures places { MovedAs plugged self.old.house_log device.now result self.old.places self.new.places }
         ensures pool { self.new.pool ≡ self.old.pool }
         ensures keeper { self.new.keeper ≡ self.old.keeper }
     {
         self.enter(client, 1)?;
-        self.annals.known();
-        match plug_refused(self.annals.core(), device) {
+        self.house_log.known();
+        match plug_refused(self.house_log.core(), device) {
             Some(refused) => {
                 self.note(client, plug_refused_so(client, device, refused));
                 Ok(refused)
@@ -96,19 +96,19 @@ impl<K: Keeper> House<K> {
     // Puts a device back that isn't refused, and says what its port shows then.
     fn put_back(&mut self, client: u32, device: &Selector) -> Seen
         requires booted { 0 < boots (past self.old) }
-        requires runs { Runs self.old.annals }
-        requires loaded { self.old.annals.loaded ≡ true }
-        requires free { plug_refused (found_view self.old.annals.core.views device.now) ≡ None }
-        requires room { owed (past self.old) + 1 ≤ self.old.annals.room }
-        ensures appended { Appended client (Event.Plug client device.now (PlugAnswer.Done result)) self.old.annals self.new.annals }
-        ensures moved { BoardMoved plugged self.old.annals device.now self.old.places self.new.places }
+        requires runs { Runs self.old.house_log }
+        requires loaded { self.old.house_log.loaded ≡ true }
+        requires free { plug_refused (found_view self.old.house_log.core.views device.now) ≡ None }
+        requires room { owed (past self.old) + 1 ≤ self.old.house_log.room }
+        ensures appended { Appended client (Event.Plug client device.now (PlugAnswer.Done result)) self.old.house_log self.new.house_log }
+        ensures moved { BoardMoved plugged self.old.house_log device.now self.old.places self.new.places }
         ensures pool { self.new.pool ≡ self.old.pool }
         ensures keeper { self.new.keeper ≡ self.old.keeper }
     {
-        self.annals.known();
-        let number = self.annals.board_found(device).unwrap_or(0) as usize;
+        self.house_log.known();
+        let number = self.house_log.board_found(device).unwrap_or(0) as usize;
         let seen = move_back(&mut self.places, number);
-        self.annals.note(
+        self.house_log.note(
             client,
             Event::Plug {
                 client,

@@ -37,9 +37,9 @@ impl<K: Keeper> House<K> {
         held: Option<(Ticket, Fetched)>,
     ) -> Result<Claimed, ResumeStop>
         requires booted { 0 < boots (past self.old) }
-        requires put_off { IsPutOff self.old.annals entry }
-        requires held { ComesIn self.old.annals entry held }
-        ensures turn { ResumeTurned entry (note_in held) result self.old.annals self.new.annals }
+        requires put_off { IsPutOff self.old.house_log entry }
+        requires held { ComesIn self.old.house_log entry held }
+        ensures turn { ResumeTurned entry (note_in held) result self.old.house_log self.new.house_log }
         ensures gave { ResumeGave entry held result self.old self.new }
         ensures fared { KeeperFared (signs_of K.tells K.faults) self.old self.new }
         ensures counts { K.faults self.old.keeper ≤ K.faults self.new.keeper }
@@ -56,9 +56,9 @@ impl<K: Keeper> House<K> {
         entry: u32,
         held: Option<(Ticket, Fetched)>,
     ) -> Result<Claimed, ResumeStop>
-        requires may { MayResume self.old.annals entry }
-        requires held { ComesIn self.old.annals entry held }
-        ensures turn { ResumeTurned entry (note_in held) result self.old.annals self.new.annals }
+        requires may { MayResume self.old.house_log entry }
+        requires held { ComesIn self.old.house_log entry held }
+        ensures turn { ResumeTurned entry (note_in held) result self.old.house_log self.new.house_log }
         ensures gave { ResumeGave entry held result self.old self.new }
         ensures fared { KeeperFared (signs_of K.tells K.faults) self.old self.new }
         ensures counts { K.faults self.old.keeper ≤ K.faults self.new.keeper }
@@ -71,15 +71,15 @@ impl<K: Keeper> House<K> {
 
     // Answers the refusal of the ask again.
     fn repeat(&mut self, entry: u32) -> Result<Claimed, ResumeStop>
-        requires may { MayResume self.old.annals entry }
-        requires refused { (refusal : Refusal) × WasRefused self.old.annals entry refusal }
-        ensures turn { ResumeTurned entry None result self.old.annals self.new.annals }
+        requires may { MayResume self.old.house_log entry }
+        requires refused { (refusal : Refusal) × WasRefused self.old.house_log entry refusal }
+        ensures turn { ResumeTurned entry None result self.old.house_log self.new.house_log }
         ensures gave { ResumeGave entry None result self.old self.new }
         ensures fared { KeeperFared (signs_of K.tells K.faults) self.old self.new }
         ensures counts { K.faults self.old.keeper ≤ K.faults self.new.keeper }
     {
-        self.annals.known();
-        match self.annals.refused_last() {
+        self.house_log.known();
+        match self.house_log.refused_last() {
             Some(refusal) => self.fail(entry, None, refusal),
             None => unreachable!(),
         }
@@ -92,9 +92,9 @@ impl<K: Keeper> House<K> {
         ticket: Ticket,
         fetched: Fetched,
     ) -> Result<Claimed, ResumeStop>
-        requires may { MayResume self.old.annals entry }
-        requires held { IsOpenHold self.old.annals entry ticket fetched }
-        ensures turn { ResumeTurned entry (Some (note_of fetched)) result self.old.annals self.new.annals }
+        requires may { MayResume self.old.house_log entry }
+        requires held { IsOpenHold self.old.house_log entry ticket fetched }
+        ensures turn { ResumeTurned entry (Some (note_of fetched)) result self.old.house_log self.new.house_log }
         ensures gave { ResumeGave entry (Some (ticket, fetched)) result self.old self.new }
         ensures fared { KeeperFared (signs_of K.tells K.faults) self.old self.new }
         ensures counts { K.faults self.old.keeper ≤ K.faults self.new.keeper }
@@ -109,13 +109,13 @@ impl<K: Keeper> House<K> {
 
     // What is decided of a resumption with a ticket.
     fn decided_resume(&self, entry: u32, ticket: &Ticket) -> Decision
-        ensures { result ≡ resume_verdict self.now.annals entry ticket.now }
+        ensures { result ≡ resume_verdict self.now.house_log entry ticket.now }
     {
         let stage = Stage::Resume {
             entry,
             release: ticket.release,
         };
-        self.annals.decided(0, &ticket.request, stage)
+        self.house_log.decided(0, &ticket.request, stage)
     }
 
     // Goes on with a resumption that is accepted, if its payload is whole.
@@ -125,10 +125,10 @@ impl<K: Keeper> House<K> {
         ticket: Ticket,
         fetched: Fetched,
     ) -> Result<Claimed, ResumeStop>
-        requires may { MayResume self.old.annals entry }
-        requires held { IsOpenHold self.old.annals entry ticket fetched }
-        requires accepted { IsAccept (resume_verdict self.old.annals entry ticket) }
-        ensures turn { ResumeTurned entry (Some (note_of fetched)) result self.old.annals self.new.annals }
+        requires may { MayResume self.old.house_log entry }
+        requires held { IsOpenHold self.old.house_log entry ticket fetched }
+        requires accepted { IsAccept (resume_verdict self.old.house_log entry ticket) }
+        ensures turn { ResumeTurned entry (Some (note_of fetched)) result self.old.house_log self.new.house_log }
         ensures gave { ResumeGave entry (Some (ticket, fetched)) result self.old self.new }
         ensures fared { KeeperFared (signs_of K.tells K.faults) self.old self.new }
         ensures counts { K.faults self.old.keeper ≤ K.faults self.new.keeper }
@@ -149,16 +149,16 @@ impl<K: Keeper> House<K> {
         ticket: Ticket,
         payload: Payload,
     ) -> Result<Claimed, ResumeStop>
-        requires may { MayResume self.old.annals entry }
-        requires held { IsOpenHold self.old.annals entry ticket (Fetched.Whole payload) }
-        requires accepted { IsAccept (resume_verdict self.old.annals entry ticket) }
-        ensures turn { ResumeTurned entry (Some (note_of (Fetched.Whole payload))) result self.old.annals self.new.annals }
+        requires may { MayResume self.old.house_log entry }
+        requires held { IsOpenHold self.old.house_log entry ticket (Fetched.Whole payload) }
+        requires accepted { IsAccept (resume_verdict self.old.house_log entry ticket) }
+        ensures turn { ResumeTurned entry (Some (note_of (Fetched.Whole payload))) result self.old.house_log self.new.house_log }
         ensures gave { ResumeGave entry (Some (ticket, Fetched.Whole payload)) result self.old self.new }
         ensures fared { KeeperFared (signs_of K.tells K.faults) self.old self.new }
         ensures counts { K.faults self.old.keeper ≤ K.faults self.new.keeper }
     {
-        self.annals.known();
-        let number = self.annals.board_of(entry).unwrap_or(0) as usize;
+        self.house_log.known();
+        let number = self.house_log.board_of(entry).unwrap_or(0) as usize;
         match self.reserve_marks(number) {
             Ok(()) => self.store_begin(entry, ticket, payload, number),
             Err(NoMemory) => Err(ResumeStop {
@@ -176,25 +176,25 @@ impl<K: Keeper> House<K> {
         payload: Payload,
         number: usize,
     ) -> Result<Claimed, ResumeStop>
-        requires begins { IsToResume self.old.annals entry ticket payload number }
+        requires begins { IsToResume self.old.house_log entry ticket payload number }
         requires marks { IfSome (place_at self.old.places number).board (λ b. 8 ≤ b.room) }
-        ensures turn { ResumeTurned entry (Some (note_of (Fetched.Whole payload))) result self.old.annals self.new.annals }
+        ensures turn { ResumeTurned entry (Some (note_of (Fetched.Whole payload))) result self.old.house_log self.new.house_log }
         ensures gave { ResumeGave entry (Some (ticket, Fetched.Whole payload)) result self.old self.new }
         ensures fared { KeeperFared (signs_of K.tells K.faults) self.old self.new }
         ensures counts { K.faults self.old.keeper ≤ K.faults self.new.keeper }
     {
-        self.annals.known();
+        self.house_log.known();
         let note = whole_note(&payload);
-        let change = self.annals.resumption(entry, &ResumeAnswer::Begun);
+        let change = self.house_log.resumption(entry, &ResumeAnswer::Begun);
         match self.keeper.commit(&change) {
             Ok(()) => {
-                self.annals.note(0, begun(entry, &note));
+                self.house_log.note(0, begun(entry, &note));
                 spend(ticket);
                 let board = take_out(&mut self.places, number);
-                Ok(Claimed::Taken(taken(&self.annals, entry, number, board, payload)))
+                Ok(Claimed::Taken(taken(&self.house_log, entry, number, board, payload)))
             }
             Err(KeeperRefusal::Fault) => {
-                self.annals.note(0, begin_in_doubt(entry, &note));
+                self.house_log.note(0, begin_in_doubt(entry, &note));
                 spend(ticket);
                 self.pool.give(payload.into_blocks());
                 Ok(Claimed::Refused(Refusal::KeeperFault))
@@ -213,16 +213,16 @@ impl<K: Keeper> House<K> {
         held: Option<(Ticket, Fetched)>,
         refusal: Refusal,
     ) -> Result<Claimed, ResumeStop>
-        requires may { MayResume self.old.annals entry }
-        requires fails { MayFail self.old.annals entry held refusal }
-        ensures turn { ResumeTurned entry (note_in held) result self.old.annals self.new.annals }
+        requires may { MayResume self.old.house_log entry }
+        requires fails { MayFail self.old.house_log entry held refusal }
+        ensures turn { ResumeTurned entry (note_in held) result self.old.house_log self.new.house_log }
         ensures gave { ResumeGave entry held result self.old self.new }
         ensures fared { KeeperFared (signs_of K.tells K.faults) self.old self.new }
         ensures counts { K.faults self.old.keeper ≤ K.faults self.new.keeper }
     {
-        self.annals.known();
+        self.house_log.known();
         let change = self
-            .annals
+            .house_log
             .resumption(entry, &ResumeAnswer::Refused(refusal));
         let stored = commit(&mut self.keeper, &change);
         if let Stored::NoMemory = stored {
@@ -232,7 +232,8 @@ impl<K: Keeper> House<K> {
             });
         }
         let note = note_in(&held);
-        self.annals.note(0, failed(entry, &note, &refusal, stored));
+        self.house_log
+            .note(0, failed(entry, &note, &refusal, stored));
         give_in(&mut self.pool, held);
         Ok(Claimed::Refused(refusal))
     }

@@ -12,7 +12,7 @@ use history_keeper::{Change, Keeper, KeeperRefusal};
 use update_log::{ClaimAnswer, Decision, Event, Refusal, Request, Stage};
 
 impl<K: Keeper> House<K> {
-    ghost use Rattle.daemon_core.specs.Annals.{Appended, Runs};
+    ghost use Rattle.daemon_core.specs.HouseLog.{Appended, Runs};
     ghost use Rattle.daemon_core.specs.Housed.{past, rows_before};
     ghost use Rattle.daemon_core.specs.Owed.{owed};
     ghost use Rattle.daemon_core.specs.PutOff.{IsAccept, PutOff};
@@ -23,14 +23,14 @@ impl<K: Keeper> House<K> {
     pub fn schedule(&mut self, client: u32, request: &Request) -> Result<ClaimAnswer, Stop>
         requires booted { 0 < boots (past self.old) }
         requires free { IsFree (past self.old) client }
-        ensures turn { Turned client (λ answer. Event.Schedule client request.now answer) result self.old.annals self.new.annals }
+        ensures turn { Turned client (λ answer. Event.Schedule client request.now answer) result self.old.house_log self.new.house_log }
         ensures fared { KeeperFared (signs_of K.tells K.faults) self.old self.new }
         ensures counts { K.faults self.old.keeper ≤ K.faults self.new.keeper }
         ensures places { self.new.places ≡ self.old.places }
         ensures pool { self.new.pool ≡ self.old.pool }
     {
         self.enter(client, 1)?;
-        let decision = self.annals.decided(client, request, Stage::Schedule);
+        let decision = self.house_log.decided(client, request, Stage::Schedule);
         match decision {
             Decision::Accept { .. } => self.put_off(client, request),
             Decision::Kept { entry, state } => {
@@ -49,30 +49,32 @@ impl<K: Keeper> House<K> {
     // Stores the row of a request that was accepted.
     fn put_off(&mut self, client: u32, request: &Request) -> Result<ClaimAnswer, Stop>
         requires booted { 0 < boots (past self.old) }
-        requires runs { Runs self.old.annals }
-        requires loaded { self.old.annals.loaded ≡ true }
+        requires runs { Runs self.old.house_log }
+        requires loaded { self.old.house_log.loaded ≡ true }
         requires free { IsFree (past self.old) client }
-        requires accepted { IsAccept (verdict self.old.annals.facts (rows_before self.old.annals) (past self.old) client request.now Stage.Schedule) }
-        requires room { owed (past self.old) + 1 ≤ self.old.annals.room }
-        requires row_room { 1 ≤ self.old.annals.core.row_room }
-        ensures done { PutOff client request.now result self.old.annals self.new.annals }
+        requires accepted { IsAccept (verdict self.old.house_log.facts (rows_before self.old.house_log) (past self.old) client request.now Stage.Schedule) }
+        requires room { owed (past self.old) + 1 ≤ self.old.house_log.room }
+        requires row_room { 1 ≤ self.old.house_log.core.row_room }
+        ensures done { PutOff client request.now result self.old.house_log self.new.house_log }
         ensures fared { KeeperFared (signs_of K.tells K.faults) self.old self.new }
         ensures counts { K.faults self.old.keeper ≤ K.faults self.new.keeper }
         ensures places { self.new.places ≡ self.old.places }
         ensures pool { self.new.pool ≡ self.old.pool }
     {
-        self.annals.known();
-        let row = self.annals.row_put_off(client, request);
+        self.house_log.known();
+        let row = self.house_log.row_put_off(client, request);
         let entry = row.entry;
         match self.keeper.commit(&Change::Add(row)) {
             Ok(()) => {
                 let answer = ClaimAnswer::Entry(entry);
-                self.annals.note(client, put_off(client, request, &answer));
+                self.house_log
+                    .note(client, put_off(client, request, &answer));
                 Ok(answer)
             }
             Err(KeeperRefusal::Fault) => {
                 let answer = ClaimAnswer::Refused(Refusal::KeeperFault);
-                self.annals.note(client, put_off(client, request, &answer));
+                self.house_log
+                    .note(client, put_off(client, request, &answer));
                 Ok(answer)
             }
             Err(KeeperRefusal::NoMemory) => Err(Stop::NoMemory),

@@ -15,7 +15,7 @@ use update_log::{Event, Query};
 
 impl<K: Keeper> House<K> {
     ghost use Rattle.daemon_core.specs.declared.judged.DeviceRow.{DeviceRow};
-    ghost use Rattle.daemon_core.specs.Annals.{Runs};
+    ghost use Rattle.daemon_core.specs.HouseLog.{Runs};
     ghost use Rattle.daemon_core.specs.Housed.{past};
     ghost use Rattle.daemon_core.specs.Owed.{owed};
     ghost use Rattle.daemon_core.specs.Settling.{SettleTurned, row_to_settle};
@@ -24,18 +24,18 @@ impl<K: Keeper> House<K> {
     // Settles the row of a device that isn't settled.
     fn settle_row(&mut self, client: u32, device: &Selector, entry: u32) -> Result<Settling, Stop>
         requires booted { 0 < boots (past self.old) }
-        requires runs { Runs self.old.annals }
-        requires loaded { self.old.annals.loaded ≡ true }
-        requires found { row_to_settle self.old.annals device.now ≡ DeviceRow.Waiting entry }
-        requires room { owed (past self.old) + 1 ≤ self.old.annals.room }
-        ensures turn { SettleTurned client device.now result self.old.annals self.new.annals }
+        requires runs { Runs self.old.house_log }
+        requires loaded { self.old.house_log.loaded ≡ true }
+        requires found { row_to_settle self.old.house_log device.now ≡ DeviceRow.Waiting entry }
+        requires room { owed (past self.old) + 1 ≤ self.old.house_log.room }
+        ensures turn { SettleTurned client device.now result self.old.house_log self.new.house_log }
         ensures places { self.new.places ≡ self.old.places }
         ensures pool { self.new.pool ≡ self.old.pool }
         ensures fared { KeeperFared (signs_of K.tells K.faults) self.old self.new }
         ensures counts { K.faults self.old.keeper ≤ K.faults self.new.keeper }
     {
-        self.annals.known();
-        match standing_of(self.annals.core(), entry) {
+        self.house_log.known();
+        match standing_of(self.house_log.core(), entry) {
             Standing::Waits => {
                 self.note(client, settle_query(client, device));
                 Ok(Settling::Waits { entry })
@@ -56,15 +56,15 @@ impl<K: Keeper> House<K> {
     /// question alone is put behind the log.
     pub fn settle(&mut self, client: u32, device: &Selector) -> Result<Settling, Stop>
         requires booted { 0 < boots (past self.old) }
-        ensures turn { SettleTurned client device.now result self.old.annals self.new.annals }
+        ensures turn { SettleTurned client device.now result self.old.house_log self.new.house_log }
         ensures places { self.new.places ≡ self.old.places }
         ensures pool { self.new.pool ≡ self.old.pool }
         ensures fared { KeeperFared (signs_of K.tells K.faults) self.old self.new }
         ensures counts { K.faults self.old.keeper ≤ K.faults self.new.keeper }
     {
         self.enter(client, 1)?;
-        self.annals.known();
-        match device_row(self.annals.core(), device) {
+        self.house_log.known();
+        match device_row(self.house_log.core(), device) {
             DeviceRow::NoDevice => {
                 self.note(client, settle_query(client, device));
                 Ok(Settling::NoDevice)

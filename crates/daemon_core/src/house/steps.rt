@@ -18,7 +18,7 @@ use history_keeper::Keeper;
 use update_log::{Back, Event, Op, Told};
 
 impl<K: Keeper> House<K> {
-    ghost use Rattle.daemon_core.specs.Annals.{Appended, IsAnnals, Runs};
+    ghost use Rattle.daemon_core.specs.HouseLog.{Appended, IsHouseLog, Runs};
     ghost use Rattle.daemon_core.specs.Goes.{GoesOn, TurnedOrOff};
     ghost use Rattle.daemon_core.specs.House.{SameElsewhere};
     ghost use Rattle.daemon_core.specs.Housed.{past, rows_before};
@@ -29,20 +29,20 @@ impl<K: Keeper> House<K> {
     pub(crate) fn go_on(&mut self, client: u32) -> Result<(), Off>
         requires booted { 0 < boots (past self.old) }
         requires spared { off (past self.old) ≡ false → owed (Event.Cut ∷ past self.old) + 1 ≤ owed (past self.old) }
-        ensures gone { GoesOn client result self.old.annals self.new.annals }
-        ensures was { IsAnnals self.old.annals }
-        ensures known { IsAnnals self.new.annals }
+        ensures gone { GoesOn client result self.old.house_log self.new.house_log }
+        ensures was { IsHouseLog self.old.house_log }
+        ensures known { IsHouseLog self.new.house_log }
         ensures elsewhere { SameElsewhere self.old self.new }
     {
-        self.annals.go_on(client)
+        self.house_log.go_on(client)
     }
 
     /// Starts the next step of a live entry. The entry is the client's, none of its steps is open, and
     /// this is the next one. It takes no memory.
     pub fn start(&mut self, client: u32, entry: u32, op: Op) -> Result<(), Off>
         requires booted { 0 < boots (past self.old) }
-        requires next { (l : LiveEntry) × StartAllowed self.old.annals.facts (rows_before self.old.annals) (past self.old) client entry op l }
-        ensures turn { TurnedOrOff client (λ _. Event.Start client entry op) result self.old.annals self.new.annals }
+        requires next { (l : LiveEntry) × StartAllowed self.old.house_log.facts (rows_before self.old.house_log) (past self.old) client entry op l }
+        ensures turn { TurnedOrOff client (λ _. Event.Start client entry op) result self.old.house_log self.new.house_log }
         ensures elsewhere { SameElsewhere self.old self.new }
     {
         self.go_on(client)?;
@@ -52,15 +52,16 @@ impl<K: Keeper> House<K> {
 
     // Puts the start behind the log.
     fn begin(&mut self, client: u32, entry: u32, op: Op)
-        requires loaded { self.old.annals.loaded ≡ true }
-        requires runs { Runs self.old.annals }
+        requires loaded { self.old.house_log.loaded ≡ true }
+        requires runs { Runs self.old.house_log }
         requires booted { 0 < boots (past self.old) }
-        requires next { (l : LiveEntry) × StartAllowed self.old.annals.facts (rows_before self.old.annals) (past self.old) client entry op l }
-        ensures appended { Appended client (Event.Start client entry op) self.old.annals self.new.annals }
+        requires next { (l : LiveEntry) × StartAllowed self.old.house_log.facts (rows_before self.old.house_log) (past self.old) client entry op l }
+        ensures appended { Appended client (Event.Start client entry op) self.old.house_log self.new.house_log }
         ensures elsewhere { SameElsewhere self.old self.new }
     {
-        self.annals.known();
-        self.annals.note(client, Event::Start { client, entry, op });
+        self.house_log.known();
+        self.house_log
+            .note(client, Event::Start { client, entry, op });
     }
 
     /// Ends the open step of a live entry, with its answer. The event shows what the board shows, and tells
@@ -74,13 +75,13 @@ impl<K: Keeper> House<K> {
         board: &Board,
     ) -> Result<(), Off>
         requires booted { 0 < boots (past self.old) }
-        requires ends { (number : ℕ) × StepEnds self.old.annals.facts self.old.annals.first (rows_before self.old.annals) (past self.old) client entry op outcome number board.now }
-        ensures turn { TurnedOrOff client (λ _. Event.End client entry op outcome (new_marks self.old.annals.facts (rows_before self.old.annals) (past self.old) entry board.now.journal) (view_of board.now.condition)) result self.old.annals self.new.annals }
+        requires ends { (number : ℕ) × StepEnds self.old.house_log.facts self.old.house_log.first (rows_before self.old.house_log) (past self.old) client entry op outcome number board.now }
+        ensures turn { TurnedOrOff client (λ _. Event.End client entry op outcome (new_marks self.old.house_log.facts (rows_before self.old.house_log) (past self.old) entry board.now.journal) (view_of board.now.condition)) result self.old.house_log self.new.house_log }
         ensures places { SameBoards self.old.places self.new.places }
         ensures pool { self.new.pool ≡ self.old.pool }
         ensures keeper { self.new.keeper ≡ self.old.keeper }
     {
-        self.annals.known();
+        self.house_log.known();
         self.go_on(client)?;
         self.finish_step(client, entry, op, outcome, board);
         Ok(())
@@ -95,20 +96,20 @@ impl<K: Keeper> House<K> {
         outcome: Result<(), BoardFault>,
         board: &Board,
     )
-        requires loaded { self.old.annals.loaded ≡ true }
-        requires runs { Runs self.old.annals }
+        requires loaded { self.old.house_log.loaded ≡ true }
+        requires runs { Runs self.old.house_log }
         requires booted { 0 < boots (past self.old) }
-        requires ends { (number : ℕ) × StepEnds self.old.annals.facts self.old.annals.first (rows_before self.old.annals) (past self.old) client entry op outcome number board.now }
-        ensures appended { Appended client (Event.End client entry op outcome (new_marks self.old.annals.facts (rows_before self.old.annals) (past self.old) entry board.now.journal) (view_of board.now.condition)) self.old.annals self.new.annals }
+        requires ends { (number : ℕ) × StepEnds self.old.house_log.facts self.old.house_log.first (rows_before self.old.house_log) (past self.old) client entry op outcome number board.now }
+        ensures appended { Appended client (Event.End client entry op outcome (new_marks self.old.house_log.facts (rows_before self.old.house_log) (past self.old) entry board.now.journal) (view_of board.now.condition)) self.old.house_log self.new.house_log }
         ensures places { SameBoards self.old.places self.new.places }
         ensures pool { self.new.pool ≡ self.old.pool }
         ensures keeper { self.new.keeper ≡ self.old.keeper }
     {
-        self.annals.known();
-        let number = self.annals.board_of(entry).unwrap_or(0) as usize;
+        self.house_log.known();
+        let number = self.house_log.board_of(entry).unwrap_or(0) as usize;
         let told = tell(&mut self.places, number, board.marks());
         let seen = board.view();
-        self.annals.note(
+        self.house_log.note(
             client,
             Event::End {
                 client,
@@ -126,17 +127,17 @@ impl<K: Keeper> House<K> {
     pub fn give_back(&mut self, client: u32, entry: u32, board: Board, payload: Payload)
         requires booted { 0 < boots (past self.old) }
         requires off { off (past self.old) ≡ true }
-        requires comes { (number : ℕ) × (l : LiveEntry) × (tail : List Mark) × ComesHome self.old.annals.facts self.old.annals.first (rows_before self.old.annals) (past self.old) client entry number l tail board payload.count }
-        ensures appended { Appended client (Event.GiveBack client (Back.Entry entry)) self.old.annals self.new.annals }
-        ensures places { self.new.places ≡ places_with self.old.places (number_of self.old.annals.facts (rows_before self.old.annals) (past self.old) entry) board }
+        requires comes { (number : ℕ) × (l : LiveEntry) × (tail : List Mark) × ComesHome self.old.house_log.facts self.old.house_log.first (rows_before self.old.house_log) (past self.old) client entry number l tail board payload.count }
+        ensures appended { Appended client (Event.GiveBack client (Back.Entry entry)) self.old.house_log self.new.house_log }
+        ensures places { self.new.places ≡ places_with self.old.places (number_of self.old.house_log.facts (rows_before self.old.house_log) (past self.old) entry) board }
         ensures pool { self.new.pool.free ≡ self.old.pool.free + payload.count }
         ensures keeper { self.new.keeper ≡ self.old.keeper }
     {
-        self.annals.known();
-        let number = self.annals.board_of(entry).unwrap_or(0) as usize;
+        self.house_log.known();
+        let number = self.house_log.board_of(entry).unwrap_or(0) as usize;
         put(&mut self.places, number, board);
         self.pool.give(payload.into_blocks());
-        self.annals.note(
+        self.house_log.note(
             client,
             Event::GiveBack {
                 client,

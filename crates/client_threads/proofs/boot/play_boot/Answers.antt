@@ -28,14 +28,14 @@ pub returns : goal.returns
 returns g c = record {
   unread =
       λ u.
-      absurd (on-unread c.args.house.annals.loaded (past c.args.house) c.known.ensures.annals.unloaded c.requires.booted (sym c.is_off-is_off.ensures ∙ c.if-is_off.false) u);
+      absurd (on-unread c.args.house.house_log.loaded (past c.args.house) c.known.ensures.house_log.unloaded c.requires.booted (sym c.is_off-is_off.ensures ∙ c.if-is_off.false) u);
   played =
       let told = means_for (steps_at (λ b. (goal.Plugin-dyn g (b.vtable, b.value)).steps b.value) c.args.plugins.now) (shelves_told g.P.Shelf.files g.P.Shelf.faults c.args.shelves.now.items) in
       let then = means_for (steps_at (λ b. (goal.Plugin-dyn g (b.vtable, b.value)).steps b.value) c.args.plugins.now) (shelves_told g.P.Shelf.files g.P.Shelf.faults c.do_tasks_first-now.new.shelves.items) in
       subst (λ (w : Bool). HouseBootPlayed (signs_of g.K.Keeper.tells g.K.Keeper.faults) w told c.args.of_boot.now c.args.house c.play_clients-house.result.0) (sym c.either.ensures)
       (boot-played (signs_of g.K.Keeper.tells g.K.Keeper.faults) c.do_tasks_first-now.result (told 0) c.args.house c.do_tasks_first-now.new.house c.do_tasks_first-now.ensures.went c.play_clients-house.result.1 told then c.args.of_boot.now c.play_clients-house.result.0 c.requires.fresh refl
       (λ client. ap (λ (f : Files). means_of f (steps_at (λ b. (goal.Plugin-dyn g (b.vtable, b.value)).steps b.value) c.args.plugins.now)) (files-stay (shelves_told g.P.Shelf.files g.P.Shelf.faults c.args.shelves.now.items) (shelves_told g.P.Shelf.files g.P.Shelf.faults c.do_tasks_first-now.new.shelves.items) c.do_tasks_first-now.ensures.kept client))
-      c.play_clients-house.ensures.played c.known-2.ensures.annals.legal.0 (rows_before c.play_clients-house.result.0.annals) c.known-2.ensures.annals.legal.3);
+      c.play_clients-house.ensures.played c.known-2.ensures.house_log.legal.0 (rows_before c.play_clients-house.result.0.house_log) c.known-2.ensures.house_log.legal.3);
   kept =
       shelves-both (shelves_told g.P.Shelf.files g.P.Shelf.faults c.args.shelves.now.items) (shelves_told g.P.Shelf.files g.P.Shelf.faults c.do_tasks_first-now.new.shelves.items) (shelves_told g.P.Shelf.files g.P.Shelf.faults c.play_clients-house.new.shelves.items)
       c.do_tasks_first-now.ensures.kept c.play_clients-house.ensures.kept;

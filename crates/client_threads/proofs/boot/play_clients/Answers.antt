@@ -30,7 +30,7 @@ play_named-requires-clause-name g c κs within = its-name (signs_of g.K.Keeper.t
 
 pub play_named-requires-clause-begins : goal.play_named-requires-clause-begins
 play_named-requires-clause-begins g c κs within =
-    can-begin (signs_of g.K.Keeper.tells g.K.Keeper.faults) c.args.house c.known.ensures.annals c.requires.booted (sym c.is_off.ensures ∙ c.if-is_off.false) c.requires.counted c.requires.idle c.requires.read
+    can-begin (signs_of g.K.Keeper.tells g.K.Keeper.faults) c.args.house c.known.ensures.house_log c.requires.booted (sym c.is_off.ensures ∙ c.if-is_off.false) c.requires.counted c.requires.idle c.requires.read
 
 pub returns-then-is_empty-clause-told : goal.returns-then-is_empty-clause-told
 returns-then-is_empty-clause-told g c = shelves-count_here (past c.args.house) (shelves_told g.P.Shelf.files g.P.Shelf.faults c.args.shelves.now.items)

@@ -27,14 +27,14 @@ pub begin-requires-clause-start : goal.begin-requires-clause-start
 begin-requires-clause-start g c = sym c.requires.name.start_is
 
 pub begin-requires-clause-nothing : goal.begin-requires-clause-nothing
-begin-requires-clause-nothing g c = nothing-out (signs_of g.K.Keeper.tells g.K.Keeper.faults) c.args.house c.known.ensures.annals c.requires.begins.idle
+begin-requires-clause-nothing g c = nothing-out (signs_of g.K.Keeper.tells g.K.Keeper.faults) c.args.house c.known.ensures.house_log c.requires.begins.idle
 
 pub play_behind-requires-clause-served : goal.play_behind-requires-clause-served
 play_behind-requires-clause-served g c κs within = subst (λ (f : Facts). length f.vetoes ≤ length c.args.plugins.now) (sym c.requires.name.facts_are) c.requires.served
 
 pub returns-in-Ok-begin-clause-played : goal.returns-in-Ok-begin-clause-played
 returns-in-Ok-begin-clause-played g c =
-    clients-played (signs_of g.K.Keeper.tells g.K.Keeper.faults) g.N.Naming.name c.args.house c.play_behind.result.0 c.requires.name c.requires.begins c.known.ensures.annals c.play_behind.ensures.annals c.play_behind.ensures.name
+    clients-played (signs_of g.K.Keeper.tells g.K.Keeper.faults) g.N.Naming.name c.args.house c.play_behind.result.0 c.requires.name c.requires.begins c.known.ensures.house_log c.play_behind.ensures.house_log c.play_behind.ensures.name
     (house-home g.K.Keeper.tells g.K.Keeper.doubt c.args.house c.known.ensures.house c.requires.begins.idle.no_live) c.play_behind.result.1 (means_for (steps_at (λ b. (goal.Plugin-dyn g (b.vtable, b.value)).steps b.value) c.args.plugins.now) (shelves_told g.P.Shelf.files g.P.Shelf.faults c.args.shelves.now.items)) c.args.of_boot.now c.play_behind.ensures.start c.play_behind.ensures.log c.play_behind.ensures.nothing c.requires.none c.play_behind.ensures.played
 
 pub returns-in-Err-clause-played : goal.returns-in-Err-clause-played
@@ -48,7 +48,7 @@ returns-in-Err-clause-kept g c = shelves-here (shelves_told g.P.Shelf.files g.P.
 
 pub returns-in-Ok-begin-clause-told : goal.returns-in-Ok-begin-clause-told
 returns-in-Ok-begin-clause-told g c =
-    shelves-counted (signs_of g.K.Keeper.tells g.K.Keeper.faults) g.N.Naming.name c.args.house c.play_behind.result.0 c.requires.name c.requires.begins c.known.ensures.annals c.play_behind.ensures.annals c.play_behind.ensures.name
+    shelves-counted (signs_of g.K.Keeper.tells g.K.Keeper.faults) g.N.Naming.name c.args.house c.play_behind.result.0 c.requires.name c.requires.begins c.known.ensures.house_log c.play_behind.ensures.house_log c.play_behind.ensures.name
     (shelves_told g.P.Shelf.files g.P.Shelf.faults c.args.shelves.now.items) (shelves_told g.P.Shelf.files g.P.Shelf.faults c.play_behind.new.shelves.items) c.play_behind.ensures.told
 
 pub returns-in-Err-clause-told : goal.returns-in-Err-clause-told

@@ -11,8 +11,8 @@ use Rattle.client_threads.proofs.campaign.run_on_threads.Goals as goal
 pub returns-clause-legal : goal.returns-clause-legal
 returns-clause-legal g c =
     let house = c.run_boots-house.result.0 in
-    legal-in house.annals.facts house.annals.first c.args.plans.now (rows_before house.annals) (past house)
-    c.run_boots-house.ensures.ran.ran.planned c.known.ensures.annals.legal
+    legal-in house.house_log.facts house.house_log.first c.args.plans.now (rows_before house.house_log) (past house)
+    c.run_boots-house.ensures.ran.ran.planned c.known.ensures.house_log.legal
 
 pub returns-clause-ran : goal.returns-clause-ran
 returns-clause-ran g c =

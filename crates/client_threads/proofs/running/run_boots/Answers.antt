@@ -41,14 +41,14 @@ play_next-played-requires-clause-serves g c κs within =
     let tools = tools_of g.P.Shelf.files g.P.Shelf.faults (length c.args.plugins.now) c.args.shelves.now.items in
     let P = λ (of_boot : List (List Item)). length of_boot ≤ length (shelves_told g.P.Shelf.files g.P.Shelf.faults c.args.shelves.now.items) in
     let many : P c.scripts_of-of_boot.result.now = subst P (sym c.scripts_of-of_boot.ensures) (scripts-all P c.args.scripts.now c.loop-number.number c.requires.shelves (omega arith)) in
-    let facts : c.start_boot.new.house.annals.facts ≡ c.args.house.annals.facts = c.in-None.ensures.facts ∙ c.loop-number.invariant.ran.facts in
-    serves-later tools (tools_of g.P.Shelf.files g.P.Shelf.faults (length c.args.plugins.now) c.loop-number.shelves.items) c.args.house.annals.facts c.start_boot.new.house.annals.facts (length c.scripts_of-of_boot.result.now)
-    (serves-all tools c.args.house.annals.facts (length c.scripts_of-of_boot.result.now) c.requires.serves many) (record { plugins = refl; shelves = c.loop-number.invariant.kept }) facts
+    let facts : c.start_boot.new.house.house_log.facts ≡ c.args.house.house_log.facts = c.in-None.ensures.facts ∙ c.loop-number.invariant.ran.facts in
+    serves-later tools (tools_of g.P.Shelf.files g.P.Shelf.faults (length c.args.plugins.now) c.loop-number.shelves.items) c.args.house.house_log.facts c.start_boot.new.house.house_log.facts (length c.scripts_of-of_boot.result.now)
+    (serves-all tools c.args.house.house_log.facts (length c.scripts_of-of_boot.result.now) c.requires.serves many) (record { plugins = refl; shelves = c.loop-number.invariant.kept }) facts
 
 pub loop-number-init : goal.loop-number-init
 loop-number-init g c = record {
   ran = run-none (signs_of g.K.Keeper.tells g.K.Keeper.faults) false (means_for (steps_at (λ b. (goal.Plugin-dyn g (b.vtable, b.value)).steps b.value) c.args.plugins.now) (shelves_told g.P.Shelf.files g.P.Shelf.faults c.args.shelves.now.items)) c.args.plans.now c.args.scripts.now c.args.house (ap past_of c.requires.new) c.requires.unread c.requires.blank;
-  read = λ _. c.known.ensures.annals.unopened c.requires.unread;
+  read = λ _. c.known.ensures.house_log.unopened c.requires.unread;
   kept = shelves-here (shelves_told g.P.Shelf.files g.P.Shelf.faults c.args.shelves.now.items);
   told = shelves-count_here (past c.args.house) (shelves_told g.P.Shelf.files g.P.Shelf.faults c.args.shelves.now.items);
 }

@@ -5,5 +5,5 @@ use Rattle.daemon_core.specs.Turns.{signs_of}
 pub returns : goal.returns
 returns g c =
     started-so (signs_of g.K.Keeper.tells g.K.Keeper.faults) g.K.Keeper.doubt g.K.Keeper.settled c.args.plan.now c.boot-outcome.result c.ended_by.result
-    c.args.house.now c.boot-outcome.new.self c.ended_by.ensures c.known.ensures.annals c.boot-outcome.ensures.fared
+    c.args.house.now c.boot-outcome.new.self c.ended_by.ensures c.known.ensures.house_log c.boot-outcome.ensures.fared
     c.boot-outcome.ensures.counts c.boot-outcome.ensures.turn

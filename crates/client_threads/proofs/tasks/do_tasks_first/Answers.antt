@@ -15,7 +15,7 @@ pub returns : goal.returns
 returns g c = record {
   went =
       let house = c.args.house.now in
-      subst (λ (f : Files). HouseWent (signs_of g.K.Keeper.tells g.K.Keeper.faults) c.do_tasks.result 0 (TaskPlays house.annals.facts (rows_before house.annals) (means_of f (steps_at (λ b. (goal.Plugin-dyn g (b.vtable, b.value)).steps b.value) c.args.plugins.now))) (tasks house.annals.facts (rows_before house.annals) (began (past house))) house c.do_tasks.new.house)
+      subst (λ (f : Files). HouseWent (signs_of g.K.Keeper.tells g.K.Keeper.faults) c.do_tasks.result 0 (TaskPlays house.house_log.facts (rows_before house.house_log) (means_of f (steps_at (λ b. (goal.Plugin-dyn g (b.vtable, b.value)).steps b.value) c.args.plugins.now))) (tasks house.house_log.facts (rows_before house.house_log) (began (past house))) house c.do_tasks.new.house)
       (sym (files-first g.P.Shelf.files g.P.Shelf.faults c.args.shelves.now.items c.index_mut.result.now c.requires.shelf c.index_mut.ensures.value)) c.do_tasks.ensures.went;
   kept = stay-first g.P.Shelf.files g.P.Shelf.faults c.args.shelves.now.items c.index_mut.result.now c.do_tasks.new.shelf c.requires.shelf c.index_mut.ensures.value c.do_tasks.ensures.files c.do_tasks.ensures.counts;
   told =

@@ -14,18 +14,18 @@ loop-entry-init g c = record { so_far = λ facts opening files. judged-none (sig
 pub judge_next-requires : goal.judge_next-requires
 judge_next-requires g c = record {
   booted =
-      let facts = c.args.house.now.annals.facts in
-      still-booted (signs_of g.K.Keeper.tells g.K.Keeper.faults) c.loop-entry.wanting 0 (TaskPlays facts [] (files_alone None)) (to_judge_in c.args.house.now.annals (take c.loop-entry.entry-index c.args.entries.now)) c.args.house.now c.loop-entry.house
+      let facts = c.args.house.now.house_log.facts in
+      still-booted (signs_of g.K.Keeper.tells g.K.Keeper.faults) c.loop-entry.wanting 0 (TaskPlays facts [] (files_alone None)) (to_judge_in c.args.house.now.house_log (take c.loop-entry.entry-index c.args.entries.now)) c.args.house.now c.loop-entry.house
       (c.loop-entry.invariant.so_far facts [] None).so_far c.requires.booted;
-  idle = (c.loop-entry.invariant.so_far c.args.house.now.annals.facts [] None).so_far.rest.idle;
-  row = known-turn c.args.entries.now c.loop-entry.entry-index c.args.house.now.annals c.loop-entry.house.annals c.loop-entry-test.true c.requires.apart c.requires.rows (c.loop-entry.invariant.so_far c.args.house.now.annals.facts [] None).stays;
+  idle = (c.loop-entry.invariant.so_far c.args.house.now.house_log.facts [] None).so_far.rest.idle;
+  row = known-turn c.args.entries.now c.loop-entry.entry-index c.args.house.now.house_log c.loop-entry.house.house_log c.loop-entry-test.true c.requires.apart c.requires.rows (c.loop-entry.invariant.so_far c.args.house.now.house_log.facts [] None).stays;
 }
 
 pub returns-in-None : goal.returns-in-None
 returns-in-None g c facts opening files =
     let i = c.loop-entry.entry-index in
     off-turn (signs_of g.K.Keeper.tells g.K.Keeper.faults) facts opening (files_alone files) c.loop-entry.wanting c.args.entries.now i c.args.house.now c.loop-entry.house c.judge_next.new.house c.loop-entry-test.true (c.loop-entry.invariant.so_far facts opening files)
-    (to_judge_in c.loop-entry.house.annals (get_or c.args.entries.now i 0 ∷ [])) (c.in-None.ensures.more facts opening files)
+    (to_judge_in c.loop-entry.house.house_log (get_or c.args.entries.now i 0 ∷ [])) (c.in-None.ensures.more facts opening files)
 
 pub loop-entry-preserved : goal.loop-entry-preserved
 loop-entry-preserved g c = record {

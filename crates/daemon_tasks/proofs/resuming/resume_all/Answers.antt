@@ -15,7 +15,7 @@ use Rattle.daemon_tasks.proofs.resuming.resume_all.Goals as goal
 
 pub loop-entry-init : goal.loop-entry-init
 loop-entry-init g c = record {
-  so_far = so_far-nothing (signs_of g.K.Keeper.tells g.K.Keeper.faults) c.args.before 0 (TaskPlays c.args.house.now.annals.facts (rows_before c.args.house.now.annals) (means_of (g.P.Shelf.files c.args.shelf.now) (steps_at (λ b. (goal.Plugin-dyn g (b.vtable, b.value)).steps b.value) c.args.plugins.now))) c.args.house.now c.requires.idle;
+  so_far = so_far-nothing (signs_of g.K.Keeper.tells g.K.Keeper.faults) c.args.before 0 (TaskPlays c.args.house.now.house_log.facts (rows_before c.args.house.now.house_log) (means_of (g.P.Shelf.files c.args.shelf.now) (steps_at (λ b. (goal.Plugin-dyn g (b.vtable, b.value)).steps b.value) c.args.plugins.now))) c.args.house.now c.requires.idle;
   told = λ b. b;
   waits = c.requires.waits;
   apart = c.requires.apart;
@@ -26,11 +26,11 @@ loop-entry-init g c = record {
 
 pub resume_next-requires-clause-booted : goal.resume_next-requires-clause-booted
 resume_next-requires-clause-booted g c =
-    still-booted (signs_of g.K.Keeper.tells g.K.Keeper.faults) c.loop-entry.wanting 0 (TaskPlays c.args.house.now.annals.facts (rows_before c.args.house.now.annals) (means_of (g.P.Shelf.files c.args.shelf.now) (steps_at (λ b. (goal.Plugin-dyn g (b.vtable, b.value)).steps b.value) c.args.plugins.now))) (map ToResume (take c.loop-entry.entry-index c.args.entries.now)) c.args.house.now c.loop-entry.house
+    still-booted (signs_of g.K.Keeper.tells g.K.Keeper.faults) c.loop-entry.wanting 0 (TaskPlays c.args.house.now.house_log.facts (rows_before c.args.house.now.house_log) (means_of (g.P.Shelf.files c.args.shelf.now) (steps_at (λ b. (goal.Plugin-dyn g (b.vtable, b.value)).steps b.value) c.args.plugins.now))) (map ToResume (take c.loop-entry.entry-index c.args.entries.now)) c.args.house.now c.loop-entry.house
     c.loop-entry.invariant.so_far c.requires.booted
 
 pub resume_next-requires-clause-waits : goal.resume_next-requires-clause-waits
-resume_next-requires-clause-waits g c = waits-next c.loop-entry.house.annals c.args.entries.now c.loop-entry.entry-index c.loop-entry-test.true c.loop-entry.invariant.waits
+resume_next-requires-clause-waits g c = waits-next c.loop-entry.house.house_log c.args.entries.now c.loop-entry.entry-index c.loop-entry-test.true c.loop-entry.invariant.waits
 
 pub resume_next-requires-clause-served : goal.resume_next-requires-clause-served
 resume_next-requires-clause-served g c =
@@ -41,12 +41,12 @@ returns-in-None g c = record {
   more =
       let v = c.loop-entry.invariant in
       let i = c.loop-entry.entry-index in
-      let a = c.args.house.now.annals in
+      let a = c.args.house.now.house_log in
       let files = g.P.Shelf.files c.args.shelf.now in
       let plugins = (steps_at (λ b. (goal.Plugin-dyn g (b.vtable, b.value)).steps b.value) c.args.plugins.now) in
       resumed-off (signs_of g.K.Keeper.tells g.K.Keeper.faults) (TaskPlays a.facts (rows_before a) (means_of files plugins)) c.args.before c.loop-entry.wanting c.args.entries.now i c.args.house.now c.loop-entry.house c.resume_next.new.house
       c.loop-entry-test.true v.told v.so_far
-      (same-task (signs_of g.K.Keeper.tells g.K.Keeper.faults) None c.loop-entry.wanting (ToResume (get_or c.args.entries.now i 0)) plugins a c.loop-entry.house.annals files (g.P.Shelf.files c.loop-entry.shelf) c.loop-entry.house c.resume_next.new.house
+      (same-task (signs_of g.K.Keeper.tells g.K.Keeper.faults) None c.loop-entry.wanting (ToResume (get_or c.args.entries.now i 0)) plugins a c.loop-entry.house.house_log files (g.P.Shelf.files c.loop-entry.shelf) c.loop-entry.house c.resume_next.new.house
       v.so_far.rest.same v.files c.in-None.ensures.more);
   files = c.in-None.ensures.files ∙ c.loop-entry.invariant.files;
   counts = le-both (g.P.Shelf.faults c.args.shelf.now) (g.P.Shelf.faults c.loop-entry.shelf) (g.P.Shelf.faults c.resume_next.new.shelf) c.loop-entry.invariant.counts c.in-None.ensures.counts;
@@ -59,15 +59,15 @@ pub loop-entry-preserved : goal.loop-entry-preserved
 loop-entry-preserved g c =
     let v = c.loop-entry.invariant in
     let i = c.loop-entry.entry-index in
-    let a = c.args.house.now.annals in
+    let a = c.args.house.now.house_log in
     let files = g.P.Shelf.files c.args.shelf.now in
     let plugins = (steps_at (λ b. (goal.Plugin-dyn g (b.vtable, b.value)).steps b.value) c.args.plugins.now) in
     record {
       so_far = resumed-turn (signs_of g.K.Keeper.tells g.K.Keeper.faults) (TaskPlays a.facts (rows_before a) (means_of files plugins)) c.in-Some.now c.loop-entry.wanting c.args.entries.now i c.args.house.now c.loop-entry.house c.resume_next.new.house c.loop-entry-test.true v.so_far
-          (same-task (signs_of g.K.Keeper.tells g.K.Keeper.faults) (Some c.in-Some.now) c.loop-entry.wanting (ToResume (get_or c.args.entries.now i 0)) plugins a c.loop-entry.house.annals files (g.P.Shelf.files c.loop-entry.shelf) c.loop-entry.house c.resume_next.new.house
+          (same-task (signs_of g.K.Keeper.tells g.K.Keeper.faults) (Some c.in-Some.now) c.loop-entry.wanting (ToResume (get_or c.args.entries.now i 0)) plugins a c.loop-entry.house.house_log files (g.P.Shelf.files c.loop-entry.shelf) c.loop-entry.house c.resume_next.new.house
           v.so_far.rest.same v.files c.in-Some.ensures.more);
       told = told-more c.args.before c.in-Some.now c.loop-entry.wanting c.in-Some.ensures.more.more.0 v.told;
-      waits = waits-later c.loop-entry.house.annals c.resume_next.new.house.annals c.args.entries.now i c.loop-entry-test.true v.apart v.waits c.in-Some.ensures.others;
+      waits = waits-later c.loop-entry.house.house_log c.resume_next.new.house.house_log c.args.entries.now i c.loop-entry-test.true v.apart v.waits c.in-Some.ensures.others;
       apart = apart-later c.args.entries.now i c.loop-entry-test.true v.apart;
       files = c.in-Some.ensures.files ∙ v.files;
       counts = le-both (g.P.Shelf.faults c.args.shelf.now) (g.P.Shelf.faults c.loop-entry.shelf) (g.P.Shelf.faults c.resume_next.new.shelf) v.counts c.in-Some.ensures.counts;
@@ -77,7 +77,7 @@ loop-entry-preserved g c =
 
 pub returns-clause-more : goal.returns-clause-more
 returns-clause-more g c =
-    resumed-end (signs_of g.K.Keeper.tells g.K.Keeper.faults) (TaskPlays c.args.house.now.annals.facts (rows_before c.args.house.now.annals) (means_of (g.P.Shelf.files c.args.shelf.now) (steps_at (λ b. (goal.Plugin-dyn g (b.vtable, b.value)).steps b.value) c.args.plugins.now))) c.args.before c.loop-entry.wanting c.args.entries.now c.loop-entry.entry-index c.args.house.now c.loop-entry.house c.loop-entry-test.false c.loop-entry.invariant.told c.loop-entry.invariant.so_far
+    resumed-end (signs_of g.K.Keeper.tells g.K.Keeper.faults) (TaskPlays c.args.house.now.house_log.facts (rows_before c.args.house.now.house_log) (means_of (g.P.Shelf.files c.args.shelf.now) (steps_at (λ b. (goal.Plugin-dyn g (b.vtable, b.value)).steps b.value) c.args.plugins.now))) c.args.before c.loop-entry.wanting c.args.entries.now c.loop-entry.entry-index c.args.house.now c.loop-entry.house c.loop-entry-test.false c.loop-entry.invariant.told c.loop-entry.invariant.so_far
 
 pub returns-clause-told : goal.returns-clause-told
 returns-clause-told g c = c.loop-entry.invariant.counted

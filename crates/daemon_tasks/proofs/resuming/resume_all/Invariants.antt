@@ -13,9 +13,9 @@ use Rattle.daemon_tasks.proofs.resuming.resume_all.Given as goal
 
 abbrev pub invariant-loop-entry : goal.invariant-loop-entry
 invariant-loop-entry g l = record {
-  so_far : SoFar (signs_of g.K.Keeper.tells g.K.Keeper.faults) l.wanting 0 (TaskPlays l.initial.house.annals.facts (rows_before l.initial.house.annals) (means_of (g.P.Shelf.files l.initial.shelf) (steps_at (λ b. (goal.Plugin-dyn g (b.vtable, b.value)).steps b.value) l.plugins))) (map ToResume (take l.entry-index l.entries)) l.initial.house l.house;
+  so_far : SoFar (signs_of g.K.Keeper.tells g.K.Keeper.faults) l.wanting 0 (TaskPlays l.initial.house.house_log.facts (rows_before l.initial.house.house_log) (means_of (g.P.Shelf.files l.initial.shelf) (steps_at (λ b. (goal.Plugin-dyn g (b.vtable, b.value)).steps b.value) l.plugins))) (map ToResume (take l.entry-index l.entries)) l.initial.house l.house;
   told : l.before ≡ true → l.wanting ≡ true;
-  waits : AllWait l.house.annals (drop l.entry-index l.entries);
+  waits : AllWait l.house.house_log (drop l.entry-index l.entries);
   apart : AreApart (drop l.entry-index l.entries);
   files : g.P.Shelf.files l.shelf ≡ g.P.Shelf.files l.initial.shelf;
   counts : g.P.Shelf.faults l.initial.shelf ≤ g.P.Shelf.faults l.shelf;

@@ -25,20 +25,20 @@ ask_pending-requires-clause-free g c = idle-free 0 (past c.args.house.now) c.req
 
 pub ask_pending-requires-clause-pending : goal.ask_pending-requires-clause-pending
 ask_pending-requires-clause-pending g c =
-    let w = c.requires.waits in (w.row, waits-kept c.args.house.now.annals c.args.entry c.known.ensures.annals w, w.pending)
+    let w = c.requires.waits in (w.row, waits-kept c.args.house.now.house_log c.args.entry c.known.ensures.house_log w, w.pending)
 
 pub resume_held-requires : goal.resume_held-requires
 resume_held-requires g c =
     let w = c.requires.waits in
-    let kept = waits-kept c.args.house.now.annals c.args.entry c.known.ensures.annals w in
+    let kept = waits-kept c.args.house.now.house_log c.args.entry c.known.ensures.house_log w in
     let a = c.in-Ok-Held in
     let t = rw a.field-0-is at (a.ensures.turn w.row kept) in
     record {
-      booted = boots-appended 0 (Event.Ask 0 (request_of_row w.row) (Some c.args.entry) (answer_of (Asked.Held a.hold))) c.args.house.now.annals c.ask_pending.new.self.annals refl t.1 c.requires.booted;
-      put_off = still-put_off c.args.entry (request_of_row w.row) (answer_of (Asked.Held a.hold)) c.args.house.now.annals c.ask_pending.new.self.annals c.known-in-Ok-Held.ensures.annals w t.1;
+      booted = boots-appended 0 (Event.Ask 0 (request_of_row w.row) (Some c.args.entry) (answer_of (Asked.Held a.hold))) c.args.house.now.house_log c.ask_pending.new.self.house_log refl t.1 c.requires.booted;
+      put_off = still-put_off c.args.entry (request_of_row w.row) (answer_of (Asked.Held a.hold)) c.args.house.now.house_log c.ask_pending.new.self.house_log c.known-in-Ok-Held.ensures.house_log w t.1;
       held =
           let h = rw a.field-0-is at (a.ensures.holds w.row kept) in
-          ask-holds c.args.house.now.annals.facts 0 (request_of_row w.row) (Some c.args.entry) a.hold c.args.house.now.annals c.ask_pending.new.self.annals h c.requires.idle t.1;
+          ask-holds c.args.house.now.house_log.facts 0 (request_of_row w.row) (Some c.args.entry) a.hold c.args.house.now.house_log c.ask_pending.new.self.house_log h c.requires.idle t.1;
       hold =
           let h = rw a.field-0-is at (a.ensures.holds w.row kept) in
           (request_of_row w.row, subst (λ (f : Facts). IsHoldFor f 0 (request_of_row w.row) (Some c.args.entry) a.hold) (sym t.1.same.facts) h);
@@ -48,60 +48,60 @@ resume_held-requires g c =
 pub resume_with-requires : goal.resume_with-requires
 resume_with-requires g c =
     let w = c.requires.waits in
-    let kept = waits-kept c.args.house.now.annals c.args.entry c.known.ensures.annals w in
+    let kept = waits-kept c.args.house.now.house_log c.args.entry c.known.ensures.house_log w in
     let a = c.in-Ok-Refused in
     let t = rw a.field-0-is at (a.ensures.turn w.row kept) in
     record {
-      booted = boots-appended 0 (Event.Ask 0 (request_of_row w.row) (Some c.args.entry) (AskAnswer.Refused a.field-0-0)) c.args.house.now.annals c.ask_pending.new.self.annals refl t.1 c.requires.booted;
-      put_off = still-put_off c.args.entry (request_of_row w.row) (AskAnswer.Refused a.field-0-0) c.args.house.now.annals c.ask_pending.new.self.annals c.known-in-Ok-Refused.ensures.annals w t.1;
-      comes = refused-in c.args.entry (request_of_row w.row) a.field-0-0 c.args.house.now.annals c.ask_pending.new.self.annals c.requires.idle t.1;
-      out = refused-idle c.args.entry (request_of_row w.row) a.field-0-0 c.args.house.now.annals c.ask_pending.new.self.annals c.requires.idle t.1;
+      booted = boots-appended 0 (Event.Ask 0 (request_of_row w.row) (Some c.args.entry) (AskAnswer.Refused a.field-0-0)) c.args.house.now.house_log c.ask_pending.new.self.house_log refl t.1 c.requires.booted;
+      put_off = still-put_off c.args.entry (request_of_row w.row) (AskAnswer.Refused a.field-0-0) c.args.house.now.house_log c.ask_pending.new.self.house_log c.known-in-Ok-Refused.ensures.house_log w t.1;
+      comes = refused-in c.args.entry (request_of_row w.row) a.field-0-0 c.args.house.now.house_log c.ask_pending.new.self.house_log c.requires.idle t.1;
+      out = refused-idle c.args.entry (request_of_row w.row) a.field-0-0 c.args.house.now.house_log c.ask_pending.new.self.house_log c.requires.idle t.1;
       served = subst (λ (f : Facts). length f.vetoes ≤ length c.args.plugins.now) (sym t.1.same.facts) c.requires.served;
     }
 
 pub unreachable-requires : goal.unreachable-requires
 unreachable-requires g c =
     let w = c.requires.waits in
-    let kept = waits-kept c.args.house.now.annals c.args.entry c.known.ensures.annals w in
+    let kept = waits-kept c.args.house.now.house_log c.args.entry c.known.ensures.house_log w in
     let a = c.in-Ok-Kept in
     let t = rw a.field-0-is at (a.ensures.turn w.row kept) in
-    pending-not_kept c.args.entry a.field-0-0 a.field-0-1 (request_of_row w.row) c.args.house.now.annals c.ask_pending.new.self.annals c.known-in-Ok-Kept.ensures.annals t.1
+    pending-not_kept c.args.entry a.field-0-0 a.field-0-1 (request_of_row w.row) c.args.house.now.house_log c.ask_pending.new.self.house_log c.known-in-Ok-Kept.ensures.house_log t.1
 
 pub returns-in-Ok-Held : goal.returns-in-Ok-Held
 returns-in-Ok-Held g c =
     let w = c.requires.waits in
-    let kept = waits-kept c.args.house.now.annals c.args.entry c.known.ensures.annals w in
+    let kept = waits-kept c.args.house.now.house_log c.args.entry c.known.ensures.house_log w in
     let a = c.in-Ok-Held in
     let t = rw a.field-0-is at (a.ensures.turn w.row kept) in
     record {
       played = pending-behind (signs_of g.K.Keeper.tells g.K.Keeper.faults) (means_of (g.P.Shelf.files c.args.shelf.now) (steps_at (λ b. (goal.Plugin-dyn g (b.vtable, b.value)).steps b.value) c.args.plugins.now)) c.args.entry (request_of_row w.row) (answer_of (Asked.Held a.hold)) c.resume_held.result c.args.house.now c.ask_pending.new.self c.resume_held.new.house c.ask_pending.ensures.keeper c.ask_pending.ensures.places t.1 c.resume_held.ensures.played;
-      others = pending-others c.args.entry (request_of_row w.row) (answer_of (Asked.Held a.hold)) c.args.house.now.annals c.ask_pending.new.self.annals c.resume_held.new.house.annals t.1 c.resume_held.ensures.others;
+      others = pending-others c.args.entry (request_of_row w.row) (answer_of (Asked.Held a.hold)) c.args.house.now.house_log c.ask_pending.new.self.house_log c.resume_held.new.house.house_log t.1 c.resume_held.ensures.others;
       files = c.resume_held.ensures.files;
       counts = c.resume_held.ensures.counts;
       told =
           told-behind (mine 0 (past c.args.house.now)) (mine 0 (past c.ask_pending.new.self)) (mine 0 (past c.resume_held.new.house)) (g.P.Shelf.faults c.args.shelf.now) (g.P.Shelf.faults c.resume_held.new.shelf)
-          (appended-quiet (Event.Ask 0 (request_of_row w.row) (Some c.args.entry) (answer_of (Asked.Held a.hold))) c.args.house.now.annals c.ask_pending.new.self.annals (record { no_boot = refl; own = refl }) refl t.1)
+          (appended-quiet (Event.Ask 0 (request_of_row w.row) (Some c.args.entry) (answer_of (Asked.Held a.hold))) c.args.house.now.house_log c.ask_pending.new.self.house_log (record { no_boot = refl; own = refl }) refl t.1)
           c.resume_held.ensures.told c.resume_held.ensures.counts;
     }
 
 pub returns-in-Ok-Refused : goal.returns-in-Ok-Refused
 returns-in-Ok-Refused g c =
     let w = c.requires.waits in
-    let kept = waits-kept c.args.house.now.annals c.args.entry c.known.ensures.annals w in
+    let kept = waits-kept c.args.house.now.house_log c.args.entry c.known.ensures.house_log w in
     let a = c.in-Ok-Refused in
     let t = rw a.field-0-is at (a.ensures.turn w.row kept) in
     record {
       played =
           pending-behind (signs_of g.K.Keeper.tells g.K.Keeper.faults) (means_of (g.P.Shelf.files c.args.shelf.now) (steps_at (λ b. (goal.Plugin-dyn g (b.vtable, b.value)).steps b.value) c.args.plugins.now)) c.args.entry (request_of_row w.row) (AskAnswer.Refused a.field-0-0) c.resume_with.result c.args.house.now c.ask_pending.new.self c.resume_with.new.house c.ask_pending.ensures.keeper c.ask_pending.ensures.places t.1
           (c.resume_with.ensures.played (g.P.Shelf.files c.args.shelf.now) (AskAnswer.Refused a.field-0-0) refl);
-      others = pending-others c.args.entry (request_of_row w.row) (AskAnswer.Refused a.field-0-0) c.args.house.now.annals c.ask_pending.new.self.annals c.resume_with.new.house.annals t.1 c.resume_with.ensures.others;
+      others = pending-others c.args.entry (request_of_row w.row) (AskAnswer.Refused a.field-0-0) c.args.house.now.house_log c.ask_pending.new.self.house_log c.resume_with.new.house.house_log t.1 c.resume_with.ensures.others;
       files = refl;
       counts = le_refl _;
       told =
           let x = g.P.Shelf.faults c.args.shelf.now in
           count-less (faults_in (mine 0 (past c.args.house.now))) (faults_in (mine 0 (past c.resume_with.new.house))) x x
           (unfetched (faults_in (mine 0 (past c.args.house.now))) (faults_in (mine 0 (past c.ask_pending.new.self))) (faults_in (mine 0 (past c.resume_with.new.house)))
-          (appended-quiet (Event.Ask 0 (request_of_row w.row) (Some c.args.entry) (AskAnswer.Refused a.field-0-0)) c.args.house.now.annals c.ask_pending.new.self.annals (record { no_boot = refl; own = refl }) refl t.1)
+          (appended-quiet (Event.Ask 0 (request_of_row w.row) (Some c.args.entry) (AskAnswer.Refused a.field-0-0)) c.args.house.now.house_log c.ask_pending.new.self.house_log (record { no_boot = refl; own = refl }) refl t.1)
           c.resume_with.ensures.told)
           (omega arith);
     }
@@ -109,18 +109,18 @@ returns-in-Ok-Refused g c =
 pub returns-in-Err : goal.returns-in-Err
 returns-in-Err g c =
     let w = c.requires.waits in
-    let kept = waits-kept c.args.house.now.annals c.args.entry c.known.ensures.annals w in
+    let kept = waits-kept c.args.house.now.house_log c.args.entry c.known.ensures.house_log w in
     record {
       played =
           pending-stopped (signs_of g.K.Keeper.tells g.K.Keeper.faults) (means_of (g.P.Shelf.files c.args.shelf.now) (steps_at (λ b. (goal.Plugin-dyn g (b.vtable, b.value)).steps b.value) c.args.plugins.now)) c.args.entry c.stopped_by.result c.in-Err.stop c.args.house.now c.ask_pending.new.self c.stopped_by.ensures c.requires.idle
-          (halted-turn 0 (λ (asked : Asked). Event.Ask 0 (request_of_row w.row) (Some c.args.entry) (answer_of asked)) c.in-Err.stop c.args.house.now.annals c.ask_pending.new.self.annals (c.in-Err.ensures.turn w.row kept)) c.ask_pending.ensures.keeper c.ask_pending.ensures.places;
+          (halted-turn 0 (λ (asked : Asked). Event.Ask 0 (request_of_row w.row) (Some c.args.entry) (answer_of asked)) c.in-Err.stop c.args.house.now.house_log c.ask_pending.new.self.house_log (c.in-Err.ensures.turn w.row kept)) c.ask_pending.ensures.keeper c.ask_pending.ensures.places;
       others =
-          others-halted c.args.entry c.in-Err.stop c.args.house.now.annals c.ask_pending.new.self.annals
-          (halted-turn 0 (λ (asked : Asked). Event.Ask 0 (request_of_row w.row) (Some c.args.entry) (answer_of asked)) c.in-Err.stop c.args.house.now.annals c.ask_pending.new.self.annals (c.in-Err.ensures.turn w.row kept));
+          others-halted c.args.entry c.in-Err.stop c.args.house.now.house_log c.ask_pending.new.self.house_log
+          (halted-turn 0 (λ (asked : Asked). Event.Ask 0 (request_of_row w.row) (Some c.args.entry) (answer_of asked)) c.in-Err.stop c.args.house.now.house_log c.ask_pending.new.self.house_log (c.in-Err.ensures.turn w.row kept));
       files = refl;
       counts = le_refl _;
       told =
           told-same (mine 0 (past c.args.house.now)) (mine 0 (past c.ask_pending.new.self)) (g.P.Shelf.faults c.args.shelf.now)
-          (halted-quiet c.in-Err.stop c.args.house.now.annals c.ask_pending.new.self.annals
-          (halted-turn 0 (λ (asked : Asked). Event.Ask 0 (request_of_row w.row) (Some c.args.entry) (answer_of asked)) c.in-Err.stop c.args.house.now.annals c.ask_pending.new.self.annals (c.in-Err.ensures.turn w.row kept)));
+          (halted-quiet c.in-Err.stop c.args.house.now.house_log c.ask_pending.new.self.house_log
+          (halted-turn 0 (λ (asked : Asked). Event.Ask 0 (request_of_row w.row) (Some c.args.entry) (answer_of asked)) c.in-Err.stop c.args.house.now.house_log c.ask_pending.new.self.house_log (c.in-Err.ensures.turn w.row kept)));
     }

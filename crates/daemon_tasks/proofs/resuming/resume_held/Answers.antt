@@ -22,7 +22,7 @@ resume_with-requires-clause-comes g c =
       held_is = hold-is 0 f.result.0 (block_count f.result.1) (past c.args.house.now)
           (still-held 0 c.args.hold f.result.0 f.result.1 (past c.args.house.now) f.ensures.ticket f.ensures.blocks c.requires.held);
       pending_is = ap (λ (t : Ticket). t.pending) f.ensures.ticket ∙ c.requires.hold.1.pending_is;
-      whole = fetched-whole c.args.house.now.annals.facts 0 c.requires.hold.0 (Some c.args.entry) c.args.hold f.result.0 f.result.1 c.requires.hold.1 f.ensures.ticket f.ensures.digest f.ensures.size;
+      whole = fetched-whole c.args.house.now.house_log.facts 0 c.requires.hold.0 (Some c.args.entry) c.args.hold f.result.0 f.result.1 c.requires.hold.1 f.ensures.ticket f.ensures.digest f.ensures.size;
     }
 
 pub resume_with-requires-clause-out : goal.resume_with-requires-clause-out
@@ -37,7 +37,7 @@ returns-clause-played g c =
     c.resume_with.ensures.played files (AskAnswer.Hold c.args.hold.blocks.count c.args.hold.ticket.release) (
       note_of f.result.1,
       refl,
-      note-fetched c.args.house.now.annals.facts 0 c.requires.hold.0 (Some c.args.entry) files c.args.hold f.result.1 c.requires.hold.1 f.ensures.found (record {
+      note-fetched c.args.house.now.house_log.facts 0 c.requires.hold.0 (Some c.args.entry) files c.args.hold f.result.1 c.requires.hold.1 f.ensures.found (record {
         digest = f.ensures.digest;
         size = f.ensures.size;
         other_length = f.ensures.other_length;

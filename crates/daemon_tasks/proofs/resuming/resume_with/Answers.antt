@@ -8,7 +8,7 @@ use Rattle.daemon_core.specs.Turns.{signs_of}
 
 pub run_taken-requires : goal.run_taken-requires
 run_taken-requires g c = record {
-  runs = resumed-runs c.args.entry c.args.held c.in-Ok-Taken.taken c.args.house.now c.resume.new.self (rw c.in-Ok-Taken.field-0-is at c.in-Ok-Taken.ensures.turn) (rw c.in-Ok-Taken.field-0-is at c.in-Ok-Taken.ensures.gave) c.known.ensures.annals c.requires.booted;
+  runs = resumed-runs c.args.entry c.args.held c.in-Ok-Taken.taken c.args.house.now c.resume.new.self (rw c.in-Ok-Taken.field-0-is at c.in-Ok-Taken.ensures.turn) (rw c.in-Ok-Taken.field-0-is at c.in-Ok-Taken.ensures.gave) c.known.ensures.house_log c.requires.booted;
   no_steps = resumed-new c.args.entry c.args.held c.in-Ok-Taken.taken c.args.house.now c.resume.new.self (rw c.in-Ok-Taken.field-0-is at c.in-Ok-Taken.ensures.turn) (rw c.in-Ok-Taken.field-0-is at c.in-Ok-Taken.ensures.gave);
   marks = resumed-marks c.args.entry c.args.held c.in-Ok-Taken.taken c.args.house.now c.resume.new.self (rw c.in-Ok-Taken.field-0-is at c.in-Ok-Taken.ensures.turn) (rw c.in-Ok-Taken.field-0-is at c.in-Ok-Taken.ensures.gave);
   served = resumed-plugin c.args.entry c.args.held c.in-Ok-Taken.taken c.args.house.now c.resume.new.self (rw c.in-Ok-Taken.field-0-is at c.in-Ok-Taken.ensures.turn) (rw c.in-Ok-Taken.field-0-is at c.in-Ok-Taken.ensures.gave) (length c.args.plugins.now) c.requires.served;
@@ -42,7 +42,7 @@ returns-in-Ok-Refused-clause-played g c files asked f =
 pub returns-in-Ok-Refused-clause-others : goal.returns-in-Ok-Refused-clause-others
 returns-in-Ok-Refused-clause-others g c =
     let a = c.in-Ok-Refused in
-    refused-others c.args.entry c.args.held a.field-0-0 c.args.house.now.annals c.resume.new.self.annals (rw a.field-0-is at a.ensures.turn)
+    refused-others c.args.entry c.args.held a.field-0-0 c.args.house.now.house_log c.resume.new.self.house_log (rw a.field-0-is at a.ensures.turn)
 
 pub returns-in-Err : goal.returns-in-Err
 returns-in-Err g c = record {
@@ -51,10 +51,10 @@ returns-in-Err g c = record {
       resume-stopped c.args.entry c.args.held c.in-Err.stopped c.args.house.now c.resume.new.self c.in-Err.ensures.turn c.in-Err.ensures.gave (signs_of g.K.Keeper.tells g.K.Keeper.faults) (means_of files (steps_at (λ b. (goal.Plugin-dyn g (b.vtable, b.value)).steps b.value) c.args.plugins.now)) asked c.give_up.result c.give_up.new.house f c.give_up.ensures.told c.requires.out c.resume.ensures.fared c.resume.ensures.counts
       c.give_up.ensures.given c.give_up.ensures.keeper c.give_up.ensures.places;
   others = stopped-others c.args.entry c.args.held c.in-Err.stopped c.args.house.now c.resume.new.self c.in-Err.ensures.turn c.in-Err.ensures.gave c.give_up.new.house c.give_up.ensures.given;
-  told = stopped-told c.args.entry c.args.held c.in-Err.stopped c.args.house.now.annals c.resume.new.self.annals c.give_up.new.house.annals c.in-Err.ensures.turn c.give_up.ensures.given;
+  told = stopped-told c.args.entry c.args.held c.in-Err.stopped c.args.house.now.house_log c.resume.new.self.house_log c.give_up.new.house.house_log c.in-Err.ensures.turn c.give_up.ensures.given;
 }
 
 pub returns-in-Ok-Refused-clause-told : goal.returns-in-Ok-Refused-clause-told
 returns-in-Ok-Refused-clause-told g c =
     let a = c.in-Ok-Refused in
-    refused-told c.args.entry c.args.held a.field-0-0 c.args.house.now.annals c.resume.new.self.annals (rw a.field-0-is at a.ensures.turn)
+    refused-told c.args.entry c.args.held a.field-0-0 c.args.house.now.house_log c.resume.new.self.house_log (rw a.field-0-is at a.ensures.turn)

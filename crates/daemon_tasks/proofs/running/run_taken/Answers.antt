@@ -12,4 +12,4 @@ returns-clause-played g c =
 
 pub returns-clause-others : goal.returns-clause-others
 returns-clause-others g c =
-    others-ran ((steps_at (λ b. (goal.Plugin-dyn g (b.vtable, b.value)).steps b.value) c.args.plugins.now) c.args.taken.plugin) c.args.client c.args.taken.entry (parts_taken c.args.taken) c.run_claim-outcome.result c.args.house.now.annals c.run_claim-outcome.new.house.annals c.run_claim-outcome.ensures.ran
+    others-ran ((steps_at (λ b. (goal.Plugin-dyn g (b.vtable, b.value)).steps b.value) c.args.plugins.now) c.args.taken.plugin) c.args.client c.args.taken.entry (parts_taken c.args.taken) c.run_claim-outcome.result c.args.house.now.house_log c.run_claim-outcome.new.house.house_log c.run_claim-outcome.ensures.ran

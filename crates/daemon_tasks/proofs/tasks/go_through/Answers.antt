@@ -19,40 +19,40 @@ use Rattle.daemon_tasks.proofs.FaultPlays.{judged-off, judged-told}
 use Rattle.daemon_tasks.proofs.tasks.go_through.Goals as goal
 
 pub judge_all-requires-clause-rows : goal.judge_all-requires-clause-rows
-judge_all-requires-clause-rows g c = all-known c.args.house.now.annals c.known.ensures.annals is_to_judge c.args.judged.now c.requires.judged
+judge_all-requires-clause-rows g c = all-known c.args.house.now.house_log c.known.ensures.house_log is_to_judge c.args.judged.now c.requires.judged
 
 pub judge_all-requires-clause-apart : goal.judge_all-requires-clause-apart
-judge_all-requires-clause-apart g c = all-apart c.args.house.now.annals c.known.ensures.annals is_to_judge c.args.judged.now c.requires.judged
+judge_all-requires-clause-apart g c = all-apart c.args.house.now.house_log c.known.ensures.house_log is_to_judge c.args.judged.now c.requires.judged
 
 pub resume_all-requires : goal.resume_all-requires
 resume_all-requires g c = record {
   -- What was judged, by the log as the boot began: it needs no plugin.
   booted =
-      let a = c.args.house.now.annals in
+      let a = c.args.house.now.house_log in
       let files = g.P.Shelf.files c.args.shelf.now in
       still-booted (signs_of g.K.Keeper.tells g.K.Keeper.faults) c.in-Through.wanting 0 (TaskPlays a.facts (rows_before a) (files_alone files)) (to_judge_in a c.args.judged.now) c.args.house.now c.judge_all.new.house (c.in-Through.ensures a.facts (rows_before a) files).0 c.requires.booted;
-  idle = let a = c.args.house.now.annals in (c.in-Through.ensures a.facts (rows_before a) (g.P.Shelf.files c.args.shelf.now)).0.rest.idle;
+  idle = let a = c.args.house.now.house_log in (c.in-Through.ensures a.facts (rows_before a) (g.P.Shelf.files c.args.shelf.now)).0.rest.idle;
   waits =
-      let a = c.args.house.now.annals in
-      let k = c.known.ensures.annals in
-      all-wait_still c.args.judged.now a c.judge_all.new.house.annals c.args.waiting.now (c.in-Through.ensures a.facts (rows_before a) (g.P.Shelf.files c.args.shelf.now)).1
+      let a = c.args.house.now.house_log in
+      let k = c.known.ensures.house_log in
+      all-wait_still c.args.judged.now a c.judge_all.new.house.house_log c.args.waiting.now (c.in-Through.ensures a.facts (rows_before a) (g.P.Shelf.files c.args.shelf.now)).1
       (none-both a k c.args.judged.now c.args.waiting.now c.requires.judged c.requires.waiting) (all-wait a k c.args.waiting.now c.requires.waiting);
-  apart = all-apart c.args.house.now.annals c.known.ensures.annals is_pending c.args.waiting.now c.requires.waiting;
+  apart = all-apart c.args.house.now.house_log c.known.ensures.house_log is_pending c.args.waiting.now c.requires.waiting;
   served =
-      let a = c.args.house.now.annals in
+      let a = c.args.house.now.house_log in
       subst (λ (f : Facts). length f.vetoes ≤ length c.args.plugins.now) (sym (c.in-Through.ensures a.facts (rows_before a) (g.P.Shelf.files c.args.shelf.now)).0.rest.same.facts) c.requires.served;
 }
 
 pub returns-in-Through-clause-went : goal.returns-in-Through-clause-went
 returns-in-Through-clause-went g c =
-    let a = c.args.house.now.annals in
+    let a = c.args.house.now.house_log in
     let files = g.P.Shelf.files c.args.shelf.now in
     let means = means_of files (steps_at (λ b. (goal.Plugin-dyn g (b.vtable, b.value)).steps b.value) c.args.plugins.now) in
     let judged = c.in-Through.ensures a.facts (rows_before a) files in
     let same = judged.0.rest.same in
-    let later = c.judge_all.new.house.annals in
+    let later = c.judge_all.new.house.house_log in
     subst (λ (ts : List Task). HouseWent (signs_of g.K.Keeper.tells g.K.Keeper.faults) c.resume_all.result 0 (TaskPlays a.facts (rows_before a) means) ts c.args.house.now c.resume_all.new.house)
-    (sym (tasks-are a c.known.ensures.annals c.args.judged.now c.args.waiting.now c.requires.fresh c.requires.judged c.requires.waiting))
+    (sym (tasks-are a c.known.ensures.house_log c.args.judged.now c.args.waiting.now c.requires.fresh c.requires.judged c.requires.waiting))
     (went-both (signs_of g.K.Keeper.tells g.K.Keeper.faults) (TaskPlays a.facts (rows_before a) means) c.in-Through.wanting c.resume_all.result (to_judge_in a c.args.judged.now) (map ToResume c.args.waiting.now) c.args.house.now c.judge_all.new.house c.resume_all.new.house
     (so_far-wider c.in-Through.wanting 0 (TaskPlays a.facts (rows_before a) means) (TaskPlays a.facts (rows_before a) (files_alone files)) (task-wider a.facts (rows_before a) means) (signs_of g.K.Keeper.tells g.K.Keeper.faults) (to_judge_in a c.args.judged.now) c.args.house.now c.judge_all.new.house judged.0)
     (subst (λ (o : List Row). HouseMore (signs_of g.K.Keeper.tells g.K.Keeper.faults) c.resume_all.result c.in-Through.wanting 0 (TaskPlays a.facts o means) (map ToResume c.args.waiting.now) c.judge_all.new.house c.resume_all.new.house) (before-same a later same)
@@ -60,18 +60,18 @@ returns-in-Through-clause-went g c =
 
 pub returns-in-Off-clause-went : goal.returns-in-Off-clause-went
 returns-in-Off-clause-went g c =
-    let a = c.args.house.now.annals in
+    let a = c.args.house.now.house_log in
     let files = g.P.Shelf.files c.args.shelf.now in
     let means = means_of files (steps_at (λ b. (goal.Plugin-dyn g (b.vtable, b.value)).steps b.value) c.args.plugins.now) in
     let all = to_judge_in a c.args.judged.now ++ map ToResume c.args.waiting.now in
     subst (λ (ts : List Task). HouseWent (signs_of g.K.Keeper.tells g.K.Keeper.faults) c.in-Off.wanting 0 (TaskPlays a.facts (rows_before a) means) ts c.args.house.now c.judge_all.new.house)
-    (sym (tasks-are a c.known.ensures.annals c.args.judged.now c.args.waiting.now c.requires.fresh c.requires.judged c.requires.waiting))
+    (sym (tasks-are a c.known.ensures.house_log c.args.judged.now c.args.waiting.now c.requires.fresh c.requires.judged c.requires.waiting))
     (went-wider c.in-Off.wanting 0 (TaskPlays a.facts (rows_before a) means) (TaskPlays a.facts (rows_before a) (files_alone files)) (task-wider a.facts (rows_before a) means) (signs_of g.K.Keeper.tells g.K.Keeper.faults) all c.args.house.now c.judge_all.new.house
     (c.in-Off.ensures a.facts (rows_before a) files (map ToResume c.args.waiting.now)))
 
 pub returns-in-Through-clause-told : goal.returns-in-Through-clause-told
 returns-in-Through-clause-told g c =
-    let a = c.args.house.now.annals in
+    let a = c.args.house.now.house_log in
     let files = g.P.Shelf.files c.args.shelf.now in
     told-behind (mine 0 (past c.args.house.now)) (mine 0 (past c.judge_all.new.house)) (mine 0 (past c.resume_all.new.house)) (g.P.Shelf.faults c.args.shelf.now) (g.P.Shelf.faults c.resume_all.new.shelf)
     (judged-told (signs_of g.K.Keeper.tells g.K.Keeper.faults) c.in-Through.wanting a.facts (rows_before a) (files_alone files) (filter (can_judge a.facts (rows_before a) (past_in a)) c.args.judged.now) c.args.house.now c.judge_all.new.house (c.in-Through.ensures a.facts (rows_before a) files).0)
@@ -79,7 +79,7 @@ returns-in-Through-clause-told g c =
 
 pub returns-in-Off-clause-told : goal.returns-in-Off-clause-told
 returns-in-Off-clause-told g c =
-    let a = c.args.house.now.annals in
+    let a = c.args.house.now.house_log in
     let files = g.P.Shelf.files c.args.shelf.now in
     told-same (mine 0 (past c.args.house.now)) (mine 0 (past c.judge_all.new.house)) (g.P.Shelf.faults c.args.shelf.now)
     (judged-off (signs_of g.K.Keeper.tells g.K.Keeper.faults) c.in-Off.wanting a.facts (rows_before a) (files_alone files) (filter (can_judge a.facts (rows_before a) (past_in a)) c.args.judged.now) c.args.house.now c.judge_all.new.house (c.in-Off.ensures a.facts (rows_before a) files []))

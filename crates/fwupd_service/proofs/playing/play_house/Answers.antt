@@ -9,7 +9,7 @@ returns-clause-played g c =
     let e = c.into_parts-facts.ensures in
     let ran = c.run_on_threads-house in
     rw (e.opening, e.log, e.keeper) (was-played g.K.Keeper.tells g.K.Keeper.doubt g.K.Keeper.faults _ ran.result.1 c.args.plans.now c.args.scripts.now c.args.house ran.result.0
-    ran.ensures.ran c.known-2.ensures.annals c.known-2.ensures.house c.legal_once.ensures c.taken_once.ensures c.history_stays.ensures c.requires.new c.into_parts-facts.result.boards e.boards)
+    ran.ensures.ran c.known-2.ensures.house_log c.known-2.ensures.house c.legal_once.ensures c.taken_once.ensures c.history_stays.ensures c.requires.new c.into_parts-facts.result.boards e.boards)
 
 pub returns-clause-stand : goal.returns-clause-stand
 returns-clause-stand g c =

@@ -17,10 +17,10 @@ returns g c =
     let a = c.in-Ok-Held in
     let t = rw a.field-0-is at a.ensures.turn in
     record {
-      booted = boots-appended c.args.client (Event.Ask c.args.client c.args.request.now None (answer_of (Asked.Held a.hold))) c.args.house.now.annals c.ask.new.self.annals refl t.1 c.requires.booted;
+      booted = boots-appended c.args.client (Event.Ask c.args.client c.args.request.now None (answer_of (Asked.Held a.hold))) c.args.house.now.house_log c.ask.new.self.house_log refl t.1 c.requires.booted;
       held =
           let h = rw a.field-0-is at a.ensures.holds in
-          ask-holds c.args.house.now.annals.facts c.args.client c.args.request.now None a.hold c.args.house.now.annals c.ask.new.self.annals h c.requires.idle t.1;
+          ask-holds c.args.house.now.house_log.facts c.args.client c.args.request.now None a.hold c.args.house.now.house_log c.ask.new.self.house_log h c.requires.idle t.1;
       hold =
           let h = rw a.field-0-is at a.ensures.holds in
           subst (λ (f : Facts). IsHoldFor f c.args.client c.args.request.now None a.hold) (sym t.1.same.facts) h;

@@ -23,14 +23,14 @@ claim-requires-clause-asked g c = ap (λ (t : Ticket). t.pending) c.fetch-ticket
 pub claim-requires-clause-whole : goal.claim-requires-clause-whole
 claim-requires-clause-whole g c =
     let f = c.fetch-ticket in
-    fetched-whole c.args.house.now.annals.facts c.args.client c.args.request.now None c.args.hold f.result.0 f.result.1 c.requires.hold f.ensures.ticket f.ensures.digest f.ensures.size
+    fetched-whole c.args.house.now.house_log.facts c.args.client c.args.request.now None c.args.hold f.result.0 f.result.1 c.requires.hold f.ensures.ticket f.ensures.digest f.ensures.size
 
 pub returns : goal.returns
 returns g c =
     let f = c.fetch-ticket in
     let a = c.in-Ok-Taken in
     record {
-      runs = claimed-runs c.args.client f.result.0 f.result.1 a.taken c.args.house.now c.claim.new.self (rw a.field-0-is at a.ensures.turn) (rw a.field-0-is at a.ensures.gave) c.known.ensures.annals c.requires.booted;
+      runs = claimed-runs c.args.client f.result.0 f.result.1 a.taken c.args.house.now c.claim.new.self (rw a.field-0-is at a.ensures.turn) (rw a.field-0-is at a.ensures.gave) c.known.ensures.house_log c.requires.booted;
       no_steps = claimed-new c.args.client f.result.0 f.result.1 a.taken c.args.house.now c.claim.new.self (rw a.field-0-is at a.ensures.turn) (rw a.field-0-is at a.ensures.gave);
       marks = claimed-marks c.args.client f.result.0 f.result.1 a.taken c.args.house.now c.claim.new.self (rw a.field-0-is at a.ensures.turn) (rw a.field-0-is at a.ensures.gave);
       alone =

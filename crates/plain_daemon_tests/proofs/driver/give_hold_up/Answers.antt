@@ -13,7 +13,7 @@ give_up-requires-clause-held g c = hold-is c.args.client c.args.hold.ticket c.ar
 pub returns-clause-booted : goal.returns-clause-booted
 returns-clause-booted g c =
     let t = c.args.hold.ticket in
-    boots-appended c.args.client (Event.GiveBack c.args.client (back_of t.pending t.request)) c.args.house.now.annals c.give_up.new.self.annals refl c.give_up.ensures.appended c.requires.booted
+    boots-appended c.args.client (Event.GiveBack c.args.client (back_of t.pending t.request)) c.args.house.now.house_log c.give_up.new.self.house_log refl c.give_up.ensures.appended c.requires.booted
 
 pub returns-clause-idle : goal.returns-clause-idle
-returns-clause-idle g c = idle-given c.args.client c.args.hold.ticket c.args.hold.blocks.count c.args.house.now.annals c.give_up.new.self.annals c.give_up.ensures.appended c.requires.held
+returns-clause-idle g c = idle-given c.args.client c.args.hold.ticket c.args.hold.blocks.count c.args.house.now.house_log c.give_up.new.self.house_log c.give_up.ensures.appended c.requires.held

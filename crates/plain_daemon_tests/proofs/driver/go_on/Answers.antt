@@ -30,14 +30,14 @@ claim-requires-clause-asked g c = ap (λ (t : Ticket). t.pending) c.fetch-ticket
 pub claim-requires-clause-whole : goal.claim-requires-clause-whole
 claim-requires-clause-whole g c =
     let f = c.fetch-ticket in
-    fetched-whole c.args.house.now.annals.facts c.args.client c.args.request.now None c.args.hold f.result.0 f.result.1 c.requires.hold f.ensures.ticket f.ensures.digest f.ensures.size
+    fetched-whole c.args.house.now.house_log.facts c.args.client c.args.request.now None c.args.hold f.result.0 f.result.1 c.requires.hold f.ensures.ticket f.ensures.digest f.ensures.size
 
 pub run-requires : goal.run-requires
 run-requires g c =
     let f = c.fetch-ticket in
     let a = c.in-Ok-Taken in
     record {
-      runs = claimed-runs c.args.client f.result.0 f.result.1 a.taken c.args.house.now c.claim.new.self (rw a.field-0-is at a.ensures.turn) (rw a.field-0-is at a.ensures.gave) c.known.ensures.annals c.requires.booted;
+      runs = claimed-runs c.args.client f.result.0 f.result.1 a.taken c.args.house.now c.claim.new.self (rw a.field-0-is at a.ensures.turn) (rw a.field-0-is at a.ensures.gave) c.known.ensures.house_log c.requires.booted;
       no_steps = claimed-new c.args.client f.result.0 f.result.1 a.taken c.args.house.now c.claim.new.self (rw a.field-0-is at a.ensures.turn) (rw a.field-0-is at a.ensures.gave);
       marks = claimed-marks c.args.client f.result.0 f.result.1 a.taken c.args.house.now c.claim.new.self (rw a.field-0-is at a.ensures.turn) (rw a.field-0-is at a.ensures.gave);
       alone =
@@ -49,15 +49,15 @@ pub give_up-requires-clause-booted : goal.give_up-requires-clause-booted
 give_up-requires-clause-booted g c =
     let f = c.fetch-ticket in
     let a = c.in-Err in
-    halted-boots a.stopped.stop c.args.house.now.annals c.claim.new.self.annals (halted-turn c.args.client (claim_event c.args.client f.result.0.request f.result.1) a.stopped.stop c.args.house.now.annals c.claim.new.self.annals a.ensures.turn) c.requires.booted
+    halted-boots a.stopped.stop c.args.house.now.house_log c.claim.new.self.house_log (halted-turn c.args.client (claim_event c.args.client f.result.0.request f.result.1) a.stopped.stop c.args.house.now.house_log c.claim.new.self.house_log a.ensures.turn) c.requires.booted
 
 pub give_up-requires-clause-held : goal.give_up-requires-clause-held
 give_up-requires-clause-held g c =
     let f = c.fetch-ticket in
     let a = c.in-Err in
     let p = past c.claim.new.self in
-    let h = held-halted c.args.client f.result.0 (block_count f.result.1) a.stopped.stop c.args.house.now.annals c.claim.new.self.annals
-    (halted-turn c.args.client (claim_event c.args.client f.result.0.request f.result.1) a.stopped.stop c.args.house.now.annals c.claim.new.self.annals a.ensures.turn)
+    let h = held-halted c.args.client f.result.0 (block_count f.result.1) a.stopped.stop c.args.house.now.house_log c.claim.new.self.house_log
+    (halted-turn c.args.client (claim_event c.args.client f.result.0.request f.result.1) a.stopped.stop c.args.house.now.house_log c.claim.new.self.house_log a.ensures.turn)
     (still-held c.args.client c.args.hold f.result.0 f.result.1 (past c.args.house.now) f.ensures.ticket f.ensures.blocks c.requires.held)
     in
     subst (λ (x : Ticket). HoldsAlone c.args.client x (block_count a.stopped.fetched) p) (sym a.ensures.gave.2)
@@ -76,9 +76,9 @@ returns-in-Ok-Kept g c =
     let t = rw a.field-0-is at a.ensures.turn in
     record {
       idle =
-          idle-ended c.args.client f.result.0 (block_count f.result.1) (Event.Claim c.args.client f.result.0.request (note_of f.result.1) (ClaimAnswer.Kept a.entry a.state)) c.args.house.now.annals c.claim.new.self.annals (λ b. refl) (λ b. refl) t.1
+          idle-ended c.args.client f.result.0 (block_count f.result.1) (Event.Claim c.args.client f.result.0.request (note_of f.result.1) (ClaimAnswer.Kept a.entry a.state)) c.args.house.now.house_log c.claim.new.self.house_log (λ b. refl) (λ b. refl) t.1
           (still-held c.args.client c.args.hold f.result.0 f.result.1 (past c.args.house.now) f.ensures.ticket f.ensures.blocks c.requires.held);
-      boots = boots-after c.args.client (Event.Claim c.args.client f.result.0.request (note_of f.result.1) (ClaimAnswer.Kept a.entry a.state)) c.args.house.now.annals c.claim.new.self.annals refl t.1;
+      boots = boots-after c.args.client (Event.Claim c.args.client f.result.0.request (note_of f.result.1) (ClaimAnswer.Kept a.entry a.state)) c.args.house.now.house_log c.claim.new.self.house_log refl t.1;
     }
 
 pub returns-in-Ok-Refused : goal.returns-in-Ok-Refused
@@ -88,14 +88,14 @@ returns-in-Ok-Refused g c =
     let t = rw a.field-0-is at a.ensures.turn in
     record {
       idle =
-          idle-ended c.args.client f.result.0 (block_count f.result.1) (Event.Claim c.args.client f.result.0.request (note_of f.result.1) (ClaimAnswer.Refused a.refusal)) c.args.house.now.annals c.claim.new.self.annals (λ b. refl) (λ b. refl) t.1
+          idle-ended c.args.client f.result.0 (block_count f.result.1) (Event.Claim c.args.client f.result.0.request (note_of f.result.1) (ClaimAnswer.Refused a.refusal)) c.args.house.now.house_log c.claim.new.self.house_log (λ b. refl) (λ b. refl) t.1
           (still-held c.args.client c.args.hold f.result.0 f.result.1 (past c.args.house.now) f.ensures.ticket f.ensures.blocks c.requires.held);
-      boots = boots-after c.args.client (Event.Claim c.args.client f.result.0.request (note_of f.result.1) (ClaimAnswer.Refused a.refusal)) c.args.house.now.annals c.claim.new.self.annals refl t.1;
+      boots = boots-after c.args.client (Event.Claim c.args.client f.result.0.request (note_of f.result.1) (ClaimAnswer.Refused a.refusal)) c.args.house.now.house_log c.claim.new.self.house_log refl t.1;
     }
 
 pub returns-in-Err-clause-boots : goal.returns-in-Err-clause-boots
 returns-in-Err-clause-boots g c =
     let f = c.fetch-ticket in
     let a = c.in-Err in
-    c.give_up.ensures.boots ∙ boots-halted a.stopped.stop c.args.house.now.annals c.claim.new.self.annals
-    (halted-turn c.args.client (claim_event c.args.client f.result.0.request f.result.1) a.stopped.stop c.args.house.now.annals c.claim.new.self.annals a.ensures.turn)
+    c.give_up.ensures.boots ∙ boots-halted a.stopped.stop c.args.house.now.house_log c.claim.new.self.house_log
+    (halted-turn c.args.client (claim_event c.args.client f.result.0.request f.result.1) a.stopped.stop c.args.house.now.house_log c.claim.new.self.house_log a.ensures.turn)

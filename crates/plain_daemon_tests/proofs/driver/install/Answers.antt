@@ -20,10 +20,10 @@ go_on-requires g c =
     let a = c.in-Ok-Held in
     let t = rw a.field-0-is at a.ensures.turn in
     record {
-      booted = boots-appended c.args.client (Event.Ask c.args.client c.args.request.now None (answer_of (Asked.Held a.hold))) c.args.house.now.annals c.ask.new.self.annals refl t.1 c.requires.booted;
+      booted = boots-appended c.args.client (Event.Ask c.args.client c.args.request.now None (answer_of (Asked.Held a.hold))) c.args.house.now.house_log c.ask.new.self.house_log refl t.1 c.requires.booted;
       held =
           let h = rw a.field-0-is at a.ensures.holds in
-          ask-holds c.args.house.now.annals.facts c.args.client c.args.request.now None a.hold c.args.house.now.annals c.ask.new.self.annals h c.requires.idle t.1;
+          ask-holds c.args.house.now.house_log.facts c.args.client c.args.request.now None a.hold c.args.house.now.house_log c.ask.new.self.house_log h c.requires.idle t.1;
       hold =
           let h = rw a.field-0-is at a.ensures.holds in
           subst (λ (f : Facts). IsHoldFor f c.args.client c.args.request.now None a.hold) (sym t.1.same.facts) h;
@@ -33,15 +33,15 @@ pub returns-in-Ok-Held-clause-boots : goal.returns-in-Ok-Held-clause-boots
 returns-in-Ok-Held-clause-boots g c =
     let a = c.in-Ok-Held in
     let t = rw a.field-0-is at a.ensures.turn in
-    c.go_on.ensures.boots ∙ boots-after c.args.client (Event.Ask c.args.client c.args.request.now None (answer_of (Asked.Held a.hold))) c.args.house.now.annals c.ask.new.self.annals refl t.1
+    c.go_on.ensures.boots ∙ boots-after c.args.client (Event.Ask c.args.client c.args.request.now None (answer_of (Asked.Held a.hold))) c.args.house.now.house_log c.ask.new.self.house_log refl t.1
 
 pub returns-in-Ok-Kept : goal.returns-in-Ok-Kept
 returns-in-Ok-Kept g c =
     let a = c.in-Ok-Kept in
     let t = rw a.field-0-is at a.ensures.turn in
     record {
-      idle = idle-after c.args.client (Event.Ask c.args.client c.args.request.now None (AskAnswer.Kept a.entry a.state)) c.args.house.now.annals c.ask.new.self.annals (λ b. refl) (λ b. refl) t.1 c.requires.idle;
-      boots = boots-after c.args.client (Event.Ask c.args.client c.args.request.now None (AskAnswer.Kept a.entry a.state)) c.args.house.now.annals c.ask.new.self.annals refl t.1;
+      idle = idle-after c.args.client (Event.Ask c.args.client c.args.request.now None (AskAnswer.Kept a.entry a.state)) c.args.house.now.house_log c.ask.new.self.house_log (λ b. refl) (λ b. refl) t.1 c.requires.idle;
+      boots = boots-after c.args.client (Event.Ask c.args.client c.args.request.now None (AskAnswer.Kept a.entry a.state)) c.args.house.now.house_log c.ask.new.self.house_log refl t.1;
     }
 
 pub returns-in-Ok-Refused : goal.returns-in-Ok-Refused
@@ -49,8 +49,8 @@ returns-in-Ok-Refused g c =
     let a = c.in-Ok-Refused in
     let t = rw a.field-0-is at a.ensures.turn in
     record {
-      idle = idle-after c.args.client (Event.Ask c.args.client c.args.request.now None (AskAnswer.Refused a.refusal)) c.args.house.now.annals c.ask.new.self.annals (λ b. refl) (λ b. refl) t.1 c.requires.idle;
-      boots = boots-after c.args.client (Event.Ask c.args.client c.args.request.now None (AskAnswer.Refused a.refusal)) c.args.house.now.annals c.ask.new.self.annals refl t.1;
+      idle = idle-after c.args.client (Event.Ask c.args.client c.args.request.now None (AskAnswer.Refused a.refusal)) c.args.house.now.house_log c.ask.new.self.house_log (λ b. refl) (λ b. refl) t.1 c.requires.idle;
+      boots = boots-after c.args.client (Event.Ask c.args.client c.args.request.now None (AskAnswer.Refused a.refusal)) c.args.house.now.house_log c.ask.new.self.house_log refl t.1;
     }
 
 pub returns-in-Err-Off : goal.returns-in-Err-Off
@@ -58,6 +58,6 @@ returns-in-Err-Off g c =
     let a = c.in-Err-Off in
     let t = rw a.field-0-is at a.ensures.turn in
     record {
-      idle = idle-halted Stop.Off c.args.house.now.annals c.ask.new.self.annals (halted-off c.args.client c.args.house.now.annals c.ask.new.self.annals t) c.requires.idle;
-      boots = boots-halted Stop.Off c.args.house.now.annals c.ask.new.self.annals (halted-off c.args.client c.args.house.now.annals c.ask.new.self.annals t);
+      idle = idle-halted Stop.Off c.args.house.now.house_log c.ask.new.self.house_log (halted-off c.args.client c.args.house.now.house_log c.ask.new.self.house_log t) c.requires.idle;
+      boots = boots-halted Stop.Off c.args.house.now.house_log c.ask.new.self.house_log (halted-off c.args.client c.args.house.now.house_log c.ask.new.self.house_log t);
     }

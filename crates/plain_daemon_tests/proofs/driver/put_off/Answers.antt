@@ -16,8 +16,8 @@ returns-in-Ok-Entry g c =
     let a = c.in-Ok-Entry in
     let t = rw a.field-0-is at a.ensures.turn in
     record {
-      idle = idle-after c.args.client (Event.Schedule c.args.client c.args.request.now (ClaimAnswer.Entry a.entry)) c.args.house.now.annals c.schedule.new.self.annals (λ b. refl) (λ b. refl) t.1 c.requires.idle;
-      boots = boots-after c.args.client (Event.Schedule c.args.client c.args.request.now (ClaimAnswer.Entry a.entry)) c.args.house.now.annals c.schedule.new.self.annals refl t.1;
+      idle = idle-after c.args.client (Event.Schedule c.args.client c.args.request.now (ClaimAnswer.Entry a.entry)) c.args.house.now.house_log c.schedule.new.self.house_log (λ b. refl) (λ b. refl) t.1 c.requires.idle;
+      boots = boots-after c.args.client (Event.Schedule c.args.client c.args.request.now (ClaimAnswer.Entry a.entry)) c.args.house.now.house_log c.schedule.new.self.house_log refl t.1;
     }
 
 pub returns-in-Ok-Kept : goal.returns-in-Ok-Kept
@@ -25,8 +25,8 @@ returns-in-Ok-Kept g c =
     let a = c.in-Ok-Kept in
     let t = rw a.field-0-is at a.ensures.turn in
     record {
-      idle = idle-after c.args.client (Event.Schedule c.args.client c.args.request.now (ClaimAnswer.Kept a.entry a.state)) c.args.house.now.annals c.schedule.new.self.annals (λ b. refl) (λ b. refl) t.1 c.requires.idle;
-      boots = boots-after c.args.client (Event.Schedule c.args.client c.args.request.now (ClaimAnswer.Kept a.entry a.state)) c.args.house.now.annals c.schedule.new.self.annals refl t.1;
+      idle = idle-after c.args.client (Event.Schedule c.args.client c.args.request.now (ClaimAnswer.Kept a.entry a.state)) c.args.house.now.house_log c.schedule.new.self.house_log (λ b. refl) (λ b. refl) t.1 c.requires.idle;
+      boots = boots-after c.args.client (Event.Schedule c.args.client c.args.request.now (ClaimAnswer.Kept a.entry a.state)) c.args.house.now.house_log c.schedule.new.self.house_log refl t.1;
     }
 
 pub returns-in-Ok-Refused : goal.returns-in-Ok-Refused
@@ -34,8 +34,8 @@ returns-in-Ok-Refused g c =
     let a = c.in-Ok-Refused in
     let t = rw a.field-0-is at a.ensures.turn in
     record {
-      idle = idle-after c.args.client (Event.Schedule c.args.client c.args.request.now (ClaimAnswer.Refused a.refusal)) c.args.house.now.annals c.schedule.new.self.annals (λ b. refl) (λ b. refl) t.1 c.requires.idle;
-      boots = boots-after c.args.client (Event.Schedule c.args.client c.args.request.now (ClaimAnswer.Refused a.refusal)) c.args.house.now.annals c.schedule.new.self.annals refl t.1;
+      idle = idle-after c.args.client (Event.Schedule c.args.client c.args.request.now (ClaimAnswer.Refused a.refusal)) c.args.house.now.house_log c.schedule.new.self.house_log (λ b. refl) (λ b. refl) t.1 c.requires.idle;
+      boots = boots-after c.args.client (Event.Schedule c.args.client c.args.request.now (ClaimAnswer.Refused a.refusal)) c.args.house.now.house_log c.schedule.new.self.house_log refl t.1;
     }
 
 pub returns-in-Err-Off : goal.returns-in-Err-Off
@@ -43,6 +43,6 @@ returns-in-Err-Off g c =
     let a = c.in-Err-Off in
     let t = rw a.field-0-is at a.ensures.turn in
     record {
-      idle = idle-halted Stop.Off c.args.house.now.annals c.schedule.new.self.annals (halted-off c.args.client c.args.house.now.annals c.schedule.new.self.annals t) c.requires.idle;
-      boots = boots-halted Stop.Off c.args.house.now.annals c.schedule.new.self.annals (halted-off c.args.client c.args.house.now.annals c.schedule.new.self.annals t);
+      idle = idle-halted Stop.Off c.args.house.now.house_log c.schedule.new.self.house_log (halted-off c.args.client c.args.house.now.house_log c.schedule.new.self.house_log t) c.requires.idle;
+      boots = boots-halted Stop.Off c.args.house.now.house_log c.schedule.new.self.house_log (halted-off c.args.client c.args.house.now.house_log c.schedule.new.self.house_log t);
     }

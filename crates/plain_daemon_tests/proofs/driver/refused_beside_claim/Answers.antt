@@ -9,7 +9,7 @@ ask-requires-clause-booted g c = c.requires.runs.booted
 
 pub ask-requires-clause-free : goal.ask-requires-clause-free
 ask-requires-clause-free g c =
-    let a = c.args.house.now.annals in
+    let a = c.args.house.now.house_log in
     let r = c.requires.runs in
     free-beside_claim c.args.holder c.args.client c.args.taken.now.entry (past c.args.house.now) c.requires.another c.requires.alone
     (alone-client a.facts a.first (rows_before a) (past c.args.house.now) c.args.holder (parts_taken c.args.taken.now) r.number r.l r.runs c.requires.alone)
@@ -19,6 +19,6 @@ returns g c =
     let a = c.in-Ok-Refused in
     let t = rw a.field-0-is at a.ensures.turn in
     record {
-      runs = runs-beside c.args.client c.args.holder c.args.request.now (AskAnswer.Refused a.refusal) (parts_taken c.args.taken.now) c.args.house.now.annals c.ask.new.self.annals c.known.ensures.annals t.1 c.requires.runs;
-      alone = alone-beside c.args.client c.args.taken.now.entry c.args.request.now a.refusal c.args.house.now.annals c.ask.new.self.annals t.1 c.requires.alone;
+      runs = runs-beside c.args.client c.args.holder c.args.request.now (AskAnswer.Refused a.refusal) (parts_taken c.args.taken.now) c.args.house.now.house_log c.ask.new.self.house_log c.known.ensures.house_log t.1 c.requires.runs;
+      alone = alone-beside c.args.client c.args.taken.now.entry c.args.request.now a.refusal c.args.house.now.house_log c.ask.new.self.house_log t.1 c.requires.alone;
     }

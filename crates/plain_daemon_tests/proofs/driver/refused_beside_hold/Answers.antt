@@ -15,6 +15,6 @@ returns g c =
     let a = c.in-Ok-Refused in
     let t = rw a.field-0-is at a.ensures.turn in
     record {
-      booted = boots-appended c.args.client (Event.Ask c.args.client c.args.request.now None (AskAnswer.Refused a.refusal)) c.args.house.now.annals c.ask.new.self.annals refl t.1 c.requires.booted;
-      held = held-beside c.args.client c.args.holder c.args.request.now a.refusal c.args.hold.now.ticket c.args.hold.now.blocks.count c.args.house.now.annals c.ask.new.self.annals t.1 c.requires.held;
+      booted = boots-appended c.args.client (Event.Ask c.args.client c.args.request.now None (AskAnswer.Refused a.refusal)) c.args.house.now.house_log c.ask.new.self.house_log refl t.1 c.requires.booted;
+      held = held-beside c.args.client c.args.holder c.args.request.now a.refusal c.args.hold.now.ticket c.args.hold.now.blocks.count c.args.house.now.house_log c.ask.new.self.house_log t.1 c.requires.held;
     }

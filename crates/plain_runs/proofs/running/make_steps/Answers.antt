@@ -5,15 +5,15 @@ use Rattle.plain_runs.proofs.running.make_steps.Goals as goal
 
 pub returns-in_err-next-clause-gone : goal.returns-in_err-next-clause-gone
 returns-in_err-next-clause-gone g c =
-    on-err c.from_residual.result (GaveBack ((goal.Plugin-dyn g c.args.plugin.now).steps c.args.plugin.now.1) c.args.client c.args.entry c.args.claim c.args.house.now.annals c.advance.new.house.annals) c.in_err-next.ensures.gone
+    on-err c.from_residual.result (GaveBack ((goal.Plugin-dyn g c.args.plugin.now).steps c.args.plugin.now.1) c.args.client c.args.entry c.args.claim c.args.house.now.house_log c.advance.new.house.house_log) c.in_err-next.ensures.gone
 
 pub returns-clause-made : goal.returns-clause-made
 returns-clause-made g c =
-    made-after ((goal.Plugin-dyn g c.args.plugin.now).steps c.args.plugin.now.1) c.args.client c.args.entry c.look_and_end.result c.args.claim c.in_ok-next.next c.args.house.now.annals c.advance.new.house.annals c.look_and_end.new.house.annals c.in_ok-next.ensures.made c.look_and_end.ensures.made
+    made-after ((goal.Plugin-dyn g c.args.plugin.now).steps c.args.plugin.now.1) c.args.client c.args.entry c.look_and_end.result c.args.claim c.in_ok-next.next c.args.house.now.house_log c.advance.new.house.house_log c.look_and_end.new.house.house_log c.in_ok-next.ensures.made c.look_and_end.ensures.made
 
 pub returns-clause-gone : goal.returns-clause-gone
 returns-clause-gone g c =
-    gone-after ((goal.Plugin-dyn g c.args.plugin.now).steps c.args.plugin.now.1) c.args.client c.args.entry c.look_and_end.result c.args.claim c.in_ok-next.next c.args.house.now.annals c.advance.new.house.annals c.look_and_end.new.house.annals c.in_ok-next.ensures.made c.look_and_end.ensures.gone
+    gone-after ((goal.Plugin-dyn g c.args.plugin.now).steps c.args.plugin.now.1) c.args.client c.args.entry c.look_and_end.result c.args.claim c.in_ok-next.next c.args.house.now.house_log c.advance.new.house.house_log c.look_and_end.new.house.house_log c.in_ok-next.ensures.made c.look_and_end.ensures.gone
 
 pub returns-in_err-next-clause-home : goal.returns-in_err-next-clause-home
 returns-in_err-next-clause-home g c =

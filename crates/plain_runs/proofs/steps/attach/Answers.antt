@@ -11,7 +11,7 @@ use Rattle.plain_runs.proofs.steps.attach.Goals as goal
 -- src/steps.rt
 pub returns-in_err-claim-clause-gone : goal.returns-in_err-claim-clause-gone
 returns-in_err-claim-clause-gone g c =
-    on-err c.from_residual.result _ (back-none ((goal.Plugin-dyn g c.args.plugin.now).steps c.args.plugin.now.1) c.args.client c.args.entry c.args.claim c.args.house.now.annals c.begin.new.house.annals c.in_err-claim.ensures.gone)
+    on-err c.from_residual.result _ (back-none ((goal.Plugin-dyn g c.args.plugin.now).steps c.args.plugin.now.1) c.args.client c.args.entry c.args.claim c.args.house.now.house_log c.begin.new.house.house_log c.in_err-claim.ensures.gone)
 
 pub end-requires : goal.end-requires
 end-requires g c =
@@ -25,12 +25,12 @@ end-requires g c =
 
 pub returns-clause-made : goal.returns-clause-made
 returns-clause-made g c =
-    made-end ((goal.Plugin-dyn g c.args.plugin.now).steps c.args.plugin.now.1) c.args.client c.args.entry c.end.result Op.Attach c.attach-claim.result.1 c.args.claim c.in_ok-claim.claim c.attach-claim.result.0 c.args.house.now.annals c.begin.new.house.annals c.end.new.house.annals
+    made-end ((goal.Plugin-dyn g c.args.plugin.now).steps c.args.plugin.now.1) c.args.client c.args.entry c.end.result Op.Attach c.attach-claim.result.1 c.args.claim c.in_ok-claim.claim c.attach-claim.result.0 c.args.house.now.house_log c.begin.new.house.house_log c.end.new.house.house_log
     c.requires.entry c.in_ok-claim.ensures.same c.attach-claim.ensures.call c.attach-claim.ensures.noted c.in_ok-claim.ensures.gained c.end.ensures.same c.end.ensures.gained
 
 pub returns-clause-gone : goal.returns-clause-gone
 returns-clause-gone g c =
-    gone-end ((goal.Plugin-dyn g c.args.plugin.now).steps c.args.plugin.now.1) c.args.client c.args.entry c.end.result Op.Attach c.args.claim c.in_ok-claim.claim c.attach-claim.result.1 c.attach-claim.result.0.board c.args.house.now.annals c.begin.new.house.annals c.end.new.house.annals
+    gone-end ((goal.Plugin-dyn g c.args.plugin.now).steps c.args.plugin.now.1) c.args.client c.args.entry c.end.result Op.Attach c.args.claim c.in_ok-claim.claim c.attach-claim.result.1 c.attach-claim.result.0.board c.args.house.now.house_log c.begin.new.house.house_log c.end.new.house.house_log
     c.requires.entry c.in_ok-claim.ensures.same c.attach-claim.ensures.call c.in_ok-claim.ensures.gained c.end.ensures.gone
 
 pub returns-clause-next : goal.returns-clause-next

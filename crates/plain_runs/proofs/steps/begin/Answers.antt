@@ -7,20 +7,20 @@ use Rattle.plain_runs.proofs.steps.begin.Goals as goal
 -- src/steps.rt
 pub give_back-requires-clause-home : goal.give_back-requires-clause-home
 give_back-requires-clause-home g c =
-    start-home c.args.house.now.annals c.start.new.self.annals c.args.client c.args.entry c.args.claim c.requires.entry c.requires.runs c.in-Err.ensures.turn
+    start-home c.args.house.now.house_log c.start.new.self.house_log c.args.client c.args.entry c.args.claim c.requires.entry c.requires.runs c.in-Err.ensures.turn
 
 pub returns-in-Ok-clause-runs : goal.returns-in-Ok-clause-runs
 returns-in-Ok-clause-runs g c =
     let t = c.in-Ok.ensures.turn in
-    start-runs c.args.house.now.annals c.start.new.self.annals c.args.client c.args.entry c.args.claim c.args.op c.requires.entry c.requires.runs t.0 t.1
+    start-runs c.args.house.now.house_log c.start.new.self.house_log c.args.client c.args.entry c.args.claim c.args.op c.requires.entry c.requires.runs t.0 t.1
 
 pub returns-in-Ok-clause-gained : goal.returns-in-Ok-clause-gained
 returns-in-Ok-clause-gained g c =
-    gained-one c.args.client (Event.Start c.args.client c.args.entry c.args.op) c.args.house.now.annals c.start.new.self.annals c.in-Ok.ensures.turn.1
+    gained-one c.args.client (Event.Start c.args.client c.args.entry c.args.op) c.args.house.now.house_log c.start.new.self.house_log c.in-Ok.ensures.turn.1
 
 pub returns-in-Err-clause-gone : goal.returns-in-Err-clause-gone
 returns-in-Err-clause-gone g c =
-    came-back c.args.client c.args.entry c.args.house.now.annals c.start.new.self.annals c.give_back.new.house.annals c.in-Err.ensures.turn c.give_back.ensures.appended
+    came-back c.args.client c.args.entry c.args.house.now.house_log c.start.new.self.house_log c.give_back.new.house.house_log c.in-Err.ensures.turn c.give_back.ensures.appended
 
 pub returns-in-Ok-clause-planned : goal.returns-in-Ok-clause-planned
 returns-in-Ok-clause-planned g c =

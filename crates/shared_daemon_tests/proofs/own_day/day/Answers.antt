@@ -5,4 +5,4 @@ use Rattle.shared_daemon.proofs.Logs.{past-entries}
 use Rattle.shared_daemon_tests.proofs.own_day.day.Goals as goal
 
 pub into_parts-log-requires : goal.into_parts-log-requires
-into_parts-log-requires g c = sym (ap (λ (p : List Event). live p) (past-entries c.close-house.result.annals c.known.ensures.annals)) ∙ c.close-house.ensures.nothing.1
+into_parts-log-requires g c = sym (ap (λ (p : List Event). live p) (past-entries c.close-house.result.house_log c.known.ensures.house_log)) ∙ c.close-house.ensures.nothing.1

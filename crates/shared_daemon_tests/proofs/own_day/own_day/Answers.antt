@@ -17,7 +17,7 @@ day-requires-clause-name g c = begins-named (signs_of g.K.Keeper.tells g.K.Keepe
 
 pub day-requires-clause-nothing : goal.day-requires-clause-nothing
 day-requires-clause-nothing g c =
-    let e = past-entries c.args.house.annals c.known.ensures.annals in
+    let e = past-entries c.args.house.house_log c.known.ensures.house_log in
     (ap (λ (p : List Event). holds p) e ∙ c.requires.no_holds, ap (λ (p : List Event). live p) e ∙ c.requires.no_live)
 
 pub day-requires-clause-put_off : goal.day-requires-clause-put_off
@@ -25,7 +25,7 @@ day-requires-clause-put_off g c =
     let f = (signs_of g.K.Keeper.tells g.K.Keeper.faults) in
     let h = c.args.house in
     let is : c.state_of.result ≡ Some RowState.Pending = search rules in
-    put-off-in f (name_of f h) h (begins-named f h c.requires) c.known.ensures.annals c.args.tasks.now.put_off
+    put-off-in f (name_of f h) h (begins-named f h c.requires) c.known.ensures.house_log c.args.tasks.now.put_off
     (ap (λ (x : List Row). option_map (λ (r : Row). r.state) (row_of x c.args.tasks.now.put_off)) (sym c.rows.ensures) ∙ sym c.state_of.ensures ∙ is)
 
 pub day-requires-clause-begun : goal.day-requires-clause-begun
@@ -33,5 +33,5 @@ day-requires-clause-begun g c =
     let f = (signs_of g.K.Keeper.tells g.K.Keeper.faults) in
     let h = c.args.house in
     let is : c.state_of-2.result ≡ Some RowState.Begun = search rules in
-    row-in f (name_of f h) h (begins-named f h c.requires) c.known.ensures.annals c.args.tasks.now.begun RowState.Begun
+    row-in f (name_of f h) h (begins-named f h c.requires) c.known.ensures.house_log c.args.tasks.now.begun RowState.Begun
     (ap (λ (x : List Row). option_map (λ (r : Row). r.state) (row_of x c.args.tasks.now.begun)) (sym c.rows-2.ensures) ∙ sym c.state_of-2.ensures ∙ is)

@@ -11,5 +11,5 @@ day-requires-clause-name g c = begins-named (signs_of g.K.Keeper.tells g.K.Keepe
 
 pub day-requires-clause-nothing : goal.day-requires-clause-nothing
 day-requires-clause-nothing g c =
-    let e = past-entries c.args.house.annals c.known.ensures.annals in
+    let e = past-entries c.args.house.house_log c.known.ensures.house_log in
     (ap (λ (p : List Event). holds p) e ∙ c.requires.no_holds, ap (λ (p : List Event). live p) e ∙ c.requires.no_live)

@@ -1,15 +1,15 @@
 use Rattle.std.proofs.Common.{◌≡◌, true, ap, sym, subst}
 use Rattle.update_log.specs.declared.event.Event.{Event}
 use Rattle.update_log.specs.Legal.{StartAllowed}
-use Rattle.daemon_core.specs.Housed.{Annalled, Housed, past_in, rows_before}
+use Rattle.daemon_core.specs.Housed.{HouseLogView, Housed, past_in, rows_before}
 use Rattle.daemon_core.proofs.ClaimHouse.{IsReady, house-started, start-ready}
 use Rattle.daemon_core.proofs.house.House.begin.Goals as goal
 use Rattle.daemon_core.proofs.house.House.begin.Given.{Over}
 
-ready : (g : Over) (c : goal.After-note-arg-1 g) → IsReady c.self.inside.annals (Event.Start c.args.client c.args.entry c.args.op)
+ready : (g : Over) (c : goal.After-note-arg-1 g) → IsReady c.self.inside.house_log (Event.Start c.args.client c.args.entry c.args.op)
 ready g c =
-    start-ready c.self.inside.annals c.args.self.now.annals c.args.client c.args.entry c.args.op c.requires.next.0
-    (ap (λ (h : Housed g.row.K.Denot). h.annals) c.self.view_is) c.known.ensures c.requires.runs c.requires.booted c.requires.next.1
+    start-ready c.self.inside.house_log c.args.self.now.house_log c.args.client c.args.entry c.args.op c.requires.next.0
+    (ap (λ (h : Housed g.row.K.Denot). h.house_log) c.self.view_is) c.known.ensures c.requires.runs c.requires.booted c.requires.next.1
 
 pub note-requires-clause-takes : goal.note-requires-clause-takes
 note-requires-clause-takes g c = (ready g c).takes
@@ -25,9 +25,9 @@ note-requires-clause-row g c = (ready g c).row
 
 pub invariant_of-self : goal.invariant_of-self
 invariant_of-self g c =
-    let same : c.self.inside.annals ≡ c.args.self.now.annals = ap (λ (h : Housed g.row.K.Denot). h.annals) c.self.view_is in
+    let same : c.self.inside.house_log ≡ c.args.self.now.house_log = ap (λ (h : Housed g.row.K.Denot). h.house_log) c.self.view_is in
     house-started _ _ c.args.client c.args.entry c.args.op c.requires.next.0
-    (record { annals = c.self.inside.annals; places = c.self.inside.places.items; pool = c.self.inside.pool; keeper = c.self.inside.keeper })
+    (record { house_log = c.self.inside.house_log; places = c.self.inside.places.items; pool = c.self.inside.pool; keeper = c.self.inside.keeper })
     c.note.new.self c.self.invariant c.known.ensures c.note.ensures.known c.note.ensures.appended
-    (subst (λ (a : Annalled). a.loaded ≡ true) (sym same) c.requires.loaded)
-    (subst (λ (a : Annalled). StartAllowed a.facts (rows_before a) (past_in a) c.args.client c.args.entry c.args.op c.requires.next.0) (sym same) c.requires.next.1)
+    (subst (λ (a : HouseLogView). a.loaded ≡ true) (sym same) c.requires.loaded)
+    (subst (λ (a : HouseLogView). StartAllowed a.facts (rows_before a) (past_in a) c.args.client c.args.entry c.args.op c.requires.next.0) (sym same) c.requires.next.1)

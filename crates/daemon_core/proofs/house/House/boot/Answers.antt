@@ -26,10 +26,10 @@ pub start_boards-requires : goal.start_boards-requires
 start_boards-requires g c =
     let room : Housed g.row.K.Denot = c.make_room.new.self in
     let mid : Housed g.row.K.Denot = c.read.new.self in
-    let first = λ (l : room.annals.loaded ≡ false).
-    subst (λ (x : Loaded). FirstRead g.K.Keeper.tells g.K.Keeper.doubt g.K.Keeper.faults (Ok x) room.annals mid.annals room.keeper mid.keeper) c.in-Found.is (c.in-Ok-read.ensures.first l) in
-    let later : room.annals.loaded ≡ true → (mid.annals ≡ record room.annals { reopened = true }) × LaterRead g.K.Keeper.tells g.K.Keeper.doubt g.K.Keeper.faults g.K.Keeper.settled (Ok (Loaded.Found c.in-Found.found)) room.annals.core.rows room.annals.core.doubt room.keeper mid.keeper = λ t.
-    ((c.in-Ok-read.ensures.later t).0, subst (λ (x : Loaded). LaterRead g.K.Keeper.tells g.K.Keeper.doubt g.K.Keeper.faults g.K.Keeper.settled (Ok x) room.annals.core.rows room.annals.core.doubt room.keeper mid.keeper) c.in-Found.is (c.in-Ok-read.ensures.later t).1) in
+    let first = λ (l : room.house_log.loaded ≡ false).
+    subst (λ (x : Loaded). FirstRead g.K.Keeper.tells g.K.Keeper.doubt g.K.Keeper.faults (Ok x) room.house_log mid.house_log room.keeper mid.keeper) c.in-Found.is (c.in-Ok-read.ensures.first l) in
+    let later : room.house_log.loaded ≡ true → (mid.house_log ≡ record room.house_log { reopened = true }) × LaterRead g.K.Keeper.tells g.K.Keeper.doubt g.K.Keeper.faults g.K.Keeper.settled (Ok (Loaded.Found c.in-Found.found)) room.house_log.core.rows room.house_log.core.doubt room.keeper mid.keeper = λ t.
+    ((c.in-Ok-read.ensures.later t).0, subst (λ (x : Loaded). LaterRead g.K.Keeper.tells g.K.Keeper.doubt g.K.Keeper.faults g.K.Keeper.settled (Ok x) room.house_log.core.rows room.house_log.core.doubt room.keeper mid.keeper) c.in-Found.is (c.in-Ok-read.ensures.later t).1) in
     let can : CanBoot g.K.Keeper.tells g.K.Keeper.doubt c.in-Found.found mid =
     subst (λ (x : Loaded). CanBootAfter g.K.Keeper.tells g.K.Keeper.doubt (Ok x) mid) c.in-Found.is c.in-Ok-read.ensures.ready in
     ready-now g.K.Keeper.tells g.K.Keeper.doubt g.K.Keeper.faults g.K.Keeper.settled c.args.self.now room mid mid c.args.plan.now
@@ -41,10 +41,10 @@ pub start_boards-requires-in-Fault : goal.start_boards-requires-in-Fault
 start_boards-requires-in-Fault g c =
     let room : Housed g.row.K.Denot = c.make_room.new.self in
     let mid : Housed g.row.K.Denot = c.read.new.self in
-    let first = λ (l : room.annals.loaded ≡ false).
-    subst (λ (x : Loaded). FirstRead g.K.Keeper.tells g.K.Keeper.doubt g.K.Keeper.faults (Ok x) room.annals mid.annals room.keeper mid.keeper) c.in-Fault.is (c.in-Ok-read.ensures.first l) in
-    let later : room.annals.loaded ≡ true → (mid.annals ≡ record room.annals { reopened = true }) × LaterRead g.K.Keeper.tells g.K.Keeper.doubt g.K.Keeper.faults g.K.Keeper.settled (Ok Loaded.Fault) room.annals.core.rows room.annals.core.doubt room.keeper mid.keeper = λ t.
-    ((c.in-Ok-read.ensures.later t).0, subst (λ (x : Loaded). LaterRead g.K.Keeper.tells g.K.Keeper.doubt g.K.Keeper.faults g.K.Keeper.settled (Ok x) room.annals.core.rows room.annals.core.doubt room.keeper mid.keeper) c.in-Fault.is (c.in-Ok-read.ensures.later t).1) in
+    let first = λ (l : room.house_log.loaded ≡ false).
+    subst (λ (x : Loaded). FirstRead g.K.Keeper.tells g.K.Keeper.doubt g.K.Keeper.faults (Ok x) room.house_log mid.house_log room.keeper mid.keeper) c.in-Fault.is (c.in-Ok-read.ensures.first l) in
+    let later : room.house_log.loaded ≡ true → (mid.house_log ≡ record room.house_log { reopened = true }) × LaterRead g.K.Keeper.tells g.K.Keeper.doubt g.K.Keeper.faults g.K.Keeper.settled (Ok Loaded.Fault) room.house_log.core.rows room.house_log.core.doubt room.keeper mid.keeper = λ t.
+    ((c.in-Ok-read.ensures.later t).0, subst (λ (x : Loaded). LaterRead g.K.Keeper.tells g.K.Keeper.doubt g.K.Keeper.faults g.K.Keeper.settled (Ok x) room.house_log.core.rows room.house_log.core.doubt room.keeper mid.keeper) c.in-Fault.is (c.in-Ok-read.ensures.later t).1) in
     let can : CanBoot g.K.Keeper.tells g.K.Keeper.doubt Found.Fault mid =
     subst (λ (x : Loaded). CanBootAfter g.K.Keeper.tells g.K.Keeper.doubt (Ok x) mid) c.in-Fault.is c.in-Ok-read.ensures.ready in
     ready-now g.K.Keeper.tells g.K.Keeper.doubt g.K.Keeper.faults g.K.Keeper.settled c.args.self.now room mid mid c.args.plan.now
@@ -56,10 +56,10 @@ pub returns-in-Found : goal.returns-in-Found
 returns-in-Found g c =
     let room : Housed g.row.K.Denot = c.make_room.new.self in
     let mid : Housed g.row.K.Denot = c.read.new.self in
-    let first = λ (l : room.annals.loaded ≡ false).
-    subst (λ (x : Loaded). FirstRead g.K.Keeper.tells g.K.Keeper.doubt g.K.Keeper.faults (Ok x) room.annals mid.annals room.keeper mid.keeper) c.in-Found.is (c.in-Ok-read.ensures.first l) in
-    let later : room.annals.loaded ≡ true → (mid.annals ≡ record room.annals { reopened = true }) × LaterRead g.K.Keeper.tells g.K.Keeper.doubt g.K.Keeper.faults g.K.Keeper.settled (Ok (Loaded.Found c.in-Found.found)) room.annals.core.rows room.annals.core.doubt room.keeper mid.keeper = λ t.
-    ((c.in-Ok-read.ensures.later t).0, subst (λ (x : Loaded). LaterRead g.K.Keeper.tells g.K.Keeper.doubt g.K.Keeper.faults g.K.Keeper.settled (Ok x) room.annals.core.rows room.annals.core.doubt room.keeper mid.keeper) c.in-Found.is (c.in-Ok-read.ensures.later t).1) in
+    let first = λ (l : room.house_log.loaded ≡ false).
+    subst (λ (x : Loaded). FirstRead g.K.Keeper.tells g.K.Keeper.doubt g.K.Keeper.faults (Ok x) room.house_log mid.house_log room.keeper mid.keeper) c.in-Found.is (c.in-Ok-read.ensures.first l) in
+    let later : room.house_log.loaded ≡ true → (mid.house_log ≡ record room.house_log { reopened = true }) × LaterRead g.K.Keeper.tells g.K.Keeper.doubt g.K.Keeper.faults g.K.Keeper.settled (Ok (Loaded.Found c.in-Found.found)) room.house_log.core.rows room.house_log.core.doubt room.keeper mid.keeper = λ t.
+    ((c.in-Ok-read.ensures.later t).0, subst (λ (x : Loaded). LaterRead g.K.Keeper.tells g.K.Keeper.doubt g.K.Keeper.faults g.K.Keeper.settled (Ok x) room.house_log.core.rows room.house_log.core.doubt room.keeper mid.keeper) c.in-Found.is (c.in-Ok-read.ensures.later t).1) in
     let t = turn-well g.K.Keeper.tells g.K.Keeper.doubt g.K.Keeper.faults g.K.Keeper.settled c.args.self.now room mid c.start_boards.new.self c.args.plan.now
     c.make_room.ensures.same c.make_room.ensures.elsewhere c.read.ensures.places c.read.ensures.pool c.read.ensures.counts c.read.ensures.was_read.told_before
     c.in-Found.found first later c.start_boards.ensures.started c.start_boards.ensures.keeper c.start_boards.ensures.pool c.start_boards.ensures.rows in
@@ -69,10 +69,10 @@ pub returns-in-Fault : goal.returns-in-Fault
 returns-in-Fault g c =
     let room : Housed g.row.K.Denot = c.make_room.new.self in
     let mid : Housed g.row.K.Denot = c.read.new.self in
-    let first = λ (l : room.annals.loaded ≡ false).
-    subst (λ (x : Loaded). FirstRead g.K.Keeper.tells g.K.Keeper.doubt g.K.Keeper.faults (Ok x) room.annals mid.annals room.keeper mid.keeper) c.in-Fault.is (c.in-Ok-read.ensures.first l) in
-    let later : room.annals.loaded ≡ true → (mid.annals ≡ record room.annals { reopened = true }) × LaterRead g.K.Keeper.tells g.K.Keeper.doubt g.K.Keeper.faults g.K.Keeper.settled (Ok Loaded.Fault) room.annals.core.rows room.annals.core.doubt room.keeper mid.keeper = λ t.
-    ((c.in-Ok-read.ensures.later t).0, subst (λ (x : Loaded). LaterRead g.K.Keeper.tells g.K.Keeper.doubt g.K.Keeper.faults g.K.Keeper.settled (Ok x) room.annals.core.rows room.annals.core.doubt room.keeper mid.keeper) c.in-Fault.is (c.in-Ok-read.ensures.later t).1) in
+    let first = λ (l : room.house_log.loaded ≡ false).
+    subst (λ (x : Loaded). FirstRead g.K.Keeper.tells g.K.Keeper.doubt g.K.Keeper.faults (Ok x) room.house_log mid.house_log room.keeper mid.keeper) c.in-Fault.is (c.in-Ok-read.ensures.first l) in
+    let later : room.house_log.loaded ≡ true → (mid.house_log ≡ record room.house_log { reopened = true }) × LaterRead g.K.Keeper.tells g.K.Keeper.doubt g.K.Keeper.faults g.K.Keeper.settled (Ok Loaded.Fault) room.house_log.core.rows room.house_log.core.doubt room.keeper mid.keeper = λ t.
+    ((c.in-Ok-read.ensures.later t).0, subst (λ (x : Loaded). LaterRead g.K.Keeper.tells g.K.Keeper.doubt g.K.Keeper.faults g.K.Keeper.settled (Ok x) room.house_log.core.rows room.house_log.core.doubt room.keeper mid.keeper) c.in-Fault.is (c.in-Ok-read.ensures.later t).1) in
     let t = turn-fault g.K.Keeper.tells g.K.Keeper.doubt g.K.Keeper.faults g.K.Keeper.settled c.args.self.now room mid c.start_boards-in-Fault.new.self c.args.plan.now
     c.make_room.ensures.same c.make_room.ensures.elsewhere c.read.ensures.places c.read.ensures.pool c.read.ensures.counts c.read.ensures.was_read.told_before
     first later c.start_boards-in-Fault.ensures.started c.start_boards-in-Fault.ensures.keeper c.start_boards-in-Fault.ensures.pool in
@@ -82,10 +82,10 @@ pub returns-in-Bad : goal.returns-in-Bad
 returns-in-Bad g c =
     let room : Housed g.row.K.Denot = c.make_room.new.self in
     let mid : Housed g.row.K.Denot = c.read.new.self in
-    let first = λ (l : room.annals.loaded ≡ false).
-    subst (λ (x : Loaded). FirstRead g.K.Keeper.tells g.K.Keeper.doubt g.K.Keeper.faults (Ok x) room.annals mid.annals room.keeper mid.keeper) c.in-Bad.is (c.in-Ok-read.ensures.first l) in
-    let later : room.annals.loaded ≡ true → (mid.annals ≡ record room.annals { reopened = true }) × LaterRead g.K.Keeper.tells g.K.Keeper.doubt g.K.Keeper.faults g.K.Keeper.settled (Ok (Loaded.Bad c.in-Bad.entry)) room.annals.core.rows room.annals.core.doubt room.keeper mid.keeper = λ t.
-    ((c.in-Ok-read.ensures.later t).0, subst (λ (x : Loaded). LaterRead g.K.Keeper.tells g.K.Keeper.doubt g.K.Keeper.faults g.K.Keeper.settled (Ok x) room.annals.core.rows room.annals.core.doubt room.keeper mid.keeper) c.in-Bad.is (c.in-Ok-read.ensures.later t).1) in
+    let first = λ (l : room.house_log.loaded ≡ false).
+    subst (λ (x : Loaded). FirstRead g.K.Keeper.tells g.K.Keeper.doubt g.K.Keeper.faults (Ok x) room.house_log mid.house_log room.keeper mid.keeper) c.in-Bad.is (c.in-Ok-read.ensures.first l) in
+    let later : room.house_log.loaded ≡ true → (mid.house_log ≡ record room.house_log { reopened = true }) × LaterRead g.K.Keeper.tells g.K.Keeper.doubt g.K.Keeper.faults g.K.Keeper.settled (Ok (Loaded.Bad c.in-Bad.entry)) room.house_log.core.rows room.house_log.core.doubt room.keeper mid.keeper = λ t.
+    ((c.in-Ok-read.ensures.later t).0, subst (λ (x : Loaded). LaterRead g.K.Keeper.tells g.K.Keeper.doubt g.K.Keeper.faults g.K.Keeper.settled (Ok x) room.house_log.core.rows room.house_log.core.doubt room.keeper mid.keeper) c.in-Bad.is (c.in-Ok-read.ensures.later t).1) in
     let t = turn-others g.K.Keeper.tells g.K.Keeper.doubt g.K.Keeper.faults g.K.Keeper.settled c.args.self.now room mid mid c.args.plan.now
     c.make_room.ensures.same c.make_room.ensures.elsewhere c.read.ensures.places c.read.ensures.pool c.read.ensures.counts c.read.ensures.was_read.told_before
     c.in-Bad.entry first later in

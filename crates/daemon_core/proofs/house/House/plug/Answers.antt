@@ -11,20 +11,20 @@ note-requires-clause-quiet g c = ap is_quiet c.plug_refused_so.ensures ∙ c.in-
 
 pub note-requires-clause-allowed : goal.note-requires-clause-allowed
 note-requires-clause-allowed g c =
-    plug-refused_over c.self.inside.annals c.enter.new.self.annals c.core.result.now c.args.client c.args.device.now c.in-Some.refused c.plug_refused_so.result
-    (ap (λ (h : Housed g.row.K.Denot). h.annals) c.self.view_is) c.core.ensures c.known.ensures c.in-Some.ensures.why c.plug_refused_so.ensures
+    plug-refused_over c.self.inside.house_log c.enter.new.self.house_log c.core.result.now c.args.client c.args.device.now c.in-Some.refused c.plug_refused_so.result
+    (ap (λ (h : Housed g.row.K.Denot). h.house_log) c.self.view_is) c.core.ensures c.known.ensures c.in-Some.ensures.why c.plug_refused_so.ensures
 
 pub put_back-seen-requires-clause-free : goal.put_back-seen-requires-clause-free
 put_back-seen-requires-clause-free g c =
-    plug-free_over c.self.inside.annals c.enter.new.self.annals c.core.result.now c.args.device.now
-    (ap (λ (h : Housed g.row.K.Denot). h.annals) c.self.view_is) c.core.ensures c.in-None.ensures.why
+    plug-free_over c.self.inside.house_log c.enter.new.self.house_log c.core.result.now c.args.device.now
+    (ap (λ (h : Housed g.row.K.Denot). h.house_log) c.self.view_is) c.core.ensures c.in-None.ensures.why
 
 pub returns-in-Some-clause-places : goal.returns-in-Some-clause-places
 returns-in-Some-clause-places g c =
-    moved-none plugged c.args.self.now.annals c.args.device.now c.in-Some.refused c.args.self.now.places c.enter.new.self.places c.note.new.self.places
+    moved-none plugged c.args.self.now.house_log c.args.device.now c.in-Some.refused c.args.self.now.places c.enter.new.self.places c.note.new.self.places
     c.in-Some.ensures.stays c.note.ensures.elsewhere.places c.in_ok-enter.ensures.elsewhere.places
 
 pub returns-in-None-clause-places : goal.returns-in-None-clause-places
 returns-in-None-clause-places g c =
-    moved-over plugged c.args.self.now.annals c.enter.new.self.annals c.args.device.now c.args.self.now.places c.enter.new.self.places c.put_back-seen.new.self.places
+    moved-over plugged c.args.self.now.house_log c.enter.new.self.house_log c.args.device.now c.args.self.now.places c.enter.new.self.places c.put_back-seen.new.self.places
     c.in_ok-enter.ensures.entered.same c.in_ok-enter.ensures.elsewhere.places c.put_back-seen.ensures.moved

@@ -9,8 +9,8 @@ resume_accepted-requires-clause-accepted g c =
 
 pub unreachable-requires : goal.unreachable-requires
 unreachable-requires g c =
-    let bad : true ≡ false = ap is_kept c.in-Kept.ensures ∙ never-kept c.args.self.now.annals c.args.entry c.args.ticket in cc
+    let bad : true ≡ false = ap is_kept c.in-Kept.ensures ∙ never-kept c.args.self.now.house_log c.args.entry c.args.ticket in cc
 
 pub fail-requires-clause-fails : goal.fail-requires-clause-fails
 fail-requires-clause-fails g c =
-    verdict-fails c.args.self.now.annals c.args.entry c.args.ticket c.args.fetched c.in-Refused.refusal c.requires.held (sym c.in-Refused.ensures)
+    verdict-fails c.args.self.now.house_log c.args.entry c.args.ticket c.args.fetched c.in-Refused.refusal c.requires.held (sym c.in-Refused.ensures)

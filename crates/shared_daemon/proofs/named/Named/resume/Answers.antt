@@ -16,27 +16,27 @@ resume-resumed-requires-clause-booted g c = booted-named (signs_of g.K.Keeper.te
 
 pub resume-resumed-requires-clause-put_off : goal.resume-resumed-requires-clause-put_off
 resume-resumed-requires-clause-put_off g c =
-    put_off-met (signs_of g.K.Keeper.tells g.K.Keeper.faults) g.N.Naming.name c.self.inside.house c.args.entry c.args.held c.self.invariant c.known.ensures.annals
+    put_off-met (signs_of g.K.Keeper.tells g.K.Keeper.faults) g.N.Naming.name c.self.inside.house c.args.entry c.args.held c.self.invariant c.known.ensures.house_log
     (subst (λ (h : Housed g.row.K.Denot). WasSeen g.N.Naming.name 0 (MayResumeRow g.N.Naming.name c.args.entry c.args.held) (chronicle h)) (sym c.self.view_is) c.requires)
 
 pub resume-resumed-requires-clause-held : goal.resume-resumed-requires-clause-held
 resume-resumed-requires-clause-held g c =
-    comes-in-met (signs_of g.K.Keeper.tells g.K.Keeper.faults) g.N.Naming.name c.self.inside.house c.args.entry c.args.held c.self.invariant c.known.ensures.annals
+    comes-in-met (signs_of g.K.Keeper.tells g.K.Keeper.faults) g.N.Naming.name c.self.inside.house c.args.entry c.args.held c.self.invariant c.known.ensures.house_log
     (subst (λ (h : Housed g.row.K.Denot). WasSeen g.N.Naming.name 0 (MayResumeRow g.N.Naming.name c.args.entry c.args.held) (chronicle h)) (sym c.self.view_is) c.requires)
 
 pub invariant_of-self : goal.invariant_of-self
 invariant_of-self g c =
     keeps-counted (signs_of g.K.Keeper.tells g.K.Keeper.faults) g.N.Naming.name 0 c.self.inside.house c.resume-resumed.new.self c.self.invariant
-    (resumed-grew c.args.entry (note_in c.args.held) c.resume-resumed.result c.self.inside.house.annals c.resume-resumed.new.self.annals c.resume-resumed.ensures.turn)
+    (resumed-grew c.args.entry (note_in c.args.held) c.resume-resumed.result c.self.inside.house.house_log c.resume-resumed.new.self.house_log c.resume-resumed.ensures.turn)
     c.resume-resumed.ensures.fared c.resume-resumed.ensures.counts (resume-plans g.N.Naming.name.plans c.args.entry c.args.held c.resume-resumed.result c.self.inside.house c.resume-resumed.new.self c.resume-resumed.ensures.gave c.self.invariant.planned)
 
 pub returns-clause-turn : goal.returns-clause-turn
-returns-clause-turn g c = resumed-named c.args.entry (note_in c.args.held) c.resume-resumed.result c.args.self.now c.self.inside.house c.resume-resumed.new.self c.self.view_is c.known.ensures.annals c.resume-resumed.ensures.turn
+returns-clause-turn g c = resumed-named c.args.entry (note_in c.args.held) c.resume-resumed.result c.args.self.now c.self.inside.house c.resume-resumed.new.self c.self.view_is c.known.ensures.house_log c.resume-resumed.ensures.turn
 
 pub returns-clause-gave : goal.returns-clause-gave
 returns-clause-gave g c =
     resumed-gave (signs_of g.K.Keeper.tells g.K.Keeper.faults) g.N.Naming.name c.args.entry c.args.held c.resume-resumed.result c.self.inside.house c.resume-resumed.new.self
     (keeps-counted (signs_of g.K.Keeper.tells g.K.Keeper.faults) g.N.Naming.name 0 c.self.inside.house c.resume-resumed.new.self c.self.invariant
-    (resumed-grew c.args.entry (note_in c.args.held) c.resume-resumed.result c.self.inside.house.annals c.resume-resumed.new.self.annals c.resume-resumed.ensures.turn)
+    (resumed-grew c.args.entry (note_in c.args.held) c.resume-resumed.result c.self.inside.house.house_log c.resume-resumed.new.self.house_log c.resume-resumed.ensures.turn)
     c.resume-resumed.ensures.fared c.resume-resumed.ensures.counts (resume-plans g.N.Naming.name.plans c.args.entry c.args.held c.resume-resumed.result c.self.inside.house c.resume-resumed.new.self c.resume-resumed.ensures.gave c.self.invariant.planned))
-    c.known-2.ensures.annals c.self.invariant.planned c.resume-resumed.ensures.gave
+    c.known-2.ensures.house_log c.self.invariant.planned c.resume-resumed.ensures.gave

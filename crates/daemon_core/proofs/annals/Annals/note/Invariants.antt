@@ -1,5 +1,0 @@
-use Rattle.daemon_core.specs.Housed.{rows_before}
-use Rattle.daemon_core.proofs.annals.Annals.note.Given as goal
-
-abbrev pub ghost-append : goal.ghost-append
-ghost-append a = rows_before a.self.now

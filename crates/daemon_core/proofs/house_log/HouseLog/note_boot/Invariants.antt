@@ -1,0 +1,5 @@
+use Rattle.daemon_core.specs.Housed.{rows_before}
+use Rattle.daemon_core.proofs.house_log.HouseLog.note_boot.Given as goal
+
+abbrev pub ghost-append : goal.ghost-append
+ghost-append a = rows_before a.self.now
