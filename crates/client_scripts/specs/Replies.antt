@@ -21,8 +21,6 @@ use Rattle.release_catalogue.specs.Lookup.{Chosen, matching}
 use Rattle.device_list.specs.declared.selector.Selector.{Selector}
 use Rattle.device_list.specs.Lists.{names}
 use Rattle.history_keeper.specs.declared.row.Row.{Row}
-use Rattle.history_keeper.specs.declared.row.RowState.{RowState}
-use Rattle.history_keeper.specs.declared.row.RowState.TheVariants as states
 use Rattle.history_keeper.specs.Histories.{is_unsettled}
 use Rattle.update_log.specs.declared.event.Query.{Query}
 use Rattle.update_log.specs.declared.event.Query.TheVariants as queries

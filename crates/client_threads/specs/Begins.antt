@@ -1,5 +1,5 @@
 -- A house round which a daemon may begin, and the name that it has then.
-use Rattle.std.specs.Prelude.{◌≡◌, ◌<◌, ◌-◌, ℕ, true, false, List}
+use Rattle.std.specs.Prelude.{◌≡◌, ◌<◌, ◌-◌, true, false, List}
 use Rattle.update_log.specs.Pasts.{boots}
 use Rattle.history_keeper.specs.declared.row.Row.{Row}
 use Rattle.daemon_core.specs.Housed.{Housed, past}

@@ -1,5 +1,5 @@
 -- What the fetch of a payload gave.
-use Rattle.std.specs.Prelude.{◌≡◌, ℕ, Bool, true, false, List, length, Option, unwrap_or}
+use Rattle.std.specs.Prelude.{◌≡◌, ℕ, Bool, true, false, length, unwrap_or}
 use Rattle.block_pool.specs.Views.{SealedBytes}
 use Rattle.emulated_boards.specs.Images.{raw_version}
 use Rattle.fw_facts.specs.declared.release.Release.{Release}

@@ -1,5 +1,5 @@
 -- What a plugin's steps may do to a board.
-use Rattle.std.specs.Prelude.{◌≡◌, ℕ, ◌+◌, ◌≤◌, ◌<◌, ◌⊎◌, List, [], ◌∷◌, ◌++◌, length, Option, Some, None, Result, Ok, ⊤, OnOk, OnErr, IsErr, zero, suc}
+use Rattle.std.specs.Prelude.{◌≡◌, ℕ, ◌+◌, ◌≤◌, ◌<◌, ◌⊎◌, List, [], ◌∷◌, ◌++◌, length, Some, None, Result, Ok, ⊤, OnOk, OnErr, IsErr, zero, suc}
 use Rattle.block_pool.specs.Views.{SealedBytes}
 use Rattle.fw_facts.specs.declared.seen.Mode.{Mode}
 use Rattle.fw_facts.specs.declared.seen.Mode.TheVariants.{Runtime, Bootloader}

@@ -5,7 +5,6 @@ use Rattle.std.specs.List.{list_any}
 use Rattle.std.specs.Str.{bytes_eq}
 use Rattle.version_formats.specs.VersionOrder.{same_version}
 use Rattle.fw_facts.specs.declared.release.Component.{Component}
-use Rattle.fw_facts.specs.declared.release.Release.{Release}
 use Rattle.release_catalogue.specs.Components.{releases_in}
 use Rattle.remote_set.specs.declared.rank.Rank.{Rank}
 use Rattle.remote_set.specs.declared.remote.Remote.{Remote}

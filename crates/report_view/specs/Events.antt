@@ -1,7 +1,6 @@
 -- The lines of a text, and the events that they tell.
 use Rattle.std.specs.Prelude.{ℕ, ◌+◌, ◌-◌, ◌==◌, Bool, true, false, List, [], ◌∷◌, ◌++◌, length, take, slice_index_or}
 use Rattle.std.specs.List.{slice_split}
-use Rattle.report_view.specs.declared.line.Kind.{Kind}
 use Rattle.report_view.specs.declared.line.Line.{Line}
 use Rattle.report_view.specs.declared.line.Line.TheVariants as lines
 use Rattle.report_view.specs.declared.event.Event.{Event}

@@ -1,5 +1,5 @@
 -- A house that a daemon may be put round, and the name that it has then.
-use Rattle.std.specs.Prelude.{◌≡◌, ◌⊎◌, ◌<◌, ◌≤◌, ◌-◌, ◌^◌, ℕ, true, false, [], List}
+use Rattle.std.specs.Prelude.{◌≡◌, ◌⊎◌, ◌<◌, ◌≤◌, ◌-◌, ◌^◌, true, false, [], List}
 use Rattle.update_log.specs.Holding.{holds, live}
 use Rattle.update_log.specs.Pasts.{boots}
 use Rattle.history_keeper.specs.declared.row.Row.{Row}

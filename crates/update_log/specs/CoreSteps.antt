@@ -15,7 +15,6 @@ use Rattle.update_log.specs.declared.event.Found.{Found}
 use Rattle.update_log.specs.declared.answer.ClaimAnswer.{ClaimAnswer}
 use Rattle.update_log.specs.declared.answer.ResumeAnswer.{ResumeAnswer}
 use Rattle.update_log.specs.declared.answer.PlugAnswer.{PlugAnswer}
-use Rattle.update_log.specs.declared.refusal.Refusal.{Refusal}
 use Rattle.update_log.specs.declared.request.Request.{Request}
 use Rattle.update_log.specs.declared.facts.Facts.{Facts}
 use Rattle.update_log.specs.declared.live.Held.{Held}
@@ -25,7 +24,7 @@ use Rattle.update_log.specs.declared.trace.TraceStep.{TraceStep}
 use Rattle.update_log.specs.Pasts.{is_keeper_fault}
 use Rattle.update_log.specs.Holding.{request_held}
 use Rattle.update_log.specs.Known.{Fate, doubt_by, doubt_found, fate, for_board, new_row, reason_of, refusal_number, row_of, target}
-use Rattle.update_log.specs.Steps.{first_trace, traced, with_step}
+use Rattle.update_log.specs.Steps.{traced, with_step}
 
 -- The row of the answer was added, or it isn't known whether it was.
 abbrev pub is_taken : ClaimAnswer → Bool
