@@ -1,5 +1,1 @@
-pub mod Rests
-pub mod Claimed
-pub mod Beside
-pub mod Booted
-pub mod Settled
+pub mod Shelves

@@ -1,21 +1,17 @@
 //! Boots of one house, with one install asked for in each: two of an install that is done at once, three of one that
 //! is put off.
-ghost use Rattle.std.specs.Prelude.{◌≡◌, ◌≤◌, []};
-ghost use Rattle.daemon_core.specs.Housed.{past};
+ghost use Rattle.std.specs.Prelude.{◌≤◌};
 
-use crate::driver::{Morning, boot, install, put_off};
-use crate::left::{Left, close};
+use crate::driver::{Day, Deed, Morning, play};
+use crate::left::Left;
 use crate::requests::{Wish, wished, wished_offline};
-use crate::scenes::{PLAIN, Scene, house, plugins, shelf};
-use crate::told::{Start, Told};
-use daemon_core::House;
-use history_keeper::MemoryKeeper;
-use outer_traits::MemoryShelf;
-use plugin_trait::Plugin;
+use crate::scenes::{PLAIN, Scene};
+use crate::told::{Start, Told, start_of, told_in};
 use std::alloc::Global;
 use std::process::Abort;
+use std::sync::Wait;
 use std::test::Fail;
-use update_log::Request;
+use std::thread::Threads;
 
 /// The first boot of a house, as nothing is planned for it.
 pub const FIRST: Morning = Morning {
@@ -44,33 +40,9 @@ pub struct TwoDays {
     pub left: Left,
 }
 
-fn play<R: Abort>(
-    rt: &R,
-    alloc: Global,
-    given: House<MemoryKeeper>,
-    limit: Option<u32>,
-    request: &Request,
-    shelf: &mut MemoryShelf,
-    plugins: &[Box<dyn Plugin>],
-) -> TwoDays
-    requires { past given ≡ [] }
-{
-    let mut house = given;
-    let morning = Morning { limit, ..FIRST };
-    let first = boot(rt, alloc, &mut house, &morning, shelf, plugins);
-    let told = install(rt, &mut house, 1, request, shelf, plugins);
-    let second = boot(rt, alloc, &mut house, &SECOND, shelf, plugins);
-    let again = install(rt, &mut house, 1, request, shelf, plugins);
-    TwoDays {
-        starts: [first, second],
-        told: [told, again],
-        left: close(house),
-    }
-}
-
 /// Plays an install in each of two boots, the first of which has this limit, over a keeper whose calls of these
 /// numbers fail; a change whose commit failed is kept or not.
-pub fn two_days<R: Abort>(
+pub fn two_days<R: Abort + Threads + Wait + Sync>(
     rt: &R,
     alloc: Global,
     scene: &Scene,
@@ -80,11 +52,16 @@ pub fn two_days<R: Abort>(
 ) -> Result<TwoDays, Fail>
     requires { scene.now.pool ≤ 16384 }
 {
-    let request = wished("t1", wish)?;
-    let plugins = plugins(alloc, scene.kind)?;
-    let mut shelf = shelf(alloc)?;
-    let house = house(rt, alloc, scene, Vec::new(alloc), failing)?;
-    Ok(play(rt, alloc, house, limit, &request, &mut shelf, &plugins))
+    let install = [Deed::Install(wished("t1", wish)?)];
+    let morning = Morning { limit, ..FIRST };
+    let days: [Day; 2] = [(morning, &install), (SECOND, &install)];
+    let (log, left) = play(rt, alloc, scene, Vec::new(alloc), failing, &days)?;
+    let log = log.items();
+    Ok(TwoDays {
+        starts: [start_of(log, 1), start_of(log, 2)],
+        told: [told_in(log, 1, 0), told_in(log, 2, 0)],
+        left,
+    })
 }
 
 /// The same of three boots, in each of which the install is to be put off.
@@ -95,44 +72,23 @@ pub struct ThreeDays {
     pub left: Left,
 }
 
-fn play_put_off<R: Abort>(
-    rt: &R,
-    alloc: Global,
-    given: House<MemoryKeeper>,
-    absent: Option<u32>,
-    request: &Request,
-    shelf: &mut MemoryShelf,
-    plugins: &[Box<dyn Plugin>],
-) -> ThreeDays
-    requires { past given ≡ [] }
-{
-    let mut house = given;
-    let morning = Morning { absent, ..SECOND };
-    let first = boot(rt, alloc, &mut house, &FIRST, shelf, plugins);
-    let told = put_off(rt, &mut house, 1, request);
-    let second = boot(rt, alloc, &mut house, &morning, shelf, plugins);
-    let again = put_off(rt, &mut house, 1, request);
-    let third = boot(rt, alloc, &mut house, &THIRD, shelf, plugins);
-    let last = put_off(rt, &mut house, 1, request);
-    ThreeDays {
-        starts: [first, second, third],
-        told: [told, again, last],
-        left: close(house),
-    }
-}
-
 /// Plays an install that is put off in each of three boots, in the second of which a board may be absent, over a
 /// keeper whose calls of these numbers fail; a change whose commit failed is kept or not.
-pub fn three_days<R: Abort>(
+pub fn three_days<R: Abort + Threads + Wait + Sync>(
     rt: &R,
     alloc: Global,
     failing: &[(u32, bool)],
     absent: Option<u32>,
     wish: Wish,
 ) -> Result<ThreeDays, Fail> {
-    let request = wished_offline("t1", wish)?;
-    let plugins = plugins(alloc, PLAIN.kind)?;
-    let mut shelf = shelf(alloc)?;
-    let house = house(rt, alloc, &PLAIN, Vec::new(alloc), failing)?;
-    Ok(play_put_off(rt, alloc, house, absent, &request, &mut shelf, &plugins))
+    let install = [Deed::Install(wished_offline("t1", wish)?)];
+    let morning = Morning { absent, ..SECOND };
+    let days: [Day; 3] = [(FIRST, &install), (morning, &install), (THIRD, &install)];
+    let (log, left) = play(rt, alloc, &PLAIN, Vec::new(alloc), failing, &days)?;
+    let log = log.items();
+    Ok(ThreeDays {
+        starts: [start_of(log, 1), start_of(log, 2), start_of(log, 3)],
+        told: [told_in(log, 1, 0), told_in(log, 2, 0), told_in(log, 3, 0)],
+        left,
+    })
 }

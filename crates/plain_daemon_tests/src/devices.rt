@@ -1,70 +1,21 @@
 //! A device that leaves its port in the midst of an update.
-ghost use Rattle.std.specs.Prelude.{◌≡◌, []};
-ghost use Rattle.daemon_core.specs.Housed.{past};
-
 use crate::days::FIRST;
-use crate::driver::{boot, install, plug, settle};
-use crate::left::{Left, close};
+use crate::driver::{Day, Deed, play};
+use crate::left::Left;
 use crate::requests::{device, request};
-use crate::scenes::{Kind, PLAIN, Scene, house, plugins, shelf};
-use crate::told::{Told, kept};
-use daemon_core::{House, Settling};
-use device_list::Selector;
+use crate::scenes::{Kind, PLAIN, Scene};
+use crate::told::{Told, kept, told_in};
 use emulated_boards::BoardFault;
 use fw_facts::{DeviceFlag, Mode, Seen};
-use history_keeper::{MemoryKeeper, RowState};
-use outer_traits::MemoryShelf;
-use plugin_trait::Plugin;
+use history_keeper::RowState;
 use std::alloc::Global;
-use std::process::Abort;
 use std::test::Fail;
-use update_log::{PlugAnswer, Request, Stored};
+use update_log::{Event, PlugAnswer, Query, Stored};
 
 const OLD: Seen = Seen::Home {
     raw: 0x0100_0000,
     mode: Mode::Runtime,
 };
-
-/// What is answered to an install, to a settle, to a plug and to two settles more, and to the install once more.
-#[derive(Clone, Copy)]
-struct Answers {
-    told: Told,
-    early: Settling,
-    plugged: PlugAnswer,
-    settled: Settling,
-    late: Settling,
-    again: Told,
-}
-
-fn play<R: Abort>(
-    rt: &R,
-    alloc: Global,
-    given: House<MemoryKeeper>,
-    request: &Request,
-    device: &Selector,
-    shelf: &mut MemoryShelf,
-    plugins: &[Box<dyn Plugin>],
-) -> (Answers, Left)
-    requires { past given ≡ [] }
-{
-    let mut house = given;
-    boot(rt, alloc, &mut house, &FIRST, shelf, plugins);
-    let told = install(rt, &mut house, 1, request, shelf, plugins);
-    let early = settle(rt, &mut house, 1, device);
-    let plugged = plug(rt, &mut house, 1, device);
-    let settled = settle(rt, &mut house, 1, device);
-    let late = settle(rt, &mut house, 1, device);
-    let again = install(rt, &mut house, 1, request, shelf, plugins);
-    let answers = Answers {
-        told,
-        early,
-        plugged,
-        settled,
-        late,
-        again,
-    };
-    (answers, close(house))
-}
 
 /// The first board shows a stranger after its first call, and its updates go by the bootloader.
 const STRANGER: Scene = Scene {
@@ -74,30 +25,66 @@ const STRANGER: Scene = Scene {
     ..PLAIN
 };
 
-/// What the play comes to over a new house.
-fn played<R: Abort>(rt: &R, alloc: Global) -> Result<(Answers, Left), Fail> {
-    let plugins = plugins(alloc, STRANGER.kind)?;
-    let request = request("t1", "usb1")?;
-    let device = device("usb1")?;
-    let mut shelf = shelf(alloc)?;
-    let house = house(rt, alloc, &STRANGER, Vec::new(alloc), &[])?;
-    Ok(play(rt, alloc, house, &request, &device, &mut shelf, &plugins))
+/// What a settle or a plug of the client did.
+#[derive(Clone, Copy, Debug, PartialEq, Eq)]
+enum Care {
+    /// There was none to judge.
+    Nothing,
+    Judged {
+        entry: u32,
+        state: RowState,
+        stored: Stored,
+    },
+    Plugged(PlugAnswer),
+}
+
+fn care_of(event: &Event) -> Option<Care> {
+    match event {
+        Event::Query {
+            client: 1,
+            query: Query::Settle(_),
+        } => Some(Care::Nothing),
+        Event::Judge {
+            client: 1,
+            entry,
+            version: _,
+            state,
+            stored,
+        } => Some(Care::Judged {
+            entry: *entry,
+            state: *state,
+            stored: *stored,
+        }),
+        Event::Plug {
+            client: 1,
+            device: _,
+            answer,
+        } => Some(Care::Plugged(*answer)),
+        _ => None,
+    }
+}
+
+fn cares(alloc: Global, log: &[Event]) -> Result<Vec<Care>, Fail> {
+    let mut cares = Vec::new(alloc);
+    for event in log {
+        if let Some(care) = care_of(event) {
+            cares.push(care)?;
+        }
+    }
+    Ok(cares)
 }
 
 /// The device is judged by the settle that follows the plug, and by none before or after it.
-fn settles_once(answers: &Answers) -> bool {
-    let judged = matches!(
-        &answers.settled,
-        Settling::Judged {
-            entry: 1,
-            state: RowState::Failed,
-            stored: Stored::Yes,
-        }
-    );
-    judged
-        && matches!(&answers.early, Settling::NoDevice)
-        && matches!(&answers.late, Settling::Nothing)
-}
+const SETTLED_ONCE: [Care; 4] = [
+    Care::Nothing,
+    Care::Plugged(PlugAnswer::Done { seen: OLD }),
+    Care::Judged {
+        entry: 1,
+        state: RowState::Failed,
+        stored: Stored::Yes,
+    },
+    Care::Nothing,
+];
 
 const BEGUN: Told = Told::Finished {
     entry: 1,
@@ -117,11 +104,17 @@ const UNWRITTEN: Left = Left {
 /// back and is settled.
 #[test]
 fn a_stranger_after_detach_with_a_plug_and_a_settle(rt: HostRuntime) -> Result<(), Fail> {
-    let (answers, left) = played(&rt, rt.alloc())?;
-    assert!(rt; settles_once(&answers));
-    assert_eq!(rt; answers.told, BEGUN);
-    assert_eq!(rt; answers.plugged, PlugAnswer::Done { seen: OLD });
-    assert_eq!(rt; answers.again, kept(1, RowState::Failed));
+    let alloc = rt.alloc();
+    let install = Deed::Install(request("t1", "usb1")?);
+    let settle = Deed::Settle(device("usb1")?);
+    let plug = Deed::Plug(device("usb1")?);
+    let deeds = [install, settle, plug, settle, settle, install];
+    let days: [Day; 1] = [(FIRST, &deeds)];
+    let (log, left) = play(&rt, alloc, &STRANGER, Vec::new(alloc), &[], &days)?;
+    let log = log.items();
+    assert!(rt; cares(alloc, log)?.as_slice() == SETTLED_ONCE.as_slice());
+    assert_eq!(rt; told_in(log, 1, 0), BEGUN);
+    assert_eq!(rt; told_in(log, 1, 1), kept(1, RowState::Failed));
     assert_eq!(rt; left, UNWRITTEN);
     Ok(())
 }

@@ -1,26 +1,25 @@
-//! Plays requests over a house, as the daemon does.
-ghost use Rattle.std.specs.Prelude.{◌≡◌, ◌≤◌, ◌<◌, ◌+◌, ◌^◌, ◌==◌, false, [], None};
-ghost use Rattle.client_plays.specs.Endings.{IsFresh, IsIdle};
-ghost use Rattle.daemon_core.specs.Fetches.{block_count};
-ghost use Rattle.daemon_core.specs.Holds.{IsHoldFor};
+//! Runs a campaign with one client on a new house, as the service does.
+ghost use Rattle.std.specs.Prelude.{◌≡◌, ◌≤◌, ◌<◌, ◌-◌, ◌^◌, [], false, All, IfOk, length};
+ghost use Rattle.client_plays.specs.Endings.{IsScriptItem};
 ghost use Rattle.daemon_core.specs.Housed.{past};
-ghost use Rattle.daemon_tasks.specs.Stays.{HoldsAlone, RunsAlone};
-ghost use Rattle.install_engine.specs.RunsIn.{RunsIn, parts_taken};
-ghost use Rattle.update_log.specs.Pasts.{boots};
+ghost use Rattle.update_log.specs.Holding.{live};
 
-use crate::told::{Start, Told, Why};
-use daemon_core::{Asked, BootStop, ClaimStop, Claimed, Hold, House, Settling, Stop, Taken};
-use daemon_tasks::do_tasks;
+use crate::left::{Left, close};
+use crate::scenes::{Scene, house, plugins, shelves};
+use client_scripts::Item;
+use client_threads::{Ending, run_on_threads};
+use daemon_core::House;
 use device_list::Selector;
 use fw_base::Listed;
-use history_keeper::Keeper;
-use install_engine::fetch;
-use outer_traits::Shelf;
-use plain_runs::{Outcome, run_claim};
+use history_keeper::{MemoryKeeper, Row};
+use outer_traits::{MemoryShelf, NoGate};
 use plugin_trait::Plugin;
 use std::alloc::Global;
 use std::process::Abort;
-use update_log::{BootPlan, ClaimAnswer, PlugAnswer, Request};
+use std::sync::Wait;
+use std::test::Fail;
+use std::thread::Threads;
+use update_log::{BootPlan, Log, Query, Request};
 
 /// How a boot begins.
 #[derive(Clone, Copy)]
@@ -32,337 +31,142 @@ pub struct Morning {
     pub absent: Option<u32>,
 }
 
-fn plan<R: Abort>(rt: &R, alloc: Global, morning: &Morning) -> BootPlan
-    ensures { result.time < 2 ^ 32 }
+/// What the client does next.
+#[derive(Clone, Copy)]
+pub enum Deed {
+    Install(Request),
+    Settle(Selector),
+    Plug(Selector),
+}
+
+/// The install of a request.
+pub fn install(request: &Request) -> Deed {
+    Deed::Install(*request)
+}
+
+/// A boot: how it begins, and what the client does in it.
+pub type Day<'a> = (Morning, &'a [Deed]);
+
+/// The boots of a campaign, and the client's script in each.
+#[derive(Drop)]
+struct Campaign {
+    plans: Vec<BootPlan>,
+    scripts: Vec<Listed<Listed<Item>>>,
+}
+
+fn plan(alloc: Global, morning: &Morning) -> Result<BootPlan, Fail>
+    ensures { IfOk result (λ plan. plan.time ≤ 2 ^ 63 - 1) }
 {
     let mut absent = Vec::new(alloc);
     if let Some(board) = morning.absent {
-        if absent.push(board).is_err() {
-            panic!(rt; "no memory");
-        }
+        absent.push(board)?;
     }
-    BootPlan {
+    Ok(BootPlan {
         time: u64::from(morning.time),
         limit: morning.limit,
         absent: Listed::of(absent),
-    }
+    })
 }
 
-/// Boots a house; where its history could be read, the daemon judges what it is to judge, and resumes what was
-/// put off.
-pub fn boot<R: Abort, K: Keeper, P: Shelf>(
-    rt: &R,
-    alloc: Global,
-    house: &mut House<K>,
-    morning: &Morning,
-    shelf: &mut P,
-    plugins: &[Box<dyn Plugin>],
-) -> Start
-    requires idle { IsIdle (past house.old) }
-    requires few { boots (past house.old) ≤ 16 }
-    ensures idle { IsIdle (past house.new) }
-    ensures boots { boots (past house.new) ≡ boots (past house.old) + 1 }
+fn item(deed: &Deed) -> Item
+    ensures { IsScriptItem result }
 {
-    match house.boot(alloc, &plan(rt, alloc, morning)) {
-        Ok(()) => {
-            tasks(rt, alloc, house, shelf, plugins);
-            Start::Well
-        }
-        Err(BootStop::KeeperFault) => Start::KeeperFault,
-        Err(BootStop::BadHistory { entry: _ } | BootStop::NoMemory) => panic!(rt; "no boot"),
+    match deed {
+        Deed::Install(request) => Item::Install(*request),
+        Deed::Settle(device) => Item::Settle(*device),
+        Deed::Plug(device) => Item::Plug(*device),
     }
 }
 
-// What the daemon does by itself as a boot begins.
-fn tasks<R: Abort, K: Keeper, P: Shelf>(
+fn items(alloc: Global, deeds: &[Deed]) -> Result<Vec<Item>, Fail>
+    ensures { IfOk result (λ items. All IsScriptItem items.items) }
+{
+    // The checker of borrows wants the types of an item's parts among the locals.
+    let _device: Option<Selector> = None;
+    let _query: Option<Query> = None;
+    let _request: Option<Request> = None;
+    let _retry_of: Option<u32> = None;
+    let mut items = Vec::new(alloc);
+    for deed in deeds {
+        items.push(item(deed))?;
+    }
+    Ok(items)
+}
+
+// The scripts of a boot, of which there is one.
+fn script(alloc: Global, deeds: &[Deed]) -> Result<Listed<Listed<Item>>, Fail>
+    ensures proper { IfOk result (All (All IsScriptItem)) }
+    ensures one { IfOk result (λ of_boot. length of_boot ≡ 1) }
+{
+    let items = items(alloc, deeds)?;
+    let mut of_boot = Vec::new(alloc);
+    of_boot.push(Listed::of(items))?;
+    Ok(Listed::of(of_boot))
+}
+
+fn campaign_of(alloc: Global, days: &[Day]) -> Result<Campaign, Fail>
+    ensures timely { IfOk result (λ c. All (λ plan. plan.time ≤ 2 ^ 63 - 1) c.plans.items) }
+    ensures proper { IfOk result (λ c. All (All (All IsScriptItem)) c.scripts.items) }
+    ensures one { IfOk result (λ c. All (λ of_boot. length of_boot ≡ 1) c.scripts.items) }
+{
+    let mut plans = Vec::new(alloc);
+    let mut scripts = Vec::new(alloc);
+    for (morning, deeds) in days {
+        plans.push(plan(alloc, morning)?)?;
+        scripts.push(script(alloc, deeds)?)?;
+    }
+    Ok(Campaign { plans, scripts })
+}
+
+// Runs a campaign on a new house. Each boot begins, and memory isn't wanting.
+fn run<R: Abort + Threads + Wait + Sync>(
     rt: &R,
     alloc: Global,
-    house: &mut House<K>,
-    shelf: &mut P,
-    plugins: &[Box<dyn Plugin>],
-)
-    requires booted { 0 < boots (past house.old) }
-    requires idle { IsIdle (past house.old) }
-    requires fresh { IsFresh (past house.old) }
-    ensures idle { IsIdle (past house.new) }
-    ensures boots { boots (past house.new) ≡ boots (past house.old) }
+    house: House<MemoryKeeper>,
+    shelves: Vec<MemoryShelf>,
+    plugins: Vec<Box<dyn Plugin>>,
+    campaign: &Campaign,
+) -> House<MemoryKeeper>
+    requires new { house.house_log.core.log ≡ [] }
+    requires unread { house.house_log.loaded ≡ false }
+    requires blank { house.house_log.opening ≡ [] }
+    requires shelf { length shelves.items ≡ 1 }
+    requires timely { All (λ plan. plan.time ≤ 2 ^ 63 - 1) campaign.now.plans.items }
+    requires proper { All (All (All IsScriptItem)) campaign.now.scripts.items }
+    requires one { All (λ of_boot. length of_boot ≡ 1) campaign.now.scripts.items }
+    ensures { live (past result) ≡ [] }
 {
     assert!(rt; house.facts().vetoes.items().len() <= plugins.len());
-    if do_tasks(alloc, house, shelf, plugins) {
-        panic!(rt; "no memory");
-    }
+    assert!(rt; campaign.plans.len() < 100);
+    let (house, ran, _shelves) = run_on_threads(
+        rt,
+        alloc,
+        house,
+        shelves,
+        plugins,
+        &NoGate,
+        &campaign.plans,
+        &campaign.scripts,
+    );
+    assert_eq!(rt; (ran.ending, ran.wanting), (Ending::Whole, false));
+    house
 }
 
-/// A client asks for an install. What is accepted is fetched, claimed and run.
-pub fn install<R: Abort, K: Keeper, P: Shelf>(
+/// Plays these days over a new house of the scene, after these rows, where these calls of the keeper fail, each with
+/// whether its change is made after all. Gives the log, and what is left.
+pub fn play<R: Abort + Threads + Wait + Sync>(
     rt: &R,
-    house: &mut House<K>,
-    client: u32,
-    request: &Request,
-    shelf: &mut P,
-    plugins: &[Box<dyn Plugin>],
-) -> Told
-    requires booted { 0 < boots (past house.old) }
-    requires idle { IsIdle (past house.old) }
-    ensures idle { IsIdle (past house.new) }
-    ensures boots { boots (past house.new) ≡ boots (past house.old) }
+    alloc: Global,
+    scene: &Scene,
+    rows: Vec<Row>,
+    failing: &[(u32, bool)],
+    days: &[Day],
+) -> Result<(Log, Left), Fail>
+    requires { scene.now.pool ≤ 16384 }
 {
-    match house.ask(client, request) {
-        Ok(Asked::Held(hold)) => go_on(rt, house, client, request, hold, shelf, plugins),
-        Ok(Asked::Kept { entry, state }) => Told::Kept { entry, state },
-        Ok(Asked::Refused(refusal)) => Told::Refused(Why::of(&refusal)),
-        Err(Stop::Off) => Told::Off,
-        Err(Stop::NoMemory) => panic!(rt; "no memory"),
-    }
-}
-
-// Goes on with a hold: its payload is fetched and claimed, and the entry is run.
-fn go_on<R: Abort, K: Keeper, P: Shelf>(
-    rt: &R,
-    house: &mut House<K>,
-    client: u32,
-    request: &Request,
-    hold: Hold,
-    shelf: &mut P,
-    plugins: &[Box<dyn Plugin>],
-) -> Told
-    requires booted { 0 < boots (past house.old) }
-    requires held { HoldsAlone client hold.ticket hold.blocks.count (past house.old) }
-    requires hold { IsHoldFor house.old.house_log.facts client request.now None hold }
-    ensures idle { IsIdle (past house.new) }
-    ensures boots { boots (past house.new) ≡ boots (past house.old) }
-{
-    let (ticket, fetched) = fetch(shelf, hold);
-    match house.claim(client, ticket, fetched) {
-        Ok(Claimed::Taken(taken)) => {
-            house.known();
-            run(rt, house, client, taken, plugins)
-        }
-        Ok(Claimed::Kept { entry, state }) => Told::Kept { entry, state },
-        Ok(Claimed::Refused(refusal)) => Told::Refused(Why::of(&refusal)),
-        Err(stopped) => give_up(rt, house, client, stopped),
-    }
-}
-
-// Gives the hold of a claim back that was stopped.
-fn give_up<R: Abort, K: Keeper>(
-    rt: &R,
-    house: &mut House<K>,
-    client: u32,
-    stopped: ClaimStop,
-) -> Told
-    requires booted { 0 < boots (past house.old) }
-    requires held { HoldsAlone client stopped.ticket (block_count stopped.fetched) (past house.old) }
-    ensures idle { IsIdle (past house.new) }
-    ensures boots { boots (past house.new) ≡ boots (past house.old) }
-{
-    let ClaimStop {
-        stop,
-        ticket,
-        fetched,
-    } = stopped;
-    house.give_up(client, ticket, fetched.into_blocks());
-    match stop {
-        Stop::Off => Told::Off,
-        Stop::NoMemory => panic!(rt; "no memory"),
-    }
-}
-
-/// Runs an entry of a client that was taken.
-pub fn run<R: Abort, K: Keeper>(
-    rt: &R,
-    house: &mut House<K>,
-    client: u32,
-    taken: Taken,
-    plugins: &[Box<dyn Plugin>],
-) -> Told
-    requires runs { RunsIn house.old.house_log client (parts_taken taken) None }
-    requires no_steps { taken.trace.steps ≡ [] }
-    requires marks { 8 ≤ taken.board.room }
-    requires alone { RunsAlone taken.entry (past house.old) }
-    ensures idle { IsIdle (past house.new) }
-    ensures boots { boots (past house.new) ≡ boots (past house.old) }
-{
-    let entry = taken.entry;
-    assert!(rt; (taken.plugin as usize) < plugins.len());
-    match run_claim(house, client, taken, plugins) {
-        Outcome::Finished(finished) => Told::Finished {
-            entry,
-            state: finished.state,
-            stored: finished.stored,
-        },
-        Outcome::Off => Told::Off,
-    }
-}
-
-/// A client puts an install off to the next boot.
-pub fn put_off<R: Abort, K: Keeper>(
-    rt: &R,
-    house: &mut House<K>,
-    client: u32,
-    request: &Request,
-) -> Told
-    requires booted { 0 < boots (past house.old) }
-    requires idle { IsIdle (past house.old) }
-    ensures idle { IsIdle (past house.new) }
-    ensures boots { boots (past house.new) ≡ boots (past house.old) }
-{
-    match house.schedule(client, request) {
-        Ok(ClaimAnswer::Entry(entry)) => Told::PutOff { entry },
-        Ok(ClaimAnswer::Kept { entry, state }) => Told::Kept { entry, state },
-        Ok(ClaimAnswer::Refused(refusal)) => Told::Refused(Why::of(&refusal)),
-        Err(Stop::Off) => Told::Off,
-        Err(Stop::NoMemory) => panic!(rt; "no memory"),
-    }
-}
-
-/// A client settles a device.
-pub fn settle<R: Abort, K: Keeper>(
-    rt: &R,
-    house: &mut House<K>,
-    client: u32,
-    device: &Selector,
-) -> Settling
-    requires booted { 0 < boots (past house.old) }
-    requires idle { IsIdle (past house.old) }
-    ensures idle { IsIdle (past house.new) }
-    ensures boots { boots (past house.new) ≡ boots (past house.old) }
-{
-    match house.settle(client, device) {
-        Ok(settling) => settling,
-        Err(_) => panic!(rt; "off, or no memory"),
-    }
-}
-
-/// A client puts a device back into its port.
-pub fn plug<R: Abort, K: Keeper>(
-    rt: &R,
-    house: &mut House<K>,
-    client: u32,
-    device: &Selector,
-) -> PlugAnswer
-    requires booted { 0 < boots (past house.old) }
-    requires idle { IsIdle (past house.old) }
-    ensures idle { IsIdle (past house.new) }
-    ensures boots { boots (past house.new) ≡ boots (past house.old) }
-{
-    match house.plug(client, device) {
-        Ok(answer) => answer,
-        Err(_) => panic!(rt; "off, or no memory"),
-    }
-}
-
-/// A client asks, and blocks are held for it.
-pub fn ask_held<R: Abort, K: Keeper>(
-    rt: &R,
-    house: &mut House<K>,
-    client: u32,
-    request: &Request,
-) -> Hold
-    requires booted { 0 < boots (past house.old) }
-    requires idle { IsIdle (past house.old) }
-    ensures booted { 0 < boots (past house.new) }
-    ensures held { HoldsAlone client result.ticket result.blocks.count (past house.new) }
-    ensures hold { IsHoldFor house.new.house_log.facts client request.now None result }
-{
-    match house.ask(client, request) {
-        Ok(Asked::Held(hold)) => hold,
-        Ok(Asked::Kept { entry: _, state: _ }) => panic!(rt; "an entry of this tag"),
-        Ok(Asked::Refused(_)) => panic!(rt; "refused"),
-        Err(_) => panic!(rt; "off, or no memory"),
-    }
-}
-
-/// A client gives its hold up.
-pub fn give_hold_up<K: Keeper>(house: &mut House<K>, client: u32, hold: Hold)
-    requires booted { 0 < boots (past house.old) }
-    requires held { HoldsAlone client hold.ticket hold.blocks.count (past house.old) }
-    ensures booted { 0 < boots (past house.new) }
-    ensures idle { IsIdle (past house.new) }
-{
-    let Hold {
-        ticket,
-        blocks,
-        digest: _,
-        size: _,
-    } = hold;
-    house.give_up(client, ticket, blocks);
-}
-
-/// A client fetches the payload of its hold, and takes the entry.
-pub fn claim_taken<R: Abort, K: Keeper, P: Shelf>(
-    rt: &R,
-    house: &mut House<K>,
-    client: u32,
-    request: &Request,
-    hold: Hold,
-    shelf: &mut P,
-) -> Taken
-    requires booted { 0 < boots (past house.old) }
-    requires held { HoldsAlone client hold.ticket hold.blocks.count (past house.old) }
-    requires hold { IsHoldFor house.old.house_log.facts client request.now None hold }
-    ensures runs { RunsIn house.new.house_log client (parts_taken result) None }
-    ensures no_steps { result.trace.steps ≡ [] }
-    ensures marks { 8 ≤ result.board.room }
-    ensures alone { RunsAlone result.entry (past house.new) }
-{
-    let (ticket, fetched) = fetch(shelf, hold);
-    match house.claim(client, ticket, fetched) {
-        Ok(Claimed::Taken(taken)) => {
-            house.known();
-            taken
-        }
-        Ok(Claimed::Kept { entry: _, state: _ }) => panic!(rt; "an entry of this tag"),
-        Ok(Claimed::Refused(_)) => panic!(rt; "refused"),
-        Err(_stopped) => panic!(rt; "off, or no memory"),
-    }
-}
-
-/// A client asks while another has a hold, and is refused.
-pub fn refused_beside_hold<R: Abort, K: Keeper>(
-    rt: &R,
-    house: &mut House<K>,
-    client: u32,
-    request: &Request,
-    hold: &Hold,
-    holder: u32,
-) -> Why
-    requires booted { 0 < boots (past house.old) }
-    requires held { HoldsAlone holder hold.now.ticket hold.now.blocks.count (past house.old) }
-    requires another { (holder == client) ≡ false }
-    ensures booted { 0 < boots (past house.new) }
-    ensures held { HoldsAlone holder hold.now.ticket hold.now.blocks.count (past house.new) }
-{
-    match house.ask(client, request) {
-        Ok(Asked::Refused(refusal)) => Why::of(&refusal),
-        Ok(Asked::Held(_hold)) => panic!(rt; "a hold"),
-        Ok(Asked::Kept { entry: _, state: _ }) => panic!(rt; "an entry of this tag"),
-        Err(_) => panic!(rt; "off, or no memory"),
-    }
-}
-
-/// A client asks while another's entry is live, and is refused.
-pub fn refused_beside_claim<R: Abort, K: Keeper>(
-    rt: &R,
-    house: &mut House<K>,
-    client: u32,
-    request: &Request,
-    taken: &Taken,
-    holder: u32,
-) -> Why
-    requires runs { RunsIn house.old.house_log holder (parts_taken taken.now) None }
-    requires alone { RunsAlone taken.now.entry (past house.old) }
-    requires another { (holder == client) ≡ false }
-    ensures runs { RunsIn house.new.house_log holder (parts_taken taken.now) None }
-    ensures alone { RunsAlone taken.now.entry (past house.new) }
-{
-    match house.ask(client, request) {
-        Ok(Asked::Refused(refusal)) => {
-            house.known();
-            Why::of(&refusal)
-        }
-        Ok(Asked::Held(_hold)) => panic!(rt; "a hold"),
-        Ok(Asked::Kept { entry: _, state: _ }) => panic!(rt; "an entry of this tag"),
-        Err(_) => panic!(rt; "off, or no memory"),
-    }
+    let campaign = campaign_of(alloc, days)?;
+    let plugins = plugins(alloc, scene.kind)?;
+    let shelves = shelves(alloc)?;
+    let house = house(rt, alloc, scene, rows, failing)?;
+    Ok(close(run(rt, alloc, house, shelves, plugins, &campaign)))
 }

@@ -1,24 +1,22 @@
-//! Installs that go well, are repeated, are put off, or find the history full.
-ghost use Rattle.std.specs.Prelude.{◌≡◌, ◌≤◌, []};
-ghost use Rattle.daemon_core.specs.Housed.{past};
+//! Installs that go well, are repeated, are put off, or find the history or the pool full.
+ghost use Rattle.std.specs.Prelude.{◌≤◌};
 
-use crate::days::{FIRST, SECOND};
-use crate::driver::{Morning, boot, install, put_off};
-use crate::left::{Left, close};
-use crate::requests::{offline, request};
-use crate::scenes::{Kind, PLAIN, Scene, Wants, house, plugins, shelf};
-use crate::told::{Told, Why, done, finished, kept};
-use daemon_core::House;
+use crate::days::{FIRST, SECOND, two_days};
+use crate::driver::{Day, Deed, Morning, play};
+use crate::left::Left;
+use crate::requests::{Wish, offline, request};
+use crate::scenes::{Kind, PLAIN, Scene, Wants};
+use crate::told::{Told, Why, done, finished, kept, told_in};
 use fw_base::Name;
 use fw_facts::{DeviceFlag, Mode, Seen};
 use guid_ids::device_id;
-use history_keeper::{MemoryKeeper, Row, RowState};
-use outer_traits::MemoryShelf;
-use plugin_trait::Plugin;
+use history_keeper::{Row, RowState};
 use std::alloc::Global;
 use std::process::Abort;
 use std::slice;
+use std::sync::Wait;
 use std::test::Fail;
+use std::thread::Threads;
 use update_log::Request;
 use version_formats::Version;
 
@@ -32,41 +30,27 @@ const NEW: Seen = Seen::Home {
     mode: Mode::Runtime,
 };
 
-/// Two requests in the first boot, and the first once more in a second one.
-fn two_and_one<R: Abort>(
-    rt: &R,
-    alloc: Global,
-    given: House<MemoryKeeper>,
-    requests: [&Request; 2],
-    shelf: &mut MemoryShelf,
-    plugins: &[Box<dyn Plugin>],
-) -> ([Told; 3], Left)
-    requires { past given ≡ [] }
-{
-    let mut house = given;
-    let [first, second] = requests;
-    boot(rt, alloc, &mut house, &FIRST, shelf, plugins);
-    let one = install(rt, &mut house, 1, first, shelf, plugins);
-    let two = install(rt, &mut house, 1, second, shelf, plugins);
-    boot(rt, alloc, &mut house, &SECOND, shelf, plugins);
-    let three = install(rt, &mut house, 1, first, shelf, plugins);
-    ([one, two, three], close(house))
-}
-
-/// What they come to over a new house of this scene, after these rows.
-fn told_of<R: Abort>(
+/// What two requests in the first boot, and a third in the second one, come to over a new house of this scene, after
+/// these rows.
+fn told_of<R: Abort + Threads + Wait + Sync>(
     rt: &R,
     alloc: Global,
     scene: &Scene,
     rows: Vec<Row>,
-    requests: [&Request; 2],
+    requests: [Request; 3],
 ) -> Result<([Told; 3], Left), Fail>
     requires { scene.now.pool ≤ 16384 }
 {
-    let plugins = plugins(alloc, scene.kind)?;
-    let mut shelf = shelf(alloc)?;
-    let house = house(rt, alloc, scene, rows, &[])?;
-    Ok(two_and_one(rt, alloc, house, requests, &mut shelf, &plugins))
+    let [first, second, third] = requests;
+    let one = [Deed::Install(first), Deed::Install(second)];
+    let two = [Deed::Install(third)];
+    let days: [Day; 2] = [(FIRST, &one), (SECOND, &two)];
+    let (log, left) = play(rt, alloc, scene, rows, &[], &days)?;
+    let log = log.items();
+    Ok((
+        [told_in(log, 1, 0), told_in(log, 1, 1), told_in(log, 2, 0)],
+        left,
+    ))
 }
 
 /// The first board was updated by the only row.
@@ -82,8 +66,11 @@ const FIRST_UPDATED: Left = Left {
 #[test]
 fn a_repeated_request(rt: HostRuntime) -> Result<(), Fail> {
     let alloc = rt.alloc();
-    let request = request("t1", "usb1")?;
-    let (told, left) = told_of(&rt, alloc, &PLAIN, Vec::new(alloc), [&request, &request])?;
+    let first = request("t1", "usb1")?;
+    let second = request("t1", "usb1")?;
+    let third = request("t1", "usb1")?;
+    let requests = [first, second, third];
+    let (told, left) = told_of(&rt, alloc, &PLAIN, Vec::new(alloc), requests)?;
     let again = kept(1, RowState::Success);
     assert_eq!(rt; told, [done(1), again, again]);
     assert_eq!(rt; left, FIRST_UPDATED);
@@ -102,7 +89,9 @@ fn a_needs_reboot_install(rt: HostRuntime) -> Result<(), Fail> {
     let alloc = rt.alloc();
     let first = request("t1", "usb1")?;
     let second = request("t2", "usb1")?;
-    let (told, left) = told_of(&rt, alloc, &AT_REBOOT, Vec::new(alloc), [&first, &second])?;
+    let third = request("t1", "usb1")?;
+    let requests = [first, second, third];
+    let (told, left) = told_of(&rt, alloc, &AT_REBOOT, Vec::new(alloc), requests)?;
     let waiting = finished(1, RowState::NeedsReboot);
     let refused = Told::Refused(Why::Unsettled { entry: 1 });
     assert_eq!(rt; told, [waiting, refused, kept(1, RowState::Success)]);
@@ -111,28 +100,8 @@ fn a_needs_reboot_install(rt: HostRuntime) -> Result<(), Fail> {
 }
 
 /// An install that is put off in the first boot, and done as the second one begins, in which a board may be absent.
-fn put_off_and_done<R: Abort>(
-    rt: &R,
-    alloc: Global,
-    given: House<MemoryKeeper>,
-    absent: Option<u32>,
-    request: &Request,
-    shelf: &mut MemoryShelf,
-    plugins: &[Box<dyn Plugin>],
-) -> ([Told; 2], Left)
-    requires { past given ≡ [] }
-{
-    let mut house = given;
-    boot(rt, alloc, &mut house, &FIRST, shelf, plugins);
-    let one = put_off(rt, &mut house, 1, request);
-    let morning = Morning { absent, ..SECOND };
-    boot(rt, alloc, &mut house, &morning, shelf, plugins);
-    let two = install(rt, &mut house, 1, request, shelf, plugins);
-    ([one, two], close(house))
-}
-
-/// The same over a new house, whose first board's firmware wants the second one there.
-fn offline_days<R: Abort>(
+/// The first board's firmware wants the second one there.
+fn offline_days<R: Abort + Threads + Wait + Sync>(
     rt: &R,
     alloc: Global,
     absent: Option<u32>,
@@ -141,11 +110,12 @@ fn offline_days<R: Abort>(
         wants: Wants::SecondThere,
         ..PLAIN
     };
-    let plugins = plugins(alloc, scene.kind)?;
-    let request = offline("t1", "usb1")?;
-    let mut shelf = shelf(alloc)?;
-    let house = house(rt, alloc, &scene, Vec::new(alloc), &[])?;
-    Ok(put_off_and_done(rt, alloc, house, absent, &request, &mut shelf, &plugins))
+    let install = [Deed::Install(offline("t1", "usb1")?)];
+    let morning = Morning { absent, ..SECOND };
+    let days: [Day; 2] = [(FIRST, &install), (morning, &install)];
+    let (log, left) = play(rt, alloc, &scene, Vec::new(alloc), &[], &days)?;
+    let log = log.items();
+    Ok(([told_in(log, 1, 0), told_in(log, 2, 0)], left))
 }
 
 /// A board that is absent as the second boot begins, how the row of the install ends then, and what is left.
@@ -265,8 +235,10 @@ fn a_history_of_65535_rows_and_two_installs(rt: HostRuntime) -> Result<(), Fail>
     let alloc = rt.alloc();
     let first = request("t1", "usb1")?;
     let second = request("t2", "usb2")?;
+    let third = request("t1", "usb1")?;
+    let requests = [first, second, third];
     let before = rows(alloc, 65_535)?;
-    let (told, left) = told_of(&rt, alloc, &PLAIN, before, [&first, &second])?;
+    let (told, left) = told_of(&rt, alloc, &PLAIN, before, requests)?;
     let refused = Told::Refused(Why::RowsFull);
     assert_eq!(rt;
         told,
@@ -277,5 +249,19 @@ fn a_history_of_65535_rows_and_two_installs(rt: HostRuntime) -> Result<(), Fail>
         ..FIRST_UPDATED
     };
     assert_eq!(rt; left, updated);
+    Ok(())
+}
+
+/// A payload of two blocks has no room at all in a pool of one.
+#[test]
+fn a_payload_of_two_blocks(rt: HostRuntime) -> Result<(), Fail> {
+    let large = Scene {
+        pool: 1,
+        size: 4097,
+        ..PLAIN
+    };
+    let days = two_days(&rt, rt.alloc(), &large, &[], None, Wish::Newer)?;
+    let refused = Told::Refused(Why::NoRoom { need: 2, free: 1 });
+    assert_eq!(rt; days.told, [refused; 2]);
     Ok(())
 }

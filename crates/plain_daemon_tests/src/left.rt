@@ -7,6 +7,7 @@ use daemon_core::{HomeBoards, House, HouseParts};
 use emulated_boards::{Board, Mark};
 use fw_facts::Seen;
 use history_keeper::{MemoryKeeper, Row, RowState};
+use update_log::Log;
 
 /// What is left of a house: its keeper's rows, and what became of its boards.
 #[derive(Clone, Copy, Debug, PartialEq, Eq)]
@@ -65,16 +66,16 @@ fn left_of(rows: &[Row], boards: &HomeBoards) -> Left {
     left
 }
 
-/// Takes a house apart. Nobody has anything out of it.
-pub fn close(house: House<MemoryKeeper>) -> Left
+/// Takes a house apart: its log, and what is left. Nobody has anything out of it.
+pub fn close(house: House<MemoryKeeper>) -> (Log, Left)
     requires { live (past house) ≡ [] }
 {
     let HouseParts {
         facts: _,
-        log: _,
+        log,
         boards,
         keeper,
         opening: _,
     } = house.into_parts();
-    left_of(keeper.rows(), &boards)
+    (log, left_of(keeper.rows(), &boards))
 }

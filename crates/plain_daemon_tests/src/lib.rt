@@ -1,8 +1,8 @@
-//! Tests of the plain daemon by calls of one house.
+//! Tests of campaigns with one client on one house.
 //!
-//! A short driver (`driver`) boots a house and plays requests as the daemon does; each test says what is asked
-//! of one house, what is answered, and what is left of it. They stand in a crate of their own, since a crate
-//! that has tests is proved a second time with them.
+//! A short driver (`driver`) runs the boots of a campaign on a new house; each test says what the client asks for
+//! in each boot, what the log says that it was answered, and what is left of the house. They stand in a crate of
+//! their own, since a crate that has tests is proved a second time with them.
 #![tactic(auto)]
 
 #[cfg(test)]
@@ -19,8 +19,6 @@ mod faults;
 mod installs;
 #[cfg(test)]
 mod left;
-#[cfg(test)]
-mod meetings;
 #[cfg(test)]
 mod offline;
 #[cfg(test)]

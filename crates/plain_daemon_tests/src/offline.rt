@@ -7,7 +7,9 @@ use fw_facts::{Mode, Seen};
 use history_keeper::RowState;
 use std::alloc::Global;
 use std::process::Abort;
+use std::sync::Wait;
 use std::test::Fail;
+use std::thread::Threads;
 
 /// A plan of the calls that fail, and of those whose change is there after the next reopening; what the install is
 /// answered in each of three boots; and what is left.
@@ -178,7 +180,12 @@ const REFUSALS: [Case; 3] = [
     (&[(5, true)], [PUT_OFF, OFF, FAILED], REFUSED),
 ];
 
-fn play<R: Abort>(rt: &R, alloc: Global, course: &Course, cases: &[Case]) -> Result<(), Fail> {
+fn play<R: Abort + Threads + Wait + Sync>(
+    rt: &R,
+    alloc: Global,
+    course: &Course,
+    cases: &[Case],
+) -> Result<(), Fail> {
     for (failing, told, left) in cases {
         let days = three_days(rt, alloc, failing, course.absent, course.wish)?;
         let wanted = ThreeDays {

@@ -1,22 +1,18 @@
 //! Installs that are tried again: in the same boot, at the next one, and after a commit that was in doubt.
-ghost use Rattle.std.specs.Prelude.{◌≡◌, []};
-ghost use Rattle.daemon_core.specs.Housed.{past};
-
 use crate::days::{FIRST, SECOND};
-use crate::driver::{boot, install, put_off};
-use crate::left::{Left, close};
+use crate::driver::{Day, Deed, install, play};
+use crate::left::Left;
 use crate::requests::{offline, request, retry};
-use crate::scenes::{PLAIN, Scene, house, plugins, shelf};
-use crate::told::{Told, Why};
-use daemon_core::House;
+use crate::scenes::{PLAIN, Scene};
+use crate::told::{Told, Why, told_in};
 use emulated_boards::BoardFault;
 use fw_facts::{Mode, Seen};
-use history_keeper::{MemoryKeeper, RowState};
-use outer_traits::MemoryShelf;
-use plugin_trait::Plugin;
+use history_keeper::RowState;
 use std::alloc::Global;
 use std::process::Abort;
+use std::sync::Wait;
 use std::test::Fail;
+use std::thread::Threads;
 use update_log::{Request, RetryFault, Stored};
 
 const OLD: Seen = Seen::Home {
@@ -52,39 +48,27 @@ const DONE: Told = Told::Finished {
 /// Another row tries the failed one again.
 const RETRIED: Told = Told::Refused(Why::Retry(RetryFault::Retried { entry: 2 }));
 
-/// Two installs in a first boot, and two in a second one.
-fn two_and_two<R: Abort>(
-    rt: &R,
-    alloc: Global,
-    given: House<MemoryKeeper>,
-    requests: [&Request; 4],
-    shelf: &mut MemoryShelf,
-    plugins: &[Box<dyn Plugin>],
-) -> ([Told; 4], Left)
-    requires { past given ≡ [] }
-{
-    let mut house = given;
-    let [first, second, third, fourth] = requests;
-    boot(rt, alloc, &mut house, &FIRST, shelf, plugins);
-    let one = install(rt, &mut house, 1, first, shelf, plugins);
-    let two = install(rt, &mut house, 1, second, shelf, plugins);
-    boot(rt, alloc, &mut house, &SECOND, shelf, plugins);
-    let three = install(rt, &mut house, 1, third, shelf, plugins);
-    let four = install(rt, &mut house, 1, fourth, shelf, plugins);
-    ([one, two, three, four], close(house))
-}
-
-/// What they come to over a new house, where these calls of the keeper fail.
-fn told_of<R: Abort>(
+/// What two installs in a first boot, and two in a second one, come to over a new house, where these calls of the keeper
+/// fail.
+fn told_of<R: Abort + Threads + Wait + Sync>(
     rt: &R,
     alloc: Global,
     failing: &[(u32, bool)],
-    requests: [&Request; 4],
+    requests: [Request; 4],
 ) -> Result<([Told; 4], Left), Fail> {
-    let plugins = plugins(alloc, FAILING.kind)?;
-    let mut shelf = shelf(alloc)?;
-    let house = house(rt, alloc, &FAILING, Vec::new(alloc), failing)?;
-    Ok(two_and_two(rt, alloc, house, requests, &mut shelf, &plugins))
+    let [first, second, third, fourth] = requests;
+    let one = [Deed::Install(first), Deed::Install(second)];
+    let two = [Deed::Install(third), Deed::Install(fourth)];
+    let days: [Day; 2] = [(FIRST, &one), (SECOND, &two)];
+    let (log, left) = play(rt, alloc, &FAILING, Vec::new(alloc), failing, &days)?;
+    let log = log.items();
+    let told = [
+        told_in(log, 1, 0),
+        told_in(log, 1, 1),
+        told_in(log, 2, 0),
+        told_in(log, 2, 1),
+    ];
+    Ok((told, left))
 }
 
 const TRIED_ONCE: [Told; 4] = [
@@ -113,7 +97,7 @@ fn a_failed_install_is_tried_again_once(rt: HostRuntime) -> Result<(), Fail> {
     let second = retry("t2", "usb1", 1)?;
     let third = retry("t3", "usb1", 1)?;
     let fourth = retry("t4", "usb1", 2)?;
-    let requests = [&first, &second, &third, &fourth];
+    let requests = [first, second, third, fourth];
     let (told, left) = told_of(&rt, rt.alloc(), &[], requests)?;
     assert_eq!(rt; told, TRIED_ONCE);
     assert_eq!(rt; left, FIRST_UPDATED);
@@ -143,7 +127,7 @@ fn another_device_and_a_row_that_is_not_there(rt: HostRuntime) -> Result<(), Fai
     let second = retry("t2", "usb2", 1)?;
     let third = retry("t2", "usb1", 2)?;
     let fourth = request("t2", "usb2")?;
-    let requests = [&first, &second, &third, &fourth];
+    let requests = [first, second, third, fourth];
     let (told, left) = told_of(&rt, rt.alloc(), &[], requests)?;
     assert_eq!(rt; told, NAMED_WRONGLY);
     assert_eq!(rt; left, SECOND_UPDATED);
@@ -151,38 +135,26 @@ fn another_device_and_a_row_that_is_not_there(rt: HostRuntime) -> Result<(), Fai
 }
 
 /// An install fails, a retry of it is put off, and another one is asked for before and after the boot that does it.
-fn put_off_and_asked<R: Abort>(
+fn put_off_told<R: Abort + Threads + Wait + Sync>(
     rt: &R,
     alloc: Global,
-    given: House<MemoryKeeper>,
-    requests: [&Request; 3],
-    shelf: &mut MemoryShelf,
-    plugins: &[Box<dyn Plugin>],
-) -> ([Told; 5], Left)
-    requires { past given ≡ [] }
-{
-    let mut house = given;
-    let [first, later, other] = requests;
-    boot(rt, alloc, &mut house, &FIRST, shelf, plugins);
-    let one = install(rt, &mut house, 1, first, shelf, plugins);
-    let two = put_off(rt, &mut house, 1, later);
-    let three = install(rt, &mut house, 2, other, shelf, plugins);
-    boot(rt, alloc, &mut house, &SECOND, shelf, plugins);
-    let four = install(rt, &mut house, 1, later, shelf, plugins);
-    let five = install(rt, &mut house, 2, other, shelf, plugins);
-    ([one, two, three, four, five], close(house))
-}
-
-/// The same over a new house.
-fn put_off_told<R: Abort>(
-    rt: &R,
-    alloc: Global,
-    requests: [&Request; 3],
+    first: &Request,
+    later: &Request,
+    other: &Request,
 ) -> Result<([Told; 5], Left), Fail> {
-    let plugins = plugins(alloc, FAILING.kind)?;
-    let mut shelf = shelf(alloc)?;
-    let house = house(rt, alloc, &FAILING, Vec::new(alloc), &[])?;
-    Ok(put_off_and_asked(rt, alloc, house, requests, &mut shelf, &plugins))
+    let one = [install(first), install(later), install(other)];
+    let two = [install(later), install(other)];
+    let days: [Day; 2] = [(FIRST, &one), (SECOND, &two)];
+    let (log, left) = play(rt, alloc, &FAILING, Vec::new(alloc), &[], &days)?;
+    let log = log.items();
+    let told = [
+        told_in(log, 1, 0),
+        told_in(log, 1, 1),
+        told_in(log, 1, 2),
+        told_in(log, 2, 0),
+        told_in(log, 2, 1),
+    ];
+    Ok((told, left))
 }
 
 const DONE_LATER: [Told; 5] = [
@@ -206,7 +178,7 @@ fn a_retry_that_is_put_off(rt: HostRuntime) -> Result<(), Fail> {
         ..offline("t2", "usb1")?
     };
     let other = retry("t3", "usb1", 1)?;
-    let (told, left) = put_off_told(&rt, rt.alloc(), [&first, &later, &other])?;
+    let (told, left) = put_off_told(&rt, rt.alloc(), &first, &later, &other)?;
     assert_eq!(rt; told, DONE_LATER);
     assert_eq!(rt; left, FIRST_UPDATED);
     Ok(())
@@ -228,11 +200,16 @@ const KEPT: [Told; 4] = [
 const LOST: [Told; 4] = [FAILED, Told::Refused(Why::KeeperFault), DONE, RETRIED];
 
 /// What becomes of a retry whose claim is in doubt, and how many rows there are then.
-fn doubted<R: Abort>(rt: &R, alloc: Global, kept: bool) -> Result<([Told; 4], usize), Fail> {
+fn doubted<R: Abort + Threads + Wait + Sync>(
+    rt: &R,
+    alloc: Global,
+    kept: bool,
+) -> Result<([Told; 4], usize), Fail> {
     let first = request("t1", "usb1")?;
     let second = retry("t2", "usb1", 1)?;
+    let again = retry("t2", "usb1", 1)?;
     let third = retry("t3", "usb1", 1)?;
-    let requests = [&first, &second, &second, &third];
+    let requests = [first, second, again, third];
     let (told, left) = told_of(rt, alloc, &[(4, kept)], requests)?;
     Ok((told, left.rows))
 }

@@ -1,8 +1,7 @@
 //! What these tests play on: a house of two boards, the shelf with their payloads, and the plugin.
-ghost use Rattle.std.specs.Prelude.{◌≡◌, ◌≤◌, [], ℕ, None, Some, IfOk, length, slice_get};
+ghost use Rattle.std.specs.Prelude.{◌≡◌, ◌≤◌, [], ℕ, false, None, Some, IfOk, length, slice_get};
 ghost use Rattle.emulated_boards.specs.Boards.{BoardState};
 ghost use Rattle.daemon_core.specs.House.{IsNewBoard};
-ghost use Rattle.daemon_core.specs.Housed.{past};
 
 use block_pool::Pool;
 use board_plugins::{Capsule, Flash, Loader};
@@ -40,8 +39,6 @@ pub enum Wants {
     Nothing,
     /// The first board's wants the second one there.
     SecondThere,
-    /// The second board's wants the first one as its parent.
-    FirstAsParent,
 }
 
 /// What a test is about.
@@ -202,25 +199,10 @@ fn wanted_of_first(alloc: Global, wants: Wants) -> Result<Vec<Requirement>, Fail
     Ok(all)
 }
 
-fn wanted_of_second(alloc: Global, wants: Wants) -> Result<Vec<Requirement>, Fail>
-    ensures { IfOk result (λ all. length all.items ≤ 1) }
-{
-    let mut all = Vec::new(alloc);
-    if let Wants::FirstAsParent = wants {
-        all.push(Requirement::Ancestor {
-            depth: 1,
-            guid: guid_of(b"usb1"),
-            test: None,
-        })?;
-    }
-    Ok(all)
-}
-
 fn catalogue(alloc: Global, scene: &Scene) -> Result<Catalogue, Fail> {
     let wanted = wanted_of_first(alloc, scene.wants)?;
     let first = component(alloc, "usb1", scene.size, wanted)?;
-    let wanted = wanted_of_second(alloc, scene.wants)?;
-    let second = component(alloc, "usb2", scene.size, wanted)?;
+    let second = component(alloc, "usb2", scene.size, Vec::new(alloc))?;
     let mut components = Vec::new(alloc);
     components.push(first)?;
     components.push(second)?;
@@ -307,12 +289,21 @@ pub fn plugins(alloc: Global, kind: Kind) -> Result<Vec<Box<dyn Plugin>>, Fail> 
     Ok(plugins)
 }
 
-/// A shelf with the payloads of both versions.
-pub fn shelf(alloc: Global) -> Result<MemoryShelf, Fail> {
+// A shelf with the payloads of both versions.
+fn shelf(alloc: Global) -> Result<MemoryShelf, Fail> {
     let mut files = Vec::new(alloc);
     files.push((Sha256::digest(OLD), Vec::from_slice(alloc, OLD)?))?;
     files.push((Sha256::digest(NEW), Vec::from_slice(alloc, NEW)?))?;
     Ok(MemoryShelf::new(files, Vec::new(alloc)))
+}
+
+/// The client's shelf.
+pub fn shelves(alloc: Global) -> Result<Vec<MemoryShelf>, Fail>
+    ensures { IfOk result (λ shelves. length shelves.items ≡ 1) }
+{
+    let mut shelves = Vec::new(alloc);
+    shelves.push(shelf(alloc)?)?;
+    Ok(shelves)
 }
 
 // The calls that fail, each with whether its change is kept.
@@ -336,7 +327,9 @@ pub fn house<R: Abort>(
     failing: &[(u32, bool)],
 ) -> Result<House<MemoryKeeper>, Fail>
     requires { scene.now.pool ≤ 16384 }
-    ensures { IfOk result (λ house. past house ≡ []) }
+    ensures new { IfOk result (λ house. house.house_log.core.log ≡ []) }
+    ensures unread { IfOk result (λ house. house.house_log.loaded ≡ false) }
+    ensures blank { IfOk result (λ house. house.house_log.opening ≡ []) }
 {
     let facts = facts(alloc, scene)?;
     let boards = boards(alloc, scene.fault)?;
