@@ -22,16 +22,27 @@ use Rattle.shared_daemon.proofs.Seeing.{stays}
 use Rattle.claim_runs.proofs.Freed.{held-free}
 use Rattle.claim_runs.proofs.Kept.{past-added}
 
-held-as : (n blocks : ℕ) (request : Request) (h : Hold) → h.ticket.client ≡ n → h.ticket.request ≡ request → h.ticket.pending ≡ None
-    → record { client = n; request = request; pending = None; blocks = blocks; release = h.ticket.release } ≡ held_by h.ticket blocks
-held-as n blocks request h e f k =
-    let first : Held = record { client = n; request = request; pending = None; blocks = blocks; release = h.ticket.release } in
+held-as : (n blocks : ℕ) (request : Request) (pending : Option ℕ) (h : Hold) → h.ticket.client ≡ n → h.ticket.request ≡ request → h.ticket.pending ≡ pending
+    → record { client = n; request = request; pending = pending; blocks = blocks; release = h.ticket.release } ≡ held_by h.ticket blocks
+held-as n blocks request pending h e f k =
+    let first : Held = record { client = n; request = request; pending = pending; blocks = blocks; release = h.ticket.release } in
     let second : Held = record first { client = h.ticket.client } in
     let third : Held = record second { request = h.ticket.request } in
     let a : first ≡ second = ap (λ (x : ℕ). record first { client = x }) (sym e) in
     let b : second ≡ third = ap (λ (r : Request). record second { request = r }) (sym f) in
     let d : third ≡ held_by h.ticket blocks = ap (λ (o : Option ℕ). record third { pending = o }) (sym k) in
     a ∙ b ∙ d
+
+-- An ask that was answered with a hold leaves that hold, whichever row that was put off it is for.
+pub hold-asked : (name : Name) (n : ℕ) (request : Request) (pending : Option ℕ) (h : Hold) (met log : List Entry) → IsHoldFor name.facts n request pending h
+    → Adds n (Event.Ask n request pending (AskAnswer.Hold h.blocks.count h.ticket.release)) met log → hold (past_seen log) n ≡ Some (held_by h.ticket h.blocks.count)
+hold-asked name n request pending h met log is a =
+    let event : Event = Event.Ask n request pending (AskAnswer.Hold h.blocks.count h.ticket.release) in
+    let x : Held = record { client = n; request = request; pending = pending; blocks = h.blocks.count; release = h.ticket.release } in
+    let last : hold (event ∷ past_seen met) n ≡ Some x = find-push_new (λ (y : Held). y.client == n) (without_client n (holds (past_seen met))) x (find-filter_none (λ (y : Held). y.client == n) (holds (past_seen met))) (eqb-self n) in
+    ap (λ (w : List Event). hold w n) (past-added n event met log a)
+    ∙ last
+    ∙ ap Some (held-as n h.blocks.count request pending h is.client_is is.request_is is.pending_is)
 
 module _ {did : List Entry → List Entry → Type 0} (name : Name) (lock : LockId) (old new : PassView Entry) (p : IsPass lock name old) (same : new.number ≡ old.number) (t : Took name did old new) where
   free-now : IsFree (past_seen new.seen) old.number → IsFree (past_seen new.seen) new.number
@@ -69,15 +80,7 @@ module _ {did : List Entry → List Entry → Type 0} (name : Name) (lock : Lock
   -- An ask that was answered with a hold.
   pub ask-holds : (request : Request) (h : Hold) → IsHoldFor name.facts old.number request None h → AddsOn old.number (Event.Ask old.number request None (AskAnswer.Hold h.blocks.count h.ticket.release)) t.met new.seen
       → hold (past_seen new.seen) new.number ≡ Some (held_by h.ticket h.blocks.count)
-  ask-holds request h is a =
-      let n : ℕ = old.number in
-      let event : Event = Event.Ask n request None (AskAnswer.Hold h.blocks.count h.ticket.release) in
-      let x : Held = record { client = n; request = request; pending = None; blocks = h.blocks.count; release = h.ticket.release } in
-      let last : hold (event ∷ past_seen t.met) n ≡ Some x = find-push_new (λ (y : Held). y.client == n) (without_client n (holds (past_seen t.met))) x (find-filter_none (λ (y : Held). y.client == n) (holds (past_seen t.met))) (eqb-self n) in
-      ap (λ (i : ℕ). hold (past_seen new.seen) i) same
-      ∙ ap (λ (w : List Event). hold w n) (past-added n event t.met new.seen a.1)
-      ∙ last
-      ∙ ap Some (held-as n h.blocks.count request h is.client_is is.request_is is.pending_is)
+  ask-holds request h is a = ap (λ (i : ℕ). hold (past_seen new.seen) i) same ∙ hold-asked name old.number request None h t.met new.seen is a.1
 
   -- A hold that was given up, and a claim that took no entry.
   pub hold-gone : (held : Held) (event : Event) → ((past : List Event) → holds (event ∷ past) ≡ without_client old.number (holds past)) → ((past : List Event) → live (event ∷ past) ≡ live past) → hold (past_seen old.seen) old.number ≡ Some held → Adds old.number event t.met new.seen

@@ -1,3 +1,4 @@
+pub mod Made
 pub mod Logs
 pub mod Freed
 pub mod Kept

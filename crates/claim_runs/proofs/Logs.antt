@@ -11,11 +11,11 @@ use Rattle.plugin_trait.specs.Steps.{PluginSteps}
 use Rattle.update_log.specs.declared.event.Event.{Event}
 use Rattle.update_log.specs.declared.event.Op.{Op}
 use Rattle.daemon_core.specs.declared.finished.Finished.{Finished}
-use Rattle.plain_runs.specs.declared.outcome.Outcome.{Outcome}
+use Rattle.claim_runs.specs.declared.outcome.Outcome.{Outcome}
 use Rattle.device_claims.specs.Claims.{Noted, StepGives}
 use Rattle.device_claims.specs.declared.claim.Parts.{Parts}
-use Rattle.plain_runs.specs.Ran.{AreMade, IsBegun, cut_events, start_events, step_events}
-use Rattle.plain_runs.proofs.Logs.{are-made_on, given-of, payload-of, steps-append}
+use Rattle.claim_runs.specs.Made.{AreMade, IsBegun, StepMade, cut_events, start_events, step_events}
+use Rattle.claim_runs.proofs.Made.{are-made_on, given-of, payload-of}
 use Rattle.turn_lock.specs.Shown.{PassView}
 use Rattle.shared_daemon.specs.declared.entry.Entry.{Entry}
 use Rattle.shared_daemon.specs.Calls.{Adds, FoundOff, Took}
@@ -28,6 +28,11 @@ use Rattle.claim_runs.specs.Ran.{CameBack, Closes, Finishes, Gained, GaveBack, I
 map-join : (n : ℕ) (xs ys : List Event) → map (entry_of n) (xs ++ ys) ≡ map (entry_of n) xs ++ map (entry_of n) ys
 map-join n [] ys = refl
 map-join n (x ∷ xs) ys = ap (λ (l : List Entry). entry_of n x ∷ l) (map-join n xs ys)
+
+steps-append : (client entry : ℕ) (xs ys : List StepMade) → step_events client entry (xs ++ ys) ≡ step_events client entry xs ++ step_events client entry ys
+steps-append client entry [] ys = refl
+steps-append client entry (s ∷ rest) ys =
+    ap (λ (l : List Event). Event.Start client entry s.op ∷ Event.End client entry s.op s.outcome s.told s.seen ∷ l) (steps-append client entry rest ys)
 
 -- Events behind events.
 pub gained-on : (xs ys : List Event) (a b c : PassView Entry) → Gained xs a b → Gained ys b c → Gained (xs ++ ys) a c

@@ -1,4 +1,5 @@
 pub mod Known
+pub mod Made
 pub mod Ran
 pub use Rattle.turn_lock.specs.Lists
 pub use Rattle.turn_lock.specs.Shown
@@ -17,4 +18,3 @@ pub use Rattle.device_claims.specs.Claims
 pub use Rattle.device_claims.specs.States
 pub use Rattle.install_engine.specs.Runs
 pub use Rattle.install_engine.specs.RunsIn
-pub use Rattle.plain_runs.specs.Ran as PlainRunsRan

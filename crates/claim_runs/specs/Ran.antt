@@ -11,8 +11,8 @@ use Rattle.update_log.specs.Legal.{IsFree}
 use Rattle.update_log.specs.Pasts.{off}
 use Rattle.daemon_core.specs.declared.finished.Finished.{Finished}
 use Rattle.device_claims.specs.declared.claim.Parts.{Parts}
-use Rattle.plain_runs.specs.declared.outcome.Outcome.{Outcome}
-use Rattle.plain_runs.specs.Ran.{AreMade, IsBegun, StepMade, cut_events, start_events, step_events}
+use Rattle.claim_runs.specs.declared.outcome.Outcome.{Outcome}
+use Rattle.claim_runs.specs.Made.{AreMade, IsBegun, StepMade, cut_events, start_events, step_events}
 use Rattle.turn_lock.specs.Lists.{BeginsWith}
 use Rattle.turn_lock.specs.Shown.{PassView}
 use Rattle.shared_daemon.specs.declared.entry.Entry.{Entry}

@@ -7,9 +7,10 @@
 //! (`specs/Known.antt`).
 #![tactic(auto)]
 
+mod outcome;
 mod running;
 mod steps;
 mod turns;
 
-pub use plain_runs::Outcome;
+pub use outcome::Outcome;
 pub use running::run_claim;

@@ -9,12 +9,12 @@ ghost use Rattle.shared_daemon.specs.Names.{IsPass};
 ghost use Rattle.claim_runs.specs.Known.{RunsFor, RunsSeen};
 ghost use Rattle.claim_runs.specs.Ran.{Closes, GaveBack, MadeSteps, Ran};
 
+use crate::outcome::Outcome;
 use crate::steps::{attach, cleanup, detach, prepare, reload, write};
 use daemon_core::{FinishStop, Off, Taken};
 use device_claims::{Begun, Closed, Flashed, Joined, Loose, Ready};
 use history_keeper::Keeper;
 use outer_traits::Gate;
-use plain_runs::Outcome;
 use plugin_trait::Plugin;
 use shared_daemon::{Daemon, Naming, Pass};
 use std::sync::Wait;

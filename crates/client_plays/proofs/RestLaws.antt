@@ -1,15 +1,19 @@
 -- Going through a list of things, over a house.
 use Rattle.std.proofs.Common.{◌≡◌, ◌⊎◌, ℕ, ◌<◌, Bool, true, false, List, [], ◌∷◌, ◌++◌, refl, ap, sym, ◌∙◌, subst, inl, inr, arith}
 use Rattle.std.specs.Prelude.{Some, None}
+use Rattle.std.specs.List.{list_any}
 use Rattle.history_keeper.specs.declared.row.Row.{Row}
-use Rattle.update_log.specs.Pasts.{boots, off}
+use Rattle.update_log.specs.Pasts.{boots, is_boot, off}
+use Rattle.update_log.specs.declared.event.Event.{Event}
+use Rattle.update_log.proofs.Lists.{by_test}
 use Rattle.daemon_core.specs.HouseLog.{SameFacts}
 use Rattle.daemon_core.specs.Housed.{HouseLogView, Housed, past, rows_before, rows_taken}
 use Rattle.daemon_core.specs.Turns.{Signs}
 use Rattle.daemon_core.proofs.Fared.{fared-both, fared-here}
 use Rattle.daemon_core.proofs.Planned.{keeps-both, keeps-here}
+use Rattle.daemon_core.specs.Keeping.{last_faulted}
 use Rattle.client_plays.specs.declared.played.Played.{Played}
-use Rattle.client_plays.specs.Moments.{Moment}
+use Rattle.client_plays.specs.Moments.{Grew, Moment}
 use Rattle.client_plays.specs.Scripts.{PlayedSo, PlaysAll, PlaysUntil}
 use Rattle.client_plays.specs.Endings.{AtRest, HouseOnceMore, HousePlayed, HouseWent, IsIdle, SoFar}
 use Rattle.client_plays.proofs.MomentLaws.{did-both, did-nothing, grew-boots}
@@ -110,3 +114,14 @@ still-booted signs wanting client Play done old new s b = subst (λ (n : ℕ). 0
 -- The facts and the rows before the log are the same all along.
 pub before-same : (old new : HouseLogView) → SameFacts old new → rows_before new ≡ rows_before old
 before-same old new s = ap (λ (b : Bool). rows_taken b new.opening) s.loaded ∙ ap (λ (o : List Row). rows_taken old.loaded o) s.opening
+
+-- The last boot is that which was played.
+faulted-more : (more past : List Event) → list_any is_boot more ≡ false → last_faulted (more ++ past) ≡ last_faulted past
+faulted-more [] past b = refl
+faulted-more (event ∷ more) past b =
+    by_test (is_boot event) _
+    (λ t. let bad : true ≡ false = rw t at b in cc)
+    (λ f. rw f (faulted-more more past (rw f at b)))
+
+pub grew-faulted : (old new : List Event) → Grew old new → last_faulted new ≡ last_faulted old
+grew-faulted old new g = ap last_faulted g.are ∙ faulted-more g.more old g.no_boot

@@ -1,5 +1,5 @@
 -- How a play ended, and what it did to a house.
-use Rattle.std.specs.Prelude.{◌≡◌, ◌⊎◌, ◌≤◌, ◌-◌, ◌^◌, ℕ, Bool, true, List, [], ◌∷◌, Option, Some, None, Result, Ok, Err}
+use Rattle.std.specs.Prelude.{◌≡◌, ◌⊎◌, ◌≤◌, ◌-◌, ◌^◌, ℕ, Bool, true, List, [], ◌∷◌, Option, Some, None, Result, Ok, Err, false}
 use Rattle.update_log.specs.declared.event.Event.{Event}
 use Rattle.update_log.specs.declared.event.Query.{Query}
 use Rattle.update_log.specs.Holding.{holds, live}
@@ -7,7 +7,7 @@ use Rattle.update_log.specs.Pasts.{is_boot, off}
 use Rattle.daemon_core.specs.declared.stop.Stop.{Stop}
 use Rattle.daemon_core.specs.HouseLog.{SameFacts}
 use Rattle.daemon_core.specs.Housed.{Housed, past, rows_before}
-use Rattle.daemon_core.specs.Keeping.{keeper_faults}
+use Rattle.daemon_core.specs.Keeping.{keeper_faults, last_faulted}
 use Rattle.daemon_core.specs.Turns.{KeeperFared, Signs}
 use Rattle.daemon_core.specs.Planned.{KeepsPlans}
 use Rattle.client_scripts.specs.declared.item.Item.{Item}
@@ -128,3 +128,7 @@ pub record HouseMore {K X : Type 0} (signs : Signs K) (wanting before : Bool) (c
   pub went : WentThrough wanting client Play xs (past old) (past new)
   pub told : before ≡ true → wanting ≡ true
   pub rest : AtRest signs old new
+
+-- Where the last boot read the history, nobody opened the keeper again since.
+abbrev pub ReadLast : {K : Type 0} → Housed K → Type 0
+ReadLast h = last_faulted (past h) ≡ false → h.house_log.reopened ≡ false

@@ -26,8 +26,9 @@ use Rattle.shared_daemon.specs.Names.{HasNothing, IsLogOf, IsPass, Name}
 use Rattle.shared_daemon.proofs.Closed.{passes-count}
 use Rattle.client_threads.specs.declared.clients.Client.{Client}
 use Rattle.client_threads.specs.Clients.{MayPlay, PlayedBehind, PlayedScript}
-use Rattle.client_threads.proofs.OneClient.{fresh-free, one-played, one-told, stranger-quiet, unused-quiet}
-use Rattle.client_threads.proofs.Pasts.{log-grew}
+use Rattle.daemon_tasks.proofs.OnePass.{fresh-free, stranger-quiet, unused-quiet}
+use Rattle.client_threads.proofs.OneClient.{one-played, one-told}
+use Rattle.daemon_tasks.proofs.Pasts.{log-grew}
 use Rattle.client_threads.proofs.Plays.{items-beyond, nothing-so}
 use Rattle.client_threads.proofs.ShelfFaults.{count-dealt}
 

@@ -12,7 +12,7 @@ use Rattle.daemon_core.specs.Housed.{Housed, past, rows_before}
 use Rattle.daemon_core.specs.Keeping.{keeper_faults}
 use Rattle.daemon_core.specs.Turns.{Signs}
 use Rattle.client_scripts.specs.declared.item.Item.{Item}
-use Rattle.client_plays.specs.Endings.{HouseBootPlayed, HouseWent, IsCounted, IsFresh, IsIdle}
+use Rattle.client_plays.specs.Endings.{HouseBootPlayed, HouseWent, IsCounted, IsFresh, IsIdle, ReadLast}
 use Rattle.client_plays.specs.Moments.{Moment, NoClients, began, mine}
 use Rattle.client_plays.specs.Plays.{Plays, Task, TaskPlays}
 use Rattle.client_plays.specs.Scripts.{PlayedSo, items_of, tasks}
@@ -24,10 +24,10 @@ use Rattle.client_plays.proofs.OrderLaws.{daemon-first, first-nothing, first-sta
 use Rattle.client_plays.proofs.PlayLaws.{task-unplayed}
 use Rattle.client_plays.proofs.RestLaws.{before-same, rest-both, rest-here, so-left}
 use Rattle.client_plays.proofs.ScriptLaws.{until-nothing}
-use Rattle.client_threads.specs.Runs.{ReadLast}
-use Rattle.client_threads.proofs.RunLaws.{grew-faulted}
+use Rattle.daemon_tasks.proofs.Closing.{rest-counted, rest-read}
 use Rattle.client_threads.specs.Clients.{ClientsPlayed}
-use Rattle.client_threads.proofs.Plays.{left-off, still-played}
+use Rattle.daemon_tasks.proofs.JudgeLoops.{still-played}
+use Rattle.client_threads.proofs.Plays.{left-off}
 
 -- Nobody did anything in a boot that has just begun.
 fresh-mine : (past : List Event) (client : ℕ) → IsFresh past → mine client past ≡ []
@@ -60,18 +60,13 @@ module _ {K : Type 0} (signs : Signs K) (now : Bool) (means : Means) (old mid : 
   no-clients_yet f client c = h.went.did.others client (not-first client c) ∙ fresh-mine (past old) client f
 
   pub still-counted : IsCounted signs old → IsCounted signs mid
-  still-counted c = both c h.rest.counted.counted h.rest.counts
-    where
-      both : IsCounted signs old → (keeper_faults (past mid) + signs.faults old.keeper ≤ keeper_faults (past old) + signs.faults mid.keeper) ⊎ (2 ^ 64 - 1 ≤ signs.faults mid.keeper) → signs.faults old.keeper ≤ signs.faults mid.keeper → IsCounted signs mid
-      both (inl x) (inl y) z = inl (omega arith)
-      both (inr x) (inl y) z = inr (omega arith)
-      both x (inr y) z = inr y
+  still-counted c = rest-counted signs old mid h.rest c
 
   pub still-booted : 0 < boots (past old) → 0 < boots (past mid)
   still-booted b = subst (λ (n : ℕ). 0 < n) (sym (grew-boots (past old) (past mid) h.went.did.grew)) b
 
   pub still-read : ReadLast old → ReadLast mid
-  still-read r f = h.rest.same.reopened ∙ r (sym (grew-faulted (past old) (past mid) h.went.did.grew) ∙ f)
+  still-read r = rest-read signs old mid h.went.did.grew h.rest r
 
   -- After the clients.
   module _ (wanting : Bool) (told then : ℕ → Means) (of_boot : List (List Item)) (new : Housed K) (f : IsFresh (past old)) (first : told 0 ≡ means) (same : (client : ℕ) → then client ≡ told client) (p : ClientsPlayed signs wanting then of_boot mid new) where

@@ -8,7 +8,6 @@ pub mod LegalLaws
 pub mod Dealt
 pub mod Shelves
 pub mod ShelfFaults
-pub mod Pasts
 pub mod Plays
 pub mod OneClient
 pub mod Behind

@@ -14,20 +14,6 @@ use Rattle.client_plays.proofs.PlayLaws.{item-unplayed}
 use Rattle.client_plays.proofs.RestLaws.{so-left}
 use Rattle.client_plays.proofs.ScriptLaws.{so-all, so-more, until-nothing}
 
-module _ {X : Type 0} (client : ℕ) (Play : X → List Moment → Type 0) (xs : List X) (moments : List Moment) where
-  -- What was played in a boot stays played, if it goes off later, and where memory is told to be wanting.
-  later : (was is_off wanting : Bool) → (was ≡ true → is_off ≡ true) → PlayedSo was wanting client Play xs moments → PlayedSo is_off wanting client Play xs moments
-  later true is_off wanting h p = so-left is_off wanting client Play xs moments (h refl) p
-  later false is_off wanting h p = so-all is_off wanting client Play xs moments p
-
-  told : (is_off before wanting : Bool) → (before ≡ true → wanting ≡ true) → PlayedSo is_off before client Play xs moments → PlayedSo is_off wanting client Play xs moments
-  told is_off before true h p = so-more is_off before client Play xs moments p
-  told is_off true false h p = let e : false ≡ true = h refl in cc
-  told is_off false false h p = p
-
-  pub still-played : (was is_off before wanting : Bool) → (was ≡ true → is_off ≡ true) → (before ≡ true → wanting ≡ true) → PlayedSo was before client Play xs moments → PlayedSo is_off wanting client Play xs moments
-  still-played was is_off before wanting o h p = told is_off before wanting h (later was is_off before o p)
-
 -- Nothing to do.
 pub nothing-so : {X : Type 0} (is_off wanting : Bool) (client : ℕ) (Play : X → List Moment → Type 0) (xs : List X) (moments : List Moment) → xs ≡ [] → moments ≡ [] → PlayedSo is_off wanting client Play xs moments
 nothing-so is_off wanting client Play xs moments e m =

@@ -1,9 +1,8 @@
 -- One boot more.
-use Rattle.std.proofs.Common.{◌≡◌, ℕ, ◌<◌, ◌≤◌, ◌+◌, Bool, true, false, ◌||◌, List, [], ◌∷◌, ◌++◌, length, get_or, refl, ap, sym, ◌∙◌, subst, inl, inr, arith, add-one}
+use Rattle.std.proofs.Common.{◌≡◌, ℕ, ◌<◌, ◌≤◌, ◌+◌, Bool, true, false, ◌||◌, List, [], ◌∷◌, length, get_or, refl, ap, sym, ◌∙◌, subst, inl, inr, arith, add-one}
 use Rattle.std.proofs.lemmas.List.Elements.{All-get_or}
 use Rattle.std.proofs.lemmas.Option.{slice_get_cases, slice_get-get_or}
 use Rattle.std.proofs.lemmas.Bool.{or_right, or_left}
-use Rattle.std.specs.List.{list_any}
 use Rattle.std.specs.Prelude.{All, Some, slice_get, unwrap_or}
 use Rattle.history_keeper.specs.declared.row.Row.{Row}
 use Rattle.update_log.proofs.Lists.{by_test}
@@ -12,22 +11,22 @@ use Rattle.update_log.specs.declared.facts.BootPlan.{BootPlan}
 use Rattle.update_log.specs.declared.facts.Facts.{Facts}
 use Rattle.update_log.specs.Pasts.{boots, is_boot, off}
 use Rattle.daemon_core.specs.Housed.{Housed, past, rows_before}
-use Rattle.daemon_core.specs.Keeping.{keeper_faults, last_faulted}
+use Rattle.daemon_core.specs.Keeping.{keeper_faults}
 use Rattle.daemon_core.specs.Turns.{KeeperFared, Signs}
 use Rattle.daemon_core.proofs.Fared.{fared-both, fared-here}
 use Rattle.daemon_core.proofs.Planned.{keeps-both, keeps-here}
 use Rattle.client_scripts.specs.declared.item.Item.{Item}
-use Rattle.client_plays.specs.Moments.{Grew, began, mine}
+use Rattle.client_plays.specs.Moments.{began, mine}
 use Rattle.client_plays.specs.Plays.{Plays, TaskPlays}
 use Rattle.client_plays.specs.Scripts.{BootPlayed, EarlierPlayed, PlayedSo, items_of, scripts_in, tasks}
-use Rattle.client_plays.specs.Endings.{HouseBootPlayed, IsCounted, IsIdle}
+use Rattle.client_plays.specs.Endings.{HouseBootPlayed, IsCounted, IsIdle, ReadLast}
 use Rattle.client_plays.specs.Tools.{Means}
 use Rattle.client_plays.proofs.BootLaws.{so-told}
 use Rattle.client_plays.proofs.MomentLaws.{grew-boots}
-use Rattle.client_plays.proofs.RestLaws.{before-same}
+use Rattle.client_plays.proofs.RestLaws.{before-same, grew-faulted}
 use Rattle.client_threads.specs.declared.ending.Ending.{Ending}
 use Rattle.client_threads.specs.Planned.{BootsPlanned}
-use Rattle.client_threads.specs.Runs.{BootMore, CampaignRan, EndedSo, HasBegun, NoneBegan, RanSoFar, ReadLast, StoppedBy}
+use Rattle.client_threads.specs.Runs.{BootMore, CampaignRan, EndedSo, HasBegun, NoneBegan, RanSoFar, StoppedBy}
 use Rattle.client_threads.proofs.OpeningLaws.{stays-same, told-new, told-stays}
 use Rattle.client_threads.proofs.FaultBoots.{faults-earlier, faults-played}
 use Rattle.client_threads.proofs.PlannedLaws.{earlier-grown, planned-grown}
@@ -138,17 +137,6 @@ run-none signs wanting means plans scripts h e unread blank =
       board_plans = keeps-here h.places;
       opening = told-new h.house_log.loaded (signs.tells h.keeper) h.house_log.opening unread blank;
     }
-
--- The last boot is that which was played.
-faulted-more : (more past : List Event) → list_any is_boot more ≡ false → last_faulted (more ++ past) ≡ last_faulted past
-faulted-more [] past b = refl
-faulted-more (event ∷ more) past b =
-    by_test (is_boot event) _
-    (λ t. let bad : true ≡ false = rw t at b in cc)
-    (λ f. rw f (faulted-more more past (rw f at b)))
-
-pub grew-faulted : (old new : List Event) → Grew old new → last_faulted new ≡ last_faulted old
-grew-faulted old new g = ap last_faulted g.are ∙ faulted-more g.more old g.no_boot
 
 pub run-read : {K : Type 0} (signs : Signs K) (now before : Bool) (means : ℕ → Means) (of_boot : List (List Item)) (plan : BootPlan) (mid begun new : Housed K) → HasBegun signs plan mid begun → BootMore signs now before means of_boot begun new → ReadLast new
 run-read signs now before means of_boot plan mid begun new b m f =

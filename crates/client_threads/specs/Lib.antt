@@ -1,7 +1,6 @@
 pub mod Planned
 pub mod Runs
 pub mod Promises
-pub mod Begins
 pub mod Clients
 pub use Rattle.turn_lock.specs.Shown
 pub use Rattle.update_log.specs.Legal

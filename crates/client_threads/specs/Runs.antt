@@ -1,5 +1,5 @@
 -- What the boots of a campaign did to a house.
-use Rattle.std.specs.Prelude.{◌≡◌, ◌⊎◌, ◌≤◌, ◌<◌, ℕ, Bool, true, false, MatchBool, List, [], ◌∷◌, length, Option, Some, None, Result, Ok, Err}
+use Rattle.std.specs.Prelude.{◌≡◌, ◌⊎◌, ◌≤◌, ◌<◌, ℕ, Bool, true, MatchBool, List, [], ◌∷◌, length, Option, Some, None, Result, Ok, Err}
 use Rattle.history_keeper.specs.declared.row.Row.{Row}
 use Rattle.history_keeper.specs.Keepers.{StillTold}
 use Rattle.update_log.specs.declared.event.BoardSeen.{BoardSeen}
@@ -12,12 +12,11 @@ use Rattle.daemon_core.specs.declared.booting.BootStop.{BootStop}
 use Rattle.daemon_core.specs.HouseLog.{IsHouseLog}
 use Rattle.daemon_core.specs.Boots.{ReadOthers}
 use Rattle.daemon_core.specs.Housed.{Housed, past, rows_before}
-use Rattle.daemon_core.specs.Keeping.{last_faulted}
 use Rattle.daemon_core.specs.Reading.{AreTold}
 use Rattle.daemon_core.specs.Turns.{KeeperFared, Signs}
 use Rattle.daemon_core.specs.Planned.{KeepsPlans}
 use Rattle.client_scripts.specs.declared.item.Item.{Item}
-use Rattle.client_plays.specs.Endings.{HouseBootPlayed, IsIdle}
+use Rattle.client_plays.specs.Endings.{HouseBootPlayed, IsIdle, ReadLast}
 use Rattle.client_plays.specs.Scripts.{BootPlayed, EarlierPlayed, scripts_in}
 use Rattle.client_plays.specs.Tools.{Means}
 use Rattle.client_threads.specs.declared.ending.Ending.{Ending}
@@ -40,10 +39,6 @@ OpeningStays told old new =
     (MatchBool new.house_log.loaded
     (AreTold (told old.keeper) (told new.keeper) new.house_log.opening)
     (StillTold (told old.keeper) (told new.keeper) × ((new.house_log.opening ≡ old.house_log.opening) ⊎ AreTold (told old.keeper) (told new.keeper) new.house_log.opening)))
-
--- Where the last boot read the history, nobody opened the keeper again since.
-abbrev pub ReadLast : {K : Type 0} → Housed K → Type 0
-ReadLast h = last_faulted (past h) ≡ false → h.house_log.reopened ≡ false
 
 -- So many boots of a campaign were run: each by its plan, in order, and played. Nobody has anything out,
 -- each fault of the keeper that the log tells was counted, and each board at home has the faults planned that

@@ -1,4 +1,4 @@
-//! A boot: the daemon's tasks on the plain house, and then the clients behind the daemon's lock.
+//! A boot: the daemon's tasks, and then the clients behind the daemon's lock.
 ghost use Rattle.std.specs.Prelude.{◌≡◌, ◌+◌, ◌≤◌, ◌<◌, [], false, All, length, map, vec_capacity};
 ghost use Rattle.std.specs.List.{range_with_len};
 ghost use Rattle.plugin_trait.specs.Steps.{steps_at};
@@ -9,21 +9,21 @@ ghost use Rattle.daemon_core.specs.Turns.{signs_of};
 ghost use Rattle.turn_lock.specs.Shown.{IsFresh as IsNewPass};
 ghost use Rattle.shared_daemon.specs.Entries.{chronicle, past_seen};
 ghost use Rattle.shared_daemon.specs.Names.{HasNothing, IsLogOf, IsPass, KeepsName};
-ghost use Rattle.client_plays.specs.Endings.{HouseBootPlayed, IsCounted, IsFresh, IsIdle, IsScriptItem};
+ghost use Rattle.client_plays.specs.Endings.{HouseBootPlayed, IsCounted, IsFresh, IsIdle, IsScriptItem, ReadLast};
 ghost use Rattle.client_plays.specs.Faults.{ShelvesCount};
 ghost use Rattle.client_plays.specs.Has.{shelves_told, tools_of};
 ghost use Rattle.client_plays.specs.Moments.{NoClients};
 ghost use Rattle.client_plays.specs.Shelves.{means_for};
 ghost use Rattle.client_plays.specs.Tools.{Serves, ShelvesStay};
-ghost use Rattle.client_threads.specs.Runs.{ReadLast};
-ghost use Rattle.client_threads.specs.Begins.{CanBegin, IsNameOf};
+ghost use Rattle.daemon_tasks.specs.Begins.{CanBegin, IsNameOf};
 ghost use Rattle.client_threads.specs.Clients.{ClientsPlayed, PlayedBehind};
 
 use crate::clients::{Client, play_all};
-use crate::dealing::{deal_out, either, take_back};
+use crate::dealing::{deal_out, take_back};
 use crate::tasks::do_tasks_first;
 use client_scripts::Item;
 use daemon_core::House;
+use daemon_tasks::either;
 use fw_base::Listed;
 use history_keeper::Keeper;
 use outer_traits::{Gate, Shelf};
@@ -215,8 +215,7 @@ pub(crate) fn play_boot<
         return (house, false);
     }
     house.known();
-    let mut house = house;
-    let now = do_tasks_first(alloc, &mut house, shelves, plugins);
+    let (house, now) = do_tasks_first(rt, alloc, house, shelves, plugins);
     let (house, wanting) = play_clients(rt, alloc, house, shelves, of_boot, plugins, gate);
     house.known();
     (house, either(now, wanting))

@@ -1,10 +1,11 @@
 //! Passes and shelves are dealt out to clients, and come back.
 //!
 //! The last of a vector is taken first, so both are reversed before and afterwards. Nothing here takes memory.
-ghost use Rattle.std.specs.Prelude.{◌≡◌, ◌∷◌, ◌++◌, ◌+◌, ◌≤◌, ◌||◌, [], length, map, reverse, vec_capacity};
+ghost use Rattle.std.specs.Prelude.{◌≡◌, ◌∷◌, ◌++◌, ◌+◌, ◌≤◌, [], length, map, reverse, vec_capacity};
 ghost use Rattle.std.specs.List.{list_any};
 
 use crate::clients::Client;
+use daemon_tasks::either;
 use shared_daemon::Pass;
 
 // Deals out all these passes, each with a shelf, the last ones first.
@@ -78,13 +79,6 @@ fn dismiss<P>(clients: &mut Vec<Client<P>>, passes: &mut Vec<Pass>, shelves: &mu
         wanting = either(now, wanting);
     }
     wanting
-}
-
-/// One of both.
-pub(crate) fn either(one: bool, other: bool) -> bool
-    ensures { result ≡ (one || other) }
-{
-    one || other
 }
 
 /// Takes all passes and shelves back, in order. Says whether memory was wanting for one of the clients.

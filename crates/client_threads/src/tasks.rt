@@ -4,7 +4,7 @@ ghost use Rattle.plugin_trait.specs.Steps.{steps_at};
 ghost use Rattle.update_log.specs.Pasts.{boots};
 ghost use Rattle.daemon_core.specs.Housed.{past, rows_before};
 ghost use Rattle.daemon_core.specs.Turns.{signs_of};
-ghost use Rattle.client_plays.specs.Endings.{HouseWent, IsFresh, IsIdle};
+ghost use Rattle.client_plays.specs.Endings.{HouseWent, IsCounted, IsFresh, IsIdle, ReadLast};
 ghost use Rattle.client_plays.specs.Faults.{ShelvesCount};
 ghost use Rattle.client_plays.specs.Has.{shelves_told};
 ghost use Rattle.client_plays.specs.Moments.{began};
@@ -19,23 +19,27 @@ use history_keeper::Keeper;
 use outer_traits::Shelf;
 use plugin_trait::Plugin;
 use std::alloc::Global;
+use std::sync::Wait;
 
 /// Does the tasks of a boot that has just begun, with the first of these shelves. Says whether memory was
 /// wanting.
-pub(crate) fn do_tasks_first<K: Keeper, P: Shelf>(
+pub(crate) fn do_tasks_first<R: Wait, K: Keeper, P: Shelf>(
+    rt: &R,
     alloc: Global,
-    house: &mut House<K>,
+    house: House<K>,
     shelves: &mut Vec<P>,
     plugins: &[Box<dyn Plugin>],
-) -> bool
-    requires booted { 0 < boots (past house.old) }
-    requires idle { IsIdle (past house.old) }
-    requires fresh { IsFresh (past house.old) }
+) -> (House<K>, bool)
+    requires booted { 0 < boots (past house) }
+    requires idle { IsIdle (past house) }
+    requires fresh { IsFresh (past house) }
+    requires counted { IsCounted (signs_of K.tells K.faults) house }
+    requires read { ReadLast house }
     requires shelf { 0 < length shelves.old.items }
-    requires served { length house.old.house_log.facts.vetoes ≤ length plugins.now }
-    ensures went { HouseWent (signs_of K.tells K.faults) result 0 (TaskPlays house.old.house_log.facts (rows_before house.old.house_log) (means_for (steps_at (λ p. steps p) plugins.now) (shelves_told P.files P.faults shelves.old.items) 0)) (tasks house.old.house_log.facts (rows_before house.old.house_log) (began (past house.old))) house.old house.new }
+    requires served { length house.house_log.facts.vetoes ≤ length plugins.now }
+    ensures went { HouseWent (signs_of K.tells K.faults) result.1 0 (TaskPlays house.house_log.facts (rows_before house.house_log) (means_for (steps_at (λ p. steps p) plugins.now) (shelves_told P.files P.faults shelves.old.items) 0)) (tasks house.house_log.facts (rows_before house.house_log) (began (past house))) house result.0 }
     ensures kept { ShelvesStay (shelves_told P.files P.faults shelves.old.items) (shelves_told P.files P.faults shelves.new.items) }
-    ensures told { ShelvesCount (past house.old) (past house.new) (shelves_told P.files P.faults shelves.old.items) (shelves_told P.files P.faults shelves.new.items) }
+    ensures told { ShelvesCount (past house) (past result.0) (shelves_told P.files P.faults shelves.old.items) (shelves_told P.files P.faults shelves.new.items) }
 {
-    do_tasks(alloc, house, &mut shelves[0], plugins)
+    do_tasks(rt, alloc, house, &mut shelves[0], plugins)
 }

@@ -30,9 +30,10 @@ use Rattle.client_plays.proofs.ListLaws.{taken-here, taken-more}
 use Rattle.client_plays.proofs.MomentLaws.{did-both}
 use Rattle.client_plays.proofs.PlayLaws.{task-unplayed}
 use Rattle.client_plays.proofs.RestLaws.{rest-both, so-left, so_far-nothing}
-use Rattle.client_plays.proofs.ScriptLaws.{until-nothing}
+use Rattle.client_plays.proofs.ScriptLaws.{so-all, so-more, until-nothing}
 use Rattle.daemon_tasks.specs.Judged.{AllKnown, HouseTried, JudgeStays, can_judge, to_judge, to_judge_in}
-use Rattle.daemon_tasks.specs.Stays.{AreApart, RowsStay, rows_at}
+use Rattle.daemon_tasks.specs.Stays.{RowsStay, rows_at}
+use Rattle.daemon_tasks.specs.Waits.{AreApart}
 
 -- ---- lists of plays
 
@@ -62,6 +63,22 @@ until-append wanting client Play (x ∷ xs) ys moments more p q =
 pub so-after : {X : Type 0} (is_off wanting told : Bool) (client : ℕ) (Play : X → List Moment → Type 0) (xs ys : List X) (moments more : List Moment) → (wanting ≡ true → told ≡ true) → PlaysAll wanting client Play xs moments → PlayedSo is_off told client Play ys more → PlayedSo is_off told client Play (xs ++ ys) (moments ++ more)
 so-after true wanting told client Play xs ys moments more h p q = until-append told client Play xs ys moments more (so-told false wanting told client Play xs moments h p) q
 so-after false wanting told client Play xs ys moments more h p q = all-append told client Play xs ys moments more (so-told false wanting told client Play xs moments h p) q
+
+-- ---- what was played, later
+
+module _ {X : Type 0} (client : ℕ) (Play : X → List Moment → Type 0) (xs : List X) (moments : List Moment) where
+  -- What was played in a boot stays played, if it goes off later, and where memory is told to be wanting.
+  later : (was is_off wanting : Bool) → (was ≡ true → is_off ≡ true) → PlayedSo was wanting client Play xs moments → PlayedSo is_off wanting client Play xs moments
+  later true is_off wanting h p = so-left is_off wanting client Play xs moments (h refl) p
+  later false is_off wanting h p = so-all is_off wanting client Play xs moments p
+
+  told : (is_off before wanting : Bool) → (before ≡ true → wanting ≡ true) → PlayedSo is_off before client Play xs moments → PlayedSo is_off wanting client Play xs moments
+  told is_off before true h p = so-more is_off before client Play xs moments p
+  told is_off true false h p = let e : false ≡ true = h refl in cc
+  told is_off false false h p = p
+
+  pub still-played : (was is_off before wanting : Bool) → (was ≡ true → is_off ≡ true) → (before ≡ true → wanting ≡ true) → PlayedSo was before client Play xs moments → PlayedSo is_off wanting client Play xs moments
+  still-played was is_off before wanting o h p = told is_off before wanting h (later was is_off before o p)
 
 -- ---- the tasks of a list of entries
 

@@ -39,7 +39,7 @@ use Rattle.client_plays.proofs.PlayLaws.{task-unplayed}
 use Rattle.client_plays.proofs.RestLaws.{before-same}
 use Rattle.daemon_tasks.specs.Judged.{HouseTried, JudgeStays, Tried, can_judge, to_judge, to_judge_in, told_by}
 use Rattle.daemon_tasks.specs.Stays.{rows_at}
-use Rattle.daemon_tasks.proofs.Rows.{others-appended, rows-halted}
+use Rattle.daemon_tasks.proofs.Rows.{others-judged, rows-halted}
 use Rattle.daemon_tasks.proofs.Turns.{Halted, cut_past, did-appended, halted-did, halted-holds, halted-live, halted-memory, halted-off}
 
 -- ---- how a row stands, and whether it can be judged
@@ -237,7 +237,7 @@ stays-judged entry version state stored old new l a =
     let event = Event.Judge 0 entry version state stored in
     let e = appended-past 0 event old new a in
     record {
-      rows = λ other h. others-appended 0 entry event old new refl a other (or-first (entry == other) false h);
+      rows = λ other h. others-judged entry version state stored old new a other (or-first (entry == other) false h);
       views = views-over old new (event ∷ past_in old) a.same e ∙ judge-views old.facts (rows_before old) (past_in old) 0 entry version state stored l;
       finished = λ n. ap (finished n) e;
     }

@@ -1,5 +1,6 @@
 -- What there is to do as a boot begins, entry by entry.
-use Rattle.std.proofs.Common.{◌≡◌, ℕ, ◌≤◌, ◌+◌, Bool, true, false, ◌&&◌, ◌||◌, List, [], ◌∷◌, ◌++◌, map, refl, ap, sym, ◌∙◌, subst, arith}
+use Rattle.std.proofs.Common.{◌≡◌, ℕ, ◌≤◌, ◌+◌, Bool, true, false, ◌&&◌, ◌||◌, List, [], ◌∷◌, ◌++◌, map, length, refl, ap, sym, ◌∙◌, subst, arith}
+use Rattle.std.proofs.lemmas.Bool.{eqb-true}
 use Rattle.std.specs.Prelude.{Option, Some, ◌==◌, filter, option_map, unwrap_or}
 use Rattle.std.specs.List.{AllByRecursion, list_any}
 use Rattle.history_keeper.specs.declared.row.Row.{Row}
@@ -17,16 +18,18 @@ use Rattle.daemon_core.specs.HouseLog.{IsHouseLog}
 use Rattle.daemon_core.specs.Housed.{HouseLogView, Housed, past, past_in, rows_before}
 use Rattle.daemon_core.specs.Turns.{Signs}
 use Rattle.offline_updates.specs.Waiting.{entries_where, is_pending, is_to_judge}
-use Rattle.client_plays.specs.Endings.{HouseMore, HouseWent, IsFresh, IsIdle, SoFar}
+use Rattle.client_plays.specs.Endings.{HouseWent, IsFresh, IsIdle, SoFar}
 use Rattle.client_plays.specs.Moments.{Moment, began}
 use Rattle.client_plays.specs.Plays.{Task, TaskPlays, ToJudge, ToResume}
-use Rattle.client_plays.specs.Scripts.{is_judgeable, tasks}
+use Rattle.client_plays.specs.Scripts.{PlayedSo, is_judgeable, tasks}
 use Rattle.client_plays.specs.Tools.{Means}
 use Rattle.client_plays.proofs.MomentLaws.{did-both, did-nothing}
-use Rattle.client_plays.proofs.RestLaws.{rest-both, rest-here}
-use Rattle.client_plays.proofs.ScriptLaws.{so-all}
-use Rattle.daemon_tasks.specs.Judged.{AllKnown, AllWait, WaitsIn, can_judge, to_judge_in}
-use Rattle.daemon_tasks.specs.Stays.{AreApart, OthersStay, RowsStay, rows_at}
+use Rattle.client_plays.proofs.PlayLaws.{task-unplayed}
+use Rattle.client_plays.proofs.RestLaws.{rest-both, rest-here, so-left}
+use Rattle.client_plays.proofs.ScriptLaws.{so-all, so-more, until-nothing}
+use Rattle.daemon_tasks.specs.Judged.{AllKnown, can_judge, to_judge_in}
+use Rattle.daemon_tasks.specs.Stays.{RowsStay, rows_at}
+use Rattle.daemon_tasks.specs.Waits.{AllWait, AreApart}
 use Rattle.daemon_tasks.proofs.JudgePlays.{all-nothing}
 use Rattle.daemon_tasks.proofs.JudgeLoops.{so-after}
 
@@ -108,10 +111,10 @@ pending-is : (state : RowState) → is_pending state ≡ true → state ≡ RowS
 pending-is RowState.Pending h = refl
 pending-is _ h = cc
 
-where-waits : (a : HouseLogView) (all : List Row) → AllByRecursion (λ r. row_of (rows_at a) r.entry ≡ Some r) all → AllWait a (entries_where is_pending all)
+where-waits : (a : HouseLogView) (all : List Row) → AllByRecursion (λ r. row_of (rows_at a) r.entry ≡ Some r) all → AllWait (rows_at a) (entries_where is_pending all)
 where-waits a [] f = tt
 where-waits a (r ∷ all) f =
-    let rest : AllWait a (entries_where is_pending all) = where-waits a all f.1 in
+    let rest : AllWait (rows_at a) (entries_where is_pending all) = where-waits a all f.1 in
     by_test (is_pending r.state) _
     (λ t. let p : r.state ≡ RowState.Pending = pending-is r.state t in rw t (record { row = r; row_is = f.0; pending = p }, rest))
     (λ t. rw t rest)
@@ -162,9 +165,9 @@ module _ (a : HouseLogView) (k : IsHouseLog a) where
   all-apart fits entries e =
       subst AreApart (sym (e ∙ ap (entries_where fits) k.stands.rows)) (where-apart fits 1 (rows_at a) (rows-from a k))
 
-  pub all-wait : (entries : List ℕ) → entries ≡ entries_where is_pending a.core.rows → AllWait a entries
+  pub all-wait : (entries : List ℕ) → entries ≡ entries_where is_pending a.core.rows → AllWait (rows_at a) entries
   all-wait entries e =
-      subst (AllWait a) (sym (e ∙ ap (entries_where is_pending) k.stands.rows)) (where-waits a (rows_at a) own-rows)
+      subst (AllWait (rows_at a)) (sym (e ∙ ap (entries_where is_pending) k.stands.rows)) (where-waits a (rows_at a) own-rows)
 
   pub none-both : (judged waiting : List ℕ) → judged ≡ entries_where is_to_judge a.core.rows → waiting ≡ entries_where is_pending a.core.rows → NoneIn judged waiting
   none-both judged waiting e f =
@@ -189,38 +192,54 @@ module _ (a : HouseLogView) (k : IsHouseLog a) where
 
 -- ---- rows that still wait
 
-waits-later : (old new : HouseLogView) (entry : ℕ) → row_of (rows_at new) entry ≡ row_of (rows_at old) entry → WaitsIn old entry → WaitsIn new entry
-waits-later old new entry e w = record { row = w.row; row_is = e ∙ w.row_is; pending = w.pending }
-
-pub all-wait_still : (entries : List ℕ) (old new : HouseLogView) (waiting : List ℕ) → RowsStay entries old new → NoneIn entries waiting → AllWait old waiting → AllWait new waiting
+pub all-wait_still : (entries : List ℕ) (old new : HouseLogView) (waiting : List ℕ) → RowsStay entries old new → NoneIn entries waiting → AllWait (rows_at old) waiting → AllWait (rows_at new) waiting
 all-wait_still entries old new [] s n w = tt
-all-wait_still entries old new (entry ∷ waiting) s n w = (waits-later old new entry (s entry n.0) w.0, all-wait_still entries old new waiting s n.1 w.1)
-
-pub all-wait_others : (entry : ℕ) (old new : HouseLogView) (waiting : List ℕ) → OthersStay entry old new → list_any (λ e. e == entry) waiting ≡ false → AllWait old waiting → AllWait new waiting
-all-wait_others entry old new [] s n w = tt
-all-wait_others entry old new (other ∷ waiting) s n w =
-    let far = or-none (other == entry) (list_any (λ e. e == entry) waiting) n in
-    (waits-later old new other (s other (swapped other entry far.0)) w.0, all-wait_others entry old new waiting s far.1 w.1)
-  where
-    or-none : (a b : Bool) → (a || b) ≡ false → (a ≡ false) × (b ≡ false)
-    or-none true b h = cc
-    or-none false b h = (refl, h)
-
-    swapped : (x y : ℕ) → (x == y) ≡ false → (y == x) ≡ false
-    swapped x y h = eqb-other y x (λ s. let t : (x == y) ≡ true = ap (λ (n : ℕ). n == y) (sym s) ∙ eqb-self y in let bad : true ≡ false = sym t ∙ h in cc)
+all-wait_still entries old new (entry ∷ waiting) s n w = (record { row = w.0.row; row_is = s entry n.0 ∙ w.0.row_is; pending = w.0.pending }, all-wait_still entries old new waiting s n.1 w.1)
 
 -- ---- all tasks
 
+told-either : {X : Type 0} (is_off wanting now : Bool) (client : ℕ) (Play : X → List Moment → Type 0) (xs : List X) (moments : List Moment) → PlayedSo is_off now client Play xs moments → PlayedSo is_off (wanting || now) client Play xs moments
+told-either is_off true now client Play xs moments p = so-more is_off now client Play xs moments p
+told-either is_off false now client Play xs moments p = p
+
+or-first : (wanting now : Bool) → wanting ≡ true → (wanting || now) ≡ true
+or-first true now e = refl
+or-first false now e = cc
+
 -- Those to judge were gone through, and then the others.
-pub went-both : {K : Type 0} (signs : Signs K) (Play : Task → List Moment → Type 0) (wanting told : Bool) (first others : List Task) (old mid new : Housed K) → SoFar signs wanting 0 Play first old mid → HouseMore signs told wanting 0 Play others mid new → HouseWent signs told 0 Play (first ++ others) old new
-went-both signs Play wanting told first others old mid new s m =
+pub went-both : {K : Type 0} (signs : Signs K) (Play : Task → List Moment → Type 0) (wanting now : Bool) (first others : List Task) (old mid new : Housed K) → SoFar signs wanting 0 Play first old mid → HouseWent signs now 0 Play others mid new → HouseWent signs (wanting || now) 0 Play (first ++ others) old new
+went-both signs Play wanting now first others old mid new s m =
     record {
       went = record {
         moments = s.moments ++ m.went.moments;
         did = did-both 0 s.moments m.went.moments (past old) (past mid) (past new) s.did m.went.did;
-        plays = so-after (off (past new)) wanting told 0 Play first others s.moments m.went.moments m.told s.plays m.went.plays;
+        plays = so-after (off (past new)) wanting (wanting || now) 0 Play first others s.moments m.went.moments (or-first wanting now) s.plays
+            (told-either (off (past new)) wanting now 0 Play others m.went.moments m.went.plays);
       };
       rest = rest-both signs old mid new s.rest m.rest;
+    }
+
+-- No entry, no task.
+pub none-left : (entries : List ℕ) → (length entries == 0) ≡ true → map ToResume entries ≡ []
+none-left [] e = refl
+none-left (x ∷ entries) e = let z : length (x ∷ entries) ≡ 0 = eqb-true (length (x ∷ entries)) 0 e in absurd (omega arith)
+
+-- There is nothing to do.
+pub went-none : {K : Type 0} (signs : Signs K) (Play : Task → List Moment → Type 0) (list : List Task) (h : Housed K) → IsIdle (past h) → list ≡ [] → HouseWent signs false 0 Play list h h
+went-none signs Play list h i e =
+    subst (λ (ts : List Task). HouseWent signs false 0 Play ts h h) (sym e)
+    (record { went = record { moments = []; did = did-nothing 0 (past h); plays = so-all (off (past h)) false 0 Play [] [] refl }; rest = rest-here signs h i })
+
+-- The boot was off before anything was done.
+pub went-off : {K : Type 0} (signs : Signs K) (facts : Facts) (opening : List Row) (means : Means) (list : List Task) (h : Housed K) → IsIdle (past h) → off (past h) ≡ true → HouseWent signs false 0 (TaskPlays facts opening means) list h h
+went-off signs facts opening means list h i o =
+    record {
+      went = record {
+        moments = [];
+        did = did-nothing 0 (past h);
+        plays = so-left (off (past h)) false 0 (TaskPlays facts opening means) list [] o (until-nothing false 0 (TaskPlays facts opening means) list (task-unplayed facts opening means 0));
+      };
+      rest = rest-here signs h i;
     }
 
 -- Memory was wanting before anything was done.

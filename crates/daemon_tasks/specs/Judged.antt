@@ -1,7 +1,6 @@
 -- What the daemon judges and resumes by itself, entry by entry.
 use Rattle.std.specs.Prelude.{◌≡◌, ◌⊎◌, ℕ, Bool, true, false, List, [], ◌∷◌, ◌++◌, Option, Some, None, map, filter, unwrap_or, option_map, Result, Ok, Err}
 use Rattle.history_keeper.specs.declared.row.Row.{Row}
-use Rattle.history_keeper.specs.declared.row.RowState.{RowState}
 use Rattle.update_log.specs.declared.event.Event.{Event}
 use Rattle.update_log.specs.declared.facts.Facts.{Facts}
 use Rattle.update_log.specs.Known.{row_of, rows, views}
@@ -66,14 +65,3 @@ JudgedAll signs facts opening means (Went.Through wanting) entries old new =
     SoFar signs wanting 0 (TaskPlays facts opening means) (to_judge_in old.house_log entries) old new × RowsStay entries old.house_log new.house_log
 JudgedAll signs facts opening means (Went.Off wanting) entries old new =
     (more : List Task) → HouseWent signs wanting 0 (TaskPlays facts opening means) (to_judge_in old.house_log entries ++ more) old new
-
--- The entry's row is put off.
-pub record WaitsIn (a : HouseLogView) (entry : ℕ) : Type 0 where
-  pub row : Row
-  pub row_is : row_of (rows_at a) entry ≡ Some row
-  pub pending : row.state ≡ RowState.Pending
-
--- So is the row of each of these.
-abbrev pub AllWait : HouseLogView → List ℕ → Type 0
-AllWait a [] = Unit {0}
-AllWait a (entry ∷ entries) = WaitsIn a entry × AllWait a entries

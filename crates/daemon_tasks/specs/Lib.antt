@@ -1,8 +1,9 @@
-pub mod Ends
+pub mod Begins
 pub mod Stays
+pub mod Waits
 pub mod Judged
 pub mod Resumed
-pub use Rattle.emulated_boards.specs.Boards
+pub use Rattle.turn_lock.specs.Shown
 pub use Rattle.update_log.specs.Holding
 pub use Rattle.update_log.specs.Known
 pub use Rattle.update_log.specs.Pasts
@@ -11,13 +12,19 @@ pub use Rattle.daemon_core.specs.HouseLog
 pub use Rattle.daemon_core.specs.Fetches
 pub use Rattle.daemon_core.specs.Holds
 pub use Rattle.daemon_core.specs.Housed
+pub use Rattle.daemon_core.specs.Keeping
+pub use Rattle.daemon_core.specs.Planned
 pub use Rattle.daemon_core.specs.Resumes
 pub use Rattle.daemon_core.specs.Turns
-pub use Rattle.install_engine.specs.RunsIn
+pub use Rattle.shared_daemon.specs.Calls
+pub use Rattle.shared_daemon.specs.Closings
+pub use Rattle.shared_daemon.specs.Entries
+pub use Rattle.shared_daemon.specs.Names
+pub use Rattle.shared_daemon.specs.Resumed as SharedDaemonResumed
 pub use Rattle.client_plays.specs.Endings
 pub use Rattle.client_plays.specs.Faults
 pub use Rattle.client_plays.specs.Moments
 pub use Rattle.client_plays.specs.Plays
 pub use Rattle.client_plays.specs.Scripts
 pub use Rattle.client_plays.specs.Tools
-pub use Rattle.plain_runs.specs.Ran
+pub use Rattle.script_runs.specs.Passes

@@ -9,7 +9,8 @@ ghost use Rattle.daemon_core.specs.Turns.{signs_of};
 ghost use Rattle.client_plays.specs.Endings.{IsIdle};
 ghost use Rattle.client_plays.specs.Tools.{Files, files_alone};
 ghost use Rattle.daemon_tasks.specs.Judged.{AllKnown, HouseTried, JudgeStays, JudgedAll, to_judge_in, told_by};
-ghost use Rattle.daemon_tasks.specs.Stays.{AreApart, rows_at};
+ghost use Rattle.daemon_tasks.specs.Stays.{rows_at};
+ghost use Rattle.daemon_tasks.specs.Waits.{AreApart};
 
 use daemon_core::{House, Judged, Stop};
 use history_keeper::Keeper;

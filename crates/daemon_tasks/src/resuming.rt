@@ -1,44 +1,51 @@
-//! The entries that were put off: each is asked for, fetched, resumed and run.
-ghost use Rattle.std.specs.Prelude.{◌≡◌, ◌≤◌, ◌<◌, ◌+◌, Some, length, map, true};
+//! The entries that were put off: each is asked for, fetched, resumed and run, by the daemon's own pass.
+ghost use Rattle.std.specs.Prelude.{◌≡◌, ◌≤◌, ◌+◌, Err, Some, length, map, true};
 ghost use Rattle.plugin_trait.specs.Steps.{steps_at};
 ghost use Rattle.update_log.specs.declared.answer.AskAnswer.{AskAnswer};
 ghost use Rattle.update_log.specs.declared.request.Request.{Request};
-ghost use Rattle.update_log.specs.Pasts.{boots};
-ghost use Rattle.daemon_core.specs.Fetches.{IsFetchOf, block_count};
-ghost use Rattle.daemon_core.specs.Holds.{IsHoldFor};
-ghost use Rattle.daemon_core.specs.Housed.{past, rows_before};
-ghost use Rattle.daemon_core.specs.Resumes.{ComesIn, IsPutOff, note_in};
-ghost use Rattle.daemon_core.specs.Turns.{signs_of};
-ghost use Rattle.client_plays.specs.Endings.{HouseMore, HouseOnceMore, HousePlayed, IsIdle};
+ghost use Rattle.update_log.specs.Holding.{hold};
+ghost use Rattle.daemon_core.specs.Fetches.{block_count};
+ghost use Rattle.daemon_core.specs.Holds.{IsHoldFor, held_by};
+ghost use Rattle.daemon_core.specs.Resumes.{note_in};
+ghost use Rattle.client_plays.specs.Endings.{played_of};
 ghost use Rattle.client_plays.specs.Faults.{FaultsTold, faults_in, faults_noted};
-ghost use Rattle.client_plays.specs.Moments.{mine};
 ghost use Rattle.client_plays.specs.Plays.{ResumeFetches, ResumePlays, TaskPlays, ToResume};
 ghost use Rattle.client_plays.specs.Tools.{Files, means_of};
-ghost use Rattle.daemon_tasks.specs.Ends.{stopped_by};
-ghost use Rattle.daemon_tasks.specs.Judged.{AllWait, WaitsIn};
+ghost use Rattle.turn_lock.specs.Shown.{IsFresh};
+ghost use Rattle.shared_daemon.specs.Closings.{IsFreePass};
+ghost use Rattle.shared_daemon.specs.Entries.{past_seen};
+ghost use Rattle.shared_daemon.specs.Names.{IsPass};
+ghost use Rattle.shared_daemon.specs.Resumed.{MayResumeRow};
+ghost use Rattle.script_runs.specs.Passes.{Ended, EndedMore, PassWent, own};
 ghost use Rattle.daemon_tasks.specs.Resumed.{IsOut, WasGivenUp};
-ghost use Rattle.daemon_tasks.specs.Stays.{AreApart, HoldsAlone, OthersStay};
+ghost use Rattle.daemon_tasks.specs.Waits.{AllWait, AreApart, WaitsIn, rows_seen};
 
-use crate::running::{run_taken, stopped_by};
 use client_plays::Played;
-use daemon_core::{Asked, Claimed, Fetched, Hold, House, ResumeStop, Ticket};
+use daemon_core::{Asked, Claimed, Fetched, Hold, ResumeStop, Ticket};
 use history_keeper::Keeper;
 use install_engine::fetch;
-use outer_traits::Shelf;
+use outer_traits::{NoGate, Shelf};
 use plugin_trait::Plugin;
+use script_runs::{run_taken, stopped_by};
+use shared_daemon::{Daemon, Naming, Pass};
+use std::sync::Wait;
 
 // Gives the hold of a resumption back that was stopped, where it had one.
-fn give_up<K: Keeper>(house: &mut House<K>, stopped: ResumeStop) -> Played
-    requires booted { 0 < boots (past house.old) }
-    requires out { IsOut stopped.held (past house.old) }
-    ensures told { result ≡ stopped_by stopped.stop }
-    ensures given { WasGivenUp stopped.held house.old.house_log house.new.house_log }
-    ensures places { house.new.places ≡ house.old.places }
-    ensures keeper { house.new.keeper ≡ house.old.keeper }
+fn give_up<R: Wait, K: Keeper, N: Naming>(
+    rt: &R,
+    daemon: &Daemon<K, N>,
+    pass: &mut Pass,
+    stopped: ResumeStop,
+) -> Played
+    requires pass { IsPass daemon.now.id N.name pass.old }
+    requires out { IsOut stopped.held pass.old }
+    ensures pass { IsPass daemon.now.id N.name pass.new }
+    ensures told { result ≡ played_of {A = Unit {0}} (Err stopped.stop) }
+    ensures given { WasGivenUp N.name stopped.held pass.old pass.new }
 {
     let ResumeStop { stop, held } = stopped;
     match held {
-        Some((ticket, fetched)) => house.give_up(0, ticket, fetched.into_blocks()),
+        Some((ticket, fetched)) => daemon.give_up(rt, pass, ticket, fetched),
         None => {}
     }
     stopped_by(stop)
@@ -46,137 +53,138 @@ fn give_up<K: Keeper>(house: &mut House<K>, stopped: ResumeStop) -> Played
 
 // Resumes an entry with what the ask for it left, and runs it where it begins. Whichever ask and shelf it came
 // from, that ask is gone on with.
-fn resume_with<K: Keeper>(
-    house: &mut House<K>,
+fn resume_with<R: Wait, K: Keeper, N: Naming>(
+    rt: &R,
+    daemon: &Daemon<K, N>,
+    pass: &mut Pass,
     entry: u32,
     held: Option<(Ticket, Fetched)>,
     plugins: &[Box<dyn Plugin>],
 ) -> Played
-    requires booted { 0 < boots (past house.old) }
-    requires put_off { IsPutOff house.old.house_log entry }
-    requires comes { ComesIn house.old.house_log entry held }
-    requires out { IsOut held (past house.old) }
-    requires served { length house.old.house_log.facts.vetoes ≤ length plugins.now }
-    ensures played { (files : Files) (asked : AskAnswer) → ResumeFetches house.old.house_log.facts files asked (note_in held) → HousePlayed (signs_of K.tells K.faults) result 0 (ResumePlays house.old.house_log.facts (rows_before house.old.house_log) (means_of files (steps_at (λ p. steps p) plugins.now)) entry asked) house.old house.new }
-    ensures others { OthersStay entry house.old.house_log house.new.house_log }
-    ensures told { faults_in (mine 0 (past house.new)) ≤ faults_in (mine 0 (past house.old)) + faults_noted (note_in held) }
+    requires pass { IsPass daemon.now.id N.name pass.old }
+    requires own { pass.old.number ≡ 0 }
+    requires may { MayResumeRow N.name entry held pass.old.seen }
+    requires served { length N.name.facts.vetoes ≤ length plugins.now }
+    ensures pass { IsPass daemon.now.id N.name pass.new }
+    ensures ended { (files : Files) (asked : AskAnswer) → ResumeFetches N.name.facts files asked (note_in held) → Ended result (ResumePlays N.name.facts N.name.opening (means_of files (steps_at (λ p. steps p) plugins.now)) entry asked) pass.old pass.new }
+    ensures told { faults_in (own pass.new) ≤ faults_in (own pass.old) + faults_noted (note_in held) }
 {
-    match house.resume(entry, held) {
-        Ok(Claimed::Taken(taken)) => {
-            house.known();
-            run_taken(house, 0, taken, plugins)
-        }
+    match daemon.resume(rt, pass, entry, held) {
+        Ok(Claimed::Taken(taken)) => run_taken(rt, daemon, pass, taken, plugins, &NoGate),
         Ok(Claimed::Kept { entry: _, state: _ }) => unreachable!(),
         Ok(Claimed::Refused(_)) => Played::Done,
-        Err(stopped) => give_up(house, stopped),
+        Err(stopped) => give_up(rt, daemon, pass, stopped),
     }
 }
 
 // Goes on with the hold of an entry: its payload is fetched from the daemon's shelf.
-fn resume_held<K: Keeper, P: Shelf>(
-    house: &mut House<K>,
+fn resume_held<R: Wait, K: Keeper, N: Naming, P: Shelf>(
+    rt: &R,
+    daemon: &Daemon<K, N>,
+    pass: &mut Pass,
     shelf: &mut P,
     entry: u32,
-    hold: Hold,
+    given: Hold,
     plugins: &[Box<dyn Plugin>],
 ) -> Played
-    requires booted { 0 < boots (past house.old) }
-    requires put_off { IsPutOff house.old.house_log entry }
-    requires held { HoldsAlone 0 hold.ticket hold.blocks.count (past house.old) }
-    requires hold { (request : Request) × IsHoldFor house.old.house_log.facts 0 request (Some entry) hold }
-    requires served { length house.old.house_log.facts.vetoes ≤ length plugins.now }
-    ensures played { HousePlayed (signs_of K.tells K.faults) result 0 (ResumePlays house.old.house_log.facts (rows_before house.old.house_log) (means_of (P.files shelf.old) (steps_at (λ p. steps p) plugins.now)) entry (AskAnswer.Hold hold.blocks.count hold.ticket.release)) house.old house.new }
-    ensures others { OthersStay entry house.old.house_log house.new.house_log }
+    requires pass { IsPass daemon.now.id N.name pass.old }
+    requires own { pass.old.number ≡ 0 }
+    requires waits { WaitsIn (rows_seen N.name pass.old.seen) entry }
+    requires held { hold (past_seen pass.old.seen) 0 ≡ Some (held_by given.ticket given.blocks.count) }
+    requires hold { (request : Request) × IsHoldFor N.name.facts 0 request (Some entry) given }
+    requires served { length N.name.facts.vetoes ≤ length plugins.now }
+    ensures pass { IsPass daemon.now.id N.name pass.new }
+    ensures ended { Ended result (ResumePlays N.name.facts N.name.opening (means_of (P.files shelf.old) (steps_at (λ p. steps p) plugins.now)) entry (AskAnswer.Hold given.blocks.count given.ticket.release)) pass.old pass.new }
     ensures files { P.files shelf.new ≡ P.files shelf.old }
     ensures counts { P.faults shelf.old ≤ P.faults shelf.new }
-    ensures told { FaultsTold (mine 0 (past house.old)) (mine 0 (past house.new)) (P.faults shelf.old) (P.faults shelf.new) }
+    ensures told { FaultsTold (own pass.old) (own pass.new) (P.faults shelf.old) (P.faults shelf.new) }
 {
-    let (ticket, fetched) = fetch(shelf, hold);
-    resume_with(house, entry, Some((ticket, fetched)), plugins)
+    let (ticket, fetched) = fetch(shelf, given);
+    resume_with(rt, daemon, pass, entry, Some((ticket, fetched)), plugins)
 }
 
-// Resumes an entry that was put off.
-fn resume_entry<K: Keeper, P: Shelf>(
-    house: &mut House<K>,
+// Resumes an entry that was put off. The daemon has nothing out before, nor afterwards.
+fn resume_entry<R: Wait, K: Keeper, N: Naming, P: Shelf>(
+    rt: &R,
+    daemon: &Daemon<K, N>,
+    pass: &mut Pass,
     shelf: &mut P,
     entry: u32,
     plugins: &[Box<dyn Plugin>],
 ) -> Played
-    requires booted { 0 < boots (past house.old) }
-    requires idle { IsIdle (past house.old) }
-    requires waits { WaitsIn house.old.house_log entry }
-    requires served { length house.old.house_log.facts.vetoes ≤ length plugins.now }
-    ensures played { HousePlayed (signs_of K.tells K.faults) result 0 (TaskPlays house.old.house_log.facts (rows_before house.old.house_log) (means_of (P.files shelf.old) (steps_at (λ p. steps p) plugins.now)) (ToResume entry)) house.old house.new }
-    ensures others { OthersStay entry house.old.house_log house.new.house_log }
+    requires pass { IsPass daemon.now.id N.name pass.old }
+    requires own { pass.old.number ≡ 0 }
+    requires free { IsFreePass pass.old }
+    requires waits { WaitsIn (rows_seen N.name pass.old.seen) entry }
+    requires served { length N.name.facts.vetoes ≤ length plugins.now }
+    ensures pass { IsPass daemon.now.id N.name pass.new }
+    ensures ended { Ended result (TaskPlays N.name.facts N.name.opening (means_of (P.files shelf.old) (steps_at (λ p. steps p) plugins.now)) (ToResume entry)) pass.old pass.new }
     ensures files { P.files shelf.new ≡ P.files shelf.old }
     ensures counts { P.faults shelf.old ≤ P.faults shelf.new }
-    ensures told { FaultsTold (mine 0 (past house.old)) (mine 0 (past house.new)) (P.faults shelf.old) (P.faults shelf.new) }
+    ensures told { FaultsTold (own pass.old) (own pass.new) (P.faults shelf.old) (P.faults shelf.new) }
 {
-    house.known();
-    match house.ask_pending(entry) {
-        Ok(Asked::Held(hold)) => {
-            house.known();
-            resume_held(house, shelf, entry, hold, plugins)
-        }
-        Ok(Asked::Refused(_)) => {
-            house.known();
-            resume_with(house, entry, None, plugins)
-        }
-        Ok(Asked::Kept { entry: _, state: _ }) => {
-            house.known();
-            unreachable!()
-        }
+    match daemon.ask_pending(rt, pass, entry) {
+        Ok(Asked::Held(given)) => resume_held(rt, daemon, pass, shelf, entry, given, plugins),
+        Ok(Asked::Refused(_)) => resume_with(rt, daemon, pass, entry, None, plugins),
+        Ok(Asked::Kept { entry: _, state: _ }) => unreachable!(),
         Err(stop) => stopped_by(stop),
     }
 }
 
 // Resumes one entry more. Says whether memory was wanting so far, or nothing where the boot is off.
-fn resume_next<K: Keeper, P: Shelf>(
-    house: &mut House<K>,
+fn resume_next<R: Wait, K: Keeper, N: Naming, P: Shelf>(
+    rt: &R,
+    daemon: &Daemon<K, N>,
+    pass: &mut Pass,
     shelf: &mut P,
     entry: u32,
     plugins: &[Box<dyn Plugin>],
     wanting: bool,
 ) -> Option<bool>
-    requires booted { 0 < boots (past house.old) }
-    requires idle { IsIdle (past house.old) }
-    requires waits { WaitsIn house.old.house_log entry }
-    requires served { length house.old.house_log.facts.vetoes ≤ length plugins.now }
-    ensures more { HouseOnceMore (signs_of K.tells K.faults) result wanting 0 (TaskPlays house.old.house_log.facts (rows_before house.old.house_log) (means_of (P.files shelf.old) (steps_at (λ p. steps p) plugins.now)) (ToResume entry)) house.old house.new }
-    ensures others { OthersStay entry house.old.house_log house.new.house_log }
+    requires pass { IsPass daemon.now.id N.name pass.old }
+    requires own { pass.old.number ≡ 0 }
+    requires free { IsFreePass pass.old }
+    requires waits { WaitsIn (rows_seen N.name pass.old.seen) entry }
+    requires served { length N.name.facts.vetoes ≤ length plugins.now }
+    ensures pass { IsPass daemon.now.id N.name pass.new }
+    ensures more { EndedMore result wanting (TaskPlays N.name.facts N.name.opening (means_of (P.files shelf.old) (steps_at (λ p. steps p) plugins.now)) (ToResume entry)) pass.old pass.new }
     ensures files { P.files shelf.new ≡ P.files shelf.old }
     ensures counts { P.faults shelf.old ≤ P.faults shelf.new }
-    ensures told { FaultsTold (mine 0 (past house.old)) (mine 0 (past house.new)) (P.faults shelf.old) (P.faults shelf.new) }
+    ensures told { FaultsTold (own pass.old) (own pass.new) (P.faults shelf.old) (P.faults shelf.new) }
 {
-    match resume_entry(house, shelf, entry, plugins) {
+    match resume_entry(rt, daemon, pass, shelf, entry, plugins) {
         Played::Done => Some(wanting),
         Played::NoMemory => Some(true),
         Played::Off => None,
     }
 }
 
-// Resumes entries that were put off, one after the other, until the boot is off. Says whether memory was
-// wanting, now or before.
-pub(crate) fn resume_all<K: Keeper, P: Shelf>(
-    house: &mut House<K>,
+/// Resumes entries that were put off as the daemon began, one after the other, until the boot is off. Says whether
+/// memory was wanting, for which one was left.
+pub(crate) fn resume_all<R: Wait, K: Keeper, N: Naming, P: Shelf>(
+    rt: &R,
+    daemon: &Daemon<K, N>,
+    pass: &mut Pass,
     shelf: &mut P,
     entries: &[u32],
     plugins: &[Box<dyn Plugin>],
-    before: bool,
 ) -> bool
-    requires booted { 0 < boots (past house.old) }
-    requires idle { IsIdle (past house.old) }
-    requires waits { AllWait house.old.house_log entries.now }
+    requires pass { IsPass daemon.now.id N.name pass.old }
+    requires own { pass.old.number ≡ 0 }
+    requires fresh { IsFresh N.name.start pass.old }
+    requires free { IsFreePass pass.old }
+    requires waits { AllWait (rows_seen N.name N.name.start) entries.now }
     requires apart { AreApart entries.now }
-    requires served { length house.old.house_log.facts.vetoes ≤ length plugins.now }
-    ensures more { HouseMore (signs_of K.tells K.faults) result before 0 (TaskPlays house.old.house_log.facts (rows_before house.old.house_log) (means_of (P.files shelf.old) (steps_at (λ p. steps p) plugins.now))) (map ToResume entries.now) house.old house.new }
+    requires served { length N.name.facts.vetoes ≤ length plugins.now }
+    ensures pass { IsPass daemon.now.id N.name pass.new }
+    ensures went { PassWent result (TaskPlays N.name.facts N.name.opening (means_of (P.files shelf.old) (steps_at (λ p. steps p) plugins.now))) (map ToResume entries.now) pass.old pass.new }
     ensures files { P.files shelf.new ≡ P.files shelf.old }
     ensures counts { P.faults shelf.old ≤ P.faults shelf.new }
-    ensures told { FaultsTold (mine 0 (past house.old)) (mine 0 (past house.new)) (P.faults shelf.old) (P.faults shelf.new) }
+    ensures told { FaultsTold (own pass.old) (own pass.new) (P.faults shelf.old) (P.faults shelf.new) }
 {
-    let mut wanting = before;
+    let mut wanting = false;
     for entry in entries {
-        match resume_next(house, shelf, *entry, plugins, wanting) {
+        match resume_next(rt, daemon, pass, shelf, *entry, plugins, wanting) {
             Some(now) => wanting = now,
             None => return wanting,
         }

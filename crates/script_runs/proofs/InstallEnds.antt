@@ -87,6 +87,17 @@ claim-stopped facts opening means stopped ticket fetched played old mid new t f 
     (ended-wider played (ClaimPlays facts opening means mid.number ticket.request ticket.release) (ClaimPlays facts opening (files_alone means.files) mid.number ticket.request ticket.release) mid new
     (claim-wider facts opening means mid.number ticket.request ticket.release) none))
 
+-- A play was stopped, and the hold that was out is given back.
+pub play-left : {did : List Entry → List Entry → Type 0} (name : Name) (lock : LockId) (request : Request) (old mid : PassView Entry) → IsPass lock name old → mid.number ≡ old.number → (t : Took name did old mid)
+    → (Play : List Moment → Type 0) (some : List Moment) (stop : Stop) (pending : Option ℕ) (held : Held) → Play some → (stop ≡ Stop.Off → off (past_seen old.seen) ≡ true)
+    → hold (past_seen old.seen) old.number ≡ Some held → Adds old.number (Event.GiveBack old.number (back_of pending request)) t.met mid.seen → Ended (stopped_as stop) Play old mid
+play-left {did} name lock request old mid p same t Play some stop pending held q o h a =
+    let event : Event = Event.GiveBack old.number (back_of pending request) in
+    let free : IsFreePass mid = hold-gone {did = did} name lock old mid p same t held event (λ past. refl) (λ past. back-live old.number pending request past) h a in
+    let late : stop ≡ Stop.Off → off (past_seen mid.seen) ≡ true = λ e. ap (λ (w : List Event). off w) (past-added old.number event t.met mid.seen a) ∙ off-stay name old.number old.seen t.met p.log t.meets (o e) in
+    ended-back stop (back_of pending request) Play some (at (past_seen t.met) event) old mid q refl late
+    (did-event {did = did} name lock old mid p same t event refl refl a free)
+
 module _ {did : List Entry → List Entry → Type 0} (name : Name) (lock : LockId) (means : Means) (request : Request) (old mid : PassView Entry) (p : IsPass lock name old) (same : mid.number ≡ old.number) (t : Took name did old mid) where
   -- ---- the claim
 
@@ -114,12 +125,8 @@ module _ {did : List Entry → List Entry → Type 0} (name : Name) (lock : Lock
   pub claim-left : (release : ReleaseRef) (note : FetchNote) (stop : Stop) (pending : Option ℕ) (held : Held) → IsFetched name.facts means.files release note → (stop ≡ Stop.Off → off (past_seen old.seen) ≡ true)
       → hold (past_seen old.seen) old.number ≡ Some held → Adds old.number (Event.GiveBack old.number (back_of pending request)) t.met mid.seen → Ended (stopped_as stop) (ClaimPlays name.facts name.opening means old.number request release) old mid
   claim-left release note stop pending held f o h a =
-      let event : Event = Event.GiveBack old.number (back_of pending request) in
-      let free : IsFreePass mid = hold-gone {did = did} name lock old mid p same t held event (λ past. refl) (λ past. back-live old.number pending request past) h a in
-      let late : stop ≡ Stop.Off → off (past_seen mid.seen) ≡ true = λ e. ap (λ (w : List Event). off w) (past-added old.number event t.met mid.seen a) ∙ off-stay name old.number old.seen t.met p.log t.meets (o e) in
-      ended-back stop (back_of pending request) (ClaimPlays name.facts name.opening means old.number request release) (at [] (Event.Claim old.number request note (ClaimAnswer.Refused Refusal.NoDevice)) ∷ []) (at (past_seen t.met) event) old mid
-      (note, ClaimAnswer.Refused Refusal.NoDevice, refl, f, refl) refl late
-      (did-event {did = did} name lock old mid p same t event refl refl a free)
+      play-left {did = did} name lock request old mid p same t (ClaimPlays name.facts name.opening means old.number request release) (at [] (Event.Claim old.number request note (ClaimAnswer.Refused Refusal.NoDevice)) ∷ [])
+      stop pending held (note, ClaimAnswer.Refused Refusal.NoDevice, refl, f, refl) o h a
 
   -- ---- the ask
 

@@ -20,7 +20,7 @@ use Rattle.shared_daemon.specs.Calls.{Adds, FoundOff, Meets, Took}
 use Rattle.shared_daemon.specs.Entries.{AllMade, entry_of, events, maker_of, past_seen}
 use Rattle.shared_daemon.specs.Names.{IsLogOf, IsPass, Name}
 use Rattle.shared_daemon.proofs.Logs.{begins-all, beyond-longer, events-append, made-back, made_by-append}
-use Rattle.plain_runs.specs.Ran.{StepMade, cut_events, start_events, step_events}
+use Rattle.claim_runs.specs.Made.{StepMade, cut_events, start_events, step_events}
 use Rattle.claim_runs.specs.Ran.{Gained}
 use Rattle.claim_runs.proofs.Kept.{past-added}
 use Rattle.script_runs.specs.Passes.{own}

@@ -20,7 +20,7 @@ use Rattle.client_plays.specs.declared.played.Played.{Played}
 use Rattle.client_plays.specs.Moments.{Moment, at}
 use Rattle.client_plays.specs.Plays.{GivesBack, IsOwnPlugin, StepsPlay, UpdatePlays}
 use Rattle.client_plays.proofs.UpdateLaws.{runs-update}
-use Rattle.plain_runs.specs.Ran.{AreMade, IsBegun, StepMade, cut_events, start_events, step_events}
+use Rattle.claim_runs.specs.Made.{AreMade, IsBegun, StepMade, cut_events, start_events, step_events}
 use Rattle.turn_lock.specs.Shown.{LockId, PassView}
 use Rattle.shared_daemon.specs.declared.entry.Entry.{Entry}
 use Rattle.shared_daemon.specs.Entries.{past_seen}

@@ -31,8 +31,8 @@ use shared_daemon::{Daemon, Naming, Pass};
 use std::sync::Wait;
 use update_log::Request;
 
-// How a play ended that was stopped.
-fn stopped_by(stop: Stop) -> Played
+/// How a play ended that was stopped.
+pub fn stopped_by(stop: Stop) -> Played
     ensures { result ≡ played_of {A = Unit {0}} (Err stop) }
 {
     match stop {
@@ -64,8 +64,9 @@ fn give_back<R: Wait, K: Keeper, N: Naming>(
     stopped_by(stop)
 }
 
-// Runs an entry that was taken.
-fn run_taken<R: Wait, K: Keeper, N: Naming, G: Gate>(
+/// Runs an entry that was taken. The entry is the live one of the pass's client with no step yet, with the board,
+/// payload and trace that its taking gave, and the plugin of its board stands at the place that was taken.
+pub fn run_taken<R: Wait, K: Keeper, N: Naming, G: Gate>(
     rt: &R,
     daemon: &Daemon<K, N>,
     pass: &mut Pass,

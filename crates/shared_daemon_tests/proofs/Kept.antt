@@ -8,24 +8,19 @@ use Rattle.history_keeper.specs.declared.row.Row.{Row}
 use Rattle.history_keeper.specs.declared.row.RowState.{RowState}
 use Rattle.update_log.specs.Known.{row_of, rows}
 use Rattle.update_log.specs.Pasts.{past_of}
-use Rattle.update_log.specs.declared.answer.AskAnswer.{AskAnswer}
 use Rattle.update_log.specs.declared.event.Event.{Event}
 use Rattle.update_log.specs.declared.facts.Facts.{Facts}
-use Rattle.update_log.specs.declared.request.Request.{Request}
 use Rattle.daemon_core.specs.HouseLog.{IsHouseLog, IsLegalSo}
 use Rattle.daemon_core.specs.Housed.{Housed}
 use Rattle.daemon_core.specs.Turns.{Signs}
 use Rattle.daemon_core.proofs.BoardsQuiet.{goes-so}
 use Rattle.turn_lock.specs.Lists.{beyond}
-use Rattle.turn_lock.specs.Shown.{LockId, PassView}
 use Rattle.shared_daemon.specs.declared.entry.Entry.{Entry}
-use Rattle.shared_daemon.specs.Calls.{Adds, Took}
 use Rattle.shared_daemon.specs.Entries.{chronicle, events, past_seen}
-use Rattle.shared_daemon.specs.Names.{IsLogOf, IsPass, KeepsName, Name}
+use Rattle.shared_daemon.specs.Names.{IsLogOf, KeepsName, Name}
 use Rattle.shared_daemon.proofs.Logs.{begins-all, events-append}
-use Rattle.shared_daemon.proofs.OthersRows.{row-same, some-goes_on}
-use Rattle.shared_daemon.proofs.Stayed.{pending-met, rows-met}
-use Rattle.claim_runs.proofs.Kept.{past-added}
+use Rattle.shared_daemon.proofs.OthersRows.{some-goes_on}
+use Rattle.shared_daemon.proofs.Stayed.{rows-met}
 use Rattle.shared_daemon_tests.specs.Waits.{HasRow, IsPutOff}
 
 -- A legal past without its last event.
@@ -53,18 +48,6 @@ has-row name entry seen l h =
 -- One that was put off is there.
 pub has-put-off : (name : Name) (entry : ℕ) (seen : List Entry) → IsPutOff name entry seen → HasRow name entry seen
 has-put-off name entry seen w = subst (λ (o : Option Row). IsSome o) (sym w.row_is) refl
-
--- An ask leaves a row that was put off.
-pub asked-waits : {did : List Entry → List Entry → Type 0} (name : Name) (lock : LockId) (old new : PassView Entry) → IsPass lock name old → (t : Took name did old new) → old.number ≡ 0
-    → (request : Request) (pending : Option ℕ) (answer : AskAnswer) → Adds 0 (Event.Ask 0 request pending answer) t.met new.seen → (entry : ℕ) → IsPutOff name entry old.seen → IsPutOff name entry new.seen
-asked-waits name lock old new p t own request pending answer a entry w =
-    let met : row_of (rows name.facts name.opening (past_seen t.met)) entry ≡ Some w.row = pending-met name old.number old.seen t.met entry w.row p.log t.meets own w.row_is w.pending in
-    record {
-      row = w.row;
-      row_is = ap (λ (x : List Event). row_of (rows name.facts name.opening x) entry) (past-added 0 (Event.Ask 0 request pending answer) t.met new.seen a)
-          ∙ row-same name.facts name.opening (past_seen t.met) (Event.Ask 0 request pending answer) entry w.row refl refl met;
-      pending = w.pending;
-    }
 
 -- The rows of a house are those that its name sees.
 found-pending : (name : Name) (seen : List Entry) (all : List Row) (entry : ℕ) (o : Option Row) → all ≡ rows name.facts name.opening (past_seen seen) → row_of all entry ≡ o → option_map (λ (r : Row). r.state) o ≡ Some RowState.Pending → IsPutOff name entry seen

@@ -1,4 +1,3 @@
 pub mod Plays
-pub mod Begun
 pub mod Kept
 pub mod Own

@@ -7,7 +7,7 @@ ghost use Rattle.turn_lock.specs.Shown.{IsFresh};
 ghost use Rattle.shared_daemon.specs.Closings.{IsFreePass};
 ghost use Rattle.shared_daemon.specs.Entries.{chronicle};
 ghost use Rattle.shared_daemon.specs.Names.{HasNothing, IsPass, KeepsName};
-ghost use Rattle.shared_daemon_tests.specs.Begins.{CanBegin};
+ghost use Rattle.daemon_tasks.specs.Begins.{CanBegin};
 ghost use Rattle.shared_daemon_tests.specs.Waits.{HasRow, IsPutOff};
 ghost use Rattle.daemon_core.specs.Turns.{signs_of};
 

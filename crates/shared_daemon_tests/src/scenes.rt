@@ -4,7 +4,7 @@ ghost use Rattle.std.specs.Prelude.{◌≡◌, ◌≤◌, [], ℕ, None, Some, I
 ghost use Rattle.emulated_boards.specs.Boards.{BoardState};
 ghost use Rattle.daemon_core.specs.House.{IsNewBoard};
 ghost use Rattle.daemon_core.specs.Turns.{signs_of};
-ghost use Rattle.shared_daemon_tests.specs.Begins.{CanBegin};
+ghost use Rattle.daemon_tasks.specs.Begins.{CanBegin};
 
 use crate::days::{Asks, Plan, day};
 use block_pool::Pool;

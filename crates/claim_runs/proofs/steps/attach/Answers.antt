@@ -1,7 +1,7 @@
-use Rattle.plain_runs.proofs.Same.{on-same}
 use Rattle.update_log.specs.declared.event.Op.{Op}
 use Rattle.device_claims.specs.States.{IsNext}
 use Rattle.device_claims.specs.declared.claim.Parts.{Parts}
+use Rattle.claim_runs.proofs.Same.{on-same}
 use Rattle.claim_runs.proofs.Logs.{back-none, gone-end, made-end, on-err}
 use Rattle.claim_runs.proofs.steps.attach.Goals as goal
 

@@ -1,9 +1,9 @@
-use Rattle.plain_runs.proofs.Same.{on-same}
 use Rattle.update_log.specs.declared.event.Op.{Op}
 use Rattle.std.proofs.Common.{◌≡◌}
 use Rattle.std.specs.Prelude.{None}
 use Rattle.update_log.specs.Steps.{next_step}
 use Rattle.device_claims.specs.declared.claim.Parts.{Parts}
+use Rattle.claim_runs.proofs.Same.{on-same}
 use Rattle.claim_runs.proofs.Logs.{back-none, gone-end, made-end, on-err}
 use Rattle.claim_runs.proofs.steps.cleanup.Goals as goal
 

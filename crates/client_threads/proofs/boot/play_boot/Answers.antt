@@ -7,7 +7,7 @@ use Rattle.plugin_trait.specs.Steps.{steps_at}
 use Rattle.client_plays.proofs.ShelfLaws.{files-stay}
 use Rattle.client_plays.proofs.ToolLaws.{shelves-both, shelves-here}
 use Rattle.client_threads.proofs.Boots.{boot-off, boot-played, no-clients_yet, still-booted, still-counted, still-read}
-use Rattle.client_threads.proofs.Pasts.{on-unread}
+use Rattle.daemon_tasks.proofs.Pasts.{on-unread}
 use Rattle.client_threads.proofs.Shelves.{enough-stay}
 use Rattle.daemon_core.specs.Housed.{past, rows_before}
 use Rattle.daemon_core.specs.Turns.{signs_of}
@@ -31,40 +31,40 @@ returns g c = record {
       absurd (on-unread c.args.house.house_log.loaded (past c.args.house) c.known.ensures.house_log.unloaded c.requires.booted (sym c.is_off-is_off.ensures ∙ c.if-is_off.false) u);
   played =
       let told = means_for (steps_at (λ b. (goal.Plugin-dyn g (b.vtable, b.value)).steps b.value) c.args.plugins.now) (shelves_told g.P.Shelf.files g.P.Shelf.faults c.args.shelves.now.items) in
-      let then = means_for (steps_at (λ b. (goal.Plugin-dyn g (b.vtable, b.value)).steps b.value) c.args.plugins.now) (shelves_told g.P.Shelf.files g.P.Shelf.faults c.do_tasks_first-now.new.shelves.items) in
+      let then = means_for (steps_at (λ b. (goal.Plugin-dyn g (b.vtable, b.value)).steps b.value) c.args.plugins.now) (shelves_told g.P.Shelf.files g.P.Shelf.faults c.do_tasks_first-house.new.shelves.items) in
       subst (λ (w : Bool). HouseBootPlayed (signs_of g.K.Keeper.tells g.K.Keeper.faults) w told c.args.of_boot.now c.args.house c.play_clients-house.result.0) (sym c.either.ensures)
-      (boot-played (signs_of g.K.Keeper.tells g.K.Keeper.faults) c.do_tasks_first-now.result (told 0) c.args.house c.do_tasks_first-now.new.house c.do_tasks_first-now.ensures.went c.play_clients-house.result.1 told then c.args.of_boot.now c.play_clients-house.result.0 c.requires.fresh refl
-      (λ client. ap (λ (f : Files). means_of f (steps_at (λ b. (goal.Plugin-dyn g (b.vtable, b.value)).steps b.value) c.args.plugins.now)) (files-stay (shelves_told g.P.Shelf.files g.P.Shelf.faults c.args.shelves.now.items) (shelves_told g.P.Shelf.files g.P.Shelf.faults c.do_tasks_first-now.new.shelves.items) c.do_tasks_first-now.ensures.kept client))
+      (boot-played (signs_of g.K.Keeper.tells g.K.Keeper.faults) c.do_tasks_first-house.result.1 (told 0) c.args.house c.do_tasks_first-house.result.0 c.do_tasks_first-house.ensures.went c.play_clients-house.result.1 told then c.args.of_boot.now c.play_clients-house.result.0 c.requires.fresh refl
+      (λ client. ap (λ (f : Files). means_of f (steps_at (λ b. (goal.Plugin-dyn g (b.vtable, b.value)).steps b.value) c.args.plugins.now)) (files-stay (shelves_told g.P.Shelf.files g.P.Shelf.faults c.args.shelves.now.items) (shelves_told g.P.Shelf.files g.P.Shelf.faults c.do_tasks_first-house.new.shelves.items) c.do_tasks_first-house.ensures.kept client))
       c.play_clients-house.ensures.played c.known-2.ensures.house_log.legal.0 (rows_before c.play_clients-house.result.0.house_log) c.known-2.ensures.house_log.legal.3);
   kept =
-      shelves-both (shelves_told g.P.Shelf.files g.P.Shelf.faults c.args.shelves.now.items) (shelves_told g.P.Shelf.files g.P.Shelf.faults c.do_tasks_first-now.new.shelves.items) (shelves_told g.P.Shelf.files g.P.Shelf.faults c.play_clients-house.new.shelves.items)
-      c.do_tasks_first-now.ensures.kept c.play_clients-house.ensures.kept;
+      shelves-both (shelves_told g.P.Shelf.files g.P.Shelf.faults c.args.shelves.now.items) (shelves_told g.P.Shelf.files g.P.Shelf.faults c.do_tasks_first-house.new.shelves.items) (shelves_told g.P.Shelf.files g.P.Shelf.faults c.play_clients-house.new.shelves.items)
+      c.do_tasks_first-house.ensures.kept c.play_clients-house.ensures.kept;
   told =
-      shelves-count_both (past c.args.house) (past c.do_tasks_first-now.new.house) (past c.play_clients-house.result.0)
-      (shelves_told g.P.Shelf.files g.P.Shelf.faults c.args.shelves.now.items) (shelves_told g.P.Shelf.files g.P.Shelf.faults c.do_tasks_first-now.new.shelves.items) (shelves_told g.P.Shelf.files g.P.Shelf.faults c.play_clients-house.new.shelves.items)
-      c.do_tasks_first-now.ensures.kept c.play_clients-house.ensures.kept c.do_tasks_first-now.ensures.told c.play_clients-house.ensures.told;
+      shelves-count_both (past c.args.house) (past c.do_tasks_first-house.result.0) (past c.play_clients-house.result.0)
+      (shelves_told g.P.Shelf.files g.P.Shelf.faults c.args.shelves.now.items) (shelves_told g.P.Shelf.files g.P.Shelf.faults c.do_tasks_first-house.new.shelves.items) (shelves_told g.P.Shelf.files g.P.Shelf.faults c.play_clients-house.new.shelves.items)
+      c.do_tasks_first-house.ensures.kept c.play_clients-house.ensures.kept c.do_tasks_first-house.ensures.told c.play_clients-house.ensures.told;
 }
 
 pub play_clients-house-requires-clause-booted : goal.play_clients-house-requires-clause-booted
 play_clients-house-requires-clause-booted g c κs within =
     let told = means_for (steps_at (λ b. (goal.Plugin-dyn g (b.vtable, b.value)).steps b.value) c.args.plugins.now) (shelves_told g.P.Shelf.files g.P.Shelf.faults c.args.shelves.now.items) in
-    still-booted (signs_of g.K.Keeper.tells g.K.Keeper.faults) c.do_tasks_first-now.result (told 0) c.args.house c.do_tasks_first-now.new.house c.do_tasks_first-now.ensures.went c.requires.booted
+    still-booted (signs_of g.K.Keeper.tells g.K.Keeper.faults) c.do_tasks_first-house.result.1 (told 0) c.args.house c.do_tasks_first-house.result.0 c.do_tasks_first-house.ensures.went c.requires.booted
 
 pub play_clients-house-requires-clause-counted : goal.play_clients-house-requires-clause-counted
 play_clients-house-requires-clause-counted g c κs within =
     let told = means_for (steps_at (λ b. (goal.Plugin-dyn g (b.vtable, b.value)).steps b.value) c.args.plugins.now) (shelves_told g.P.Shelf.files g.P.Shelf.faults c.args.shelves.now.items) in
-    still-counted (signs_of g.K.Keeper.tells g.K.Keeper.faults) c.do_tasks_first-now.result (told 0) c.args.house c.do_tasks_first-now.new.house c.do_tasks_first-now.ensures.went c.requires.counted
+    still-counted (signs_of g.K.Keeper.tells g.K.Keeper.faults) c.do_tasks_first-house.result.1 (told 0) c.args.house c.do_tasks_first-house.result.0 c.do_tasks_first-house.ensures.went c.requires.counted
 
 pub play_clients-house-requires-clause-read : goal.play_clients-house-requires-clause-read
 play_clients-house-requires-clause-read g c κs within =
     let told = means_for (steps_at (λ b. (goal.Plugin-dyn g (b.vtable, b.value)).steps b.value) c.args.plugins.now) (shelves_told g.P.Shelf.files g.P.Shelf.faults c.args.shelves.now.items) in
-    still-read (signs_of g.K.Keeper.tells g.K.Keeper.faults) c.do_tasks_first-now.result (told 0) c.args.house c.do_tasks_first-now.new.house c.do_tasks_first-now.ensures.went c.requires.read
+    still-read (signs_of g.K.Keeper.tells g.K.Keeper.faults) c.do_tasks_first-house.result.1 (told 0) c.args.house c.do_tasks_first-house.result.0 c.do_tasks_first-house.ensures.went c.requires.read
 
 pub play_clients-house-requires-clause-none : goal.play_clients-house-requires-clause-none
 play_clients-house-requires-clause-none g c κs within =
     let told = means_for (steps_at (λ b. (goal.Plugin-dyn g (b.vtable, b.value)).steps b.value) c.args.plugins.now) (shelves_told g.P.Shelf.files g.P.Shelf.faults c.args.shelves.now.items) in
-    no-clients_yet (signs_of g.K.Keeper.tells g.K.Keeper.faults) c.do_tasks_first-now.result (told 0) c.args.house c.do_tasks_first-now.new.house c.do_tasks_first-now.ensures.went c.requires.fresh
+    no-clients_yet (signs_of g.K.Keeper.tells g.K.Keeper.faults) c.do_tasks_first-house.result.1 (told 0) c.args.house c.do_tasks_first-house.result.0 c.do_tasks_first-house.ensures.went c.requires.fresh
 
 pub play_clients-house-requires-clause-shelves : goal.play_clients-house-requires-clause-shelves
 play_clients-house-requires-clause-shelves g c κs within =
-    enough-stay g.P.Shelf.files g.P.Shelf.faults c.args.shelves.now.items c.do_tasks_first-now.new.shelves.items (length c.args.of_boot.now) c.requires.serves.shelf c.do_tasks_first-now.ensures.kept
+    enough-stay g.P.Shelf.files g.P.Shelf.faults c.args.shelves.now.items c.do_tasks_first-house.new.shelves.items (length c.args.of_boot.now) c.requires.serves.shelf c.do_tasks_first-house.ensures.kept

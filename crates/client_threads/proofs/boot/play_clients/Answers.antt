@@ -4,7 +4,8 @@ use Rattle.client_plays.specs.Shelves.{means_for}
 use Rattle.plugin_trait.specs.Steps.{steps_at}
 use Rattle.client_plays.proofs.ToolLaws.{shelves-here}
 use Rattle.client_threads.proofs.Plays.{empty-list}
-use Rattle.client_threads.proofs.Rest.{can-begin, clients-off, its-name, no-clients}
+use Rattle.daemon_tasks.proofs.Closing.{can-begin, its-name}
+use Rattle.client_threads.proofs.Rest.{clients-off, no-clients}
 use Rattle.daemon_core.specs.Housed.{past}
 use Rattle.daemon_core.specs.Turns.{signs_of}
 use Rattle.client_plays.proofs.ShelfCounts.{shelves-count_here}

@@ -1,4 +1,4 @@
-use Rattle.client_threads.specs.Begins.{name_of}
+use Rattle.daemon_tasks.specs.Begins.{name_of}
 use Rattle.client_threads.proofs.boot.play_clients.Given as goal
 use Rattle.daemon_core.specs.Turns.{signs_of}
 

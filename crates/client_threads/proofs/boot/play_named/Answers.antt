@@ -9,7 +9,8 @@ use Rattle.client_plays.specs.Shelves.{means_for}
 use Rattle.plugin_trait.specs.Steps.{steps_at}
 use Rattle.client_plays.proofs.ToolLaws.{shelves-here}
 use Rattle.client_threads.specs.Clients.{ClientsPlayed}
-use Rattle.client_threads.proofs.Rest.{begins-named, clients-left, clients-played, nothing-out, shelves-counted}
+use Rattle.daemon_tasks.proofs.Closing.{begins-named, nothing-out}
+use Rattle.client_threads.proofs.Rest.{clients-left, clients-played, shelves-counted}
 use Rattle.client_plays.proofs.ShelfCounts.{shelves-count_here}
 use Rattle.client_threads.proofs.boot.play_named.Goals as goal
 

@@ -5,7 +5,8 @@ use Rattle.client_plays.specs.Has.{shelves_told}
 use Rattle.client_plays.specs.Shelves.{means_for}
 use Rattle.plugin_trait.specs.Steps.{steps_at}
 use Rattle.client_plays.specs.Tools.{ShelvesStay}
-use Rattle.client_threads.specs.Runs.{RanSoFar, ReadLast}
+use Rattle.client_plays.specs.Endings.{ReadLast}
+use Rattle.client_threads.specs.Runs.{RanSoFar}
 use Rattle.client_threads.proofs.running.run_boots.Given as goal
 
 abbrev pub invariant-loop-number : goal.invariant-loop-number

@@ -1,83 +1,85 @@
-use Rattle.std.proofs.Common.{◌≤◌, ◌∙◌, map, take, get_or, length, refl, subst, sym, arith}
-use Rattle.std.specs.Prelude.{Some, None}
-use Rattle.client_plays.proofs.ToolLaws.{le-both}
-use Rattle.update_log.specs.declared.facts.Facts.{Facts}
-use Rattle.client_plays.specs.Plays.{TaskPlays, ToResume}
-use Rattle.client_plays.proofs.RestLaws.{so_far-nothing, still-booted}
-use Rattle.daemon_tasks.proofs.ResumeLoops.{apart-later, resumed-end, resumed-off, resumed-turn, same-task, told-more, waits-later, waits-next}
-use Rattle.daemon_core.specs.Housed.{past, rows_before}
-use Rattle.daemon_core.specs.Turns.{signs_of}
-use Rattle.client_plays.specs.Tools.{means_of}
 use Rattle.plugin_trait.specs.Steps.{steps_at}
-use Rattle.client_plays.specs.Moments.{mine}
+use Rattle.std.proofs.Common.{◌∙◌, List, arith, drop, false, get_or, map, refl, subst, suc, take}
+use Rattle.std.proofs.lemmas.List.{take_all}
+use Rattle.std.specs.Prelude.{None, Some}
+use Rattle.client_plays.specs.Plays.{Task, TaskPlays, ToResume}
+use Rattle.client_plays.specs.Tools.{means_of}
 use Rattle.client_plays.proofs.FaultLaws.{told-both, told-same}
+use Rattle.script_runs.specs.Passes.{SoFar, own}
+use Rattle.script_runs.proofs.GoingLaws.{so_far-more, so_far-nothing, went-all, went-left}
+use Rattle.daemon_tasks.proofs.Waiting.{resumed-here, resumed-more, same-resumes, wait-turn}
 use Rattle.daemon_tasks.proofs.resuming.resume_all.Goals as goal
 
 pub loop-entry-init : goal.loop-entry-init
-loop-entry-init g c = record {
-  so_far = so_far-nothing (signs_of g.K.Keeper.tells g.K.Keeper.faults) c.args.before 0 (TaskPlays c.args.house.now.house_log.facts (rows_before c.args.house.now.house_log) (means_of (g.P.Shelf.files c.args.shelf.now) (steps_at (λ b. (goal.Plugin-dyn g (b.vtable, b.value)).steps b.value) c.args.plugins.now))) c.args.house.now c.requires.idle;
-  told = λ b. b;
-  waits = c.requires.waits;
-  apart = c.requires.apart;
-  files = refl;
-  counts = omega arith;
-  counted = told-same (mine 0 (past c.args.house.now)) (mine 0 (past c.args.house.now)) (g.P.Shelf.faults c.args.shelf.now) refl;
-}
+loop-entry-init g c =
+    let name = g.N.Naming.name in
+    record {
+      pass = c.requires.pass;
+      so_far = so_far-nothing false (TaskPlays name.facts name.opening (means_of (g.P.Shelf.files c.args.shelf.now) (steps_at (λ b. (goal.Plugin-dyn g (b.vtable, b.value)).steps b.value) c.args.plugins.now))) c.args.pass.now c.requires.free;
+      files = refl;
+      counts = omega arith;
+      told = told-same (own c.args.pass.now) (own c.args.pass.now) (g.P.Shelf.faults c.args.shelf.now) refl;
+    }
 
-pub resume_next-requires-clause-booted : goal.resume_next-requires-clause-booted
-resume_next-requires-clause-booted g c =
-    still-booted (signs_of g.K.Keeper.tells g.K.Keeper.faults) c.loop-entry.wanting 0 (TaskPlays c.args.house.now.house_log.facts (rows_before c.args.house.now.house_log) (means_of (g.P.Shelf.files c.args.shelf.now) (steps_at (λ b. (goal.Plugin-dyn g (b.vtable, b.value)).steps b.value) c.args.plugins.now))) (map ToResume (take c.loop-entry.entry-index c.args.entries.now)) c.args.house.now c.loop-entry.house
-    c.loop-entry.invariant.so_far c.requires.booted
+pub resume_next-requires-clause-own : goal.resume_next-requires-clause-own
+resume_next-requires-clause-own g c = c.loop-entry.invariant.so_far.did.same ∙ c.requires.own
+
+pub resume_next-requires-clause-free : goal.resume_next-requires-clause-free
+resume_next-requires-clause-free g c = c.loop-entry.invariant.so_far.did.free
 
 pub resume_next-requires-clause-waits : goal.resume_next-requires-clause-waits
-resume_next-requires-clause-waits g c = waits-next c.loop-entry.house.house_log c.args.entries.now c.loop-entry.entry-index c.loop-entry-test.true c.loop-entry.invariant.waits
-
-pub resume_next-requires-clause-served : goal.resume_next-requires-clause-served
-resume_next-requires-clause-served g c =
-    subst (λ (f : Facts). length f.vetoes ≤ length c.args.plugins.now) (sym c.loop-entry.invariant.so_far.rest.same.facts) c.requires.served
-
-pub returns-in-None : goal.returns-in-None
-returns-in-None g c = record {
-  more =
-      let v = c.loop-entry.invariant in
-      let i = c.loop-entry.entry-index in
-      let a = c.args.house.now.house_log in
-      let files = g.P.Shelf.files c.args.shelf.now in
-      let plugins = (steps_at (λ b. (goal.Plugin-dyn g (b.vtable, b.value)).steps b.value) c.args.plugins.now) in
-      resumed-off (signs_of g.K.Keeper.tells g.K.Keeper.faults) (TaskPlays a.facts (rows_before a) (means_of files plugins)) c.args.before c.loop-entry.wanting c.args.entries.now i c.args.house.now c.loop-entry.house c.resume_next.new.house
-      c.loop-entry-test.true v.told v.so_far
-      (same-task (signs_of g.K.Keeper.tells g.K.Keeper.faults) None c.loop-entry.wanting (ToResume (get_or c.args.entries.now i 0)) plugins a c.loop-entry.house.house_log files (g.P.Shelf.files c.loop-entry.shelf) c.loop-entry.house c.resume_next.new.house
-      v.so_far.rest.same v.files c.in-None.ensures.more);
-  files = c.in-None.ensures.files ∙ c.loop-entry.invariant.files;
-  counts = le-both (g.P.Shelf.faults c.args.shelf.now) (g.P.Shelf.faults c.loop-entry.shelf) (g.P.Shelf.faults c.resume_next.new.shelf) c.loop-entry.invariant.counts c.in-None.ensures.counts;
-  told =
-      told-both (mine 0 (past c.args.house.now)) (mine 0 (past c.loop-entry.house)) (mine 0 (past c.resume_next.new.house)) (g.P.Shelf.faults c.args.shelf.now) (g.P.Shelf.faults c.loop-entry.shelf) (g.P.Shelf.faults c.resume_next.new.shelf)
-      c.loop-entry.invariant.counted c.in-None.ensures.told c.in-None.ensures.counts;
-}
+resume_next-requires-clause-waits g c =
+    let name = g.N.Naming.name in
+    let v = c.loop-entry.invariant in
+    wait-turn name c.args.daemon.now.id c.args.pass.now c.loop-entry.pass c.requires.own c.requires.fresh c.requires.pass v.pass c.args.entries.now c.loop-entry.entry-index c.loop-entry-test.true c.requires.waits c.requires.apart c.loop-entry.wanting
+    (means_of (g.P.Shelf.files c.args.shelf.now) (steps_at (λ b. (goal.Plugin-dyn g (b.vtable, b.value)).steps b.value) c.args.plugins.now)) v.so_far
 
 pub loop-entry-preserved : goal.loop-entry-preserved
 loop-entry-preserved g c =
+    let name = g.N.Naming.name in
     let v = c.loop-entry.invariant in
     let i = c.loop-entry.entry-index in
-    let a = c.args.house.now.house_log in
-    let files = g.P.Shelf.files c.args.shelf.now in
-    let plugins = (steps_at (λ b. (goal.Plugin-dyn g (b.vtable, b.value)).steps b.value) c.args.plugins.now) in
+    let plugins = steps_at (λ b. (goal.Plugin-dyn g (b.vtable, b.value)).steps b.value) c.args.plugins.now in
+    let plays = TaskPlays name.facts name.opening (means_of (g.P.Shelf.files c.args.shelf.now) plugins) in
     record {
-      so_far = resumed-turn (signs_of g.K.Keeper.tells g.K.Keeper.faults) (TaskPlays a.facts (rows_before a) (means_of files plugins)) c.in-Some.now c.loop-entry.wanting c.args.entries.now i c.args.house.now c.loop-entry.house c.resume_next.new.house c.loop-entry-test.true v.so_far
-          (same-task (signs_of g.K.Keeper.tells g.K.Keeper.faults) (Some c.in-Some.now) c.loop-entry.wanting (ToResume (get_or c.args.entries.now i 0)) plugins a c.loop-entry.house.house_log files (g.P.Shelf.files c.loop-entry.shelf) c.loop-entry.house c.resume_next.new.house
-          v.so_far.rest.same v.files c.in-Some.ensures.more);
-      told = told-more c.args.before c.in-Some.now c.loop-entry.wanting c.in-Some.ensures.more.more.0 v.told;
-      waits = waits-later c.loop-entry.house.house_log c.resume_next.new.house.house_log c.args.entries.now i c.loop-entry-test.true v.apart v.waits c.in-Some.ensures.others;
-      apart = apart-later c.args.entries.now i c.loop-entry-test.true v.apart;
+      pass = c.in-Some.ensures.pass;
+      so_far = subst (λ (ts : List Task). SoFar c.in-Some.now plays ts c.args.pass.now c.resume_next.new.pass) (resumed-more c.args.entries.now i c.loop-entry-test.true)
+          (so_far-more c.in-Some.now c.loop-entry.wanting plays (map ToResume (take i c.args.entries.now)) (ToResume (get_or c.args.entries.now i 0)) c.args.pass.now c.loop-entry.pass c.resume_next.new.pass v.so_far
+          (same-resumes name (Some c.in-Some.now) c.loop-entry.wanting (get_or c.args.entries.now i 0) plugins (g.P.Shelf.files c.args.shelf.now) (g.P.Shelf.files c.loop-entry.shelf) c.loop-entry.pass c.resume_next.new.pass v.files c.in-Some.ensures.more));
       files = c.in-Some.ensures.files ∙ v.files;
-      counts = le-both (g.P.Shelf.faults c.args.shelf.now) (g.P.Shelf.faults c.loop-entry.shelf) (g.P.Shelf.faults c.resume_next.new.shelf) v.counts c.in-Some.ensures.counts;
-      counted = told-both (mine 0 (past c.args.house.now)) (mine 0 (past c.loop-entry.house)) (mine 0 (past c.resume_next.new.house)) (g.P.Shelf.faults c.args.shelf.now) (g.P.Shelf.faults c.loop-entry.shelf) (g.P.Shelf.faults c.resume_next.new.shelf)
-          c.loop-entry.invariant.counted c.in-Some.ensures.told c.in-Some.ensures.counts;
+      counts = omega (arith, v.counts, c.in-Some.ensures.counts);
+      told = told-both (own c.args.pass.now) (own c.loop-entry.pass) (own c.resume_next.new.pass) (g.P.Shelf.faults c.args.shelf.now) (g.P.Shelf.faults c.loop-entry.shelf) (g.P.Shelf.faults c.resume_next.new.shelf)
+          v.told c.in-Some.ensures.told c.in-Some.ensures.counts;
     }
 
-pub returns-clause-more : goal.returns-clause-more
-returns-clause-more g c =
-    resumed-end (signs_of g.K.Keeper.tells g.K.Keeper.faults) (TaskPlays c.args.house.now.house_log.facts (rows_before c.args.house.now.house_log) (means_of (g.P.Shelf.files c.args.shelf.now) (steps_at (λ b. (goal.Plugin-dyn g (b.vtable, b.value)).steps b.value) c.args.plugins.now))) c.args.before c.loop-entry.wanting c.args.entries.now c.loop-entry.entry-index c.args.house.now c.loop-entry.house c.loop-entry-test.false c.loop-entry.invariant.told c.loop-entry.invariant.so_far
+pub returns-in-None-clause-went : goal.returns-in-None-clause-went
+returns-in-None-clause-went g c =
+    let name = g.N.Naming.name in
+    let v = c.loop-entry.invariant in
+    let i = c.loop-entry.entry-index in
+    let plugins = steps_at (λ b. (goal.Plugin-dyn g (b.vtable, b.value)).steps b.value) c.args.plugins.now in
+    let plays = TaskPlays name.facts name.opening (means_of (g.P.Shelf.files c.args.shelf.now) plugins) in
+    went-left c.loop-entry.wanting plays (map ToResume (take i c.args.entries.now)) (ToResume (get_or c.args.entries.now i 0)) (map ToResume (drop (suc i) c.args.entries.now)) (map ToResume c.args.entries.now)
+    c.args.pass.now c.loop-entry.pass c.resume_next.new.pass (resumed-here c.args.entries.now i c.loop-entry-test.true) v.so_far
+    (same-resumes name None c.loop-entry.wanting (get_or c.args.entries.now i 0) plugins (g.P.Shelf.files c.args.shelf.now) (g.P.Shelf.files c.loop-entry.shelf) c.loop-entry.pass c.resume_next.new.pass v.files c.in-None.ensures.more)
+
+pub returns-in-None-clause-files : goal.returns-in-None-clause-files
+returns-in-None-clause-files g c = c.in-None.ensures.files ∙ c.loop-entry.invariant.files
+
+pub returns-in-None-clause-counts : goal.returns-in-None-clause-counts
+returns-in-None-clause-counts g c = omega (arith, c.loop-entry.invariant.counts, c.in-None.ensures.counts)
+
+pub returns-in-None-clause-told : goal.returns-in-None-clause-told
+returns-in-None-clause-told g c =
+    told-both (own c.args.pass.now) (own c.loop-entry.pass) (own c.resume_next.new.pass) (g.P.Shelf.faults c.args.shelf.now) (g.P.Shelf.faults c.loop-entry.shelf) (g.P.Shelf.faults c.resume_next.new.shelf)
+    c.loop-entry.invariant.told c.in-None.ensures.told c.in-None.ensures.counts
+
+pub returns-clause-went : goal.returns-clause-went
+returns-clause-went g c =
+    let name = g.N.Naming.name in
+    let plays = TaskPlays name.facts name.opening (means_of (g.P.Shelf.files c.args.shelf.now) (steps_at (λ b. (goal.Plugin-dyn g (b.vtable, b.value)).steps b.value) c.args.plugins.now)) in
+    went-all c.loop-entry.wanting plays (map ToResume c.args.entries.now) c.args.pass.now c.loop-entry.pass
+    (subst (λ (es : List _). SoFar c.loop-entry.wanting plays (map ToResume es) c.args.pass.now c.loop-entry.pass) (take_all c.loop-entry.entry-index c.args.entries.now c.loop-entry-test.false) c.loop-entry.invariant.so_far)
 
 pub returns-clause-told : goal.returns-clause-told
-returns-clause-told g c = c.loop-entry.invariant.counted
+returns-clause-told g c = c.loop-entry.invariant.told

@@ -3,7 +3,8 @@ use Rattle.std.specs.Prelude.{Some, Ok}
 use Rattle.daemon_core.specs.declared.claimed.Claimed.{Claimed}
 use Rattle.daemon_core.specs.Resumes.{note_in}
 use Rattle.shared_daemon.specs.Resumed.{ResumeGaveIn, ResumedIn}
-use Rattle.shared_daemon_tests.proofs.Own.{may-resume, resume-runs, sized-enough}
+use Rattle.script_runs.proofs.Fetches.{sized-enough}
+use Rattle.daemon_tasks.proofs.Asking.{may-resume, resume-runs}
 use Rattle.shared_daemon_tests.proofs.own_turns.resume_taken.Goals as goal
 
 pub fetch-ticket-requires : goal.fetch-ticket-requires

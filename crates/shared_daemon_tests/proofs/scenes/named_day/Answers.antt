@@ -1,15 +1,11 @@
-use Rattle.std.proofs.Common.{List, ap, ◌∙◌}
-use Rattle.update_log.specs.declared.event.Event.{Event}
-use Rattle.update_log.specs.Holding.{holds, live}
-use Rattle.shared_daemon.proofs.Logs.{past-entries}
-use Rattle.shared_daemon_tests.proofs.Begun.{begins-named}
-use Rattle.shared_daemon_tests.proofs.scenes.named_day.Goals as goal
 use Rattle.daemon_core.specs.Turns.{signs_of}
+use Rattle.daemon_tasks.specs.Begins.{name_of}
+use Rattle.daemon_tasks.proofs.Closing.{begins-named, its-name, nothing-out}
+use Rattle.shared_daemon_tests.proofs.scenes.named_day.Goals as goal
 
 pub day-requires-clause-name : goal.day-requires-clause-name
-day-requires-clause-name g c = begins-named (signs_of g.K.Keeper.tells g.K.Keeper.faults) c.args.house c.requires
+day-requires-clause-name g c =
+    let f = signs_of g.K.Keeper.tells g.K.Keeper.faults in begins-named f (name_of f c.args.house) c.args.house (its-name f c.args.house) c.requires
 
 pub day-requires-clause-nothing : goal.day-requires-clause-nothing
-day-requires-clause-nothing g c =
-    let e = past-entries c.args.house.house_log c.known.ensures.house_log in
-    (ap (λ (p : List Event). holds p) e ∙ c.requires.no_holds, ap (λ (p : List Event). live p) e ∙ c.requires.no_live)
+day-requires-clause-nothing g c = nothing-out (signs_of g.K.Keeper.tells g.K.Keeper.faults) c.args.house c.known.ensures.house_log c.requires.idle

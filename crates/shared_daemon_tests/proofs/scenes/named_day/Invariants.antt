@@ -1,4 +1,4 @@
-use Rattle.shared_daemon_tests.specs.Begins.{name_of}
+use Rattle.daemon_tasks.specs.Begins.{name_of}
 use Rattle.shared_daemon_tests.proofs.scenes.named_day.Given as goal
 use Rattle.daemon_core.specs.Turns.{signs_of}
 
