@@ -17,8 +17,7 @@ use Rattle.daemon_core.specs.Claims.{IsServedBy, IsTaken}
 use Rattle.daemon_core.specs.Fetches.{note_of, whole_note}
 use Rattle.daemon_core.specs.declared.claimed.Taken.{Taken}
 use Rattle.daemon_core.specs.declared.fetched.Fetched.{Fetched}
-use Rattle.install_engine.specs.Runs.{ClaimRuns}
-use Rattle.install_engine.specs.RunsIn.{parts_taken}
+use Rattle.install_engine.specs.Runs.{ClaimRuns, parts_taken}
 use Rattle.install_engine.proofs.RunTaken.{TakesWith, claim-takes, taken-runs}
 use Rattle.turn_lock.specs.Shown.{PassView}
 use Rattle.shared_daemon.specs.declared.entry.Entry.{Entry}

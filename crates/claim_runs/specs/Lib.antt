@@ -17,4 +17,3 @@ pub use Rattle.shared_daemon.specs.Steps as SharedDaemonSteps
 pub use Rattle.device_claims.specs.Claims
 pub use Rattle.device_claims.specs.States
 pub use Rattle.install_engine.specs.Runs
-pub use Rattle.install_engine.specs.RunsIn

@@ -4,7 +4,7 @@ ghost use Rattle.plugin_trait.specs.Steps.{steps_at};
 ghost use Rattle.update_log.specs.declared.event.Op.{Op};
 ghost use Rattle.update_log.specs.Steps.{next_step};
 ghost use Rattle.device_claims.specs.States.{IsNext};
-ghost use Rattle.install_engine.specs.RunsIn.{parts_taken};
+ghost use Rattle.install_engine.specs.Runs.{parts_taken};
 ghost use Rattle.shared_daemon.specs.Names.{IsPass};
 ghost use Rattle.claim_runs.specs.Known.{RunsFor, RunsSeen};
 ghost use Rattle.claim_runs.specs.Ran.{Closes, GaveBack, MadeSteps, Ran};

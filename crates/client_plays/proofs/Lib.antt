@@ -3,7 +3,6 @@ pub mod ShelfLaws
 pub mod MomentLaws
 pub mod PlayLaws
 pub mod ScriptLaws
-pub mod TurnLaws
 pub mod RestLaws
 pub mod ListLaws
 pub mod BootLaws

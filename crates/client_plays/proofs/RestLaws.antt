@@ -1,9 +1,8 @@
 -- Going through a list of things, over a house.
 use Rattle.std.proofs.Common.{◌≡◌, ◌⊎◌, ℕ, ◌<◌, Bool, true, false, List, [], ◌∷◌, ◌++◌, refl, ap, sym, ◌∙◌, subst, inl, inr, arith}
-use Rattle.std.specs.Prelude.{Some, None}
 use Rattle.std.specs.List.{list_any}
 use Rattle.history_keeper.specs.declared.row.Row.{Row}
-use Rattle.update_log.specs.Pasts.{boots, is_boot, off}
+use Rattle.update_log.specs.Pasts.{boots, is_boot}
 use Rattle.update_log.specs.declared.event.Event.{Event}
 use Rattle.update_log.proofs.Lists.{by_test}
 use Rattle.daemon_core.specs.HouseLog.{SameFacts}
@@ -12,12 +11,11 @@ use Rattle.daemon_core.specs.Turns.{Signs}
 use Rattle.daemon_core.proofs.Fared.{fared-both, fared-here}
 use Rattle.daemon_core.proofs.Planned.{keeps-both, keeps-here}
 use Rattle.daemon_core.specs.Keeping.{last_faulted}
-use Rattle.client_plays.specs.declared.played.Played.{Played}
 use Rattle.client_plays.specs.Moments.{Grew, Moment}
 use Rattle.client_plays.specs.Scripts.{PlayedSo, PlaysAll, PlaysUntil}
-use Rattle.client_plays.specs.Endings.{AtRest, HouseOnceMore, HousePlayed, HouseWent, IsIdle, SoFar}
-use Rattle.client_plays.proofs.MomentLaws.{did-both, did-nothing, grew-boots}
-use Rattle.client_plays.proofs.ScriptLaws.{all-more, all-push, so-all, until-left}
+use Rattle.client_plays.specs.Endings.{AtRest, IsIdle, SoFar}
+use Rattle.client_plays.proofs.MomentLaws.{did-nothing, grew-boots}
+use Rattle.client_plays.proofs.ScriptLaws.{all-more}
 
 pub same-both : (old mid new : HouseLogView) → SameFacts old mid → SameFacts mid new → SameFacts old new
 same-both old mid new a b =
@@ -49,17 +47,6 @@ rest-here signs h i =
       plans = keeps-here h.places;
     }
 
--- One thing more, by how its play ended.
-pub more-done : {K : Type 0} (signs : Signs K) (wanting : Bool) (client : ℕ) (Play : List Moment → Type 0) (old new : Housed K) → HousePlayed signs Played.Done client Play old new → HouseOnceMore signs (Some wanting) wanting client Play old new
-more-done signs true client Play old new p =
-    record { moments = p.ended.moments; did = p.ended.did; more = (inl refl, inl p.ended.ends); rest = p.rest }
-more-done signs false client Play old new p =
-    record { moments = p.ended.moments; did = p.ended.did; more = (inr refl, p.ended.ends); rest = p.rest }
-
-pub more-wanting : {K : Type 0} (signs : Signs K) (wanting : Bool) (client : ℕ) (Play : List Moment → Type 0) (old new : Housed K) → HousePlayed signs Played.NoMemory client Play old new → HouseOnceMore signs (Some true) wanting client Play old new
-more-wanting signs wanting client Play old new p =
-    record { moments = p.ended.moments; did = p.ended.did; more = (inl refl, inr p.ended.ends); rest = p.rest }
-
 -- Nothing was done yet.
 pub so_far-nothing : {K X : Type 0} (signs : Signs K) (wanting : Bool) (client : ℕ) (Play : X → List Moment → Type 0) (h : Housed K) → IsIdle (past h) → SoFar signs wanting client Play [] h h
 so_far-nothing signs wanting client Play h i =
@@ -71,41 +58,10 @@ still-played now wanting client Play xs moments h p =
     let P : Bool → Type 0 = λ b. PlaysAll b client Play xs moments in
     elim h [ inl e ↦ subst P (sym e) (all-more client Play xs moments wanting p) | inr e ↦ subst P (sym e) p ]
 
--- One thing more was played.
-pub so_far-more : {K X : Type 0} (signs : Signs K) (now wanting : Bool) (client : ℕ) (Play : X → List Moment → Type 0) (done : List X) (x : X) (old mid new : Housed K) → SoFar signs wanting client Play done old mid → HouseOnceMore signs (Some now) wanting client (Play x) mid new → SoFar signs now client Play (done ++ x ∷ []) old new
-so_far-more signs now wanting client Play done x old mid new s m =
-    record {
-      moments = s.moments ++ m.moments;
-      did = did-both client s.moments m.moments (past old) (past mid) (past new) s.did m.did;
-      plays = all-push now client Play done x s.moments m.moments (still-played now wanting client Play done s.moments m.more.0 s.plays) m.more.1;
-      rest = rest-both signs old mid new s.rest m.rest;
-    }
-
 -- The next thing was left, in a boot that is off.
 pub so-left : {X : Type 0} (is_off wanting : Bool) (client : ℕ) (Play : X → List Moment → Type 0) (xs : List X) (moments : List Moment) → is_off ≡ true → PlaysUntil wanting client Play xs moments → PlayedSo is_off wanting client Play xs moments
 so-left true wanting client Play xs moments e p = p
 so-left false wanting client Play xs moments e p = cc
-
-pub went-left : {K X : Type 0} (signs : Signs K) (wanting : Bool) (client : ℕ) (Play : X → List Moment → Type 0) (done : List X) (x : X) (others all : List X) (old mid new : Housed K) → done ++ x ∷ others ≡ all → SoFar signs wanting client Play done old mid → HouseOnceMore signs None wanting client (Play x) mid new → HouseWent signs wanting client Play all old new
-went-left signs wanting client Play done x others all old mid new e s m =
-    let until = until-left wanting client Play done x others s.moments m.moments s.plays m.more.0 in
-    record {
-      went = record {
-        moments = s.moments ++ m.moments;
-        did = did-both client s.moments m.moments (past old) (past mid) (past new) s.did m.did;
-        plays = subst (λ (xs : List _). PlayedSo (off (past new)) wanting client Play xs (s.moments ++ m.moments)) e
-            (so-left (off (past new)) wanting client Play (done ++ x ∷ others) (s.moments ++ m.moments) m.more.1 until);
-      };
-      rest = rest-both signs old mid new s.rest m.rest;
-    }
-
--- All were played.
-pub went-all : {K X : Type 0} (signs : Signs K) (wanting : Bool) (client : ℕ) (Play : X → List Moment → Type 0) (all : List X) (old new : Housed K) → SoFar signs wanting client Play all old new → HouseWent signs wanting client Play all old new
-went-all signs wanting client Play all old new s =
-    record {
-      went = record { moments = s.moments; did = s.did; plays = so-all (off (past new)) wanting client Play all s.moments s.plays };
-      rest = s.rest;
-    }
 
 -- A boot that ran goes on running.
 pub still-booted : {K X : Type 0} (signs : Signs K) (wanting : Bool) (client : ℕ) (Play : X → List Moment → Type 0) (done : List X) (old new : Housed K) → SoFar signs wanting client Play done old new → 0 < boots (past old) → 0 < boots (past new)

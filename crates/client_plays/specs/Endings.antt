@@ -1,5 +1,5 @@
 -- How a play ended, and what it did to a house.
-use Rattle.std.specs.Prelude.{◌≡◌, ◌⊎◌, ◌≤◌, ◌-◌, ◌^◌, ℕ, Bool, true, List, [], ◌∷◌, Option, Some, None, Result, Ok, Err, false}
+use Rattle.std.specs.Prelude.{◌≡◌, ◌⊎◌, ◌≤◌, ◌-◌, ◌^◌, ℕ, Bool, true, false, List, [], ◌∷◌, Option, Some, None, Result, Ok, Err}
 use Rattle.update_log.specs.declared.event.Event.{Event}
 use Rattle.update_log.specs.declared.event.Query.{Query}
 use Rattle.update_log.specs.Holding.{holds, live}
@@ -72,11 +72,6 @@ pub record AtRest {K : Type 0} (signs : Signs K) (old new : Housed K) : Type 0 w
 abbrev pub IsCounted : {K : Type 0} → Signs K → Housed K → Type 0
 IsCounted signs h = (keeper_faults (past h) ≤ signs.faults h.keeper) ⊎ (2 ^ 64 - 1 ≤ signs.faults h.keeper)
 
--- What a play did to a house.
-pub record HousePlayed {K : Type 0} (signs : Signs K) (played : Played) (client : ℕ) (Play : List Moment → Type 0) (old new : Housed K) : Type 0 where
-  pub ended : Ended played client Play (past old) (past new)
-  pub rest : AtRest signs old new
-
 -- What a client did who went through a list of things, between two pasts of one boot. `wanting` says
 -- that memory was wanting.
 pub record WentThrough {X : Type 0} (wanting : Bool) (client : ℕ) (Play : X → List Moment → Type 0) (xs : List X) (old new : List Event) : Type 0 where
@@ -95,12 +90,6 @@ abbrev pub OnceMore : Option Bool → Bool → ℕ → (List Moment → Type 0) 
 OnceMore (Some now) wanting client Play new moments =
     ((now ≡ true) ⊎ (now ≡ wanting)) × PlayedOrLeft now client Play moments
 OnceMore None wanting client Play new moments = Leaves client Play moments × (off new ≡ true)
-
-pub record HouseOnceMore {K : Type 0} (signs : Signs K) (told : Option Bool) (wanting : Bool) (client : ℕ) (Play : List Moment → Type 0) (old new : Housed K) : Type 0 where
-  pub moments : List Moment
-  pub did : Did client moments (past old) (past new)
-  pub more : OnceMore told wanting client Play (past new) moments
-  pub rest : AtRest signs old new
 
 -- What a client has done so far who goes through a list of things.
 pub record SoFar {K X : Type 0} (signs : Signs K) (wanting : Bool) (client : ℕ) (Play : X → List Moment → Type 0) (done : List X) (old new : Housed K) : Type 0 where
@@ -121,13 +110,6 @@ pub record IsFresh (past : List Event) : Type 0 where
   pub before : List Event
   pub are : past ≡ boot ∷ before
   pub is : is_boot boot ≡ true
-
--- What it did to a house where a client went through a list of things, after others; `before` says that
--- memory was wanting before.
-pub record HouseMore {K X : Type 0} (signs : Signs K) (wanting before : Bool) (client : ℕ) (Play : X → List Moment → Type 0) (xs : List X) (old new : Housed K) : Type 0 where
-  pub went : WentThrough wanting client Play xs (past old) (past new)
-  pub told : before ≡ true → wanting ≡ true
-  pub rest : AtRest signs old new
 
 -- Where the last boot read the history, nobody opened the keeper again since.
 abbrev pub ReadLast : {K : Type 0} → Housed K → Type 0

@@ -1,7 +1,6 @@
 -- Lists whose last elements are taken one by one, and put on another list.
-use Rattle.std.proofs.Common.{◌≡◌, List, [], ◌∷◌, ◌++◌, map, reverse, append_assoc, ap, sym, ◌∙◌}
+use Rattle.std.proofs.Common.{◌≡◌, List, [], ◌∷◌, ◌++◌, map, reverse, ap, sym, ◌∙◌}
 use Rattle.std.proofs.lemmas.List.{reverse-append, reverse-reverse}
-use mathlib.Core.List.{map-append}
 
 -- All were taken, and the first is held apart.
 pub dealt-all : {A B : Type 0} (f : A → B) (all now : List B) (b : B) (xs : List A) → reverse all ≡ now ++ b ∷ [] → now ≡ reverse (map f xs) → all ≡ b ∷ map f xs

@@ -1,5 +1,5 @@
 -- Scripts that were played, or left.
-use Rattle.std.proofs.Common.{◌≡◌, ℕ, ◌<◌, Bool, true, false, zero, suc, List, [], ◌∷◌, length, refl, sym, subst, inr, arith}
+use Rattle.std.proofs.Common.{◌≡◌, ℕ, ◌<◌, Bool, true, zero, suc, List, [], ◌∷◌, length, refl, sym, subst, inr, arith}
 use Rattle.std.proofs.lemmas.Bool.{eqb-true}
 use Rattle.std.proofs.lemmas.Option.{slice_get_past}
 use Rattle.std.specs.Prelude.{◌==◌}
@@ -12,7 +12,7 @@ use Rattle.client_plays.specs.Scripts.{PlayedSo, PlaysAll, items_of}
 use Rattle.client_plays.specs.Tools.{Means}
 use Rattle.client_plays.proofs.PlayLaws.{item-unplayed}
 use Rattle.client_plays.proofs.RestLaws.{so-left}
-use Rattle.client_plays.proofs.ScriptLaws.{so-all, so-more, until-nothing}
+use Rattle.client_plays.proofs.ScriptLaws.{so-all, until-nothing}
 
 -- Nothing to do.
 pub nothing-so : {X : Type 0} (is_off wanting : Bool) (client : ℕ) (Play : X → List Moment → Type 0) (xs : List X) (moments : List Moment) → xs ≡ [] → moments ≡ [] → PlayedSo is_off wanting client Play xs moments

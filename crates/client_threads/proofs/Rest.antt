@@ -1,5 +1,5 @@
 -- What the clients of a boot did to a house, round which their daemon began and closed.
-use Rattle.std.proofs.Common.{◌≡◌, ℕ, Bool, true, List, [], refl, ap, ◌∙◌, subst}
+use Rattle.std.proofs.Common.{◌≡◌, ℕ, Bool, true, List, [], refl, ap, sym, ◌∙◌, subst}
 use Rattle.history_keeper.specs.declared.row.Row.{Row}
 use Rattle.update_log.specs.declared.event.Event.{Event}
 use Rattle.update_log.specs.declared.facts.Facts.{Facts}

@@ -1,7 +1,6 @@
 -- The turns of a resumption: what its ask leaves, what may come in, and that the entry which begins runs.
 use Rattle.std.proofs.Common.{◌≡◌, ℕ, length, List, ◌∷◌, refl, ap, sym, ◌∙◌, subst}
 use Rattle.std.specs.Prelude.{Option, Some, None, Ok}
-use Rattle.history_keeper.specs.declared.row.Row.{Row}
 use Rattle.update_log.specs.declared.answer.AskAnswer.{AskAnswer}
 use Rattle.update_log.specs.declared.answer.ResumeAnswer.{ResumeAnswer}
 use Rattle.update_log.specs.declared.event.Event.{Event}
@@ -21,8 +20,7 @@ use Rattle.daemon_core.specs.Fetches.{block_count, whole_note}
 use Rattle.daemon_core.specs.Holds.{IsHoldFor, held_by}
 use Rattle.daemon_core.specs.Resumes.{note_in}
 use Rattle.install_engine.specs.Answers.{IfWhole}
-use Rattle.install_engine.specs.Runs.{ClaimRuns}
-use Rattle.install_engine.specs.RunsIn.{parts_taken}
+use Rattle.install_engine.specs.Runs.{ClaimRuns, parts_taken}
 use Rattle.install_engine.proofs.RunTaken.{TakesWith, resume-takes, taken-runs}
 use Rattle.turn_lock.specs.Shown.{LockId, PassView}
 use Rattle.shared_daemon.specs.declared.entry.Entry.{Entry}

@@ -13,7 +13,7 @@ use Rattle.update_log.specs.declared.event.Event.{Event}
 use Rattle.update_log.specs.declared.facts.Facts.{Facts}
 use Rattle.client_plays.specs.Left.{PlayedOrLeft}
 use Rattle.client_plays.specs.Moments.{Moment, behind}
-use Rattle.client_plays.specs.Plays.{AfterResume, GivesBack, Leaves, ResumePlays, StepsPlay, TaskPlays, ToResume, UpdatePlays}
+use Rattle.client_plays.specs.Plays.{AfterResume, GivesBack, Leaves, ResumePlays, StepsPlay, TaskPlays, ToResume}
 use Rattle.client_plays.specs.Scripts.{PlaysAll}
 use Rattle.client_plays.specs.Tools.{Means}
 use Rattle.shared_daemon.proofs.OthersRows.{advances}

@@ -5,7 +5,7 @@ use Rattle.std.specs.Prelude.{Option, Some, ◌==◌, filter, option_map, unwrap
 use Rattle.std.specs.List.{AllByRecursion, list_any}
 use Rattle.history_keeper.specs.declared.row.Row.{Row}
 use Rattle.history_keeper.specs.declared.row.RowState.{RowState}
-use Rattle.update_log.proofs.Lists.{by_test, eqb-other, eqb-self}
+use Rattle.update_log.proofs.Lists.{by_test, eqb-other}
 use Rattle.update_log.proofs.Openings.{EntriesFrom}
 use Rattle.update_log.proofs.WaitsOnce.{found-own}
 use Rattle.update_log.specs.declared.event.Event.{Event}

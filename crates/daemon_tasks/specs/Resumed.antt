@@ -1,5 +1,5 @@
 -- What is out as the daemon resumes an entry, and what is given back.
-use Rattle.std.specs.Prelude.{◌≡◌, ℕ, Option, Some, None}
+use Rattle.std.specs.Prelude.{◌≡◌, Option, Some, None}
 use Rattle.update_log.specs.declared.event.Event.{Event}
 use Rattle.update_log.specs.Holding.{hold}
 use Rattle.daemon_core.specs.declared.fetched.Fetched.{Fetched}

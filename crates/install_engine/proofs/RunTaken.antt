@@ -37,8 +37,7 @@ use Rattle.daemon_core.specs.HouseLog.{IsLegalSo}
 use Rattle.daemon_core.specs.Claims.{IsTaken}
 use Rattle.daemon_core.specs.Fetches.{raw_number, whole_note}
 use Rattle.daemon_core.specs.declared.claimed.Taken.{Taken}
-use Rattle.install_engine.specs.Runs.{ClaimRuns, IsOwnStep}
-use Rattle.install_engine.specs.RunsIn.{parts_taken}
+use Rattle.install_engine.specs.Runs.{ClaimRuns, IsOwnStep, parts_taken}
 use Rattle.install_engine.proofs.RunBoards.{out-of_home}
 use Rattle.install_engine.proofs.RunSteps.{open-own}
 

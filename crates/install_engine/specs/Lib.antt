@@ -1,7 +1,6 @@
 pub mod Answers
 pub mod Findings
 pub mod Runs
-pub mod RunsIn
 pub use Rattle.outer_traits.specs.Faults
 pub use Rattle.outer_traits.specs.Shelves
 pub use Rattle.block_pool.specs.Views

@@ -22,6 +22,7 @@ use Rattle.update_log.specs.Pasts.{off}
 use Rattle.update_log.specs.Shows.{IsWritten, RawAllowed, digest_of, first_of_board, is_began, raw_of, told}
 use Rattle.update_log.specs.Steps.{trace}
 use Rattle.daemon_core.specs.Boards.{faulty_ends}
+use Rattle.daemon_core.specs.declared.claimed.Taken.{Taken}
 use Rattle.daemon_core.specs.Fetches.{raw_number}
 use Rattle.device_claims.specs.declared.claim.Parts.{Parts}
 
@@ -80,3 +81,7 @@ StepLeft Op.Write entry image old answer new = Written entry image old answer ne
 StepLeft Op.Attach entry image old answer new = Attached old answer new
 StepLeft Op.Reload entry image old answer new = Plain old answer new
 StepLeft Op.Cleanup entry image old answer new = Plain old answer new
+
+-- What a claim owns as its entry is taken.
+abbrev pub parts_taken : Taken → Parts
+parts_taken taken = record { entry = taken.entry; board = taken.board; payload = taken.payload; trace = taken.trace }

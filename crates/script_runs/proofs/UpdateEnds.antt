@@ -15,7 +15,7 @@ use Rattle.daemon_core.specs.declared.claimed.Taken.{Taken}
 use Rattle.daemon_core.specs.declared.finished.Finished.{Finished}
 use Rattle.device_claims.specs.Claims.{StepGives}
 use Rattle.device_claims.specs.declared.claim.Parts.{Parts}
-use Rattle.install_engine.specs.RunsIn.{parts_taken}
+use Rattle.install_engine.specs.Runs.{parts_taken}
 use Rattle.client_plays.specs.declared.played.Played.{Played}
 use Rattle.client_plays.specs.Moments.{Moment, at}
 use Rattle.client_plays.specs.Plays.{GivesBack, IsOwnPlugin, StepsPlay, UpdatePlays}

@@ -7,7 +7,7 @@ pub use Rattle.daemon_core.specs.Holds
 pub use Rattle.shared_daemon.specs.Closings
 pub use Rattle.shared_daemon.specs.Entries
 pub use Rattle.shared_daemon.specs.Names
-pub use Rattle.install_engine.specs.RunsIn
+pub use Rattle.install_engine.specs.Runs
 pub use Rattle.client_plays.specs.Endings
 pub use Rattle.client_plays.specs.Faults
 pub use Rattle.client_plays.specs.Moments

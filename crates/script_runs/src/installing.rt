@@ -6,7 +6,7 @@ ghost use Rattle.update_log.specs.Pasts.{off};
 ghost use Rattle.daemon_core.specs.declared.stop.Stop.{Stop};
 ghost use Rattle.daemon_core.specs.Fetches.{IsFetchOf, block_count, note_of};
 ghost use Rattle.daemon_core.specs.Holds.{IsHoldFor, held_by};
-ghost use Rattle.install_engine.specs.RunsIn.{parts_taken};
+ghost use Rattle.install_engine.specs.Runs.{parts_taken};
 ghost use Rattle.client_scripts.specs.declared.item.Item.{Item};
 ghost use Rattle.client_plays.specs.declared.played.Played.{Played};
 ghost use Rattle.client_plays.specs.Endings.{played_of};

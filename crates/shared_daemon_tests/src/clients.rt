@@ -2,7 +2,7 @@
 ghost use Rattle.std.specs.Prelude.{◌≡◌, ◌≤◌, [], None, Some};
 ghost use Rattle.update_log.specs.Holding.{hold};
 ghost use Rattle.daemon_core.specs.Holds.{IsHoldFor, held_by};
-ghost use Rattle.install_engine.specs.RunsIn.{parts_taken};
+ghost use Rattle.install_engine.specs.Runs.{parts_taken};
 ghost use Rattle.shared_daemon.specs.Closings.{IsFreePass};
 ghost use Rattle.shared_daemon.specs.Entries.{past_seen};
 ghost use Rattle.shared_daemon.specs.Names.{IsPass};

@@ -3,7 +3,7 @@ use Rattle.std.specs.Prelude.{None}
 use Rattle.device_claims.specs.declared.claim.Parts.{Parts}
 use Rattle.claim_runs.specs.Known.{RunsFor}
 use Rattle.plugin_trait.proofs.PlacesAt.{steps-at}
-use Rattle.install_engine.specs.RunsIn.{parts_taken}
+use Rattle.install_engine.specs.Runs.{parts_taken}
 use Rattle.claim_runs.specs.declared.outcome.Outcome.{Outcome}
 use Rattle.claim_runs.proofs.Logs.{ran-after, ran-at}
 use Rattle.claim_runs.proofs.running.run_claim.Goals as goal

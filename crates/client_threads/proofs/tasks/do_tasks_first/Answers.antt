@@ -11,18 +11,15 @@ use Rattle.client_threads.proofs.Shelves.{files-first, stay-first}
 use Rattle.client_threads.proofs.ShelfFaults.{count-tasks}
 use Rattle.client_threads.proofs.tasks.do_tasks_first.Goals as goal
 
-pub returns-clause-went : goal.returns-clause-went
-returns-clause-went g c =
-    let house = c.args.house in
-    subst (λ (f : Files). HouseWent (signs_of g.K.Keeper.tells g.K.Keeper.faults) c.do_tasks.result.1 0 (TaskPlays house.house_log.facts (rows_before house.house_log) (means_of f (steps_at (λ b. (goal.Plugin-dyn g (b.vtable, b.value)).steps b.value) c.args.plugins.now))) (tasks house.house_log.facts (rows_before house.house_log) (began (past house))) house c.do_tasks.result.0)
-    (sym (files-first g.P.Shelf.files g.P.Shelf.faults c.args.shelves.now.items c.index_mut.result.now c.requires.shelf c.index_mut.ensures.value)) c.do_tasks.ensures.went
-
-pub returns-clause-kept : goal.returns-clause-kept
-returns-clause-kept g c =
-    stay-first g.P.Shelf.files g.P.Shelf.faults c.args.shelves.now.items c.index_mut.result.now c.do_tasks.new.shelf c.requires.shelf c.index_mut.ensures.value c.do_tasks.ensures.files c.do_tasks.ensures.counts
-
-pub returns-clause-told : goal.returns-clause-told
-returns-clause-told g c =
-    let w = c.do_tasks.ensures.went.went in
-    count-tasks g.P.Shelf.files g.P.Shelf.faults w.moments (past c.args.house) (past c.do_tasks.result.0) w.did
-    c.args.shelves.now.items c.index_mut.result.now c.do_tasks.new.shelf c.requires.shelf c.index_mut.ensures.value c.do_tasks.ensures.told
+pub returns : goal.returns
+returns g c = record {
+  went =
+      let house = c.args.house in
+      subst (λ (f : Files). HouseWent (signs_of g.K.Keeper.tells g.K.Keeper.faults) c.do_tasks.result.1 0 (TaskPlays house.house_log.facts (rows_before house.house_log) (means_of f (steps_at (λ b. (goal.Plugin-dyn g (b.vtable, b.value)).steps b.value) c.args.plugins.now))) (tasks house.house_log.facts (rows_before house.house_log) (began (past house))) house c.do_tasks.result.0)
+      (sym (files-first g.P.Shelf.files g.P.Shelf.faults c.args.shelves.now.items c.index_mut.result.now c.requires.shelf c.index_mut.ensures.value)) c.do_tasks.ensures.went;
+  kept = stay-first g.P.Shelf.files g.P.Shelf.faults c.args.shelves.now.items c.index_mut.result.now c.do_tasks.new.shelf c.requires.shelf c.index_mut.ensures.value c.do_tasks.ensures.files c.do_tasks.ensures.counts;
+  told =
+      let w = c.do_tasks.ensures.went.went in
+      count-tasks g.P.Shelf.files g.P.Shelf.faults w.moments (past c.args.house) (past c.do_tasks.result.0) w.did
+      c.args.shelves.now.items c.index_mut.result.now c.do_tasks.new.shelf c.requires.shelf c.index_mut.ensures.value c.do_tasks.ensures.told;
+}

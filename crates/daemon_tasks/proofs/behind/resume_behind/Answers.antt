@@ -1,5 +1,5 @@
 use Rattle.plugin_trait.specs.Steps.{steps_at}
-use Rattle.std.proofs.Common.{◌≡◌, ◌∷◌, ◌<◌, ℕ, All, List, [], map, ap, sym, subst, ◌∙◌}
+use Rattle.std.proofs.Common.{◌<◌, ℕ, All, List, map, ap, sym, subst, ◌∙◌}
 use Rattle.std.specs.List.{range_with_len}
 use Rattle.client_plays.specs.Plays.{TaskPlays, ToResume}
 use Rattle.client_plays.specs.Tools.{means_of}
@@ -23,21 +23,16 @@ pub resume_all-wanting-requires-clause-free : goal.resume_all-wanting-requires-c
 resume_all-wanting-requires-clause-free g c =
     fresh-free g.N.Naming.name.start c.take_own-own.result c.requires.nothing (only-pass (IsFresh g.N.Naming.name.start) c.args.passes.items c.take_own-own.result c.take_own-own.ensures.own c.requires.fresh)
 
-pub close-house-requires-clause-numbers : goal.close-house-requires-clause-numbers
-close-house-requires-clause-numbers g c =
+pub close-house-requires : goal.close-house-requires
+close-house-requires g c =
     let items = back-again c.push_reserved.new.self.items c.take_own-own.new.passes.items c.resume_all-wanting.new.pass c.push_reserved.ensures.items c.take_own-own.ensures.none in
-    one-number c.push_reserved.new.self.items c.resume_all-wanting.new.pass items (c.resume_all-wanting.ensures.went.did.same ∙ c.take_own-own.ensures.number)
-    ∙ ap (range_with_len 0) (sym c.requires.seats)
-
-pub close-house-requires-clause-passes : goal.close-house-requires-clause-passes
-close-house-requires-clause-passes g c =
-    let items = back-again c.push_reserved.new.self.items c.take_own-own.new.passes.items c.resume_all-wanting.new.pass c.push_reserved.ensures.items c.take_own-own.ensures.none in
-    subst (λ (l : List (PassView Entry)). All (IsPass c.args.daemon.id g.N.Naming.name) l) (sym items) (one-pass (IsPass c.args.daemon.id g.N.Naming.name) c.resume_all-wanting.new.pass c.resume_all-wanting.ensures.pass)
-
-pub close-house-requires-clause-free : goal.close-house-requires-clause-free
-close-house-requires-clause-free g c =
-    let items = back-again c.push_reserved.new.self.items c.take_own-own.new.passes.items c.resume_all-wanting.new.pass c.push_reserved.ensures.items c.take_own-own.ensures.none in
-    subst (λ (l : List (PassView Entry)). All IsFreePass l) (sym items) (one-pass IsFreePass c.resume_all-wanting.new.pass c.resume_all-wanting.ensures.went.did.free)
+    record {
+      numbers =
+          one-number c.push_reserved.new.self.items c.resume_all-wanting.new.pass items (c.resume_all-wanting.ensures.went.did.same ∙ c.take_own-own.ensures.number)
+          ∙ ap (range_with_len 0) (sym c.requires.seats);
+      passes = subst (λ (l : List (PassView Entry)). All (IsPass c.args.daemon.id g.N.Naming.name) l) (sym items) (one-pass (IsPass c.args.daemon.id g.N.Naming.name) c.resume_all-wanting.new.pass c.resume_all-wanting.ensures.pass);
+      free = subst (λ (l : List (PassView Entry)). All IsFreePass l) (sym items) (one-pass IsFreePass c.resume_all-wanting.new.pass c.resume_all-wanting.ensures.went.did.free);
+    }
 
 pub returns-clause-went : goal.returns-clause-went
 returns-clause-went g c =

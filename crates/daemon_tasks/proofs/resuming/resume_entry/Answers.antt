@@ -1,5 +1,5 @@
 use Rattle.plugin_trait.specs.Steps.{steps_at}
-use Rattle.std.proofs.Common.{◌≤◌, ◌∙◌, ℕ, arith, refl, subst}
+use Rattle.std.proofs.Common.{◌∙◌, ℕ, arith, refl, subst}
 use Rattle.std.specs.Prelude.{Some}
 use Rattle.update_log.specs.declared.answer.AskAnswer.{AskAnswer}
 use Rattle.update_log.specs.declared.event.Event.{Event}

@@ -26,42 +26,31 @@ judge_all-requires-clause-rows g c = all-known c.args.house.house_log c.known.en
 pub judge_all-requires-clause-apart : goal.judge_all-requires-clause-apart
 judge_all-requires-clause-apart g c = all-apart c.args.house.house_log c.known.ensures.house_log is_to_judge c.args.judged.now c.requires.judged
 
--- What was judged, by the log as the boot began: it needs no plugin.
-pub resume_waiting-house-requires-clause-booted : goal.resume_waiting-house-requires-clause-booted
-resume_waiting-house-requires-clause-booted g c =
-    let a = c.args.house.house_log in
-    let files = g.P.Shelf.files c.args.shelf.now in
-    still-booted (signs_of g.K.Keeper.tells g.K.Keeper.faults) c.in-Through.wanting 0 (TaskPlays a.facts (rows_before a) (files_alone files)) (to_judge_in a c.args.judged.now) c.args.house c.judge_all.new.house (c.in-Through.ensures a.facts (rows_before a) files).0 c.requires.booted
-
-pub resume_waiting-house-requires-clause-idle : goal.resume_waiting-house-requires-clause-idle
-resume_waiting-house-requires-clause-idle g c =
-    let a = c.args.house.house_log in (c.in-Through.ensures a.facts (rows_before a) (g.P.Shelf.files c.args.shelf.now)).0.rest.idle
-
-pub resume_waiting-house-requires-clause-counted : goal.resume_waiting-house-requires-clause-counted
-resume_waiting-house-requires-clause-counted g c =
-    let a = c.args.house.house_log in
-    rest-counted (signs_of g.K.Keeper.tells g.K.Keeper.faults) c.args.house c.judge_all.new.house (c.in-Through.ensures a.facts (rows_before a) (g.P.Shelf.files c.args.shelf.now)).0.rest c.requires.counted
-
-pub resume_waiting-house-requires-clause-read : goal.resume_waiting-house-requires-clause-read
-resume_waiting-house-requires-clause-read g c =
-    let a = c.args.house.house_log in
-    let judged = (c.in-Through.ensures a.facts (rows_before a) (g.P.Shelf.files c.args.shelf.now)).0 in
-    rest-read (signs_of g.K.Keeper.tells g.K.Keeper.faults) c.args.house c.judge_all.new.house judged.did.grew judged.rest c.requires.read
-
-pub resume_waiting-house-requires-clause-waits : goal.resume_waiting-house-requires-clause-waits
-resume_waiting-house-requires-clause-waits g c =
-    let a = c.args.house.house_log in
-    let k = c.known.ensures.house_log in
-    all-wait_still c.args.judged.now a c.judge_all.new.house.house_log c.args.waiting.now (c.in-Through.ensures a.facts (rows_before a) (g.P.Shelf.files c.args.shelf.now)).1
-    (none-both a k c.args.judged.now c.args.waiting.now c.requires.judged c.requires.waiting) (all-wait a k c.args.waiting.now c.requires.waiting)
-
-pub resume_waiting-house-requires-clause-apart : goal.resume_waiting-house-requires-clause-apart
-resume_waiting-house-requires-clause-apart g c = all-apart c.args.house.house_log c.known.ensures.house_log is_pending c.args.waiting.now c.requires.waiting
-
-pub resume_waiting-house-requires-clause-served : goal.resume_waiting-house-requires-clause-served
-resume_waiting-house-requires-clause-served g c =
-    let a = c.args.house.house_log in
-    subst (λ (f : Facts). length f.vetoes ≤ length c.args.plugins.now) (sym (c.in-Through.ensures a.facts (rows_before a) (g.P.Shelf.files c.args.shelf.now)).0.rest.same.facts) c.requires.served
+pub resume_waiting-house-requires : goal.resume_waiting-house-requires
+resume_waiting-house-requires g c = record {
+  -- What was judged, by the log as the boot began: it needs no plugin.
+  booted =
+      let a = c.args.house.house_log in
+      let files = g.P.Shelf.files c.args.shelf.now in
+      still-booted (signs_of g.K.Keeper.tells g.K.Keeper.faults) c.in-Through.wanting 0 (TaskPlays a.facts (rows_before a) (files_alone files)) (to_judge_in a c.args.judged.now) c.args.house c.judge_all.new.house (c.in-Through.ensures a.facts (rows_before a) files).0 c.requires.booted;
+  idle = let a = c.args.house.house_log in (c.in-Through.ensures a.facts (rows_before a) (g.P.Shelf.files c.args.shelf.now)).0.rest.idle;
+  counted =
+      let a = c.args.house.house_log in
+      rest-counted (signs_of g.K.Keeper.tells g.K.Keeper.faults) c.args.house c.judge_all.new.house (c.in-Through.ensures a.facts (rows_before a) (g.P.Shelf.files c.args.shelf.now)).0.rest c.requires.counted;
+  read =
+      let a = c.args.house.house_log in
+      let judged = (c.in-Through.ensures a.facts (rows_before a) (g.P.Shelf.files c.args.shelf.now)).0 in
+      rest-read (signs_of g.K.Keeper.tells g.K.Keeper.faults) c.args.house c.judge_all.new.house judged.did.grew judged.rest c.requires.read;
+  waits =
+      let a = c.args.house.house_log in
+      let k = c.known.ensures.house_log in
+      all-wait_still c.args.judged.now a c.judge_all.new.house.house_log c.args.waiting.now (c.in-Through.ensures a.facts (rows_before a) (g.P.Shelf.files c.args.shelf.now)).1
+      (none-both a k c.args.judged.now c.args.waiting.now c.requires.judged c.requires.waiting) (all-wait a k c.args.waiting.now c.requires.waiting);
+  apart = all-apart c.args.house.house_log c.known.ensures.house_log is_pending c.args.waiting.now c.requires.waiting;
+  served =
+      let a = c.args.house.house_log in
+      subst (λ (f : Facts). length f.vetoes ≤ length c.args.plugins.now) (sym (c.in-Through.ensures a.facts (rows_before a) (g.P.Shelf.files c.args.shelf.now)).0.rest.same.facts) c.requires.served;
+}
 
 pub returns-in-Through-clause-went : goal.returns-in-Through-clause-went
 returns-in-Through-clause-went g c =

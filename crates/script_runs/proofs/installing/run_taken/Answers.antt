@@ -1,6 +1,6 @@
 use Rattle.client_plays.specs.declared.played.Played.{Played}
 use Rattle.plugin_trait.specs.Steps.{steps_at}
-use Rattle.install_engine.specs.RunsIn.{parts_taken}
+use Rattle.install_engine.specs.Runs.{parts_taken}
 use Rattle.script_runs.proofs.UpdateEnds.{back-ended, finished-ended, update-ended}
 use Rattle.script_runs.proofs.installing.run_taken.Goals as goal
 
