@@ -5,7 +5,6 @@ use Rattle.std.proofs.lemmas.Option.{same_Some}
 use Rattle.std.specs.Prelude.{◌-◌, ◌^◌, Option, Some, None}
 use Rattle.fw_facts.specs.declared.machine.MachineFacts.{MachineFacts}
 use Rattle.history_keeper.proofs.Prefixes.{history_front, history_none}
-use Rattle.history_keeper.specs.declared.change.Change.{Change}
 use Rattle.history_keeper.specs.declared.row.Row.{Row}
 use Rattle.history_keeper.specs.Histories.{IsHistory}
 use Rattle.outer_traits.specs.Sources.{AtEnd, Came}
@@ -37,10 +36,11 @@ use Rattle.run_status.specs.declared.status.Status.TheVariants as statuses
 use Rattle.fwupd_service.specs.Campaigns.{IsBadHistory, IsOpening}
 use Rattle.fwupd_service.specs.Complete.{HistoryHeld, InputGave, RunDone, SiteWentWhole, WorkDone}
 use Rattle.fwupd_service.specs.Ends.{CampaignEnds}
-use Rattle.fwupd_service.specs.Makes.{BlamesNoHistory, MadeOrNothing, MakeBegan, MakeEnds, order_status, own_shelves}
-use Rattle.fwupd_service.specs.Plugged.{AreStarted, PluginWords, work_of}
+use Rattle.fwupd_service.specs.Makes.{BlamesNoHistory, MadeOrNothing, MakeBegan, MakeEnds, order_status, own_shelves, own_signs}
+use Rattle.fwupd_service.specs.Plugged.{AreStarted, Plugins, work_of}
 use Rattle.fwupd_service.specs.Telling.{any_fault}
 use Rattle.fwupd_service.specs.Tops.{CampaignTold, CampaignWent, Left, RunEnds, stop_status}
+use Rattle.fwupd_service.specs.Worlds.{KeeperSigns, World, setting_in}
 use Rattle.fwupd_service.proofs.FaultsTold.{counted-none, no-fault-told}
 
 -- ---- what came of the input
@@ -98,57 +98,57 @@ valid-opening came now opening log (inl v) o = v
 valid-opening came now opening log (inr (v, some)) (inl told) = v opening (told some.0 some.1)
 valid-opening came now opening log (inr (v, some)) (inr (e, still, none)) = subst IsHistory (sym e) history_none
 
-module _ {K Q : Type 0} (told : K → List Row → Type 0) (doubted : K → Option Change) (faults : K → ℕ) (words : PluginWords Q) where
+module _ {K Q : Type 0} (signs : KeeperSigns K) (plugins : Plugins Q) where
   -- What a campaign came to that was played.
-  ended : (shelves : List ShelfTold) (sheets : List PluginSheet) (vetoes : MachineFacts → List PluginVetoes) (started : List Q) (site : Site) (campaign : Campaign) (left : Left K) (text : Campaign → List ℕ) (before after : Option (List ℕ)) (status : Status)
-      → AreStarted words sheets campaign.facts started → IsCampaignOf site sheets (vetoes site.machine) campaign → IsHistory left.opening → any_fault left.log ≡ false
-      → CampaignEnds told (means_for (work_of words started) shelves) status (with_plans campaign.facts (map shown_by campaign.boards.items) campaign.boots) left.opening campaign.scripts left.log left.keeper (text campaign) before after
-      → RunDone told left.keeper (SiteWentWhole shelves sheets vetoes words site left text before after) status
-  ended shelves sheets vetoes started site campaign left text before after statuses.Done a s valid quiet e = record { campaign = campaign; settled = s; started = started; started_are = a; whole = e.1 }
-  ended shelves sheets vetoes started site campaign left text before after statuses.KeeperFault a s valid quiet e =
+  ended : (shelves : List ShelfTold) (started : List Q) (site : Site) (campaign : Campaign) (left : Left K) (text : Campaign → List ℕ) (before after : Option (List ℕ)) (status : Status)
+      → AreStarted plugins.words plugins.sheets campaign.facts started → IsCampaignOf site plugins.sheets (plugins.vetoes site.machine) campaign → IsHistory left.opening → any_fault left.log ≡ false
+      → CampaignEnds signs.tells (means_for (work_of plugins.words started) shelves) status (with_plans campaign.facts (map shown_by campaign.boards.items) campaign.boots) left.opening campaign.scripts left.log left.keeper (text campaign) before after
+      → RunDone signs.tells left.keeper (SiteWentWhole shelves plugins site left text before after) status
+  ended shelves started site campaign left text before after statuses.Done a s valid quiet e = record { campaign = campaign; settled = s; started = started; started_are = a; whole = e.1 }
+  ended shelves started site campaign left text before after statuses.KeeperFault a s valid quiet e =
       let bad : true ≡ false = sym e.0 ∙ quiet in cc
-  ended shelves sheets vetoes started site campaign left text before after (statuses.BadHistory entry) a s valid quiet e = bad e.bad
+  ended shelves started site campaign left text before after (statuses.BadHistory entry) a s valid quiet e = bad e.bad
     where
-      bad : IsBadHistory told entry campaign.facts left.opening left.log left.keeper → (all : List Row) → told left.keeper all → ⊥
+      bad : IsBadHistory signs.tells entry campaign.facts left.opening left.log left.keeper → (all : List Row) → signs.tells left.keeper all → ⊥
       bad (inl (all, b)) = absurd (b.faulty.breaks (history_front left.opening (b.at + 1) valid))
       bad (inr (v, silent, others)) = silent
-  ended shelves sheets vetoes started site campaign left text before after statuses.SinkFault a s valid quiet e = tt
-  ended shelves sheets vetoes started site campaign left text before after statuses.NoMemory a s valid quiet e = tt
-  ended shelves sheets vetoes started site campaign left text before after _ a s valid quiet e = absurd e
+  ended shelves started site campaign left text before after statuses.SinkFault a s valid quiet e = tt
+  ended shelves started site campaign left text before after statuses.NoMemory a s valid quiet e = tt
+  ended shelves started site campaign left text before after _ a s valid quiet e = absurd e
 
-  pub run-complete : (shelves now : List ShelfTold) (sheets : List PluginSheet) (vetoes : MachineFacts → List PluginVetoes) (status : Status) (keeper : K) (left : Left K) (old new before after : Option (List ℕ))
-      → RunEnds told doubted faults shelves now sheets vetoes words status keeper left old new before after
-      → CanBeArranged sheets → HistoryHeld told faults keeper left
-      → InputGave (limits.Shelves (length shelves)) status old new
-      (λ site. RunDone told left.keeper (SiteWentWhole shelves sheets vetoes words site left (λ campaign. report campaign.facts left.opening left.log) before after) status)
-  run-complete shelves now sheets vetoes status keeper left old new before after ends can held = at ends
+  pub run-complete : (status : Status) (keeper : K) (left : Left K) (before after : World)
+      → RunEnds signs plugins status keeper left before after
+      → CanBeArranged plugins.sheets → HistoryHeld signs keeper left
+      → InputGave (limits.Shelves (length before.shelves)) status before.unread after.unread
+      (λ site. RunDone signs.tells left.keeper (SiteWentWhole before.shelves plugins site left (λ campaign. report campaign.facts left.opening left.log) before.written after.written) status)
+  run-complete status keeper left before after ends can held = at ends
     where
       Done : Status → Site → Type 0
-      Done s site = RunDone told left.keeper (SiteWentWhole shelves sheets vetoes words site left (λ campaign. report campaign.facts left.opening left.log) before after) s
+      Done s site = RunDone signs.tells left.keeper (SiteWentWhole before.shelves plugins site left (λ campaign. report campaign.facts left.opening left.log) before.written after.written) s
 
       Gave : Status → Type 0
-      Gave s = InputGave (limits.Shelves (length shelves)) s old new (Done s)
+      Gave s = InputGave (limits.Shelves (length before.shelves)) s before.unread after.unread (Done s)
 
       Told : List Q → Campaign → Type 0
-      Told started campaign = CampaignTold told doubted faults shelves now (work_of words started) status campaign keeper left (report campaign.facts left.opening left.log) before after
+      Told started campaign = CampaignTold signs (work_of plugins.words started) status campaign keeper left (report campaign.facts left.opening left.log) (setting_in before) (setting_in after)
 
       valid : (started : List Q) (campaign : Campaign) → Told started campaign → IsHistory left.opening
-      valid started campaign w = valid-opening (told keeper) (told left.keeper) left.opening left.log held.valid w.keeper_stands.opening_is
+      valid started campaign w = valid-opening (signs.tells keeper) (signs.tells left.keeper) left.opening left.log held.valid w.keeper_stands.opening_is
 
       quiet : (started : List Q) (campaign : Campaign) → Told started campaign → any_fault left.log ≡ false
       quiet started campaign w =
           no-fault-told left.log
-          (counted-none (2 ^ 64 - 1) (keeper_faults (past_of left.log)) (faults keeper) (faults left.keeper) w.keeper_stands.counted held.no_fault held.counting)
+          (counted-none (2 ^ 64 - 1) (keeper_faults (past_of left.log)) (signs.faults keeper) (signs.faults left.keeper) w.keeper_stands.counted held.no_fault held.counting)
 
-      went : (started : List Q) (campaign : Campaign) (site : Site) → AreStarted words sheets campaign.facts started → IsCampaignOf site sheets (vetoes site.machine) campaign → CampaignWent told doubted faults shelves now (work_of words started) status campaign keeper left (report campaign.facts left.opening left.log) before after → Done status site
+      went : (started : List Q) (campaign : Campaign) (site : Site) → AreStarted plugins.words plugins.sheets campaign.facts started → IsCampaignOf site plugins.sheets (plugins.vetoes site.machine) campaign → CampaignWent signs (work_of plugins.words started) status campaign keeper left (report campaign.facts left.opening left.log) (setting_in before) (setting_in after) → Done status site
       went started campaign site a settled (inl w) =
-          ended shelves sheets vetoes started site campaign left (λ c. report c.facts left.opening left.log) before after status a settled (valid started campaign w) (quiet started campaign w) w.ends
+          ended before.shelves started site campaign left (λ c. report c.facts left.opening left.log) before.written after.written status a settled (valid started campaign w) (quiet started campaign w) w.ends
       went started campaign site a settled (inr (e, nothing)) = subst (λ (s : Status). Done s site) (sym e) tt
 
-      at : RunEnds told doubted faults shelves now sheets vetoes words status keeper left old new before after → Gave status
-      at (inl s) = subst Gave (sym s.status_is) (none-gave (limits.Shelves (length shelves)) sheets s.stop old new (Done (stop_status s.stop)) s.stopped can)
+      at : RunEnds signs plugins status keeper left before after → Gave status
+      at (inl s) = subst Gave (sym s.status_is) (none-gave (limits.Shelves (length before.shelves)) plugins.sheets s.stop before.unread after.unread (Done (stop_status s.stop)) s.stopped can)
       at (inr w) =
-          site-gave (limits.Shelves (length shelves)) sheets vetoes status old new w.campaign (Done status) w.opened
+          site-gave (limits.Shelves (length before.shelves)) plugins.sheets plugins.vetoes status before.unread after.unread w.campaign (Done status) w.opened
           (went w.started w.campaign w.opened.site w.started_are w.opened.settled w.went)
 
 -- ---- `make`
@@ -160,11 +160,11 @@ fault-status sheets Complete (faults.Cycle shown) can h = arranged-well sheets (
 fault-status sheets Complete faults.NoMemory can h = tt
 
 -- The same of `make`, whose status blames no history.
-module _ {K Q : Type 0} (boards clients : ℕ) (sheets : List PluginSheet) (vetoes : MachineFacts → List PluginVetoes) (words : PluginWords Q) where
+module _ {K Q : Type 0} (boards clients : ℕ) (plugins : Plugins Q) where
   -- A generated campaign that was played came to no more than that.
-  summed : (status : Status) (started : List Q) (campaign : Campaign) (left : Left K) (own : List Row) (before after : Option (List ℕ)) → AreStarted words sheets campaign.facts started → IsCampaignOf (made_site boards clients) sheets (vetoes (made_site boards clients).machine) campaign → BlamesNoHistory status
-      → CampaignEnds (λ (rows all : List Row). rows ≡ all) (means_for (work_of words started) (own_shelves clients)) status (with_plans campaign.facts (map shown_by campaign.boards.items) campaign.boots) left.opening campaign.scripts left.log own (summary boards clients left.log) before after
-      → WorkDone (SiteWentWhole (own_shelves clients) sheets vetoes words (made_site boards clients) left (λ _. summary boards clients left.log) before after) status
+  summed : (status : Status) (started : List Q) (campaign : Campaign) (left : Left K) (own : List Row) (before after : Option (List ℕ)) → AreStarted plugins.words plugins.sheets campaign.facts started → IsCampaignOf (made_site boards clients) plugins.sheets (plugins.vetoes (made_site boards clients).machine) campaign → BlamesNoHistory status
+      → CampaignEnds own_signs.tells (means_for (work_of plugins.words started) (own_shelves clients)) status (with_plans campaign.facts (map shown_by campaign.boards.items) campaign.boots) left.opening campaign.scripts left.log own (summary boards clients left.log) before after
+      → WorkDone (SiteWentWhole (own_shelves clients) plugins (made_site boards clients) left (λ _. summary boards clients left.log) before after) status
   summed statuses.Done started campaign left own before after a s n e = record { campaign = campaign; settled = s; started = started; started_are = a; whole = e.1 }
   summed statuses.KeeperFault started campaign left own before after a s n e = absurd n
   summed (statuses.BadHistory entry) started campaign left own before after a s n e = absurd n
@@ -172,20 +172,20 @@ module _ {K Q : Type 0} (boards clients : ℕ) (sheets : List PluginSheet) (veto
   summed statuses.NoMemory started campaign left own before after a s n e = tt
   summed _ started campaign left own before after a s n e = absurd e
 
-  pub make-complete : (status : Status) (keeper : K) (left : Left K) (before after : Option (List ℕ)) → MakeEnds boards clients sheets vetoes words status keeper left before after → CanBeArranged sheets
-      → WorkDone (SiteWentWhole (own_shelves clients) sheets vetoes words (made_site boards clients) left (λ _. summary boards clients left.log) before after) status
+  pub make-complete : (status : Status) (keeper : K) (left : Left K) (before after : Option (List ℕ)) → MakeEnds boards clients plugins status keeper left before after → CanBeArranged plugins.sheets
+      → WorkDone (SiteWentWhole (own_shelves clients) plugins (made_site boards clients) left (λ _. summary boards clients left.log) before after) status
   make-complete status keeper left before after ends can = at ends
     where
       Complete : Type 0
-      Complete = SiteWentWhole (own_shelves clients) sheets vetoes words (made_site boards clients) left (λ _. summary boards clients left.log) before after
+      Complete = SiteWentWhole (own_shelves clients) plugins (made_site boards clients) left (λ _. summary boards clients left.log) before after
 
-      began : (b : MakeBegan boards clients sheets vetoes words status keeper left before after) → WorkDone Complete status
+      began : (b : MakeBegan boards clients plugins status keeper left before after) → WorkDone Complete status
       began b = of b.went
         where
-          of : MadeOrNothing boards clients (work_of words b.started) status b.campaign keeper left before after → WorkDone Complete status
+          of : MadeOrNothing boards clients (work_of plugins.words b.started) status b.campaign keeper left before after → WorkDone Complete status
           of (inl w) = summed status b.started b.campaign left w.own before after b.started_are b.settled w.no_blame w.told.ends
           of (inr (e, nothing)) = subst (WorkDone Complete) (sym e) tt
 
-      at : MakeEnds boards clients sheets vetoes words status keeper left before after → WorkDone Complete status
-      at (inl s) = subst (WorkDone Complete) (sym s.status_is) (fault-status sheets Complete s.fault can s.cause)
+      at : MakeEnds boards clients plugins status keeper left before after → WorkDone Complete status
+      at (inl s) = subst (WorkDone Complete) (sym s.status_is) (fault-status plugins.sheets Complete s.fault can s.cause)
       at (inr b) = began b

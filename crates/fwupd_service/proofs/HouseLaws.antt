@@ -41,6 +41,7 @@ use Rattle.client_threads.specs.Runs.{CampaignRan, EndedSo, OpeningTold}
 use Rattle.client_threads.proofs.FaultBoots.{faults-earlier, faults-played}
 use Rattle.client_threads.proofs.LegalLaws.{legal-in}
 use Rattle.fwupd_service.specs.Campaigns.{EndsAt, IsBadHistory, IsOpening, IsTrueLog, IsUnread, IsUntouched, KeeperStands, WasPlayed}
+use Rattle.fwupd_service.specs.Worlds.{KeeperSigns}
 
 -- The rows that a boot took are the opening.
 before-is : (a : HouseLogView) → a.loaded ≡ true → rows_before a ≡ a.opening
@@ -84,9 +85,9 @@ map-get f [] n y e = cc
 map-get f (x ∷ xs) zero y e = record { x = x; there = refl; is = cc }
 map-get f (x ∷ xs) (suc n) y e = let m = map-get f xs n y e in record { x = m.x; there = m.there; is = m.is }
 
-module _ {K : Type 0} (told : K → List Row → Type 0) (doubted : K → Option Change) (faults : K → ℕ) (means : ℕ → Means) (ran : Ran) (plans : List BootPlan) (scripts : List (List (List Item))) (old h : Housed K)
-    (r : CampaignRan (signs_of told faults) ran.ending ran.wanting means plans scripts old h)
-    (a : IsHouseLog h.house_log) (k : IsHouse told doubted h) where
+module _ {K : Type 0} (signs : KeeperSigns K) (means : ℕ → Means) (ran : Ran) (plans : List BootPlan) (scripts : List (List (List Item))) (old h : Housed K)
+    (r : CampaignRan (signs_of signs.tells signs.faults) ran.ending ran.wanting means plans scripts old h)
+    (a : IsHouseLog h.house_log) (k : IsHouse signs.tells signs.doubt h) where
   abbrev facts : Facts
   facts = h.house_log.facts
 
@@ -153,42 +154,42 @@ module _ {K : Type 0} (told : K → List Row → Type 0) (doubted : K → Option
   -- ---- the keeper
 
   -- where all boots were run and the last one read the history, it wasn't opened again since
-  ended-unread : (ending : Ending) → EndedSo told ending plans r.count h → h.house_log.reopened ≡ true → IsUnread c h.house_log.core.log
+  ended-unread : (ending : Ending) → EndedSo signs.tells ending plans r.count h → h.house_log.reopened ≡ true → IsUnread c h.house_log.core.log
   ended-unread Ending.Whole e o = by_test (last_faulted (past h)) _ (λ t. inl t) (λ f. let bad : true ≡ false = sym o ∙ e.1 f in cc)
   ended-unread (Ending.BadHistory entry) e o = inr (omega (arith, r.ran.count_is, e.0))
   ended-unread Ending.NoMemory e o = inr (omega (arith, r.ran.count_is, e))
 
-  keeps-so : (b : Bool) (keeper : K) (all : List Row) (change : Option Change) → h.house_log.reopened ≡ b → KeepsSo b told doubted keeper all change → HasRows told doubted keeper all change ⊎ (IsUnread c h.house_log.core.log × WasReopened told doubted keeper all change)
+  keeps-so : (b : Bool) (keeper : K) (all : List Row) (change : Option Change) → h.house_log.reopened ≡ b → KeepsSo b signs.tells signs.doubt keeper all change → HasRows signs.tells signs.doubt keeper all change ⊎ (IsUnread c h.house_log.core.log × WasReopened signs.tells signs.doubt keeper all change)
   keeps-so true keeper all change o (inl k) = inl k
   keeps-so true keeper all change o (inr k) = inr (ended-unread ran.ending r.ended o, k)
   keeps-so false keeper all change o k = inl k
 
-  keeps-opening : IsUntouched told doubted h.house_log.core.log old.keeper h.keeper ⊎ (HasRows told doubted h.keeper (rows facts opening (past h)) (doubt facts opening (past h))
-      ⊎ (IsUnread c h.house_log.core.log × WasReopened told doubted h.keeper (rows facts opening (past h)) (doubt facts opening (past h))))
+  keeps-opening : IsUntouched signs h.house_log.core.log old.keeper h.keeper ⊎ (HasRows signs.tells signs.doubt h.keeper (rows facts opening (past h)) (doubt facts opening (past h))
+      ⊎ (IsUnread c h.house_log.core.log × WasReopened signs.tells signs.doubt h.keeper (rows facts opening (past h)) (doubt facts opening (past h))))
   keeps-opening =
       by_test h.house_log.loaded _
       (λ t.
       let o = before-is h.house_log t in
       let so = h.house_log.reopened in
       inr (keeps-so so h.keeper (rows facts opening (past h)) (doubt facts opening (past h)) refl
-      (subst (λ (x : List Row). KeepsSo so told doubted h.keeper (rows facts x (past h)) (doubt facts x (past h))) o
-      (subst (λ (x : List Row). KeepsSo so told doubted h.keeper x (doubt facts (rows_before h.house_log) (past h))) a.stands.rows
-      (subst (λ (x : Option Change). KeepsSo so told doubted h.keeper h.house_log.core.rows x) a.stands.doubt (k.kept t))))))
-      (λ f. inl (record { none = all-faults f; told_are = still-told told (told old.keeper) h f r.ran.opening; no_doubt = k.unloaded f }))
+      (subst (λ (x : List Row). KeepsSo so signs.tells signs.doubt h.keeper (rows facts x (past h)) (doubt facts x (past h))) o
+      (subst (λ (x : List Row). KeepsSo so signs.tells signs.doubt h.keeper x (doubt facts (rows_before h.house_log) (past h))) a.stands.rows
+      (subst (λ (x : Option Change). KeepsSo so signs.tells signs.doubt h.keeper h.house_log.core.rows x) a.stands.doubt (k.kept t))))))
+      (λ f. inl (record { none = all-faults f; told_are = still-told signs.tells (signs.tells old.keeper) h f r.ran.opening; no_doubt = k.unloaded f }))
 
   -- the log was empty at first
   module _ (n : old.house_log.core.log ≡ []) where
     none-before : keeper_faults (past old) ≡ 0
     none-before = ap (λ (log : List Event). keeper_faults (past_of log)) n
 
-    counted-from : (keeper_faults (past h) + faults old.keeper ≤ keeper_faults (past old) + faults h.keeper) ⊎ (2 ^ 64 - 1 ≤ faults h.keeper) → (keeper_faults (past h) + faults old.keeper ≤ faults h.keeper) ⊎ (2 ^ 64 - 1 ≤ faults h.keeper)
+    counted-from : (keeper_faults (past h) + signs.faults old.keeper ≤ keeper_faults (past old) + signs.faults h.keeper) ⊎ (2 ^ 64 - 1 ≤ signs.faults h.keeper) → (keeper_faults (past h) + signs.faults old.keeper ≤ signs.faults h.keeper) ⊎ (2 ^ 64 - 1 ≤ signs.faults h.keeper)
     counted-from (inl l) = let z = none-before in inl (omega (arith, z, l))
     counted-from (inr l) = inr l
 
-    keeper-stands : KeeperStands told doubted faults c opening h.house_log.core.log old.keeper h.keeper
+    keeper-stands : KeeperStands signs c opening h.house_log.core.log old.keeper h.keeper
     keeper-stands = record {
       keeps = keeps-opening;
-      opening_is = opening-told told (told old.keeper) h all-faults r.ran.opening;
+      opening_is = opening-told signs.tells (signs.tells old.keeper) h all-faults r.ran.opening;
       counted = counted-from r.ran.counted.counted;
       quiet = λ e. r.ran.counted.quiet (e ∙ sym none-before);
       counts = r.ran.counts;
@@ -208,7 +209,7 @@ module _ {K : Type 0} (told : K → List Row → Type 0) (doubted : K → Option
   }
 
   -- the rows and the change in doubt before the boot that read others
-  others-opening : (entry : ℕ) (loaded : List Row) (mid : Housed K) → IsHouseLog mid.house_log → NoBoot told mid h → h.house_log.loaded ≡ true → h.house_log.opening ≡ mid.house_log.opening → AreOthers entry loaded mid.house_log.core.rows mid.house_log.core.doubt
+  others-opening : (entry : ℕ) (loaded : List Row) (mid : Housed K) → IsHouseLog mid.house_log → NoBoot signs.tells mid h → h.house_log.loaded ≡ true → h.house_log.opening ≡ mid.house_log.opening → AreOthers entry loaded mid.house_log.core.rows mid.house_log.core.doubt
       → AreOthers entry loaded (rows facts opening (past h)) (doubt facts opening (past h))
   others-opening entry loaded mid m n t o others =
       let before : rows_before mid.house_log ≡ opening = before-is mid.house_log (sym n.loaded ∙ t) ∙ sym o in
@@ -221,7 +222,7 @@ module _ {K : Type 0} (told : K → List Row → Type 0) (doubted : K → Option
       (subst (λ (x : Option Change). AreOthers entry loaded (rows mid.house_log.facts (rows_before mid.house_log) (past mid)) x) m.stands.doubt
       (subst (λ (x : List Row). AreOthers entry loaded x mid.house_log.core.doubt) m.stands.rows others))))
 
-  bad-history : (entry : ℕ) (mid : Housed K) → IsHouseLog mid.house_log → ReadOthers told entry mid h → IsBadHistory told entry facts opening h.house_log.core.log h.keeper
+  bad-history : (entry : ℕ) (mid : Housed K) → IsHouseLog mid.house_log → ReadOthers signs.tells entry mid h → IsBadHistory signs.tells entry facts opening h.house_log.core.log h.keeper
   bad-history entry mid m o =
       by_test h.house_log.loaded _
       (λ t.
@@ -229,13 +230,13 @@ module _ {K : Type 0} (told : K → List Row → Type 0) (doubted : K → Option
       inr (subst IsHistory (before-is h.house_log t) a.stands.history, l.1, (l.2.0, others-opening entry l.2.0 mid m o.none t l.0 l.2.1)))
       (λ f. inl (all-faults f, (o.first (sym o.none.loaded ∙ f)).0))
 
-  ends-so : (ending : Ending) → EndedSo told ending plans r.count h → EndsAt told ending c opening h.house_log.core.log h.keeper r.count
+  ends-so : (ending : Ending) → EndedSo signs.tells ending plans r.count h → EndsAt signs.tells ending c opening h.house_log.core.log h.keeper r.count
   ends-so Ending.Whole e = e.0
   ends-so (Ending.BadHistory entry) e = (e.0, bad-history entry e.1.0 e.1.1 e.1.2)
   ends-so Ending.NoMemory e = e
 
   played-here : AtMostOnce → TakenOnce → HistoryStays → old.house_log.core.log ≡ [] → (boards : List BoardState) → BoardsOf h boards
-      → WasPlayed told doubted faults means ran c scripts opening h.house_log.core.log boards old.keeper h.keeper
+      → WasPlayed signs means ran c scripts opening h.house_log.core.log boards old.keeper h.keeper
   played-here law_once law_taken law_stays n boards of = record {
     true_log = true-log law_once law_taken law_stays boards of;
     keeper = keeper-stands n;
@@ -245,9 +246,9 @@ module _ {K : Type 0} (told : K → List Row → Type 0) (doubted : K → Option
   }
 
   pub was-played : AtMostOnce → TakenOnce → HistoryStays → old.house_log.core.log ≡ [] → (boards : List BoardState) → BoardsOf h boards
-      → WasPlayed told doubted faults means ran (with_plans old.house_log.facts old.house_log.first plans) scripts opening h.house_log.core.log boards old.keeper h.keeper
+      → WasPlayed signs means ran (with_plans old.house_log.facts old.house_log.first plans) scripts opening h.house_log.core.log boards old.keeper h.keeper
   was-played law_once law_taken law_stays n boards of =
-      let W = λ (x : Campaign). WasPlayed told doubted faults means ran x scripts opening h.house_log.core.log boards old.keeper h.keeper in
+      let W = λ (x : Campaign). WasPlayed signs means ran x scripts opening h.house_log.core.log boards old.keeper h.keeper in
       let e : with_plans h.house_log.facts h.house_log.first plans ≡ with_plans old.house_log.facts old.house_log.first plans =
       ap (λ (x : Facts). with_plans x h.house_log.first plans) r.ran.facts ∙ ap (λ (x : List Seen). with_plans old.house_log.facts x plans) r.ran.first in
       subst W e (played-here law_once law_taken law_stays n boards of)

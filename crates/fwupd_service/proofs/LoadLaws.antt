@@ -4,7 +4,6 @@ use Rattle.std.specs.Prelude.{◌-◌, ◌^◌, All, Result, Ok, Err}
 use Rattle.std.specs.Option.{option_map_or}
 use Rattle.std.proofs.lemmas.List.Elements.{All-cons, All-head, All-nil}
 use Rattle.fw_facts.specs.declared.view.DeviceView.{DeviceView}
-use Rattle.history_keeper.specs.declared.change.Change.{Change}
 use Rattle.history_keeper.specs.declared.refusal.KeeperRefusal.{KeeperRefusal}
 use Rattle.history_keeper.specs.declared.row.Row.{Row}
 use Rattle.history_keeper.specs.Keepers.{StillTold}
@@ -31,6 +30,7 @@ use Rattle.fwupd_service.specs.Begins.{CanBePlayed, IsReadyFor}
 use Rattle.fwupd_service.specs.Loads.{IsJudged, LoadSays, WasLoaded}
 use Rattle.fwupd_service.specs.Tops.{Left}
 use Rattle.fwupd_service.specs.Updates.{OnlyLoaded, planned_items, printed_plan}
+use Rattle.fwupd_service.specs.Worlds.{KeeperSigns}
 
 -- Rows that were loaded are those that the keeper told before, if it tells any still.
 pub rows_told : (before after : List Row → Type 0) (loaded : List Row) → StillTold before after → ((all : List Row) → after all → loaded ≡ all) → AreTold before after loaded
@@ -53,15 +53,15 @@ quiet-other r P Q n (inl e) = let bad = sym n ∙ e in cc
 quiet-other r P Q n (inr q) = inr q
 
 -- What is known of a load that stopped nothing.
-pub loaded-only : {K : Type 0} (told : K → List Row → Type 0) (doubted : K → Option Change) (faults : K → ℕ) (stop : Option LoadStop) (rows : List Row) (keeper middle : K)
-    → WasLoaded told doubted faults stop rows keeper middle → stop ≡ None → WasLoaded told doubted faults None rows keeper middle
-loaded-only told doubted faults stop rows keeper middle w e = subst (λ (s : Option LoadStop). WasLoaded told doubted faults s rows keeper middle) e w
+pub loaded-only : {K : Type 0} (signs : KeeperSigns K) (stop : Option LoadStop) (rows : List Row) (keeper middle : K)
+    → WasLoaded signs stop rows keeper middle → stop ≡ None → WasLoaded signs None rows keeper middle
+loaded-only signs stop rows keeper middle w e = subst (λ (s : Option LoadStop). WasLoaded signs s rows keeper middle) e w
 
 -- Nothing but the load happened.
-pub only-loaded : {K : Type 0} (told : K → List Row → Type 0) (doubted : K → Option Change) (faults : K → ℕ) (stop : Option LoadStop) (rows : List Row) (keeper middle : K) (left : Left K)
-    → WasLoaded told doubted faults stop rows keeper middle → left.log ≡ [] → left.opening ≡ rows → left.boards ≡ None → left.keeper ≡ middle
-    → OnlyLoaded told doubted faults stop keeper left
-only-loaded told doubted faults stop rows keeper middle left w log opening boards kept = record { log = log; boards = boards; loaded = rw (opening, kept) w }
+pub only-loaded : {K : Type 0} (signs : KeeperSigns K) (stop : Option LoadStop) (rows : List Row) (keeper middle : K) (left : Left K)
+    → WasLoaded signs stop rows keeper middle → left.log ≡ [] → left.opening ≡ rows → left.boards ≡ None → left.keeper ≡ middle
+    → OnlyLoaded signs stop keeper left
+only-loaded signs stop rows keeper middle left w log opening boards kept = record { log = log; boards = boards; loaded = rw (opening, kept) w }
 
 -- The text of the plan that was made is what `plan` prints.
 pub plan-text : (campaign : Campaign) (rows : List Row) (tag : List ℕ) (first : FirstPlan) (seen : List DeviceView) (steps : List PlanStep) → IsFirstPlan campaign.facts (map shown_by campaign.boards.items) campaign.boots rows tag first

@@ -18,6 +18,7 @@ use Rattle.run_status.specs.declared.status.Status.TheVariants as statuses
 use Rattle.fwupd_service.specs.Commands.{Checked, Explained, Identified, RemotesTold, Written, ended_status}
 use Rattle.fwupd_service.specs.Complete.{InputGave, SiteExplained, WorkDone}
 use Rattle.fwupd_service.specs.Tops.{Left}
+use Rattle.fwupd_service.specs.Worlds.{World}
 use Rattle.fwupd_service.proofs.Completing.{arranged-well}
 
 -- ---- `check` and `remotes`
@@ -45,17 +46,17 @@ of-site text ends.SourceFault old new before after d = record { bytes = d.bytes;
 of-site text ends.NoMemory old new before after d = record { bytes = d.bytes; came = d.came; gave = inr tt }
 
 module _ {K : Type 0} where
-  pub check-complete : (status : Status) (keeper : K) (left : Left K) (old new before after : Option (List ℕ)) → Checked status keeper left old new before after
-      → InputGave limits.Any status old new (λ site. WorkDone (Took (checked site) before after) status)
-  check-complete status keeper left old new before after c =
-      subst (λ (s : Status). InputGave limits.Any s old new (λ site. WorkDone (Took (checked site) before after) s)) (sym c.status_is)
-      (of-site checked c.ended old new before after c.ends)
+  pub check-complete : (status : Status) (keeper : K) (left : Left K) (before after : World) → Checked status keeper left before after
+      → InputGave limits.Any status before.unread after.unread (λ site. WorkDone (Took (checked site) before.written after.written) status)
+  check-complete status keeper left before after c =
+      subst (λ (s : Status). InputGave limits.Any s before.unread after.unread (λ site. WorkDone (Took (checked site) before.written after.written) s)) (sym c.status_is)
+      (of-site checked c.ended before.unread after.unread before.written after.written c.ends)
 
-  pub remotes-complete : (status : Status) (keeper : K) (left : Left K) (old new before after : Option (List ℕ)) → RemotesTold status keeper left old new before after
-      → InputGave limits.Any status old new (λ site. WorkDone (Took (remotes_told site) before after) status)
-  remotes-complete status keeper left old new before after c =
-      subst (λ (s : Status). InputGave limits.Any s old new (λ site. WorkDone (Took (remotes_told site) before after) s)) (sym c.status_is)
-      (of-site remotes_told c.ended old new before after c.ends)
+  pub remotes-complete : (status : Status) (keeper : K) (left : Left K) (before after : World) → RemotesTold status keeper left before after
+      → InputGave limits.Any status before.unread after.unread (λ site. WorkDone (Took (remotes_told site) before.written after.written) status)
+  remotes-complete status keeper left before after c =
+      subst (λ (s : Status). InputGave limits.Any s before.unread after.unread (λ site. WorkDone (Took (remotes_told site) before.written after.written) s)) (sym c.status_is)
+      (of-site remotes_told c.ended before.unread after.unread before.written after.written c.ends)
 
 -- ---- `explain`
 
@@ -92,12 +93,12 @@ of-install sheets vetoes port version ends.SourceFault old new before after d ca
 of-install sheets vetoes port version ends.NoMemory old new before after d can = record { bytes = d.bytes; came = d.came; gave = inr tt }
 
 module _ {K : Type 0} where
-  pub explain-complete : (sheets : List PluginSheet) (vetoes : MachineFacts → List PluginVetoes) (port version : List ℕ) (status : Status) (keeper : K) (left : Left K) (old new before after : Option (List ℕ))
-      → Explained sheets vetoes port version status keeper left old new before after → CanBeArranged sheets
-      → InputGave limits.Any status old new (λ site. WorkDone (SiteExplained sheets vetoes port version site before after) status)
-  explain-complete sheets vetoes port version status keeper left old new before after c can =
-      subst (λ (s : Status). InputGave limits.Any s old new (λ site. WorkDone (SiteExplained sheets vetoes port version site before after) s)) (sym c.status_is)
-      (of-install sheets vetoes port version c.ended old new before after c.ends can)
+  pub explain-complete : (sheets : List PluginSheet) (vetoes : MachineFacts → List PluginVetoes) (port version : List ℕ) (status : Status) (keeper : K) (left : Left K) (before after : World)
+      → Explained sheets vetoes port version status keeper left before after → CanBeArranged sheets
+      → InputGave limits.Any status before.unread after.unread (λ site. WorkDone (SiteExplained sheets vetoes port version site before.written after.written) status)
+  explain-complete sheets vetoes port version status keeper left before after c can =
+      subst (λ (s : Status). InputGave limits.Any s before.unread after.unread (λ site. WorkDone (SiteExplained sheets vetoes port version site before.written after.written) s)) (sym c.status_is)
+      (of-install sheets vetoes port version c.ended before.unread after.unread before.written after.written c.ends can)
 
 -- ---- `ids`
 
@@ -108,6 +109,6 @@ written-whole text statuses.NoMemory before after w = tt
 written-whole text _ before after w = absurd w
 
 module _ {K : Type 0} where
-  pub ids-complete : (texts : List (List ℕ)) (status : Status) (keeper : K) (left : Left K) (old new before after : Option (List ℕ)) → Identified texts status keeper left old new before after
-      → WorkDone (Took (ids_output texts) before after) status
-  ids-complete texts status keeper left old new before after i = written-whole (ids_output texts) status before after i.written
+  pub ids-complete : (texts : List (List ℕ)) (status : Status) (keeper : K) (left : Left K) (before after : World) → Identified texts status keeper left before after
+      → WorkDone (Took (ids_output texts) before.written after.written) status
+  ids-complete texts status keeper left before after i = written-whole (ids_output texts) status before.written after.written i.written

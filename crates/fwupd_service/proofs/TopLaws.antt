@@ -2,15 +2,11 @@
 use Rattle.std.proofs.Common.{◌≡◌, ℕ, List, [], ◌∷◌, map, Option, Some, None, false, true, refl, subst, inr, arith}
 use Rattle.std.specs.Prelude.{Result, Ok, Err, IfOk, IfErr, IsSome}
 use Rattle.emulated_boards.specs.Boards.{BoardState}
-use Rattle.history_keeper.specs.declared.change.Change.{Change}
 use Rattle.history_keeper.specs.declared.row.Row.{Row}
 use Rattle.update_log.specs.declared.event.Event.{Event}
 use Rattle.daemon_core.specs.House.{shown_by}
 use Rattle.client_plays.specs.Shelves.{means_for}
-use Rattle.fw_facts.specs.declared.machine.MachineFacts.{MachineFacts}
-use Rattle.plugin_order.specs.declared.sheet.PluginSheet.{PluginSheet}
 use Rattle.plugin_trait.specs.Steps.{PluginSteps}
-use Rattle.update_log.specs.declared.facts.PluginVetoes.{PluginVetoes}
 use Rattle.client_plays.specs.Tools.{ShelfTold, ShelvesStay}
 use Rattle.client_threads.specs.declared.ending.Ran.{Ran}
 use Rattle.client_threads.specs.Planned.{with_plans}
@@ -24,10 +20,11 @@ use Rattle.run_status.specs.declared.status.Status.TheVariants as statuses
 use Rattle.report_queue.specs.Stops.{Told}
 use Rattle.fwupd_service.specs.Campaigns.{ShelvesStand, WasPlayed}
 use Rattle.fwupd_service.specs.Commands.{KeepsShelves, NothingDone, WordsEnd}
-use Rattle.fwupd_service.specs.Plugged.{PluginWords}
+use Rattle.fwupd_service.specs.Plugged.{Plugins}
 use Rattle.fwupd_service.specs.Ends.{IsReported}
-use Rattle.fwupd_service.specs.Reported.{FaultTold, KeepsMarks, MarksTold}
+use Rattle.fwupd_service.specs.Reported.{FaultTold, KeeperFaults, KeepsMarks, MarksTold}
 use Rattle.fwupd_service.specs.Tops.{CampaignTold, Left}
+use Rattle.fwupd_service.specs.Worlds.{KeeperSigns, Setting, World}
 use Rattle.fwupd_service.proofs.EndLaws.{campaign-ends}
 
 -- What holds of a result that is `Ok`, or `Err`.
@@ -58,17 +55,16 @@ marks-untold told (Some (commands.Report max)) status keeper left before after e
 marks-untold told _ status keeper left before after e same = tt
 
 -- A status that tells no fault of a keeper tells none under `report`, where no count rose.
-pub no-fault-told : (command : Option Command) (status : Status) (rows rows' marks marks' : ℕ) → (status ≡ statuses.KeeperFault → ⊥) → rows' ≡ rows → marks' ≡ marks → FaultTold command status rows rows' marks marks'
-no-fault-told (Some (commands.Report max)) status rows rows' marks marks' none same also = record { cause = λ e. absurd (none e); quiet = inr (same, also) }
-no-fault-told _ status rows rows' marks marks' none same also = tt
+pub no-fault-told : (command : Option Command) (status : Status) (before after : KeeperFaults) → (status ≡ statuses.KeeperFault → ⊥) → after.history ≡ before.history → after.marks ≡ before.marks → FaultTold command status before after
+no-fault-told (Some (commands.Report max)) status before after none same also = record { cause = λ e. absurd (none e); quiet = inr (same, also) }
+no-fault-told _ status before after none same also = tt
 
 -- Where there was no memory for the words of a command nothing was done.
-pub words-wanted : {K Q : Type 0} (told : K → List Row → Type 0) (doubted : K → Option Change) (faults : K → ℕ) (shelves now : List ShelfTold) (sheets : List PluginSheet) (vetoes : MachineFacts → List PluginVetoes) (words : PluginWords Q)
-    (command : Option Command) (read : Result Command WordsFault) (status : Status) (keeper : K) (left : Left K) (old new before after : Option (List ℕ))
-    → Reads command read → read ≡ Err WordsFault.NoMemory → status ≡ statuses.NoMemory → NothingDone keeper left old new before after → WordsEnd told doubted faults shelves now sheets vetoes words command status keeper left old new before after
-words-wanted told doubted faults shelves now sheets vetoes words command read status keeper left old new before after reads wants e done = go command (subst (Reads command) wants reads)
+pub words-wanted : {K Q : Type 0} (signs : KeeperSigns K) (plugins : Plugins Q) (command : Option Command) (read : Result Command WordsFault) (status : Status) (keeper : K) (left : Left K) (before after : World)
+    → Reads command read → read ≡ Err WordsFault.NoMemory → status ≡ statuses.NoMemory → NothingDone keeper left before after → WordsEnd signs plugins command status keeper left before after
+words-wanted signs plugins command read status keeper left before after reads wants e done = go command (subst (Reads command) wants reads)
   where
-    go : (command : Option Command) → IsSome command → WordsEnd told doubted faults shelves now sheets vetoes words command status keeper left old new before after
+    go : (command : Option Command) → IsSome command → WordsEnd signs plugins command status keeper left before after
     go None some = let bad : false ≡ true = some in cc
     go (Some command) some = inr (e, done)
 
@@ -77,10 +73,10 @@ pub stay-same : (shelves : List ShelfTold) → ShelvesStay shelves shelves
 stay-same [] = tt
 stay-same (shelf ∷ shelves) = (record { files = refl; counts = omega arith }, stay-same shelves)
 
-module _ {K : Type 0} (told : K → List Row → Type 0) (doubted : K → Option Change) (faults : K → ℕ) (shelves now : List ShelfTold) (plugins : ℕ → PluginSteps) (ran : Ran) (campaign : Campaign) (opening : List Row) (log : List Event) (boards : List BoardState) (old new : K) (text : List ℕ) (before after : Option (List ℕ)) where
-  pub campaign-told : (status : Status) → ShelvesStand log shelves now → map (λ (b : BoardState). b.plan) boards ≡ map (λ (b : BoardState). b.plan) campaign.boards.items → WasPlayed told doubted faults (means_for plugins shelves) ran (with_plans campaign.facts (map shown_by campaign.boards.items) campaign.boots) campaign.scripts opening log boards old new
-      → IsReported status ran.ending ran.wanting log text before after
-      → CampaignTold told doubted faults shelves now plugins status campaign old (record { log = log; opening = opening; boards = Some boards; keeper = new }) text before after
+module _ {K : Type 0} (signs : KeeperSigns K) (work : ℕ → PluginSteps) (ran : Ran) (campaign : Campaign) (opening : List Row) (log : List Event) (boards : List BoardState) (old new : K) (text : List ℕ) (before after : Setting) where
+  pub campaign-told : (status : Status) → ShelvesStand log before.shelves after.shelves → map (λ (b : BoardState). b.plan) boards ≡ map (λ (b : BoardState). b.plan) campaign.boards.items → WasPlayed signs (means_for work before.shelves) ran (with_plans campaign.facts (map shown_by campaign.boards.items) campaign.boots) campaign.scripts opening log boards old new
+      → IsReported status ran.ending ran.wanting log text before.written after.written
+      → CampaignTold signs work status campaign old (record { log = log; opening = opening; boards = Some boards; keeper = new }) text before after
   campaign-told status s plans p r = record {
     boards = boards;
     boards_are = refl;
@@ -88,5 +84,5 @@ module _ {K : Type 0} (told : K → List Row → Type 0) (doubted : K → Option
     board_plans = plans;
     keeper_stands = p.keeper;
     shelves_stand = s;
-    ends = campaign-ends told doubted faults (means_for plugins shelves) (with_plans campaign.facts (map shown_by campaign.boards.items) campaign.boots) campaign.scripts opening log boards old new text before after status ran p r;
+    ends = campaign-ends signs (means_for work before.shelves) (with_plans campaign.facts (map shown_by campaign.boards.items) campaign.boots) campaign.scripts opening log boards old new text before.written after.written status ran p r;
   }

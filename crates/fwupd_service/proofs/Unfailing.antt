@@ -1,5 +1,5 @@
 -- That the campaign of `make` meets no fault of a keeper: its own counts none, and begins without rows.
-use Rattle.std.proofs.Common.{◌≡◌, ℕ, ◌<◌, true, false, List, [], length, map, Option, None, refl, sym, ap, ◌∙◌, inl, inr, arith, lit<}
+use Rattle.std.proofs.Common.{◌≡◌, ℕ, ◌<◌, true, false, List, [], length, map, Option, refl, sym, ap, ◌∙◌, inl, inr, arith, lit<}
 use Rattle.std.specs.Prelude.{◌-◌, ◌^◌}
 use Rattle.history_keeper.specs.declared.row.Row.{Row}
 use Rattle.update_log.specs.declared.event.Event.{Event}
@@ -19,7 +19,7 @@ use Rattle.run_status.specs.declared.status.Status.{Status}
 use Rattle.run_status.specs.declared.status.Status.TheVariants as statuses
 use Rattle.fwupd_service.specs.Campaigns.{IsBadHistory, IsOpening}
 use Rattle.fwupd_service.specs.Ends.{CampaignEnds}
-use Rattle.fwupd_service.specs.Makes.{BlamesNoHistory, MadeWent, own_shelves}
+use Rattle.fwupd_service.specs.Makes.{BlamesNoHistory, MadeWent, own_shelves, own_signs}
 use Rattle.fwupd_service.specs.Telling.{any_fault}
 use Rattle.fwupd_service.specs.Tops.{CampaignTold, Left}
 use Rattle.fwupd_service.proofs.FaultsTold.{counted-none, no-fault-told}
@@ -52,11 +52,12 @@ no-blame told keeper all means _ c opening scripts log text before after t o f e
 
 -- ---- the generated campaign
 
-pub made-went : {K : Type 0} (boards clients : ℕ) (plugins : ℕ → PluginSteps) (status : Status) (campaign : sites.Campaign) (keeper : K) (left : Left K) (own : List Row) (kept : List ShelfTold) (before after : Option (List ℕ)) → left.keeper ≡ keeper
-    → CampaignTold (λ (rows all : List Row). rows ≡ all) (λ _. None) (λ _. 0) (own_shelves clients) kept plugins status campaign []
-    (record { log = left.log; opening = left.opening; boards = left.boards; keeper = own }) (summary boards clients left.log) before after
-    → MadeWent boards clients plugins status campaign keeper left before after
-made-went boards clients plugins status campaign keeper left own kept before after k told =
+pub made-went : {K : Type 0} (boards clients : ℕ) (work : ℕ → PluginSteps) (status : Status) (campaign : sites.Campaign) (keeper : K) (left : Left K) (own : List Row) (kept : List ShelfTold) (before after : Option (List ℕ)) → left.keeper ≡ keeper
+    → CampaignTold own_signs work status campaign []
+    (record { log = left.log; opening = left.opening; boards = left.boards; keeper = own }) (summary boards clients left.log)
+    (record { shelves = own_shelves clients; written = before }) (record { shelves = kept; written = after })
+    → MadeWent boards clients work status campaign keeper left before after
+made-went boards clients work status campaign keeper left own kept before after k told =
     let c = with_plans campaign.facts (map shown_by campaign.boards.items) campaign.boots in
     let stands = told.keeper_stands in
     let no_rows : left.opening ≡ [] = none-opened own left.opening left.log stands.opening_is in
@@ -68,6 +69,6 @@ made-went boards clients plugins status campaign keeper left own kept before aft
       no_rows = no_rows;
       no_fault = no_fault;
       no_blame =
-          no-blame (λ (rows all : List Row). rows ≡ all) own own (means_for plugins (own_shelves clients)) status c left.opening campaign.scripts left.log (summary boards clients left.log) before after refl no_rows no_fault told.ends;
+          no-blame own_signs.tells own own (means_for work (own_shelves clients)) status c left.opening campaign.scripts left.log (summary boards clients left.log) before after refl no_rows no_fault told.ends;
       told = told;
     }

@@ -1,8 +1,7 @@
 -- What is true of a campaign that was played, however it ended.
-use Rattle.std.specs.Prelude.{◌≡◌, ◌⊎◌, ◌≤◌, ◌<◌, ◌+◌, ◌-◌, ◌^◌, ℕ, true, List, [], length, map, Option, Some, None, slice_get}
+use Rattle.std.specs.Prelude.{◌≡◌, ◌⊎◌, ◌≤◌, ◌<◌, ◌+◌, ◌-◌, ◌^◌, ℕ, true, List, [], length, map, Some, None, slice_get}
 use Rattle.emulated_boards.specs.Boards.{BoardState}
 use Rattle.outer_traits.specs.Faults.{RoseBy}
-use Rattle.history_keeper.specs.declared.change.Change.{Change}
 use Rattle.history_keeper.specs.declared.row.Row.{Row}
 use Rattle.history_keeper.specs.Histories.{IsHistory}
 use Rattle.history_keeper.specs.Keepers.{StillTold}
@@ -24,6 +23,7 @@ use Rattle.client_plays.specs.Tools.{Means, ShelfTold, ShelvesStay}
 use Rattle.client_threads.specs.declared.ending.Ending.{Ending}
 use Rattle.client_threads.specs.declared.ending.Ran.{Ran}
 use Rattle.client_threads.specs.Promises.{PlayedBoots}
+use Rattle.fwupd_service.specs.Worlds.{KeeperSigns}
 
 -- The log is legal over the rows before it, so each answer is the one that the log before it calls for: a
 -- refusal names the first condition that isn't met, and an entry is judged by the version that its device
@@ -41,10 +41,10 @@ pub record IsTrueLog (c : Campaign) (opening : List Row) (log : List Event) (boa
   pub board_faults : (number : ℕ) (b : BoardState) → slice_get boards number ≡ Some b → faulty_ends c.facts opening (past_of log) number ≤ b.faults
 
 -- No boot could read the history: what the keeper tells it told as it came, and it has no doubt.
-pub record IsUntouched {K : Type 0} (told : K → List Row → Type 0) (doubted : K → Option Change) (log : List Event) (old new : K) : Type 0 where
+pub record IsUntouched {K : Type 0} (signs : KeeperSigns K) (log : List Event) (old new : K) : Type 0 where
   pub none : AllFaults (past_of log)
-  pub told_are : StillTold (told old) (told new)
-  pub no_doubt : doubted new ≡ None
+  pub told_are : StillTold (signs.tells old) (signs.tells new)
+  pub no_doubt : signs.doubt new ≡ None
 
 -- The rows before the log are those that the keeper told as it came, if it tells any still; or there are none,
 -- no boot could read the history, and what the keeper tells it told as it came. So rows that a first boot refused
@@ -60,14 +60,14 @@ IsUnread c log = (last_faulted (past_of log) ≡ true) ⊎ (boots (past_of log) 
 -- didn't read the history, and has the log's rows without or with the change in doubt; or no boot could read the
 -- history, and the keeper is untouched. The rows before the log are its own. Each fault of the keeper that the
 -- log tells was counted by it, and where the log tells none it counted none.
-pub record KeeperStands {K : Type 0} (told : K → List Row → Type 0) (doubted : K → Option Change) (faults : K → ℕ) (c : Campaign) (opening : List Row) (log : List Event) (old new : K) : Type 0 where
-  pub keeps : IsUntouched told doubted log old new
-      ⊎ (HasRows told doubted new (rows c.facts opening (past_of log)) (doubt c.facts opening (past_of log))
-      ⊎ (IsUnread c log × WasReopened told doubted new (rows c.facts opening (past_of log)) (doubt c.facts opening (past_of log))))
-  pub opening_is : IsOpening (told old) (told new) opening log
-  pub counted : (keeper_faults (past_of log) + faults old ≤ faults new) ⊎ (2 ^ 64 - 1 ≤ faults new)
-  pub quiet : keeper_faults (past_of log) ≡ 0 → faults new ≡ faults old
-  pub counts : faults old ≤ faults new
+pub record KeeperStands {K : Type 0} (signs : KeeperSigns K) (c : Campaign) (opening : List Row) (log : List Event) (old new : K) : Type 0 where
+  pub keeps : IsUntouched signs log old new
+      ⊎ (HasRows signs.tells signs.doubt new (rows c.facts opening (past_of log)) (doubt c.facts opening (past_of log))
+      ⊎ (IsUnread c log × WasReopened signs.tells signs.doubt new (rows c.facts opening (past_of log)) (doubt c.facts opening (past_of log))))
+  pub opening_is : IsOpening (signs.tells old) (signs.tells new) opening log
+  pub counted : (keeper_faults (past_of log) + signs.faults old ≤ signs.faults new) ⊎ (2 ^ 64 - 1 ≤ signs.faults new)
+  pub quiet : keeper_faults (past_of log) ≡ 0 → signs.faults new ≡ signs.faults old
+  pub counts : signs.faults old ≤ signs.faults new
 
 -- The shelves are as many, each with its files, and each counted each of its faults that the log tells: its
 -- count rose by as many, or stands at its end.
@@ -90,9 +90,9 @@ EndsAt told Ending.NoMemory c opening log keeper count = count < length c.plans
 
 -- A campaign was played: so many of its boots, each by its plan, with the scripts. `means` has those of each
 -- client.
-pub record WasPlayed {K : Type 0} (told : K → List Row → Type 0) (doubted : K → Option Change) (faults : K → ℕ) (means : ℕ → Means) (ran : Ran) (c : Campaign) (scripts : List (List (List Item))) (opening : List Row) (log : List Event) (boards : List BoardState) (old new : K) : Type 0 where
+pub record WasPlayed {K : Type 0} (signs : KeeperSigns K) (means : ℕ → Means) (ran : Ran) (c : Campaign) (scripts : List (List (List Item))) (opening : List Row) (log : List Event) (boards : List BoardState) (old new : K) : Type 0 where
   pub true_log : IsTrueLog c opening log boards
-  pub keeper : KeeperStands told doubted faults c opening log old new
+  pub keeper : KeeperStands signs c opening log old new
   pub count : ℕ
   pub played : PlayedBoots ran.wanting c opening means scripts count log
-  pub ends : EndsAt told ran.ending c opening log new count
+  pub ends : EndsAt signs.tells ran.ending c opening log new count

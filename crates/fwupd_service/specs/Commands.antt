@@ -1,13 +1,11 @@
 -- What a run of the program comes to, by its words.
-use Rattle.std.specs.Prelude.{◌≡◌, ◌⊎◌, ◌≤◌, ℕ, List, [], length, Option, Some, None}
+use Rattle.std.specs.Prelude.{◌≡◌, ◌⊎◌, ◌≤◌, ℕ, List, [], Option, Some, None}
 use Rattle.outer_traits.specs.Sinks.{Took, TookFront}
 use Rattle.fw_facts.specs.declared.machine.MachineFacts.{MachineFacts}
-use Rattle.history_keeper.specs.declared.change.Change.{Change}
 use Rattle.history_keeper.specs.declared.row.Row.{Row}
 use Rattle.history_keeper.specs.Keepers.{StillTold}
 use Rattle.plugin_order.specs.declared.sheet.PluginSheet.{PluginSheet}
 use Rattle.update_log.specs.declared.facts.PluginVetoes.{PluginVetoes}
-use Rattle.client_plays.specs.Tools.{ShelfTold}
 use Rattle.command_outputs.specs.Printed.{ids_output}
 use Rattle.command_words.specs.declared.command.Command.{Command}
 use Rattle.command_words.specs.declared.command.Command.TheVariants as commands
@@ -18,10 +16,11 @@ use Rattle.document_commands.specs.Explains.{ExplainEnds}
 use Rattle.run_status.specs.declared.status.Status.{Status}
 use Rattle.run_status.specs.declared.status.Status.TheVariants as statuses
 use Rattle.fwupd_service.specs.Makes.{MakeEnds}
-use Rattle.fwupd_service.specs.Plugged.{PluginWords}
+use Rattle.fwupd_service.specs.Plugged.{Plugins}
 use Rattle.update_plans.specs.Tags.{IsTag}
 use Rattle.fwupd_service.specs.Tops.{Left, NothingBegan, RunEnds}
 use Rattle.fwupd_service.specs.Updates.{PlanEnds, UpdateEnds}
+use Rattle.fwupd_service.specs.Worlds.{KeeperSigns, World}
 
 -- The shelves are those that came, but under `run` and `update`, whose clients fetch from them.
 abbrev pub KeepsShelves : {P : Type 0} → Option Command → List P → List P → Type 0
@@ -54,22 +53,22 @@ ended_status ends.SinkFault = statuses.SinkFault
 ended_status ends.NoMemory = statuses.NoMemory
 
 -- `check`, `remotes` and `explain`: the status tells how the command ended over what came, and nothing else happened.
-pub record Checked {K : Type 0} (status : Status) (keeper : K) (left : Left K) (old new before after : Option (List ℕ)) : Type 0 where
+pub record Checked {K : Type 0} (status : Status) (keeper : K) (left : Left K) (before after : World) : Type 0 where
   pub ended : Ended
   pub status_is : status ≡ ended_status ended
-  pub ends : CheckEnds ended old new before after
+  pub ends : CheckEnds ended before.unread after.unread before.written after.written
   pub nothing : NothingHappened keeper left
 
-pub record RemotesTold {K : Type 0} (status : Status) (keeper : K) (left : Left K) (old new before after : Option (List ℕ)) : Type 0 where
+pub record RemotesTold {K : Type 0} (status : Status) (keeper : K) (left : Left K) (before after : World) : Type 0 where
   pub ended : Ended
   pub status_is : status ≡ ended_status ended
-  pub ends : RemotesEnds ended old new before after
+  pub ends : RemotesEnds ended before.unread after.unread before.written after.written
   pub nothing : NothingHappened keeper left
 
-pub record Explained {K : Type 0} (sheets : List PluginSheet) (vetoes : MachineFacts → List PluginVetoes) (port version : List ℕ) (status : Status) (keeper : K) (left : Left K) (old new before after : Option (List ℕ)) : Type 0 where
+pub record Explained {K : Type 0} (sheets : List PluginSheet) (vetoes : MachineFacts → List PluginVetoes) (port version : List ℕ) (status : Status) (keeper : K) (left : Left K) (before after : World) : Type 0 where
   pub ended : Ended
   pub status_is : status ≡ ended_status ended
-  pub ends : ExplainEnds sheets vetoes port version ended old new before after
+  pub ends : ExplainEnds sheets vetoes port version ended before.unread after.unread before.written after.written
   pub nothing : NothingHappened keeper left
 
 -- What was written of a text under a status: all of it, a front of it, or nothing.
@@ -80,19 +79,19 @@ Written text statuses.NoMemory before after = after ≡ before
 Written text _ before after = ⊥
 
 -- `ids`: nothing was read, and a line for each text was written.
-pub record Identified {K : Type 0} (texts : List (List ℕ)) (status : Status) (keeper : K) (left : Left K) (old new before after : Option (List ℕ)) : Type 0 where
-  pub unread : new ≡ old
-  pub written : Written (ids_output texts) status before after
+pub record Identified {K : Type 0} (texts : List (List ℕ)) (status : Status) (keeper : K) (left : Left K) (before after : World) : Type 0 where
+  pub unread : after.unread ≡ before.unread
+  pub written : Written (ids_output texts) status before.written after.written
   pub nothing : NothingHappened keeper left
 
 -- Nothing was read, and nothing else happened.
-pub record NothingDone {K : Type 0} (keeper : K) (left : Left K) (old new before after : Option (List ℕ)) : Type 0 where
-  pub unread : new ≡ old
-  pub nothing : NothingBegan keeper left before after
+pub record NothingDone {K : Type 0} (keeper : K) (left : Left K) (before after : World) : Type 0 where
+  pub unread : after.unread ≡ before.unread
+  pub nothing : NothingBegan keeper left before.written after.written
 
 -- `report`: nothing was read from the source, no campaign began, and what the keeper tells it told as it came.
-pub record Looked {K : Type 0} (told : K → List Row → Type 0) (keeper : K) (left : Left K) (old new : Option (List ℕ)) : Type 0 where
-  pub unread : new ≡ old
+pub record Looked {K : Type 0} (told : K → List Row → Type 0) (keeper : K) (left : Left K) (before after : World) : Type 0 where
+  pub unread : after.unread ≡ before.unread
   pub log : left.log ≡ []
   pub boards : left.boards ≡ None
   pub rows_stay : StillTold (told keeper) (told left.keeper)
@@ -119,31 +118,24 @@ CommandFits (commands.Ids texts) = Unit {0}
 CommandFits (commands.Report max) = IsWithin 1 65536 max
 
 -- The command ends so.
-abbrev pub CommandEnds : {K Q : Type 0} → (K → List Row → Type 0) → (K → Option Change) → (K → ℕ) → List ShelfTold → List ShelfTold → List PluginSheet → (MachineFacts → List PluginVetoes) → PluginWords Q → Command → Status → K → Left K → Option (List ℕ) → Option (List ℕ) → Option (List ℕ) → Option (List ℕ) → Type 0
-CommandEnds told doubted faults shelves now sheets vetoes words commands.Run status keeper left old new before after =
-    RunEnds told doubted faults shelves now sheets vetoes words status keeper left old new before after
-CommandEnds told doubted faults shelves now sheets vetoes words (commands.Make boards clients) status keeper left old new before after =
-    (new ≡ old) × MakeEnds boards clients sheets vetoes words status keeper left before after
-CommandEnds told doubted faults shelves now sheets vetoes words (commands.Plan tag) status keeper left old new before after =
-    PlanEnds told doubted faults (length shelves) sheets vetoes tag status keeper left old new before after
-CommandEnds told doubted faults shelves now sheets vetoes words (commands.Update tag) status keeper left old new before after =
-    UpdateEnds told doubted faults shelves now sheets vetoes words tag status keeper left old new before after
-CommandEnds told doubted faults shelves now sheets vetoes words commands.Check status keeper left old new before after =
-    Checked status keeper left old new before after
-CommandEnds told doubted faults shelves now sheets vetoes words commands.Remotes status keeper left old new before after =
-    RemotesTold status keeper left old new before after
-CommandEnds told doubted faults shelves now sheets vetoes words (commands.Explain port version) status keeper left old new before after =
-    Explained sheets vetoes port version status keeper left old new before after
-CommandEnds told doubted faults shelves now sheets vetoes words (commands.Ids texts) status keeper left old new before after =
-    Identified texts status keeper left old new before after
-CommandEnds told doubted faults shelves now sheets vetoes words (commands.Report max) status keeper left old new before after =
-    Looked told keeper left old new
+abbrev pub CommandEnds : {K Q : Type 0} → KeeperSigns K → Plugins Q → Command → Status → K → Left K → World → World → Type 0
+CommandEnds signs plugins commands.Run status keeper left before after = RunEnds signs plugins status keeper left before after
+CommandEnds signs plugins (commands.Make boards clients) status keeper left before after =
+    (after.unread ≡ before.unread) × MakeEnds boards clients plugins status keeper left before.written after.written
+CommandEnds signs plugins (commands.Plan tag) status keeper left before after =
+    PlanEnds signs plugins.sheets plugins.vetoes tag status keeper left before after
+CommandEnds signs plugins (commands.Update tag) status keeper left before after = UpdateEnds signs plugins tag status keeper left before after
+CommandEnds signs plugins commands.Check status keeper left before after = Checked status keeper left before after
+CommandEnds signs plugins commands.Remotes status keeper left before after = RemotesTold status keeper left before after
+CommandEnds signs plugins (commands.Explain port version) status keeper left before after =
+    Explained plugins.sheets plugins.vetoes port version status keeper left before after
+CommandEnds signs plugins (commands.Ids texts) status keeper left before after = Identified texts status keeper left before after
+CommandEnds signs plugins (commands.Report max) status keeper left before after = Looked signs.tells keeper left before after
 
 -- Words that are no command do nothing; those that are one do what it does, unless there was no memory to
 -- read them.
-abbrev pub WordsEnd : {K Q : Type 0} → (K → List Row → Type 0) → (K → Option Change) → (K → ℕ) → List ShelfTold → List ShelfTold → List PluginSheet → (MachineFacts → List PluginVetoes) → PluginWords Q → Option Command → Status → K → Left K → Option (List ℕ) → Option (List ℕ) → Option (List ℕ) → Option (List ℕ) → Type 0
-WordsEnd told doubted faults shelves now sheets vetoes words None status keeper left old new before after =
-    (status ≡ statuses.Usage) × NothingDone keeper left old new before after
-WordsEnd told doubted faults shelves now sheets vetoes words (Some command) status keeper left old new before after =
-    CommandEnds told doubted faults shelves now sheets vetoes words command status keeper left old new before after
-    ⊎ ((status ≡ statuses.NoMemory) × NothingDone keeper left old new before after)
+abbrev pub WordsEnd : {K Q : Type 0} → KeeperSigns K → Plugins Q → Option Command → Status → K → Left K → World → World → Type 0
+WordsEnd signs plugins None status keeper left before after = (status ≡ statuses.Usage) × NothingDone keeper left before after
+WordsEnd signs plugins (Some command) status keeper left before after =
+    CommandEnds signs plugins command status keeper left before after
+    ⊎ ((status ≡ statuses.NoMemory) × NothingDone keeper left before after)

@@ -1,7 +1,6 @@
 -- When the commands do all that they are for: nothing but what is named here keeps them from it.
 use Rattle.std.specs.Prelude.{◌≡◌, ◌⊎◌, ◌≤◌, ◌<◌, ◌+◌, ◌-◌, ◌^◌, ℕ, false, List, ◌∷◌, ◌++◌, length, map, Option, Some, None, Ok}
 use Rattle.fw_facts.specs.declared.machine.MachineFacts.{MachineFacts}
-use Rattle.history_keeper.specs.declared.change.Change.{Change}
 use Rattle.history_keeper.specs.declared.row.Row.{Row}
 use Rattle.history_keeper.specs.Histories.{IsHistory}
 use Rattle.plugin_order.specs.declared.sheet.PluginSheet.{PluginSheet}
@@ -42,9 +41,10 @@ use Rattle.run_status.specs.declared.status.Status.TheVariants as statuses
 use Rattle.fwupd_service.specs.Commands.{Checked, Explained, Identified, RemotesTold}
 use Rattle.fwupd_service.specs.Ends.{WentWhole}
 use Rattle.fwupd_service.specs.Makes.{MakeEnds, own_shelves}
-use Rattle.fwupd_service.specs.Plugged.{AreStarted, PluginWords, work_of}
+use Rattle.fwupd_service.specs.Plugged.{AreStarted, PluginWords, Plugins, plugins_with, work_of}
 use Rattle.fwupd_service.specs.Tops.{Left, RunEnds}
 use Rattle.fwupd_service.specs.Updates.{PlanEnds, UpdateEnds, planned_items, printed_plan}
+use Rattle.fwupd_service.specs.Worlds.{KeeperSigns, World}
 
 -- ---- the input
 
@@ -90,19 +90,19 @@ WorkDone Complete _ = ⊥
 
 -- The history held: the rows that the keeper told as it came are a valid one, and it tells rows still, or else
 -- those before the log are; and it failed at nothing: its count of faults, which isn't at its end, is as it was.
-pub record HistoryHeld {K : Type 0} (told : K → List Row → Type 0) (faults : K → ℕ) (keeper : K) (left : Left K) : Type 0 where
-  pub valid : IsHistory left.opening ⊎ (((all : List Row) → told keeper all → IsHistory all) × ((all : List Row) × told left.keeper all))
-  pub no_fault : faults left.keeper ≡ faults keeper
-  pub counting : faults keeper < 2 ^ 64 - 1
+pub record HistoryHeld {K : Type 0} (signs : KeeperSigns K) (keeper : K) (left : Left K) : Type 0 where
+  pub valid : IsHistory left.opening ⊎ (((all : List Row) → signs.tells keeper all → IsHistory all) × ((all : List Row) × signs.tells left.keeper all))
+  pub no_fault : signs.faults left.keeper ≡ signs.faults keeper
+  pub counting : signs.faults keeper < 2 ^ 64 - 1
 
 -- The campaign of that site was played whole, over these shelves, by the plugins that were started: all its boots
 -- were run, each script was played, as far as its boot didn't go off, and the text of its log was written whole.
-pub record SiteWentWhole {K Q : Type 0} (shelves : List ShelfTold) (sheets : List PluginSheet) (vetoes : MachineFacts → List PluginVetoes) (words : PluginWords Q) (site : Site) (left : Left K) (text : Campaign → List ℕ) (before after : Option (List ℕ)) : Type 0 where
+pub record SiteWentWhole {K Q : Type 0} (shelves : List ShelfTold) (plugins : Plugins Q) (site : Site) (left : Left K) (text : Campaign → List ℕ) (before after : Option (List ℕ)) : Type 0 where
   pub campaign : Campaign
-  pub settled : IsCampaignOf site sheets (vetoes site.machine) campaign
+  pub settled : IsCampaignOf site plugins.sheets (plugins.vetoes site.machine) campaign
   pub started : List Q
-  pub started_are : AreStarted words sheets campaign.facts started
-  pub whole : WentWhole (means_for (work_of words started) shelves) (with_plans campaign.facts (map shown_by campaign.boards.items) campaign.boots) left.opening campaign.scripts left.log (text campaign) before after
+  pub started_are : AreStarted plugins.words plugins.sheets campaign.facts started
+  pub whole : WentWhole (means_for (work_of plugins.words started) shelves) (with_plans campaign.facts (map shown_by campaign.boards.items) campaign.boots) left.opening campaign.scripts left.log (text campaign) before after
 
 -- All was done, or else memory was wanting, or the output failed; or, where the keeper tells no rows, a later boot read
 -- others than the log's.
@@ -115,13 +115,13 @@ RunDone told keeper Complete _ = ⊥
 
 -- `run` is complete: whatever it came to, where the plugins can be arranged and the history held, its input gave no
 -- site, or the campaign of that site was played whole and its report was written, but for those causes.
-abbrev pub RunCompletes : {K Q : Type 0} → (K → List Row → Type 0) → (K → Option Change) → (K → ℕ) → PluginWords Q → Type 0
-RunCompletes {K = K} told doubted faults words =
-    (shelves now : List ShelfTold) (sheets : List PluginSheet) (vetoes : MachineFacts → List PluginVetoes) (status : Status) (keeper : K) (left : Left K) (old new before after : Option (List ℕ))
-    → RunEnds told doubted faults shelves now sheets vetoes words status keeper left old new before after
-    → CanBeArranged sheets → HistoryHeld told faults keeper left
-    → InputGave (limits.Shelves (length shelves)) status old new
-    (λ site. RunDone told left.keeper (SiteWentWhole shelves sheets vetoes words site left (λ campaign. report campaign.facts left.opening left.log) before after) status)
+abbrev pub RunCompletes : {K Q : Type 0} → KeeperSigns K → PluginWords Q → Type 0
+RunCompletes {K = K} signs words =
+    (sheets : List PluginSheet) (vetoes : MachineFacts → List PluginVetoes) (status : Status) (keeper : K) (left : Left K) (before after : World)
+    → RunEnds signs (plugins_with sheets vetoes words) status keeper left before after
+    → CanBeArranged sheets → HistoryHeld signs keeper left
+    → InputGave (limits.Shelves (length before.shelves)) status before.unread after.unread
+    (λ site. RunDone signs.tells left.keeper (SiteWentWhole before.shelves (plugins_with sheets vetoes words) site left (λ campaign. report campaign.facts left.opening left.log) before.written after.written) status)
 
 -- ---- `plan`
 
@@ -133,37 +133,38 @@ pub record SitePlanned {K : Type 0} (sheets : List PluginSheet) (vetoes : Machin
 
 -- `plan` is complete: where the plugins can be arranged and the history held, its input gave no site, or the plan of
 -- that site's first boot was printed, but for those causes.
-abbrev pub PlanCompletes : {K : Type 0} → (K → List Row → Type 0) → (K → Option Change) → (K → ℕ) → Type 0
-PlanCompletes {K = K} told doubted faults =
-    (shelves : ℕ) (sheets : List PluginSheet) (vetoes : MachineFacts → List PluginVetoes) (tag : List ℕ) (status : Status) (keeper : K) (left : Left K) (old new before after : Option (List ℕ))
-    → PlanEnds told doubted faults shelves sheets vetoes tag status keeper left old new before after
-    → CanBeArranged sheets → HistoryHeld told faults keeper left
-    → InputGave (limits.Shelves shelves) status old new (λ site. WorkDone (SitePlanned sheets vetoes tag site left before after) status)
+abbrev pub PlanCompletes : {K : Type 0} → KeeperSigns K → Type 0
+PlanCompletes {K = K} signs =
+    (sheets : List PluginSheet) (vetoes : MachineFacts → List PluginVetoes) (tag : List ℕ) (status : Status) (keeper : K) (left : Left K) (before after : World)
+    → PlanEnds signs sheets vetoes tag status keeper left before after
+    → CanBeArranged sheets → HistoryHeld signs keeper left
+    → InputGave (limits.Shelves (length before.shelves)) status before.unread after.unread
+    (λ site. WorkDone (SitePlanned sheets vetoes tag site left before.written after.written) status)
 
 -- ---- `update`
 
 -- The plan of that site's first boot, over the rows that the keeper told, was played whole: the boot was run, the
 -- script of the planned installs was played, as far as the boot didn't go off, and the report was written whole.
-pub record SiteUpdated {K Q : Type 0} (told : K → List Row → Type 0) (shelves : List ShelfTold) (sheets : List PluginSheet) (vetoes : MachineFacts → List PluginVetoes) (words : PluginWords Q) (tag : List ℕ) (site : Site) (keeper : K) (left : Left K) (before after : Option (List ℕ)) : Type 0 where
+pub record SiteUpdated {K Q : Type 0} (told : K → List Row → Type 0) (shelves : List ShelfTold) (plugins : Plugins Q) (tag : List ℕ) (site : Site) (keeper : K) (left : Left K) (before after : Option (List ℕ)) : Type 0 where
   pub campaign : Campaign
-  pub settled : IsCampaignOf site sheets (vetoes site.machine) campaign
+  pub settled : IsCampaignOf site plugins.sheets (plugins.vetoes site.machine) campaign
   pub started : List Q
-  pub started_are : AreStarted words sheets campaign.facts started
+  pub started_are : AreStarted plugins.words plugins.sheets campaign.facts started
   pub rows : List Row
   pub told_are : AreTold (told keeper) (told left.keeper) rows
   pub made : Campaign
   pub plays : Plays (planned_items campaign rows tag) campaign made
-  pub whole : WentWhole (means_for (work_of words started) shelves) (with_plans made.facts (map shown_by made.boards.items) made.boots) left.opening made.scripts left.log (report made.facts left.opening left.log) before after
+  pub whole : WentWhole (means_for (work_of plugins.words started) shelves) (with_plans made.facts (map shown_by made.boards.items) made.boots) left.opening made.scripts left.log (report made.facts left.opening left.log) before after
 
 -- `update` is complete: where the plugins can be arranged and the history held, its input gave no site, or the plan of
 -- that site's first boot was played whole and its report was written, but for the causes of `run`.
-abbrev pub UpdateCompletes : {K Q : Type 0} → (K → List Row → Type 0) → (K → Option Change) → (K → ℕ) → PluginWords Q → Type 0
-UpdateCompletes {K = K} told doubted faults words =
-    (shelves now : List ShelfTold) (sheets : List PluginSheet) (vetoes : MachineFacts → List PluginVetoes) (tag : List ℕ) (status : Status) (keeper : K) (left : Left K) (old new before after : Option (List ℕ))
-    → UpdateEnds told doubted faults shelves now sheets vetoes words tag status keeper left old new before after
-    → CanBeArranged sheets → HistoryHeld told faults keeper left
-    → InputGave (limits.Shelves (length shelves)) status old new
-    (λ site. RunDone told left.keeper (SiteUpdated told shelves sheets vetoes words tag site keeper left before after) status)
+abbrev pub UpdateCompletes : {K Q : Type 0} → KeeperSigns K → PluginWords Q → Type 0
+UpdateCompletes {K = K} signs words =
+    (sheets : List PluginSheet) (vetoes : MachineFacts → List PluginVetoes) (tag : List ℕ) (status : Status) (keeper : K) (left : Left K) (before after : World)
+    → UpdateEnds signs (plugins_with sheets vetoes words) tag status keeper left before after
+    → CanBeArranged sheets → HistoryHeld signs keeper left
+    → InputGave (limits.Shelves (length before.shelves)) status before.unread after.unread
+    (λ site. RunDone signs.tells left.keeper (SiteUpdated signs.tells before.shelves (plugins_with sheets vetoes words) tag site keeper left before.written after.written) status)
 
 -- The answer to an ask is that it holds blocks.
 abbrev pub IsHeld : AskAnswer → Type 0
@@ -193,8 +194,8 @@ UpdateAccepts =
 abbrev pub MakeCompletes : {Q : Type 0} → Type 0 → PluginWords Q → Type 0
 MakeCompletes K words =
     (boards clients : ℕ) (sheets : List PluginSheet) (vetoes : MachineFacts → List PluginVetoes) (status : Status) (keeper : K) (left : Left K) (before after : Option (List ℕ))
-    → MakeEnds boards clients sheets vetoes words status keeper left before after → CanBeArranged sheets
-    → WorkDone (SiteWentWhole (own_shelves clients) sheets vetoes words (made_site boards clients) left (λ campaign. summary boards clients left.log) before after) status
+    → MakeEnds boards clients (plugins_with sheets vetoes words) status keeper left before after → CanBeArranged sheets
+    → WorkDone (SiteWentWhole (own_shelves clients) (plugins_with sheets vetoes words) (made_site boards clients) left (λ campaign. summary boards clients left.log) before after) status
 
 -- ---- `check`, `remotes`, `explain` and `ids`
 
@@ -202,16 +203,16 @@ MakeCompletes K words =
 -- causes.
 abbrev pub CheckCompletes : Type 0 → Type 0
 CheckCompletes K =
-    (status : Status) (keeper : K) (left : Left K) (old new before after : Option (List ℕ))
-    → Checked status keeper left old new before after
-    → InputGave limits.Any status old new (λ site. WorkDone (Took (checked site) before after) status)
+    (status : Status) (keeper : K) (left : Left K) (before after : World)
+    → Checked status keeper left before after
+    → InputGave limits.Any status before.unread after.unread (λ site. WorkDone (Took (checked site) before.written after.written) status)
 
 -- `remotes` is complete: its input gave no site, or what that site's remotes have was printed, but for those causes.
 abbrev pub RemotesCompletes : Type 0 → Type 0
 RemotesCompletes K =
-    (status : Status) (keeper : K) (left : Left K) (old new before after : Option (List ℕ))
-    → RemotesTold status keeper left old new before after
-    → InputGave limits.Any status old new (λ site. WorkDone (Took (remotes_told site) before after) status)
+    (status : Status) (keeper : K) (left : Left K) (before after : World)
+    → RemotesTold status keeper left before after
+    → InputGave limits.Any status before.unread after.unread (λ site. WorkDone (Took (remotes_told site) before.written after.written) status)
 
 -- What is explained of an install of this version at this port of that site was printed whole.
 pub record SiteExplained (sheets : List PluginSheet) (vetoes : MachineFacts → List PluginVetoes) (port version : List ℕ) (site : Site) (before after : Option (List ℕ)) : Type 0 where
@@ -223,12 +224,12 @@ pub record SiteExplained (sheets : List PluginSheet) (vetoes : MachineFacts → 
 -- those causes.
 abbrev pub ExplainCompletes : Type 0 → Type 0
 ExplainCompletes K =
-    (sheets : List PluginSheet) (vetoes : MachineFacts → List PluginVetoes) (port version : List ℕ) (status : Status) (keeper : K) (left : Left K) (old new before after : Option (List ℕ))
-    → Explained sheets vetoes port version status keeper left old new before after → CanBeArranged sheets
-    → InputGave limits.Any status old new (λ site. WorkDone (SiteExplained sheets vetoes port version site before after) status)
+    (sheets : List PluginSheet) (vetoes : MachineFacts → List PluginVetoes) (port version : List ℕ) (status : Status) (keeper : K) (left : Left K) (before after : World)
+    → Explained sheets vetoes port version status keeper left before after → CanBeArranged sheets
+    → InputGave limits.Any status before.unread after.unread (λ site. WorkDone (SiteExplained sheets vetoes port version site before.written after.written) status)
 
 -- `ids` is complete: a line for each text was printed, but for those causes.
 abbrev pub IdsCompletes : Type 0 → Type 0
 IdsCompletes K =
-    (texts : List (List ℕ)) (status : Status) (keeper : K) (left : Left K) (old new before after : Option (List ℕ))
-    → Identified texts status keeper left old new before after → WorkDone (Took (ids_output texts) before after) status
+    (texts : List (List ℕ)) (status : Status) (keeper : K) (left : Left K) (before after : World)
+    → Identified texts status keeper left before after → WorkDone (Took (ids_output texts) before.written after.written) status

@@ -1,4 +1,5 @@
 pub mod Telling
+pub mod Worlds
 pub mod Begins
 pub mod Campaigns
 pub mod Ends

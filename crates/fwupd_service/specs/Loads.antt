@@ -1,7 +1,6 @@
 -- A load of the history before anything is planned.
 use Rattle.std.specs.Prelude.{◌≡◌, ◌⊎◌, ◌≤◌, ℕ, List, [], Option, Some, None}
 use Rattle.outer_traits.specs.Faults.{Rose}
-use Rattle.history_keeper.specs.declared.change.Change.{Change}
 use Rattle.history_keeper.specs.declared.row.Row.{Row}
 use Rattle.history_keeper.specs.Histories.{IsHistory}
 use Rattle.history_keeper.specs.Keepers.{StillTold}
@@ -11,6 +10,7 @@ use Rattle.run_status.specs.declared.status.Status.{Status}
 use Rattle.run_status.specs.declared.status.Status.TheVariants as statuses
 use Rattle.fwupd_service.specs.declared.loading.LoadStop.{LoadStop}
 use Rattle.fwupd_service.specs.declared.loading.LoadStop.TheVariants as loads
+use Rattle.fwupd_service.specs.Worlds.{KeeperSigns}
 
 -- How a status tells that nothing is planned over the rows.
 abbrev pub load_status : LoadStop → Status
@@ -36,9 +36,9 @@ IsJudged (Some loads.KeeperFault) rows = ⊥
 
 -- A load gave these rows. What the keeper tells it told before, and it has no doubt; and where the load tells no fault
 -- of it, it counted none.
-pub record WasLoaded {K : Type 0} (told : K → List Row → Type 0) (doubted : K → Option Change) (faults : K → ℕ) (stop : Option LoadStop) (rows : List Row) (old new : K) : Type 0 where
-  pub says : LoadSays stop (told old) (told new) rows (faults old) (faults new)
-  pub told_stay : StillTold (told old) (told new)
-  pub no_doubt : doubted new ≡ None
-  pub quiet : (stop ≡ Some loads.KeeperFault) ⊎ (faults new ≡ faults old)
-  pub counts : faults old ≤ faults new
+pub record WasLoaded {K : Type 0} (signs : KeeperSigns K) (stop : Option LoadStop) (rows : List Row) (old new : K) : Type 0 where
+  pub says : LoadSays stop (signs.tells old) (signs.tells new) rows (signs.faults old) (signs.faults new)
+  pub told_stay : StillTold (signs.tells old) (signs.tells new)
+  pub no_doubt : signs.doubt new ≡ None
+  pub quiet : (stop ≡ Some loads.KeeperFault) ⊎ (signs.faults new ≡ signs.faults old)
+  pub counts : signs.faults old ≤ signs.faults new

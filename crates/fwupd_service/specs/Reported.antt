@@ -57,13 +57,18 @@ KeepsMarks (Some (commands.Ids texts)) old new = new ≡ old
 KeepsMarks (Some (commands.Make boards clients)) old new = new ≡ old
 KeepsMarks (Some (commands.Report max)) old new = Unit {0}
 
--- How a report tells what the keeper of the history and that of the marks counted: a fault of a keeper only where one
--- count rose, and where it tells none, neither did.
-pub record KeepersTold (status : Status) (rows rows' marks marks' : ℕ) : Type 0 where
-  pub cause : status ≡ statuses.KeeperFault → Rose rows rows' ⊎ Rose marks marks'
-  pub quiet : (status ≡ statuses.KeeperFault) ⊎ ((rows' ≡ rows) × (marks' ≡ marks))
+-- How many faults the keeper of the history counted, and how many that of the marks.
+pub record KeeperFaults : Type 0 where
+  pub history : ℕ
+  pub marks : ℕ
+
+-- How a report tells what they counted: a fault of a keeper only where one count rose, and where it tells none,
+-- neither did.
+pub record KeepersTold (status : Status) (before after : KeeperFaults) : Type 0 where
+  pub cause : status ≡ statuses.KeeperFault → Rose before.history after.history ⊎ Rose before.marks after.marks
+  pub quiet : (status ≡ statuses.KeeperFault) ⊎ ((after.history ≡ before.history) × (after.marks ≡ before.marks))
 
 -- So it is under `report`.
-abbrev pub FaultTold : Option Command → Status → ℕ → ℕ → ℕ → ℕ → Type 0
-FaultTold (Some (commands.Report max)) status rows rows' marks marks' = KeepersTold status rows rows' marks marks'
-FaultTold _ status rows rows' marks marks' = Unit {0}
+abbrev pub FaultTold : Option Command → Status → KeeperFaults → KeeperFaults → Type 0
+FaultTold (Some (commands.Report max)) status before after = KeepersTold status before after
+FaultTold _ status before after = Unit {0}

@@ -1,16 +1,12 @@
 -- What a run of the program comes to, by its command.
 use Rattle.std.specs.Prelude.{◌≡◌, ◌⊎◌, ℕ, List, [], length, map, Option, Some, None}
 use Rattle.emulated_boards.specs.Boards.{BoardState}
-use Rattle.fw_facts.specs.declared.machine.MachineFacts.{MachineFacts}
-use Rattle.history_keeper.specs.declared.change.Change.{Change}
 use Rattle.history_keeper.specs.declared.row.Row.{Row}
 use Rattle.plugin_order.specs.declared.sheet.PluginSheet.{PluginSheet}
 use Rattle.plugin_trait.specs.Steps.{PluginSteps}
 use Rattle.update_log.specs.declared.event.Event.{Event}
-use Rattle.update_log.specs.declared.facts.PluginVetoes.{PluginVetoes}
 use Rattle.daemon_core.specs.House.{shown_by}
 use Rattle.client_plays.specs.Shelves.{means_for}
-use Rattle.client_plays.specs.Tools.{ShelfTold}
 use Rattle.client_threads.specs.Planned.{with_plans}
 use Rattle.site_types.specs.declared.campaign.Campaign.{Campaign}
 use Rattle.campaign_inputs.specs.declared.opening.ClientLimit.TheVariants as limits
@@ -22,7 +18,8 @@ use Rattle.run_status.specs.declared.status.Status.{Status}
 use Rattle.run_status.specs.declared.status.Status.TheVariants as statuses
 use Rattle.fwupd_service.specs.Campaigns.{IsTrueLog, KeeperStands, ShelvesStand}
 use Rattle.fwupd_service.specs.Ends.{CampaignEnds}
-use Rattle.fwupd_service.specs.Plugged.{AreStarted, PluginWords, work_of}
+use Rattle.fwupd_service.specs.Plugged.{AreStarted, Plugins, work_of}
+use Rattle.fwupd_service.specs.Worlds.{KeeperSigns, Setting, World, setting_in}
 
 -- What a run leaves: its log, the rows before it, the boards where a campaign began, and the keeper.
 pub record Left (K : Type 0) : Type 0 where
@@ -48,42 +45,42 @@ stop_status (stops.TooManyClients asked shelves) = statuses.TooManyClients asked
 stop_status (stops.Plugins fault) = statuses.Plugins fault
 stop_status stops.NoMemory = statuses.NoMemory
 
--- A campaign was played: what is true of its log and its boards, how the keeper and the shelves stand to it,
--- and what the status says of how it ended and of what was written of it. Each board has the faults planned
--- that the campaign's board of its number has. The shelves are as they came, and as they are now; the plugins, by
--- what their steps give, made the steps of the entries, each those of its own boards.
-pub record CampaignTold {K : Type 0} (told : K → List Row → Type 0) (doubted : K → Option Change) (faults : K → ℕ) (shelves now : List ShelfTold) (plugins : ℕ → PluginSteps) (status : Status) (campaign : Campaign) (keeper : K) (left : Left K) (text : List ℕ) (before after : Option (List ℕ)) : Type 0 where
+-- A campaign was played: what is true of its log and its boards, how the keeper and the shelves stand to it, and what the
+-- status says of how it ended and of what was written of it. Each board has the faults planned that the campaign's board
+-- of its number has. The plugins, whose work is what their steps give, made the steps of the entries, each those of its
+-- own boards.
+pub record CampaignTold {K : Type 0} (signs : KeeperSigns K) (work : ℕ → PluginSteps) (status : Status) (campaign : Campaign) (keeper : K) (left : Left K) (text : List ℕ) (before after : Setting) : Type 0 where
   pub boards : List BoardState
   pub boards_are : left.boards ≡ Some boards
   pub true_log : IsTrueLog (with_plans campaign.facts (map shown_by campaign.boards.items) campaign.boots) left.opening left.log boards
   pub board_plans : map (λ b. b.plan) boards ≡ map (λ b. b.plan) campaign.boards.items
-  pub keeper_stands : KeeperStands told doubted faults (with_plans campaign.facts (map shown_by campaign.boards.items) campaign.boots) left.opening left.log keeper left.keeper
-  pub shelves_stand : ShelvesStand left.log shelves now
-  pub ends : CampaignEnds told (means_for plugins shelves) status (with_plans campaign.facts (map shown_by campaign.boards.items) campaign.boots) left.opening campaign.scripts left.log left.keeper text before after
+  pub keeper_stands : KeeperStands signs (with_plans campaign.facts (map shown_by campaign.boards.items) campaign.boots) left.opening left.log keeper left.keeper
+  pub shelves_stand : ShelvesStand left.log before.shelves after.shelves
+  pub ends : CampaignEnds signs.tells (means_for work before.shelves) status (with_plans campaign.facts (map shown_by campaign.boards.items) campaign.boots) left.opening campaign.scripts left.log left.keeper text before.written after.written
 
 -- A campaign could begin: it was played, unless there was no memory for its house.
-abbrev pub CampaignWent : {K : Type 0} → (K → List Row → Type 0) → (K → Option Change) → (K → ℕ) → List ShelfTold → List ShelfTold → (ℕ → PluginSteps) → Status → Campaign → K → Left K → List ℕ → Option (List ℕ) → Option (List ℕ) → Type 0
-CampaignWent told doubted faults shelves now plugins status campaign keeper left text before after =
-    CampaignTold told doubted faults shelves now plugins status campaign keeper left text before after
-    ⊎ ((status ≡ statuses.NoMemory) × NothingBegan keeper left before after)
+abbrev pub CampaignWent : {K : Type 0} → KeeperSigns K → (ℕ → PluginSteps) → Status → Campaign → K → Left K → List ℕ → Setting → Setting → Type 0
+CampaignWent signs work status campaign keeper left text before after =
+    CampaignTold signs work status campaign keeper left text before after
+    ⊎ ((status ≡ statuses.NoMemory) × NothingBegan keeper left before.written after.written)
 
 -- `run`: there is no campaign, for a cause that the input, the shelves or the plugins show, and that the
 -- status names; or the campaign is that of the site which the input states, each client fetches from its own
 -- shelf, the plugins that were started make the steps, and the output is the report.
-pub record RunStopped {K : Type 0} (shelves : ℕ) (sheets : List PluginSheet) (status : Status) (keeper : K) (left : Left K) (old new before after : Option (List ℕ)) : Type 0 where
+pub record RunStopped {K : Type 0} (sheets : List PluginSheet) (status : Status) (keeper : K) (left : Left K) (before after : World) : Type 0 where
   pub stop : OpenStop
   pub status_is : status ≡ stop_status stop
-  pub stopped : HasStopped (limits.Shelves shelves) sheets stop old new
-  pub nothing : NothingBegan keeper left before after
+  pub stopped : HasStopped (limits.Shelves (length before.shelves)) sheets stop before.unread after.unread
+  pub nothing : NothingBegan keeper left before.written after.written
 
-pub record RunWent {K Q : Type 0} (told : K → List Row → Type 0) (doubted : K → Option Change) (faults : K → ℕ) (shelves now : List ShelfTold) (sheets : List PluginSheet) (vetoes : MachineFacts → List PluginVetoes) (words : PluginWords Q) (status : Status) (keeper : K) (left : Left K) (old new before after : Option (List ℕ)) : Type 0 where
+pub record RunWent {K Q : Type 0} (signs : KeeperSigns K) (plugins : Plugins Q) (status : Status) (keeper : K) (left : Left K) (before after : World) : Type 0 where
   pub campaign : Campaign
-  pub opened : IsOpened (limits.Shelves (length shelves)) sheets vetoes old new campaign
+  pub opened : IsOpened (limits.Shelves (length before.shelves)) plugins.sheets plugins.vetoes before.unread after.unread campaign
   pub started : List Q
-  pub started_are : AreStarted words sheets campaign.facts started
-  pub went : CampaignWent told doubted faults shelves now (work_of words started) status campaign keeper left (report campaign.facts left.opening left.log) before after
+  pub started_are : AreStarted plugins.words plugins.sheets campaign.facts started
+  pub went : CampaignWent signs (work_of plugins.words started) status campaign keeper left (report campaign.facts left.opening left.log) (setting_in before) (setting_in after)
 
-abbrev pub RunEnds : {K Q : Type 0} → (K → List Row → Type 0) → (K → Option Change) → (K → ℕ) → List ShelfTold → List ShelfTold → List PluginSheet → (MachineFacts → List PluginVetoes) → PluginWords Q → Status → K → Left K → Option (List ℕ) → Option (List ℕ) → Option (List ℕ) → Option (List ℕ) → Type 0
-RunEnds told doubted faults shelves now sheets vetoes words status keeper left old new before after =
-    RunStopped (length shelves) sheets status keeper left old new before after
-    ⊎ RunWent told doubted faults shelves now sheets vetoes words status keeper left old new before after
+abbrev pub RunEnds : {K Q : Type 0} → KeeperSigns K → Plugins Q → Status → K → Left K → World → World → Type 0
+RunEnds signs plugins status keeper left before after =
+    RunStopped plugins.sheets status keeper left before after
+    ⊎ RunWent signs plugins status keeper left before after

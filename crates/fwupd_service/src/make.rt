@@ -1,11 +1,10 @@
 //! The command `make`: a campaign that is generated.
-ghost use Rattle.std.specs.Prelude.{◌≡◌, ◌⊎◌, ◌≤◌, replicate, length, map, IfOk};
+ghost use Rattle.std.specs.Prelude.{◌≡◌, ◌⊎◌, ◌≤◌, replicate, length, IfOk};
 ghost use Rattle.outer_traits.specs.Faults.{Rose};
-ghost use Rattle.site_making.specs.Settled.{vetoes_of};
 ghost use Rattle.fwupd_service.specs.Begins.{CanBePlayed, IsReadyFor};
 ghost use Rattle.command_outputs.specs.Summed.{summary};
 ghost use Rattle.fwupd_service.specs.Ends.{IsLeft, IsReported};
-ghost use Rattle.fwupd_service.specs.Plugged.{plugin_words};
+ghost use Rattle.fwupd_service.specs.Plugged.{plugins_of};
 ghost use Rattle.plugin_trait.specs.Steps.{steps_at};
 ghost use Rattle.fwupd_service.specs.Makes.{MadeOrNothing, MakeEnds, order_status, own_memory};
 
@@ -46,9 +45,7 @@ pub(crate) fn make<R: Threads + Wait + Sync, P, K, T: Sink, G: Gate + Sync>(
     requires some_clients { 1 ≤ clients }
     requires few_clients { clients ≤ 16 }
     requires few_plugins { length plugins.items ≤ 64 }
-    ensures ends { MakeEnds boards clients (map (λ p. own_sheet p) plugins.items)
-        (λ machine. map (λ p. vetoes_of (own_sheet p) (vetoes_on p machine)) plugins.items)
-        (plugin_words (λ p. own_sheet p) (λ p. own_vetoes p) (λ p. steps p)) result.status keeper
+    ensures ends { MakeEnds boards clients (plugins_of (λ p. own_sheet p) (λ p. vetoes_on p) (λ p. own_vetoes p) (λ p. steps p) plugins.items) result.status keeper
         (record { log = result.log; opening = result.opening; boards = result.boards; keeper = result.keeper })
         (T.taken out.old) (T.taken out.new) }
     ensures sink_fault { result.status ≡ Status.SinkFault → Rose (T.faults out.old) (T.faults out.new) }

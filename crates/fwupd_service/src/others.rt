@@ -2,6 +2,7 @@
 ghost use Rattle.std.specs.Prelude.{◌≡◌, ◌⊎◌, ◌≤◌, length, map};
 ghost use Rattle.site_making.specs.Settled.{vetoes_of};
 ghost use Rattle.outer_traits.specs.Faults.{Rose};
+ghost use Rattle.client_plays.specs.Has.{shelves_told};
 ghost use Rattle.fwupd_service.specs.Commands.{Checked, Explained, NothingHappened, RemotesTold, Written, ended_status};
 ghost use Rattle.command_outputs.specs.Printed.{ids_output};
 
@@ -42,7 +43,8 @@ pub(crate) fn run_check<S: Source, P: Shelf, K: Keeper, T: Sink>(
 ) -> RunLeft<P, K>
     ensures ends { Checked result.status keeper
         (record { log = result.log; opening = result.opening; boards = result.boards; keeper = result.keeper })
-        (S.left source.old) (S.left source.new) (T.taken out.old) (T.taken out.new) }
+        (record { shelves = shelves_told P.files P.faults shelves.items; unread = S.left source.old; written = T.taken out.old })
+        (record { shelves = shelves_told P.files P.faults result.shelves.items; unread = S.left source.new; written = T.taken out.new }) }
     ensures source_fault { result.status ≡ Status.SourceFault → Rose (S.faults source.old) (S.faults source.new) }
     ensures source_quiet { (result.status ≡ Status.SourceFault) ⊎ (S.faults source.new ≡ S.faults source.old) }
     ensures sink_fault { result.status ≡ Status.SinkFault → Rose (T.faults out.old) (T.faults out.new) }
@@ -65,7 +67,8 @@ pub(crate) fn run_remotes<S: Source, P: Shelf, K: Keeper, T: Sink>(
 ) -> RunLeft<P, K>
     ensures ends { RemotesTold result.status keeper
         (record { log = result.log; opening = result.opening; boards = result.boards; keeper = result.keeper })
-        (S.left source.old) (S.left source.new) (T.taken out.old) (T.taken out.new) }
+        (record { shelves = shelves_told P.files P.faults shelves.items; unread = S.left source.old; written = T.taken out.old })
+        (record { shelves = shelves_told P.files P.faults result.shelves.items; unread = S.left source.new; written = T.taken out.new }) }
     ensures source_fault { result.status ≡ Status.SourceFault → Rose (S.faults source.old) (S.faults source.new) }
     ensures source_quiet { (result.status ≡ Status.SourceFault) ⊎ (S.faults source.new ≡ S.faults source.old) }
     ensures sink_fault { result.status ≡ Status.SinkFault → Rose (T.faults out.old) (T.faults out.new) }
@@ -94,7 +97,8 @@ pub(crate) fn run_explain<S: Source, P: Shelf, K: Keeper, T: Sink>(
         (λ machine. map (λ p. vetoes_of (own_sheet p) (vetoes_on p machine)) plugins.items)
         port version result.status keeper
         (record { log = result.log; opening = result.opening; boards = result.boards; keeper = result.keeper })
-        (S.left source.old) (S.left source.new) (T.taken out.old) (T.taken out.new) }
+        (record { shelves = shelves_told P.files P.faults shelves.items; unread = S.left source.old; written = T.taken out.old })
+        (record { shelves = shelves_told P.files P.faults result.shelves.items; unread = S.left source.new; written = T.taken out.new }) }
     ensures source_fault { result.status ≡ Status.SourceFault → Rose (S.faults source.old) (S.faults source.new) }
     ensures source_quiet { (result.status ≡ Status.SourceFault) ⊎ (S.faults source.new ≡ S.faults source.old) }
     ensures sink_fault { result.status ≡ Status.SinkFault → Rose (T.faults out.old) (T.faults out.new) }

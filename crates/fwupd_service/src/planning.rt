@@ -8,6 +8,7 @@ ghost use Rattle.campaign_inputs.specs.Begin.{CanBegin};
 ghost use Rattle.update_plans.specs.Tags.{IsTag};
 ghost use Rattle.campaign_plans.specs.Printed.{plan_text};
 ghost use Rattle.fwupd_service.specs.Updates.{PlanEnds, PlanGoes, WasPrinted, printed_plan};
+ghost use Rattle.fwupd_service.specs.Worlds.{keeper_signs};
 
 use crate::loading::{Loaded, load, load_status};
 use crate::ran::RunLeft;
@@ -36,10 +37,11 @@ pub(crate) fn plan<S: Source, P: Shelf, K: Keeper, T: Sink>(
     requires few_plugins { length plugins.items ≤ 64 }
     requires no_doubt { K.doubt keeper ≡ None }
     requires tag { IsTag tag }
-    ensures ends { PlanEnds K.tells K.doubt K.faults (length (shelves_told P.files P.faults shelves.items)) (map (λ p. own_sheet p) plugins.items)
+    ensures ends { PlanEnds (keeper_signs K.tells K.doubt K.faults) (map (λ p. own_sheet p) plugins.items)
         (λ machine. map (λ p. vetoes_of (own_sheet p) (vetoes_on p machine)) plugins.items) tag result.status keeper
         (record { log = result.log; opening = result.opening; boards = result.boards; keeper = result.keeper })
-        (S.left source.old) (S.left source.new) (T.taken out.old) (T.taken out.new) }
+        (record { shelves = shelves_told P.files P.faults shelves.items; unread = S.left source.old; written = T.taken out.old })
+        (record { shelves = shelves_told P.files P.faults result.shelves.items; unread = S.left source.new; written = T.taken out.new }) }
     ensures source_fault { result.status ≡ Status.SourceFault → Rose (S.faults source.old) (S.faults source.new) }
     ensures source_quiet { (result.status ≡ Status.SourceFault) ⊎ (S.faults source.new ≡ S.faults source.old) }
     ensures sink_fault { result.status ≡ Status.SinkFault → Rose (T.faults out.old) (T.faults out.new) }
@@ -67,7 +69,7 @@ fn plan_campaign<P, K: Keeper, T: Sink>(
     requires begins { CanBegin campaign.now }
     requires no_doubt { K.doubt keeper ≡ None }
     requires tag { IsTag tag }
-    ensures goes { PlanGoes K.tells K.doubt K.faults tag campaign.now result.status keeper
+    ensures goes { PlanGoes (keeper_signs K.tells K.doubt K.faults) tag campaign.now result.status keeper
         (record { log = result.log; opening = result.opening; boards = result.boards; keeper = result.keeper })
         (T.taken out.old) (T.taken out.new) }
     ensures sink_fault { result.status ≡ Status.SinkFault → Rose (T.faults out.old) (T.faults out.new) }

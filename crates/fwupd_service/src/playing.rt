@@ -11,6 +11,7 @@ ghost use Rattle.client_plays.specs.Has.{shelves_told, tools_of};
 ghost use Rattle.client_threads.specs.Planned.{with_plans};
 ghost use Rattle.fwupd_service.specs.Begins.{CanBePlayed, IsBegun, IsReadyFor};
 ghost use Rattle.fwupd_service.specs.Campaigns.{ShelvesStand, WasPlayed};
+ghost use Rattle.fwupd_service.specs.Worlds.{keeper_signs};
 
 use block_pool::Pool;
 use client_scripts::Item;
@@ -59,7 +60,7 @@ fn play_house<R: Threads + Wait + Sync, P: Shelf + Send, K: Keeper + Send, G: Ga
     requires proper { All (All (All IsScriptItem)) scripts.now }
     requires clients { All (λ of_boot. length of_boot ≤ 16) scripts.now }
     requires shelves { All (λ of_boot. length of_boot ≤ length (shelves_told P.files P.faults shelves.items)) scripts.now }
-    ensures played { WasPlayed K.tells K.doubt K.faults (means_for (steps_at (λ p. steps p) plugins.items) (shelves_told P.files P.faults shelves.items)) result.0.ran (with_plans house.house_log.facts house.house_log.first plans.now)
+    ensures played { WasPlayed (keeper_signs K.tells K.doubt K.faults) (means_for (steps_at (λ p. steps p) plugins.items) (shelves_told P.files P.faults shelves.items)) result.0.ran (with_plans house.house_log.facts house.house_log.first plans.now)
         scripts.now result.0.opening result.0.log result.0.boards house.keeper result.0.keeper }
     ensures plans { map (λ b. b.plan) result.0.boards ≡ plans_in house.places }
     ensures facts { result.0.facts ≡ house.house_log.facts }
@@ -130,7 +131,7 @@ pub(crate) fn play<R: Threads + Wait + Sync, P: Shelf + Send, K: Keeper + Send, 
     requires ready { CanBePlayed campaign }
     requires shelves { IsReadyFor (length shelves.items) (length plugins.items) campaign }
     requires no_doubt { K.doubt keeper ≡ None }
-    ensures played { IfOk result.0 (λ played. WasPlayed K.tells K.doubt K.faults (means_for (steps_at (λ p. steps p) plugins.items) (shelves_told P.files P.faults shelves.items)) played.ran
+    ensures played { IfOk result.0 (λ played. WasPlayed (keeper_signs K.tells K.doubt K.faults) (means_for (steps_at (λ p. steps p) plugins.items) (shelves_told P.files P.faults shelves.items)) played.ran
         (with_plans campaign.facts (map shown_by campaign.boards.items) campaign.boots)
         campaign.scripts played.opening played.log played.boards keeper played.keeper) }
     ensures plans { IfOk result.0 (λ played. map (λ b. b.plan) played.boards ≡ map (λ b. b.plan) campaign.boards.items) }

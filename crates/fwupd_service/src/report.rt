@@ -48,7 +48,7 @@ pub(crate) fn report<P: Shelf, K: Keeper, M: MarkKeeper, T: Sink>(
     ensures log { result.log ≡ [] }
     ensures boards { result.boards ≡ None }
     ensures rows_stay { StillTold (K.tells keeper) (K.tells result.keeper) }
-    ensures fault_told { FaultTold (Some (commands.Report max)) result.status (K.faults keeper) (K.faults result.keeper) (M.faults marks) (M.faults result.marks) }
+    ensures fault_told { FaultTold (Some (commands.Report max)) result.status (record { history = K.faults keeper; marks = M.faults marks }) (record { history = K.faults result.keeper; marks = M.faults result.marks }) }
     ensures no_source { result.status ≡ Status.SourceFault → ⊥ }
     ensures sink_fault { result.status ≡ Status.SinkFault → Rose (T.faults out.old) (T.faults out.new) }
     ensures sink_quiet { (result.status ≡ Status.SinkFault) ⊎ (T.faults out.new ≡ T.faults out.old) }

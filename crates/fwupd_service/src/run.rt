@@ -1,13 +1,13 @@
 //! The command `run`: the campaign of a document.
-ghost use Rattle.std.specs.Prelude.{◌≡◌, ◌⊎◌, ◌≤◌, length, map, None, Some};
+ghost use Rattle.std.specs.Prelude.{◌≡◌, ◌⊎◌, ◌≤◌, length, None, Some};
 ghost use Rattle.outer_traits.specs.Faults.{Rose};
-ghost use Rattle.site_making.specs.Settled.{vetoes_of};
 ghost use Rattle.client_plays.specs.Tools.{ShelvesStay};
 ghost use Rattle.client_plays.specs.Has.{shelves_told};
 ghost use Rattle.report_text.specs.Report.{report};
 ghost use Rattle.fwupd_service.specs.Begins.{CanBePlayed, IsReadyFor};
-ghost use Rattle.fwupd_service.specs.Plugged.{plugin_words};
+ghost use Rattle.fwupd_service.specs.Plugged.{plugins_of};
 ghost use Rattle.fwupd_service.specs.Tops.{CampaignWent, RunEnds, stop_status};
+ghost use Rattle.fwupd_service.specs.Worlds.{keeper_signs};
 ghost use Rattle.plugin_trait.specs.Steps.{steps_at};
 
 use crate::playing::play;
@@ -43,11 +43,11 @@ pub(crate) fn run<
 ) -> RunLeft<P, K>
     requires few_plugins { length plugins.items ≤ 64 }
     requires no_doubt { K.doubt keeper ≡ None }
-    ensures ends { RunEnds K.tells K.doubt K.faults (shelves_told P.files P.faults shelves.items) (shelves_told P.files P.faults result.shelves.items) (map (λ p. own_sheet p) plugins.items)
-        (λ machine. map (λ p. vetoes_of (own_sheet p) (vetoes_on p machine)) plugins.items)
-        (plugin_words (λ p. own_sheet p) (λ p. own_vetoes p) (λ p. steps p)) result.status keeper
+    ensures ends { RunEnds (keeper_signs K.tells K.doubt K.faults)
+        (plugins_of (λ p. own_sheet p) (λ p. vetoes_on p) (λ p. own_vetoes p) (λ p. steps p) plugins.items) result.status keeper
         (record { log = result.log; opening = result.opening; boards = result.boards; keeper = result.keeper })
-        (S.left source.old) (S.left source.new) (T.taken out.old) (T.taken out.new) }
+        (record { shelves = shelves_told P.files P.faults shelves.items; unread = S.left source.old; written = T.taken out.old })
+        (record { shelves = shelves_told P.files P.faults result.shelves.items; unread = S.left source.new; written = T.taken out.new }) }
     ensures source_fault { result.status ≡ Status.SourceFault → Rose (S.faults source.old) (S.faults source.new) }
     ensures source_quiet { (result.status ≡ Status.SourceFault) ⊎ (S.faults source.new ≡ S.faults source.old) }
     ensures sink_fault { result.status ≡ Status.SinkFault → Rose (T.faults out.old) (T.faults out.new) }
@@ -106,9 +106,11 @@ pub(crate) fn run_ready<
     requires ready { CanBePlayed campaign }
     requires shelves { IsReadyFor (length shelves.items) (length plugins.items) campaign }
     requires no_doubt { K.doubt keeper ≡ None }
-    ensures went { CampaignWent K.tells K.doubt K.faults (shelves_told P.files P.faults shelves.items) (shelves_told P.files P.faults result.shelves.items) (steps_at (λ p. steps p) plugins.items) result.status campaign keeper
+    ensures went { CampaignWent (keeper_signs K.tells K.doubt K.faults) (steps_at (λ p. steps p) plugins.items) result.status campaign keeper
         (record { log = result.log; opening = result.opening; boards = result.boards; keeper = result.keeper })
-        (report campaign.facts result.opening result.log) (T.taken out.old) (T.taken out.new) }
+        (report campaign.facts result.opening result.log)
+        (record { shelves = shelves_told P.files P.faults shelves.items; written = T.taken out.old })
+        (record { shelves = shelves_told P.files P.faults result.shelves.items; written = T.taken out.new }) }
     ensures sink_fault { result.status ≡ Status.SinkFault → Rose (T.faults out.old) (T.faults out.new) }
     ensures sink_quiet { (result.status ≡ Status.SinkFault) ⊎ (T.faults out.new ≡ T.faults out.old) }
     ensures sink_counts { T.faults out.old ≤ T.faults out.new }

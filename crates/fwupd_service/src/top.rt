@@ -3,11 +3,11 @@ ghost use Rattle.std.specs.Prelude.{◌≡◌, ◌⊎◌, ◌↔◌, ◌≤◌, 
 ghost use Rattle.outer_traits.specs.Faults.{Rose};
 ghost use Rattle.client_plays.specs.Tools.{ShelvesStay};
 ghost use Rattle.client_plays.specs.Has.{shelves_told};
-ghost use Rattle.site_making.specs.Settled.{vetoes_of};
 ghost use Rattle.command_words.specs.Commands.{command_of};
 ghost use Rattle.fwupd_service.specs.Commands.{CommandEnds, CommandFits, KeepsShelves, WordsEnd};
-ghost use Rattle.fwupd_service.specs.Plugged.{plugin_words};
+ghost use Rattle.fwupd_service.specs.Plugged.{plugins_of};
 ghost use Rattle.fwupd_service.specs.Reported.{FaultTold, KeepsMarks, MarksTold};
+ghost use Rattle.fwupd_service.specs.Worlds.{keeper_signs};
 ghost use Rattle.report_queue.specs.Marking.{OverTold};
 
 use crate::make::make;
@@ -60,12 +60,12 @@ pub fn run_campaign<
     requires no_doubt { K.doubt keeper ≡ None }
     // What the words make of it: the status, and under each what came, what is true of the log and the boards
     // that are returned, how the keeper and the shelves stand to them, and what was written.
-    ensures ends { WordsEnd K.tells K.doubt K.faults (shelves_told P.files P.faults shelves.items) (shelves_told P.files P.faults result.shelves.items) (map (λ p. own_sheet p) plugins.items)
-        (λ machine. map (λ p. vetoes_of (own_sheet p) (vetoes_on p machine)) plugins.items)
-        (plugin_words (λ p. own_sheet p) (λ p. own_vetoes p) (λ p. steps p))
+    ensures ends { WordsEnd (keeper_signs K.tells K.doubt K.faults)
+        (plugins_of (λ p. own_sheet p) (λ p. vetoes_on p) (λ p. own_vetoes p) (λ p. steps p) plugins.items)
         (command_of (map (λ word. word.now) words.now)) result.status keeper
         (record { log = result.log; opening = result.opening; boards = result.boards; keeper = result.keeper })
-        (S.left source.old) (S.left source.new) (T.taken out.old) (T.taken out.new) }
+        (record { shelves = shelves_told P.files P.faults shelves.items; unread = S.left source.old; written = T.taken out.old })
+        (record { shelves = shelves_told P.files P.faults result.shelves.items; unread = S.left source.new; written = T.taken out.new }) }
     ensures source_fault { result.status ≡ Status.SourceFault → Rose (S.faults source.old) (S.faults source.new) }
     ensures source_quiet { (result.status ≡ Status.SourceFault) ⊎ (S.faults source.new ≡ S.faults source.old) }
     ensures sink_fault { result.status ≡ Status.SinkFault → Rose (T.faults out.old) (T.faults out.new) }
@@ -81,7 +81,7 @@ pub fn run_campaign<
         (record { log = result.log; opening = result.opening; boards = result.boards; keeper = result.keeper })
         (record { marks = before; doubt = M.doubt marks; taken = T.taken out.old })
         (record { marks = after; doubt = M.doubt result.marks; taken = T.taken out.new })) }
-    ensures fault_told { FaultTold (command_of (map (λ word. word.now) words.now)) result.status (K.faults keeper) (K.faults result.keeper) (M.faults marks) (M.faults result.marks) }
+    ensures fault_told { FaultTold (command_of (map (λ word. word.now) words.now)) result.status (record { history = K.faults keeper; marks = M.faults marks }) (record { history = K.faults result.keeper; marks = M.faults result.marks }) }
     ensures marks_counts { M.faults marks ≤ M.faults result.marks }
 {
     match read_words(alloc, words) {
@@ -121,12 +121,12 @@ fn obey<
     requires fits { CommandFits command.now }
     requires few_plugins { length plugins.items ≤ 64 }
     requires no_doubt { K.doubt keeper ≡ None }
-    ensures ends { CommandEnds K.tells K.doubt K.faults (shelves_told P.files P.faults shelves.items) (shelves_told P.files P.faults result.shelves.items) (map (λ p. own_sheet p) plugins.items)
-        (λ machine. map (λ p. vetoes_of (own_sheet p) (vetoes_on p machine)) plugins.items)
-        (plugin_words (λ p. own_sheet p) (λ p. own_vetoes p) (λ p. steps p))
+    ensures ends { CommandEnds (keeper_signs K.tells K.doubt K.faults)
+        (plugins_of (λ p. own_sheet p) (λ p. vetoes_on p) (λ p. own_vetoes p) (λ p. steps p) plugins.items)
         command.now result.status keeper
         (record { log = result.log; opening = result.opening; boards = result.boards; keeper = result.keeper })
-        (S.left source.old) (S.left source.new) (T.taken out.old) (T.taken out.new) }
+        (record { shelves = shelves_told P.files P.faults shelves.items; unread = S.left source.old; written = T.taken out.old })
+        (record { shelves = shelves_told P.files P.faults result.shelves.items; unread = S.left source.new; written = T.taken out.new }) }
     ensures source_fault { result.status ≡ Status.SourceFault → Rose (S.faults source.old) (S.faults source.new) }
     ensures source_quiet { (result.status ≡ Status.SourceFault) ⊎ (S.faults source.new ≡ S.faults source.old) }
     ensures sink_fault { result.status ≡ Status.SinkFault → Rose (T.faults out.old) (T.faults out.new) }
@@ -140,7 +140,7 @@ fn obey<
         (record { log = result.log; opening = result.opening; boards = result.boards; keeper = result.keeper })
         (record { marks = before; doubt = M.doubt marks; taken = T.taken out.old })
         (record { marks = after; doubt = M.doubt result.marks; taken = T.taken out.new })) }
-    ensures fault_told { FaultTold (Some command.now) result.status (K.faults keeper) (K.faults result.keeper) (M.faults marks) (M.faults result.marks) }
+    ensures fault_told { FaultTold (Some command.now) result.status (record { history = K.faults keeper; marks = M.faults marks }) (record { history = K.faults result.keeper; marks = M.faults result.marks }) }
     ensures marks_counts { M.faults marks ≤ M.faults result.marks }
 {
     match command {

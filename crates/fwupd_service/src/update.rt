@@ -1,14 +1,14 @@
 //! The command `update`: the planned installs, made in the document's first boot.
-ghost use Rattle.std.specs.Prelude.{◌≡◌, ◌⊎◌, ◌≤◌, length, map, None};
+ghost use Rattle.std.specs.Prelude.{◌≡◌, ◌⊎◌, ◌≤◌, length, None};
 ghost use Rattle.outer_traits.specs.Faults.{Rose};
 ghost use Rattle.client_plays.specs.Tools.{ShelvesStay};
 ghost use Rattle.client_plays.specs.Has.{shelves_told};
-ghost use Rattle.site_making.specs.Settled.{vetoes_of};
 ghost use Rattle.campaign_inputs.specs.Begin.{CanBegin};
 ghost use Rattle.update_plans.specs.Tags.{IsTag};
 ghost use Rattle.fwupd_service.specs.Begins.{CanBePlayed, IsReadyFor};
-ghost use Rattle.fwupd_service.specs.Plugged.{plugin_words};
+ghost use Rattle.fwupd_service.specs.Plugged.{plugins_of};
 ghost use Rattle.fwupd_service.specs.Updates.{UpdateEnds, UpdateGoes};
+ghost use Rattle.fwupd_service.specs.Worlds.{keeper_signs};
 ghost use Rattle.plugin_trait.specs.Steps.{steps_at};
 
 use crate::loading::{Loaded, load, load_status};
@@ -49,11 +49,11 @@ pub(crate) fn update<
     requires few_plugins { length plugins.items ≤ 64 }
     requires no_doubt { K.doubt keeper ≡ None }
     requires tag { IsTag tag }
-    ensures ends { UpdateEnds K.tells K.doubt K.faults (shelves_told P.files P.faults shelves.items) (shelves_told P.files P.faults result.shelves.items) (map (λ p. own_sheet p) plugins.items)
-        (λ machine. map (λ p. vetoes_of (own_sheet p) (vetoes_on p machine)) plugins.items)
-        (plugin_words (λ p. own_sheet p) (λ p. own_vetoes p) (λ p. steps p)) tag result.status keeper
+    ensures ends { UpdateEnds (keeper_signs K.tells K.doubt K.faults)
+        (plugins_of (λ p. own_sheet p) (λ p. vetoes_on p) (λ p. own_vetoes p) (λ p. steps p) plugins.items) tag result.status keeper
         (record { log = result.log; opening = result.opening; boards = result.boards; keeper = result.keeper })
-        (S.left source.old) (S.left source.new) (T.taken out.old) (T.taken out.new) }
+        (record { shelves = shelves_told P.files P.faults shelves.items; unread = S.left source.old; written = T.taken out.old })
+        (record { shelves = shelves_told P.files P.faults result.shelves.items; unread = S.left source.new; written = T.taken out.new }) }
     ensures source_fault { result.status ≡ Status.SourceFault → Rose (S.faults source.old) (S.faults source.new) }
     ensures source_quiet { (result.status ≡ Status.SourceFault) ⊎ (S.faults source.new ≡ S.faults source.old) }
     ensures sink_fault { result.status ≡ Status.SinkFault → Rose (T.faults out.old) (T.faults out.new) }
@@ -102,9 +102,10 @@ fn update_campaign<
     requires shelves { IsReadyFor (length shelves.items) (length plugins.items) campaign }
     requires no_doubt { K.doubt keeper ≡ None }
     requires tag { IsTag tag }
-    ensures goes { UpdateGoes K.tells K.doubt K.faults (shelves_told P.files P.faults shelves.items) (shelves_told P.files P.faults result.shelves.items) (steps_at (λ p. steps p) plugins.items) tag campaign result.status keeper
+    ensures goes { UpdateGoes (keeper_signs K.tells K.doubt K.faults) (steps_at (λ p. steps p) plugins.items) tag campaign result.status keeper
         (record { log = result.log; opening = result.opening; boards = result.boards; keeper = result.keeper })
-        (T.taken out.old) (T.taken out.new) }
+        (record { shelves = shelves_told P.files P.faults shelves.items; written = T.taken out.old })
+        (record { shelves = shelves_told P.files P.faults result.shelves.items; written = T.taken out.new }) }
     ensures sink_fault { result.status ≡ Status.SinkFault → Rose (T.faults out.old) (T.faults out.new) }
     ensures sink_quiet { (result.status ≡ Status.SinkFault) ⊎ (T.faults out.new ≡ T.faults out.old) }
     ensures sink_counts { T.faults out.old ≤ T.faults out.new }

@@ -8,8 +8,9 @@ ghost use Rattle.history_sqlite.specs.Opened.{StartHolds};
 ghost use Rattle.fwupd_service.specs.Commands.{WordsEnd};
 ghost use Rattle.fwupd_service.specs.Plugged.{plugin_words};
 ghost use Rattle.fwupd_service.specs.Reported.{KeepsMarks};
+ghost use Rattle.fwupd_service.specs.Worlds.{keeper_signs};
 ghost use Rattle.site_making.specs.Settled.{vetoes_of};
-ghost use Rattle.host_service.specs.Brought.{AreProgram, folder_shelves, program_sheets, program_vetoes};
+ghost use Rattle.host_service.specs.Brought.{AreProgram, folder_shelves, program_plugins};
 ghost use Rattle.host_service.specs.Over.{RanOver, WasOpened};
 
 use crate::running::run_over_folder;
@@ -79,12 +80,16 @@ pub fn run_over_file<
 ) -> Result<Ran<FolderShelf<HostRuntime>, K, M>, KeeperRefusal>
     requires { AreProgram (map (λ p. own_sheet p) plugins.items) (λ machine. map (λ p. vetoes_of (own_sheet p) (vetoes_on p machine)) plugins.items) }
     ensures over { IfOk result (λ ran. (held : List Row) → K.held held → (left : List Row) → K.tells ran.keeper left → RanOver (command_of (map (λ word. word.now) words.now)) held left ran.opening ran.log) }
-    ensures ends { IfOk result (λ ran. (keeper : K) × WasOpened K.held K.tells K.doubt keeper × WordsEnd K.tells K.doubt K.faults folder_shelves
-        (shelves_told (⟦<FolderShelf<HostRuntime> as Shelf>⟧).files (⟦<FolderShelf<HostRuntime> as Shelf>⟧).faults ran.shelves.items)
-        program_sheets program_vetoes (plugin_words (λ p. own_sheet p) (λ p. own_vetoes p) (λ p. steps p))
+    ensures ends { IfOk result (λ ran. (keeper : K) × WasOpened K.held K.tells K.doubt keeper × WordsEnd (keeper_signs K.tells K.doubt K.faults)
+        (program_plugins (plugin_words (λ p. own_sheet p) (λ p. own_vetoes p) (λ p. steps p)))
         (command_of (map (λ word. word.now) words.now)) ran.status keeper
         (record { log = ran.log; opening = ran.opening; boards = ran.boards; keeper = ran.keeper })
-        (S.left source.old) (S.left source.new) (T.taken out.old) (T.taken out.new)) }
+        (record { shelves = folder_shelves; unread = S.left source.old; written = T.taken out.old })
+        (record {
+          shelves = shelves_told (⟦<FolderShelf<HostRuntime> as Shelf>⟧).files (⟦<FolderShelf<HostRuntime> as Shelf>⟧).faults ran.shelves.items;
+          unread = S.left source.new;
+          written = T.taken out.new;
+        })) }
     ensures source_fault { IfOk result (λ ran. ran.status ≡ Status.SourceFault → Rose (S.faults source.old) (S.faults source.new)) }
     ensures source_quiet { IfOk result (λ ran. (ran.status ≡ Status.SourceFault) ⊎ (S.faults source.new ≡ S.faults source.old)) }
     ensures sink_fault { IfOk result (λ ran. ran.status ≡ Status.SinkFault → Rose (T.faults out.old) (T.faults out.new)) }

@@ -7,8 +7,9 @@ ghost use Rattle.report_queue.specs.Marking.{OverTold};
 ghost use Rattle.fwupd_service.specs.Commands.{WordsEnd};
 ghost use Rattle.fwupd_service.specs.Plugged.{plugin_words};
 ghost use Rattle.fwupd_service.specs.Reported.{FaultTold, KeepsMarks, MarksTold};
+ghost use Rattle.fwupd_service.specs.Worlds.{keeper_signs};
 ghost use Rattle.site_making.specs.Settled.{vetoes_of};
-ghost use Rattle.host_service.specs.Brought.{AreProgram, folder_shelves, program_sheets, program_vetoes};
+ghost use Rattle.host_service.specs.Brought.{AreProgram, folder_shelves, program_plugins};
 
 use crate::brought::shelves_over;
 use fw_base::NoMemory;
@@ -44,12 +45,16 @@ pub fn run_over_folder<
 ) -> Result<Ran<FolderShelf<HostRuntime>, K, M>, NoMemory>
     requires four { AreProgram (map (λ p. own_sheet p) plugins.items) (λ machine. map (λ p. vetoes_of (own_sheet p) (vetoes_on p machine)) plugins.items) }
     requires no_doubt { K.doubt keeper ≡ None }
-    ensures ends { IfOk result (λ ran. WordsEnd K.tells K.doubt K.faults folder_shelves
-        (shelves_told (⟦<FolderShelf<HostRuntime> as Shelf>⟧).files (⟦<FolderShelf<HostRuntime> as Shelf>⟧).faults ran.shelves.items)
-        program_sheets program_vetoes (plugin_words (λ p. own_sheet p) (λ p. own_vetoes p) (λ p. steps p))
+    ensures ends { IfOk result (λ ran. WordsEnd (keeper_signs K.tells K.doubt K.faults)
+        (program_plugins (plugin_words (λ p. own_sheet p) (λ p. own_vetoes p) (λ p. steps p)))
         (command_of (map (λ word. word.now) words.now)) ran.status keeper
         (record { log = ran.log; opening = ran.opening; boards = ran.boards; keeper = ran.keeper })
-        (S.left source.old) (S.left source.new) (T.taken out.old) (T.taken out.new)) }
+        (record { shelves = folder_shelves; unread = S.left source.old; written = T.taken out.old })
+        (record {
+          shelves = shelves_told (⟦<FolderShelf<HostRuntime> as Shelf>⟧).files (⟦<FolderShelf<HostRuntime> as Shelf>⟧).faults ran.shelves.items;
+          unread = S.left source.new;
+          written = T.taken out.new;
+        })) }
     ensures source_fault { IfOk result (λ ran. ran.status ≡ Status.SourceFault → Rose (S.faults source.old) (S.faults source.new)) }
     ensures source_quiet { IfOk result (λ ran. (ran.status ≡ Status.SourceFault) ⊎ (S.faults source.new ≡ S.faults source.old)) }
     ensures sink_fault { IfOk result (λ ran. ran.status ≡ Status.SinkFault → Rose (T.faults out.old) (T.faults out.new)) }
@@ -59,7 +64,7 @@ pub fn run_over_folder<
         (record { log = ran.log; opening = ran.opening; boards = ran.boards; keeper = ran.keeper })
         (record { marks = before; doubt = M.doubt marks; taken = T.taken out.old })
         (record { marks = after; doubt = M.doubt ran.marks; taken = T.taken out.new }))) }
-    ensures fault_told { IfOk result (λ ran. FaultTold (command_of (map (λ word. word.now) words.now)) ran.status (K.faults keeper) (K.faults ran.keeper) (M.faults marks) (M.faults ran.marks)) }
+    ensures fault_told { IfOk result (λ ran. FaultTold (command_of (map (λ word. word.now) words.now)) ran.status (record { history = K.faults keeper; marks = M.faults marks }) (record { history = K.faults ran.keeper; marks = M.faults ran.marks })) }
     ensures marks_counts { IfOk result (λ ran. M.faults marks ≤ M.faults ran.marks) }
 {
     let shelves = shelves_over(host, folder)?;

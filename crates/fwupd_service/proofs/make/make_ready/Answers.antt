@@ -1,10 +1,8 @@
-use Rattle.std.proofs.Common.{◌≡◌, ◌∙◌, ℕ, [], List, None, Option, Some, ap, inl}
+use Rattle.std.proofs.Common.{◌≡◌, ◌∙◌, [], List, Some, ap, inl}
 use Rattle.client_plays.specs.Has.{shelves_told}
 use Rattle.client_plays.specs.Tools.{ShelfTold}
-use Rattle.history_keeper.specs.declared.change.Change.{Change}
-use Rattle.history_keeper.specs.declared.row.Row.{Row}
 use Rattle.outer_traits.specs.Plans.{MemoryFiles}
-use Rattle.fwupd_service.specs.Makes.{own_shelves}
+use Rattle.fwupd_service.specs.Makes.{own_shelves, own_signs}
 use Rattle.fwupd_service.proofs.MakeShelves.{told-own}
 use Rattle.fwupd_service.proofs.TopLaws.{campaign-told, if-ok}
 use Rattle.fwupd_service.proofs.Unfailing.{made-went}
@@ -16,9 +14,6 @@ returns-in-Ok-outcome-clause-went g c =
     let campaign = c.args.campaign in
     let files = λ (m : MemoryFiles). Some m.files in
     let faults = λ (m : MemoryFiles). m.plan.faults in
-    let rows : List Row → List Row → Type 0 = λ rows all. rows ≡ all in
-    let doubt : List Row → Option Change = λ _. None in
-    let count : List Row → ℕ = λ _. 0 in
     let told : shelves_told files faults c.in-Ok.own.items ≡ own_shelves c.args.clients =
     ap (shelves_told files faults) (if-ok _ _ _ c.own_shelves.ensures c.in-Ok.is) ∙ told-own c.args.clients in
     let was = if-ok _ _ _ c.play-outcome.ensures.played c.in-Ok-outcome.is in
@@ -29,4 +24,5 @@ returns-in-Ok-outcome-clause-went g c =
     let plans = if-ok _ _ _ c.play-outcome.ensures.plans c.in-Ok-outcome.is in
     let left = c.summed.ensures.left in
     rw (left.log_is, left.opening_is, left.boards_are) (inl (made-went _ _ _ _ _ _ _ out.keeper kept _ _ left.keeper_is
-    (campaign-told rows doubt count (own_shelves c.args.clients) kept _ out.ran campaign out.opening out.log out.boards [] out.keeper _ _ _ c.summed.result.status stand plans played c.summed.ensures.reported)))
+    (campaign-told own_signs _ out.ran campaign out.opening out.log out.boards [] out.keeper _
+    (record { shelves = own_shelves c.args.clients; written = g.T.Sink.taken c.args.out.now }) (record { shelves = kept; written = g.T.Sink.taken c.summed.new.out }) c.summed.result.status stand plans played c.summed.ensures.reported)))

@@ -1,4 +1,5 @@
 use Rattle.client_plays.specs.Has.{shelves_told}
+use Rattle.fwupd_service.specs.Worlds.{keeper_signs}
 use Rattle.fwupd_service.proofs.HouseLaws.{was-played}
 use Rattle.fwupd_service.proofs.PlannedBoards.{boards-planned}
 use Rattle.fwupd_service.proofs.ShelfLaws.{shelves-stand}
@@ -8,7 +9,7 @@ pub returns-clause-played : goal.returns-clause-played
 returns-clause-played g c =
     let e = c.into_parts-facts.ensures in
     let ran = c.run_on_threads-house in
-    rw (e.opening, e.log, e.keeper) (was-played g.K.Keeper.tells g.K.Keeper.doubt g.K.Keeper.faults _ ran.result.1 c.args.plans.now c.args.scripts.now c.args.house ran.result.0
+    rw (e.opening, e.log, e.keeper) (was-played (keeper_signs g.K.Keeper.tells g.K.Keeper.doubt g.K.Keeper.faults) _ ran.result.1 c.args.plans.now c.args.scripts.now c.args.house ran.result.0
     ran.ensures.ran c.known-2.ensures.house_log c.known-2.ensures.house c.legal_once.ensures c.taken_once.ensures c.history_stays.ensures c.requires.new c.into_parts-facts.result.boards e.boards)
 
 pub returns-clause-stand : goal.returns-clause-stand

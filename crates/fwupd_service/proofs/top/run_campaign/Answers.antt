@@ -11,7 +11,7 @@ pub returns-clause-ends : goal.returns-clause-ends
 returns-clause-ends g c =
     let e = c.nothing-in-Err-NoMemory.ensures in
     rw c.with_marks-in-Err-NoMemory.ensures
-    (words-wanted _ _ _ _ _ _ _ _ _ c.read_words.result _ _ _ _ _ _ _ c.read_words.ensures (rw c.in-Err-NoMemory.field-0-is at c.in-Err-NoMemory.is) e.status
+    (words-wanted _ _ _ c.read_words.result _ _ _ _ _ c.read_words.ensures (rw c.in-Err-NoMemory.field-0-is at c.in-Err-NoMemory.is) e.status
     (record { unread = refl; nothing = record { log = e.log; opening = e.opening; boards = e.boards; keeper_is = e.keeper; nothing = refl } }))
 
 pub returns-in-Err-Usage-clause-shelves : goal.returns-in-Err-Usage-clause-shelves
@@ -40,7 +40,7 @@ pub returns-clause-marks_told : goal.returns-clause-marks_told
 returns-clause-marks_told g c = rw c.with_marks-in-Err-NoMemory.ensures (λ after told. (after, told, marks-untold _ _ _ _ _ _ _ c.nothing-in-Err-NoMemory.ensures.status refl))
 
 pub returns-in-Err-Usage-clause-fault_told : goal.returns-in-Err-Usage-clause-fault_told
-returns-in-Err-Usage-clause-fault_told g c = rw c.with_marks.ensures (no-fault-told _ _ _ _ _ _ (λ e. let bad : Status.Usage ≡ Status.KeeperFault = sym c.nothing.ensures.status ∙ e in cc) (ap g.K.Keeper.faults c.nothing.ensures.keeper) refl)
+returns-in-Err-Usage-clause-fault_told g c = rw c.with_marks.ensures (no-fault-told _ _ _ _ (λ e. let bad : Status.Usage ≡ Status.KeeperFault = sym c.nothing.ensures.status ∙ e in cc) (ap g.K.Keeper.faults c.nothing.ensures.keeper) refl)
 
 pub returns-clause-fault_told : goal.returns-clause-fault_told
-returns-clause-fault_told g c = rw c.with_marks-in-Err-NoMemory.ensures (no-fault-told _ _ _ _ _ _ (λ e. let bad : Status.NoMemory ≡ Status.KeeperFault = sym c.nothing-in-Err-NoMemory.ensures.status ∙ e in cc) (ap g.K.Keeper.faults c.nothing-in-Err-NoMemory.ensures.keeper) refl)
+returns-clause-fault_told g c = rw c.with_marks-in-Err-NoMemory.ensures (no-fault-told _ _ _ _ (λ e. let bad : Status.NoMemory ≡ Status.KeeperFault = sym c.nothing-in-Err-NoMemory.ensures.status ∙ e in cc) (ap g.K.Keeper.faults c.nothing-in-Err-NoMemory.ensures.keeper) refl)

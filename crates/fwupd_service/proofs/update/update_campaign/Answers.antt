@@ -9,7 +9,7 @@ returns-in-Some-clause-goes g c =
     inl (record {
       stop = c.in-Some.stop;
       status_is = e.status ∙ c.load_status.ensures;
-      only = only-loaded _ _ _ _ _ _ _ _ (rw c.in-Some.is at c.load-rows.ensures) e.log e.opening e.boards e.keeper;
+      only = only-loaded _ _ _ _ _ _ (rw c.in-Some.is at c.load-rows.ensures) e.log e.opening e.boards e.keeper;
       nothing = refl;
     })
 
@@ -24,7 +24,7 @@ pub returns-in-Ok-clause-goes : goal.returns-in-Ok-clause-goes
 returns-in-Ok-clause-goes g c = inr (inr (record {
   rows = c.load-rows.result.rows.items;
   middle = c.load-rows.new.keeper;
-  loaded = loaded-only _ _ _ _ _ _ _ c.load-rows.ensures c.in-None.is;
+  loaded = loaded-only _ _ _ _ _ c.load-rows.ensures c.in-None.is;
   made = c.in-Ok.made;
   plays = rw c.deref.ensures.value at c.in-Ok.ensures;
   went = c.run_ready.ensures.went;
