@@ -2,6 +2,7 @@ pub mod Copying
 pub mod Effects
 pub mod Found
 pub mod Inserting
+pub mod InTurn
 pub mod Layouts
 pub mod Making
 pub mod Opening

@@ -1,6 +1,7 @@
 pub mod Causes
 pub mod Columns
 pub mod Finding
+pub mod InTurn
 pub mod Keeping
 pub mod Opened
 pub mod Refusals

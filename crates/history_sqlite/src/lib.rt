@@ -8,6 +8,7 @@ pub mod columns;
 pub mod database_files;
 pub mod file_keeper;
 pub mod finding;
+pub mod in_turn;
 pub mod lasting;
 pub mod laws;
 pub mod refusal;

@@ -11,6 +11,7 @@ ghost use Rattle.history_sqlite.specs.Tables.{Adds, Advances, Makes, Keeps, Give
 ghost use Rattle.history_keeper.specs.Changes.{IsTimely};
 
 use crate::columns::{number_of, read_row};
+use crate::in_turn::read_in_turn;
 use crate::refusal::refusal_of_error;
 use history_keeper::{Change, KeeperRefusal, Row, RowState};
 use sqlite::types::ValueRef;
@@ -171,8 +172,29 @@ pub fn select<D: Alter>(connection: &mut Connection<D>) -> Result<Vec<sqlite::Ro
 }
 
 /// All rows, by their entries. It is a fault where a row of the table stands for none. The rows stay,
-/// whatever it answers. Both hold while the disk returns what was written.
+/// whatever it answers. Both hold while the disk returns what was written. The rows are read one at a time,
+/// so the columns of all of them aren't held beside them. Where one stands for no row, or memory is wanting
+/// for one, the select is asked once more for its whole answer, which tells the refusal.
 pub fn load_rows<D: Alter>(
+    connection: &mut Connection<D>,
+    alloc: Global,
+) -> Result<Vec<Row>, KeeperRefusal>
+    ensures loads { HasCleanDisk (state D.Store connection.new) → IfOk result (λ loaded. Loads (state D.Store connection.old) (state D.Store connection.new) loaded.items) }
+    ensures read { HasCleanDisk (state D.Store connection.new) → IfOk result (λ loaded. IsRead (state D.Store connection.old) (state D.Store connection.new) loaded.items) }
+    ensures refused { HasCleanDisk (state D.Store connection.new) → IsTrue (state D.Store connection.new).is_open → OnErr result (Keeps (state D.Store connection.old) (state D.Store connection.new)) }
+    ensures cause { HasCleanDisk (state D.Store connection.new) → IfErr result (λ why. FailsToLoad why (state D.Store connection.old) (state D.Store connection.new)) }
+    ensures clean { HasCleanDisk (state D.Store connection.new) → HasCleanDisk (state D.Store connection.old) }
+    ensures was_open { HasCleanDisk (state D.Store connection.new) → IsTrue (state D.Store connection.new).is_open → IsTrue (state D.Store connection.old).is_open }
+{
+    match read_in_turn(connection, alloc) {
+        Ok(Some(rows)) => Ok(rows),
+        Ok(None) => load_at_once(connection, alloc),
+        Err(error) => Err(refusal_of_error(error)),
+    }
+}
+
+// All rows, as `load_rows` gives them, while the columns of all are held.
+fn load_at_once<D: Alter>(
     connection: &mut Connection<D>,
     alloc: Global,
 ) -> Result<Vec<Row>, KeeperRefusal>
