@@ -1,5 +1,5 @@
 -- Rows that are read one at a time, over a connection that reading leaves as it was.
-use Rattle.std.proofs.Common.{◌≡◌, ◌∙◌, ◌⊎◌, inl, inr, ℕ, ◌≤◌, List, [], ◌∷◌, ◌++◌, Bool, true, false, map, Any, Option, None, Some, Ok, Err, Result, IsTrue, IsSome, IfOk, IfErr, IfSome, OnOk, refl, sym, ap, subst, arith}
+use Rattle.std.proofs.Common.{◌≡◌, ◌∙◌, inl, inr, ℕ, ◌≤◌, List, [], ◌∷◌, ◌++◌, map, Option, None, Some, Ok, Err, Result, IsTrue, IfOk, IfErr, IfSome, OnOk, refl, sym, ap, subst, arith}
 use Rattle.std.proofs.lemmas.Bool.{both_ways, cases_Bool}
 use Rattle.std.proofs.lemmas.List.{map-append}
 use Rattle.sqlite.specs.Clock.{timed}
@@ -24,7 +24,7 @@ use Rattle.sqlite_trees.specs.declared.error.StoreError.{StoreError}
 use Rattle.sqlite_trees.specs.declared.error.StoreError.TheVariants.{OutOfMemory, Io, Corrupt, Full, Broken, Unstorable}
 use Rattle.history_keeper.specs.declared.refusal.KeeperRefusal.{KeeperRefusal}
 use Rattle.history_keeper.specs.declared.row.Row.{Row}
-use Rattle.history_sqlite.specs.Causes.{FailsToLoad, IsAnswered, IsRead, IsStrange, IsUnanswered, select_text}
+use Rattle.history_sqlite.specs.Causes.{FailsToLoad, IsRead, select_text}
 use Rattle.history_sqlite.specs.Columns.{row_read}
 use Rattle.history_sqlite.specs.InTurn.{FailsOn, HasShown, IsBegun, ReadsAll, ReadsAlone, Turned}
 use Rattle.history_sqlite.specs.declared.in_turn.Turn.{Turn}

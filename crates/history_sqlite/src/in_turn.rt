@@ -8,7 +8,7 @@ ghost use Rattle.history_sqlite.specs.Columns.{row_read};
 ghost use Rattle.history_sqlite.specs.InTurn.{FailsOn, IsBegun, ReadsAll, ReadsAlone, Turned};
 
 use crate::columns::read_row;
-use history_keeper::Row;
+use history_keeper::{KeeperRefusal, Row};
 use sqlite::{Alter, Connection, Error, Rows};
 use std::alloc::Global;
 use std::slice;
@@ -79,17 +79,21 @@ fn turn_of(columns: &sqlite::Row, read: &mut Vec<Row>) -> Turn
     ensures goes_on { result ≢ Turn.End }
 {
     match read_row(columns) {
-        Some(row) => put_behind(read, &row),
+        Some(row) => match put_row(read, &row) {
+            Ok(()) => Turn::Read,
+            Err(_) => Turn::Stuck,
+        },
         None => Turn::Stuck,
     }
 }
 
-fn put_behind(read: &mut Vec<Row>, row: &Row) -> Turn
-    ensures read { result ≡ Turn.Read → read.new.items ≡ read.old.items ++ row.now ∷ [] }
-    ensures goes_on { result ≢ Turn.End }
+/// Puts a row behind the others.
+pub fn put_row(rows: &mut Vec<Row>, row: &Row) -> Result<(), KeeperRefusal>
+    ensures put { OnOk result (rows.new.items ≡ rows.old.items ++ row.now ∷ []) }
+    ensures wants { result ≢ Err KeeperRefusal.Fault }
 {
-    match read.extend_from_slice(slice::from_ref(row)) {
-        Ok(()) => Turn::Read,
-        Err(_) => Turn::Stuck,
+    match rows.extend_from_slice(slice::from_ref(row)) {
+        Ok(()) => Ok(()),
+        Err(_) => Err(KeeperRefusal::NoMemory),
     }
 }

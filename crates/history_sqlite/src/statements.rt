@@ -11,13 +11,12 @@ ghost use Rattle.history_sqlite.specs.Tables.{Adds, Advances, Makes, Keeps, Give
 ghost use Rattle.history_keeper.specs.Changes.{IsTimely};
 
 use crate::columns::{number_of, read_row};
-use crate::in_turn::read_in_turn;
+use crate::in_turn::{put_row, read_in_turn};
 use crate::refusal::refusal_of_error;
 use history_keeper::{Change, KeeperRefusal, Row, RowState};
 use sqlite::types::ValueRef;
 use sqlite::{Alter, Connection};
 use std::alloc::Global;
-use std::slice;
 
 /// Makes the change. Where it is told `Ok` and the change suits the rows, it is made. A refusal
 /// leaves the rows. Both hold while the disk returns what was written.
@@ -222,15 +221,4 @@ fn read_rows(alloc: Global, table: &[sqlite::Row]) -> Result<Vec<Row>, KeeperRef
         }
     }
     Ok(rows)
-}
-
-// Puts a row behind the others.
-fn put_row(rows: &mut Vec<Row>, row: &Row) -> Result<(), KeeperRefusal>
-    ensures put { OnOk result (rows.new.items ≡ rows.old.items ++ row.now ∷ []) }
-    ensures wants { result ≢ Err KeeperRefusal.Fault }
-{
-    match rows.extend_from_slice(slice::from_ref(row)) {
-        Ok(()) => Ok(()),
-        Err(_) => Err(KeeperRefusal::NoMemory),
-    }
 }

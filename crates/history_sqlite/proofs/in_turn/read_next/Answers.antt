@@ -1,4 +1,4 @@
-use Rattle.std.proofs.Common.{List, Option, subst, sym, refl}
+use Rattle.std.proofs.Common.{Option, subst, sym, refl}
 use Rattle.sqlite.specs.Given.{Advances}
 use Rattle.sqlite.specs.Order.{Row as Values}
 use Rattle.history_sqlite.proofs.InTurn.{turned}
