@@ -13,6 +13,10 @@ use sqlite::{Alter, Connection, Error, Rows};
 use std::alloc::Global;
 use std::slice;
 
+/// The statement that shows all rows, by their entries.
+pub const SELECT_ROWS: &str =
+    "SELECT entry, tag, client, device, component, version_old, version_new, digest, flags, state, reason, time_added, time_changed, duration, protocol, retry_of FROM history2 ORDER BY entry";
+
 /// What one turn did: it read a row, there was none left, or the row is none or memory was wanting for it.
 #[derive(Clone, Copy, Debug)]
 pub enum Turn {
@@ -32,10 +36,7 @@ pub fn read_in_turn<D: Alter>(
     ensures failed { HasCleanDisk (state D.Store connection.new) → IfErr result (FailsToQuery select_text [] (state D.Store connection.old) (state D.Store connection.new)) }
     ensures survives { Survives (state D.Store connection.old) (state D.Store connection.new) (λ _. ⊥) }
 {
-    let mut shown = connection.query(
-        "SELECT entry, tag, client, device, component, version_old, version_new, digest, flags, state, reason, time_added, time_changed, duration, protocol, retry_of FROM history2 ORDER BY entry",
-        &[],
-    )?;
+    let mut shown = connection.query(SELECT_ROWS, &[])?;
     read_on(&mut shown, alloc)
 }
 

@@ -11,7 +11,7 @@ ghost use Rattle.history_sqlite.specs.Tables.{Adds, Advances, Makes, Keeps, Give
 ghost use Rattle.history_keeper.specs.Changes.{IsTimely};
 
 use crate::columns::{number_of, read_row};
-use crate::in_turn::{put_row, read_in_turn};
+use crate::in_turn::{SELECT_ROWS, put_row, read_in_turn};
 use crate::refusal::refusal_of_error;
 use history_keeper::{Change, KeeperRefusal, Row, RowState};
 use sqlite::types::ValueRef;
@@ -161,10 +161,7 @@ pub fn select<D: Alter>(connection: &mut Connection<D>) -> Result<Vec<sqlite::Ro
     ensures clean { HasCleanDisk (state D.Store connection.new) → HasCleanDisk (state D.Store connection.old) }
     ensures was_open { HasCleanDisk (state D.Store connection.new) → IsTrue (state D.Store connection.new).is_open → IsTrue (state D.Store connection.old).is_open }
 {
-    match connection.query_all(
-        "SELECT entry, tag, client, device, component, version_old, version_new, digest, flags, state, reason, time_added, time_changed, duration, protocol, retry_of FROM history2 ORDER BY entry",
-        &[],
-    ) {
+    match connection.query_all(SELECT_ROWS, &[]) {
         Ok(rows) => Ok(rows),
         Err(error) => Err(refusal_of_error(error)),
     }
